@@ -1,0 +1,45 @@
+-- Words as bytes, one word more.
+use Rattle.std.proofs.Common.{◌≡◌, ℕ, zero, suc, ◌+◌, ◌*◌, ◌-◌, ◌^◌, ◌≤◌, ◌<◌, List, [], ◌∷◌, ◌++◌, length, take, slice_index, arith, refl, sym, ap, ap₂, ◌∙◌, append_assoc}
+use Rattle.std.proofs.lemmas.List.{take_more}
+use Rattle.std.proofs.lemmas.Slice.{take-put_mid}
+use borrow.Rule.Slice.PartMut.{put_mid}
+use Rattle.std.specs.Int.{w32, to_le_bytes, from_le_bytes}
+use Rattle.chacha_base.specs.Bytes.{word_bytes, bytes, words}
+
+pub bytes-append : (xs ys : List ℕ) → bytes (xs ++ ys) ≡ bytes xs ++ bytes ys
+bytes-append [] ys = refl
+bytes-append (x ∷ xs) ys = ap (λ t. word_bytes x ++ t) (bytes-append xs ys) ∙ sym (append_assoc (word_bytes x) (bytes xs) (bytes ys))
+
+-- after a write of word i behind the bytes of the words before it
+pub bytes-written : (xs out four : List ℕ) (i : ℕ) → i < length xs → 4 * i + 4 ≤ length out
+    → take (4 * i) out ≡ bytes (take i xs) → four ≡ to_le_bytes w32 (slice_index xs i)
+    → take (4 * (i + 1)) (put_mid (4 * i) (4 * i + 4 - 4 * i) out four) ≡ bytes (take (i + 1) xs)
+bytes-written xs out four i inside room before made =
+    let place : 4 * (i + 1) ≡ 4 * i + 4 = omega arith in
+    let made : four ≡ word_bytes (slice_index xs i) = made in
+    rw place
+    (take-put_mid (4 * i) (4 * i + 4 - 4 * i) out four (4 * i + 4) (omega (arith, ap length made)) (omega arith)
+    ∙ ap₂ ◌++◌ before made
+    ∙ sym (ap bytes (take_more xs i 0 inside) ∙ bytes-append (take i xs) (slice_index xs i ∷ [])))
+
+-- a word of four bytes
+pub word_is : (a b c d : ℕ) → from_le_bytes w32 (a ∷ b ∷ c ∷ d ∷ []) ≡ a + 256 * b + 256 ^ 2 * c + 256 ^ 3 * d
+word_is a b c d = omega arith
+
+-- the words of one word's bytes more
+pub words-more : (i : ℕ) (bs : List ℕ) → 4 * i + 4 ≤ length bs
+    → words (take (4 * (i + 1)) bs)
+    ≡ words (take (4 * i) bs)
+    ++ from_le_bytes w32 (slice_index bs (4 * i) ∷ slice_index bs (4 * i + 1) ∷ slice_index bs (4 * i + 2) ∷ slice_index bs (4 * i + 3) ∷ []) ∷ []
+words-more i [] h = absurd (omega arith)
+words-more i (a ∷ []) h = absurd (omega arith)
+words-more i (a ∷ b ∷ []) h = absurd (omega arith)
+words-more i (a ∷ b ∷ c ∷ []) h = absurd (omega arith)
+words-more zero (a ∷ b ∷ c ∷ d ∷ bs) h = ap (λ x. x ∷ []) (sym (word_is a b c d))
+words-more (suc i) (a ∷ b ∷ c ∷ d ∷ bs) h =
+    let whole : 4 * (suc i + 1) ≡ suc (suc (suc (suc (4 * (i + 1))))) = omega arith in
+    let front : 4 * suc i ≡ suc (suc (suc (suc (4 * i)))) = omega arith in
+    let one : 4 * suc i + 1 ≡ suc (suc (suc (suc (4 * i + 1)))) = omega arith in
+    let two : 4 * suc i + 2 ≡ suc (suc (suc (suc (4 * i + 2)))) = omega arith in
+    let three : 4 * suc i + 3 ≡ suc (suc (suc (suc (4 * i + 3)))) = omega arith in
+    rw (whole, one, two, three, front) (ap (λ t. (a + 256 * b + 256 ^ 2 * c + 256 ^ 3 * d) ∷ t) (words-more i bs (omega arith)))

@@ -1,0 +1,32 @@
+-- Counts of one call after another.
+use Rattle.std.proofs.Common.{◌≡◌, ℕ, ◌+◌, ◌-◌, ◌*◌, ◌/◌, ◌%◌, min, arith, subst}
+use Rattle.std.proofs.Math.Nat.{add-mul}
+use Rattle.chacha_base.specs.Counts.{Counts, Grows, for_call, for_blocks, for_bytes}
+use Rattle.chacha_base.specs.Buffered.{left_at}
+
+-- k single blocks after the others
+pub grows-more : (w par one m k : ℕ) (a b c : Counts) → Grows (for_blocks w par one m 0) a b → Grows (for_call 0 k (k * one)) b c
+    → Grows (for_blocks w par one m k) a c
+grows-more w par one m k a b c first then =
+    let least = add-mul (min 1 (m % w)) k one in
+    let most = add-mul (m % w) k one in
+    let zero_least = add-mul (min 1 (m % w)) 0 one in
+    let zero_most = add-mul (m % w) 0 one in
+    record {
+      par_from = omega (arith, first.par_from, then.par_from);
+      par_to = omega (arith, first.par_to, then.par_to);
+      other_from = omega (arith, first.other_from, then.other_from);
+      other_to = omega (arith, first.other_to, then.other_to);
+      rounds_from = omega (arith, first.rounds_from, then.rounds_from, least, zero_least);
+      rounds_to = omega (arith, first.rounds_to, then.rounds_to, most, zero_most);
+    }
+
+-- whole blocks and a last part, after what was left of a block
+pub grows-bytes : (w par one p len begun whole last : ℕ) (a b c : Counts) → begun ≡ min len (left_at p) → whole ≡ (len - begun) / 64 * 64
+    → last + whole + begun ≡ len → Grows (for_blocks w par one (whole / 64) 0) a b → Grows (for_call 0 (min 1 last) (min 1 last * one)) b c
+    → Grows (for_bytes w par one p len) a c
+grows-bytes w par one p len begun whole last a b c front middle all first then =
+    let blocks : whole / 64 ≡ (len - left_at p) / 64 = omega arith in
+    let part : last ≡ (len - left_at p) % 64 = omega arith in
+    subst (λ m. Grows (for_blocks w par one m (min 1 ((len - left_at p) % 64))) a c) blocks
+    (subst (λ k. Grows (for_blocks w par one (whole / 64) (min 1 k)) a c) part (grows-more w par one (whole / 64) (min 1 last) a b c first then))

@@ -1,0 +1,15 @@
+use Rattle.std.proofs.Common.{◌≡◌, ◌≤◌, List, ℕ, length, ap, subst, arith}
+use Rattle.chacha_base.proofs.BufferedLemmas.{applied_begun}
+use Rattle.chacha_base.specs.Buffered.{IsBuffered, position_of}
+use Rattle.chacha_base.proofs.wrapper.StreamCipherCoreWrapper.apply_begun.Goals as goal
+
+pub returns-clause-bytes : goal.returns-clause-bytes
+returns-clause-bytes g c =
+    let modulus = g.C.Keystream.modulus in
+    let block = g.C.Keystream.block_at in
+    let counter = g.C.StreamCipherCore.counter c.self.inside.core in
+    let left = c.self.inside.left in
+    let kept = subst (λ (f : List ℕ). IsBuffered modulus (block f) counter c.self.inside.buffer left) (ap (λ v. v.fixed) c.self.view_is) c.self.invariant in
+    let place : position_of counter left ≡ c.args.self.now.position = ap (λ v. v.position) c.self.view_is in
+    let fits : length c.args.bytes.now ≤ left = omega (arith, c.self.invariant.part, c.self.invariant.begun) in
+    applied_begun modulus (block c.args.self.now.fixed) counter left _ c.self.inside.buffer _ _ kept place fits (omega arith) c.xor_bytes.ensures

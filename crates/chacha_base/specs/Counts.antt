@@ -1,0 +1,47 @@
+-- Counts of the steps that calls take (this crate).
+use Rattle.std.specs.Prelude.{ℕ, ◌+◌, ◌-◌, ◌*◌, ◌/◌, ◌%◌, ◌≤◌, min}
+
+-- parallel calls of a backend, other calls for a block, and quarter rounds
+pub record Counts : Type 0 where
+  pub par : ℕ
+  pub other : ℕ
+  pub rounds : ℕ
+
+-- what a call may add: parallel and other calls at most, and quarter rounds at least and at most
+pub record Bounds : Type 0 where
+  pub par : ℕ
+  pub other : ℕ
+  pub least : ℕ
+  pub most : ℕ
+
+-- the counts grew within bounds
+pub record Grows (bounds : Bounds) (old new : Counts) : Type 0 where
+  pub par_from : old.par ≤ new.par
+  pub par_to : new.par ≤ old.par + bounds.par
+  pub other_from : old.other ≤ new.other
+  pub other_to : new.other ≤ old.other + bounds.other
+  pub rounds_from : old.rounds + bounds.least ≤ new.rounds
+  pub rounds_to : new.rounds ≤ old.rounds + bounds.most
+
+-- exactly so many quarter rounds, and calls at most
+abbrev pub for_call : (par other rounds : ℕ) → Bounds
+for_call par other rounds = record { par = par; other = other; least = rounds; most = rounds }
+
+-- for k blocks, fewer than a parallel call makes, with `one` quarter rounds a single block
+abbrev pub for_tail : (one k : ℕ) → Bounds
+for_tail one k = record { par = 0; other = k; least = min 1 k * one; most = k * one }
+
+-- for m blocks in groups of w, with `par` quarter rounds a group and `one` a single block, and k single blocks after them
+abbrev pub for_blocks : (w par one m k : ℕ) → Bounds
+for_blocks w par one m k = record {
+  par = m / w;
+  other = m % w + k;
+  least = m / w * par + (min 1 (m % w) + k) * one;
+  most = m / w * par + (m % w + k) * one;
+}
+
+-- for so many bytes from position p on: first what is left of a block that has been begun, then whole blocks, then a last part
+abbrev pub for_bytes : (w par one p len : ℕ) → Bounds
+for_bytes w par one p len =
+    let rest = len - (64 - p % 64) % 64 in
+    for_blocks w par one (rest / 64) (min 1 (rest % 64))

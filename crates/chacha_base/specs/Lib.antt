@@ -1,0 +1,12 @@
+pub mod Words
+pub mod QuarterRound
+pub mod Rounds
+pub mod Bytes
+pub mod Layout
+pub mod Block
+pub mod State
+pub mod Keystream
+pub mod Counts
+pub mod Number
+pub mod Cipher
+pub mod Buffered

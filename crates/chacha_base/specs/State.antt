@@ -1,0 +1,37 @@
+-- A state as a counter and all its other words, and the blocks that it gives one after another (this crate).
+use Rattle.std.specs.Prelude.{ℕ, ◌+◌, ◌%◌, List, ◌++◌, take, drop}
+use Rattle.chacha_base.specs.Bytes.{bytes}
+use Rattle.chacha_base.specs.Layout.{Layout, modulus, counter_words, counter_len, row_counter}
+use Rattle.chacha_base.specs.Rounds.{mix}
+
+-- the counter of a state of sixteen words
+abbrev pub state_counter : Layout → List ℕ → ℕ
+state_counter layout s = row_counter layout (drop 12 s)
+
+-- the words of a state that are not its counter
+abbrev pub fixed_words : Layout → List ℕ → List ℕ
+fixed_words layout s = take 12 s ++ drop (12 + counter_len layout) s
+
+-- the state of a counter and of all other words
+abbrev pub state_of : Layout → List ℕ → ℕ → List ℕ
+state_of layout fixed c = take 12 fixed ++ counter_words layout c ++ drop 12 fixed
+
+-- the 64 bytes of a counter and of all other words, after n double rounds
+abbrev pub block_of : ℕ → Layout → List ℕ → ℕ → List ℕ
+block_of n layout fixed c = bytes (mix n (state_of layout fixed c))
+
+-- the state with another counter
+abbrev pub state_at : Layout → ℕ → List ℕ → List ℕ
+state_at layout c s = state_of layout (fixed_words layout s) c
+
+-- the counter i blocks after a state's own; it wraps
+abbrev pub counter_after : Layout → List ℕ → ℕ → ℕ
+counter_after layout s i = (state_counter layout s + i) % modulus layout
+
+-- the state i blocks on
+abbrev pub advanced : Layout → ℕ → List ℕ → List ℕ
+advanced layout i s = state_at layout (counter_after layout s i) s
+
+-- block i from a state on
+abbrev pub next_block : ℕ → Layout → List ℕ → ℕ → List ℕ
+next_block n layout s i = bytes (mix n (advanced layout i s))

@@ -1,0 +1,10 @@
+-- Words of 32 bits (RFC 8439, 2.1). A word is a number below 2 ^ 32.
+use Rattle.std.specs.Prelude.{ℕ, ◌+◌, ◌-◌, ◌*◌, ◌/◌, ◌%◌, ◌^◌}
+
+-- the sum modulo 2 ^ 32
+abbrev pub add : ℕ → ℕ → ℕ
+add x y = (x + y) % 2 ^ 32
+
+-- the rotation to the left: the top k bits move to the bottom
+abbrev pub rotl : ℕ → ℕ → ℕ
+rotl x k = x * 2 ^ k % 2 ^ 32 + x / 2 ^ (32 - k)

@@ -1,0 +1,5 @@
+//! Backends: markers whose functions make the blocks of a state.
+
+mod soft;
+
+pub use soft::Soft;

@@ -1,0 +1,123 @@
+//! The plain backend: one block at a time, on words.
+
+ghost use Rattle.std.specs.Prelude.{◌≡◌, ℕ, ◌+◌, ◌*◌};
+ghost use Rattle.chacha_base.specs.Rounds.{columns, diagonals, rounds, add_states, mix};
+ghost use Rattle.chacha_base.specs.State.{advanced};
+ghost use Rattle.chacha_base.specs.Bytes.{bytes};
+
+use crate::bytes::write_bytes;
+use crate::cipher::{ParBlocksSizeUser, StreamCipherBackend};
+use crate::rounds::{Rounds, Steps, quarter_round};
+use crate::variants::{StreamCipherCounter, Variant};
+
+/// The plain block function, a block at a time (RFC 8439, section 2.3).
+#[derive(Clone, Copy, Debug)]
+pub struct Soft;
+
+// A quarter round of each column.
+#[inline(always)]
+#[tactic(auto, using(crate::proofs::RoundLemmas::columns_are))]
+fn column_round(state: &mut [u32; 16], steps: &mut Steps)
+    ensures state { state.new ≡ columns state.old }
+    ensures steps { steps.new ≡ record steps.old { rounds = steps.old.rounds + 4 } }
+{
+    quarter_round(0, 4, 8, 12, state, steps);
+    quarter_round(1, 5, 9, 13, state, steps);
+    quarter_round(2, 6, 10, 14, state, steps);
+    quarter_round(3, 7, 11, 15, state, steps);
+}
+
+// A quarter round of each diagonal.
+#[inline(always)]
+#[tactic(auto, using(crate::proofs::RoundLemmas::diagonals_are))]
+fn diagonal_round(state: &mut [u32; 16], steps: &mut Steps)
+    ensures state { state.new ≡ diagonals state.old }
+    ensures steps { steps.new ≡ record steps.old { rounds = steps.old.rounds + 4 } }
+{
+    quarter_round(0, 5, 10, 15, state, steps);
+    quarter_round(1, 6, 11, 12, state, steps);
+    quarter_round(2, 7, 8, 13, state, steps);
+    quarter_round(3, 4, 9, 14, state, steps);
+}
+
+/// Double rounds on a state. Not exported by `chacha20`.
+#[inline(always)]
+#[tactic(auto, unfolding(crate::specs::Rounds::rounds))]
+pub fn double_rounds(count: usize, state: &mut [u32; 16], steps: &mut Steps)
+    ensures state { state.new ≡ rounds count state.old }
+    ensures steps { steps.new ≡ record steps.old { rounds = steps.old.rounds + 8 * count } }
+{
+    'rounds: for _round in 0..count {
+        column_round(state, steps);
+        diagonal_round(state, steps);
+    }
+}
+
+// Adds each word of one state to the word of the other.
+#[inline(always)]
+fn add_words(state: &mut [u32; 16], start: &[u32; 16])
+    ensures { state.new ≡ add_states state.old start.now }
+{
+    for i in 0..16usize {
+        state[i] = state[i].wrapping_add(start[i]);
+    }
+}
+
+// The bytes of a state's block.
+#[inline(always)]
+fn block_bytes<R: Rounds>(state: &[u32; 16], block: &mut [u8; 64], steps: &mut Steps)
+    ensures block { block.new ≡ bytes (mix R.COUNT state.now) }
+    ensures steps { steps.new ≡ record steps.old { rounds = steps.old.rounds + 8 * R.COUNT } }
+{
+    let mut mixed = *state;
+    double_rounds(R::COUNT, &mut mixed, steps);
+    add_words(&mut mixed, state);
+    write_bytes(&mixed, block);
+}
+
+// Moves the counter of a state.
+#[inline(always)]
+fn advance<V: Variant>(state: &mut [u32; 16], blocks: usize)
+    ensures { state.new ≡ advanced V.layout blocks state.old }
+{
+    let pos = V::get_block_pos(&state[12..]);
+    V::set_block_pos(&mut state[12..], pos.advanced_by(blocks));
+}
+
+impl ParBlocksSizeUser for Soft {
+    ghost use Rattle.std.proofs.Common.{lit≤};
+
+    ghost PAR_BLOCKS = { 1 };
+
+    const PAR_BLOCKS: usize = 1;
+
+    ghost par_blocks_from = { lit≤ tt };
+
+    ghost par_blocks_to = { lit≤ tt };
+}
+
+impl<R: Rounds, V: Variant> StreamCipherBackend<R, V> for Soft {
+    ghost PAR_STEPS = { 8 };
+
+    ghost ONE_STEPS = { 8 };
+
+    const PAR_STEPS: usize = 8;
+
+    const ONE_STEPS: usize = 8;
+
+    fn gen_ks_block(state: &mut [u32; 16], block: &mut [u8; 64], steps: &mut Steps) {
+        steps.add_other();
+        block_bytes::<R>(state, block, steps);
+        advance::<V>(state, 1);
+    }
+
+    fn gen_par_ks_blocks(state: &mut [u32; 16], blocks: &mut [[u8; 64]], steps: &mut Steps) {
+        steps.add_par();
+        block_bytes::<R>(state, &mut blocks[0], steps);
+        advance::<V>(state, 1);
+    }
+
+    fn gen_tail_blocks(state: &mut [u32; 16], _blocks: &mut [[u8; 64]], _steps: &mut Steps) {
+        advance::<V>(state, 0);
+    }
+}

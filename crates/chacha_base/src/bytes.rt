@@ -1,0 +1,45 @@
+//! Bytes as words, the low byte first (RFC 8439, section 2.3), and bytes combined with bytes. `chacha20` does not
+//! export these functions.
+
+ghost use Rattle.std.specs.Prelude.{◌≡◌, ℕ, ◌<◌, ◌*◌, length, bit_xor, slice_index};
+ghost use Rattle.chacha_base.specs.Bytes.{bytes, words};
+
+/// Writes words as bytes.
+#[inline(always)]
+pub fn write_bytes(input: &[u32], output: &mut [u8])
+    requires { length output.old ≡ 4 * length input.now }
+    ensures { output.new ≡ bytes input.now }
+{
+    for i in 0..input.len() {
+        output[4 * i..4 * i + 4].copy_from_slice(&input[i].to_le_bytes());
+    }
+}
+
+/// Reads bytes as words.
+#[inline(always)]
+pub fn read_words(input: &[u8], output: &mut [u32])
+    requires { length input.now ≡ 4 * length output.old }
+    ensures { output.new ≡ words input.now }
+{
+    for i in 0..output.len() {
+        let word = [
+            input[4 * i],
+            input[4 * i + 1],
+            input[4 * i + 2],
+            input[4 * i + 3],
+        ];
+        output[i] = u32::from_le_bytes(word);
+    }
+}
+
+/// Combines bytes with as many others by exclusive or.
+#[inline(always)]
+pub fn xor_bytes(output: &mut [u8], other: &[u8])
+    requires { length output.old ≡ length other.now }
+    ensures { (i : ℕ) → i < length output.old
+        → slice_index output.new i ≡ bit_xor (slice_index output.old i) (slice_index other.now i) }
+{
+    for i in 0..output.len() {
+        output[i] ^= other[i];
+    }
+}

@@ -1,0 +1,237 @@
+//! The traits of backends, cores and ciphers, and their errors.
+
+ghost use Rattle.std.specs.Prelude.{◌≡◌, ◌↔◌, ◌≤◌, ◌<◌, ◌+◌, ◌-◌, ◌*◌, ◌/◌, ◌%◌, ◌^◌, ℕ, List, length, slice_get, Some, IsOk, OnOk, OnErr};
+ghost use Rattle.chacha_base.specs.Layout.{remaining};
+ghost use Rattle.chacha_base.specs.State.{advanced, next_block};
+ghost use Rattle.chacha_base.specs.Keystream.{keystream, applied};
+ghost use Rattle.chacha_base.specs.Counts.{Bounds, Grows, for_call, for_tail, for_blocks};
+
+use crate::rounds::{Rounds, Steps};
+pub use crate::variants::StreamCipherCounter;
+use crate::variants::Variant;
+pub use crate::wrapper::StreamCipherCoreWrapper;
+
+/// The refusal of a call on a cipher, which leaves the cipher and all buffers as they were.
+#[derive(Clone, Copy, Debug, PartialEq, Eq)]
+pub struct StreamCipherError;
+
+/// The size of a block in bytes.
+pub trait BlockSizeUser {
+    ghost BLOCK_SIZE: { ℕ };
+
+    /// Bytes in a block.
+    const BLOCK_SIZE: usize;
+}
+
+/// The size of a key in bytes.
+pub trait KeySizeUser {
+    ghost KEY_SIZE: { ℕ };
+
+    /// Bytes in a key.
+    const KEY_SIZE: usize;
+}
+
+/// The size of a nonce in bytes.
+pub trait IvSizeUser {
+    ghost IV_SIZE: { ℕ };
+
+    /// Bytes in a nonce.
+    const IV_SIZE: usize;
+}
+
+/// How many blocks a backend makes in one parallel call: from 1 to 16.
+pub trait ParBlocksSizeUser {
+    ghost PAR_BLOCKS: { ℕ };
+
+    /// Blocks in a parallel call.
+    const PAR_BLOCKS: usize;
+
+    ghost par_blocks_from: { 1 ≤ PAR_BLOCKS };
+
+    ghost par_blocks_to: { PAR_BLOCKS ≤ 16 };
+}
+
+/// What hands out the blocks of a keystream: a core, or a cipher over one. It has no code, only what clauses say of
+/// blocks. This crate's own.
+pub trait Keystream {
+    // All of it but its counter or its position.
+    ghost fixed: { Self → List ℕ };
+
+    // How many counters there are.
+    ghost modulus: { ℕ };
+
+    // The block of a fixed part at a counter.
+    ghost block_at: { List ℕ → ℕ → List ℕ };
+}
+
+/// What is made of a key and a nonce.
+pub trait KeyIvInit: Keystream {
+    /// The key's type.
+    type Key;
+
+    /// The nonce's type.
+    type Iv;
+
+    // The value of a key and a nonce, and the block that they define for a counter.
+    ghost init: { Self.Key → Self.Iv → Self };
+
+    ghost block: { Self.Key → Self.Iv → ℕ → List ℕ };
+
+    /// The first value of a key and a nonce: no block and no byte is taken yet.
+    fn new(key: &Self::Key, iv: &Self::Iv) -> Self
+        ensures value { result ≡ init key.now iv.now }
+        ensures blocks { (c : ℕ) → c < Self.modulus → Self.block_at (Self.fixed result) c ≡ block key.now iv.now c };
+}
+
+/// Makes the blocks of a state one after another. The functions have no receiver, so that a backend is a marker.
+///
+/// For k blocks from counter c on, block i is that of the state with counter c + i; the state is then the one with
+/// counter c + k, and all its other words stay. Counters wrap, at 2^32 or 2^64 as the variant says. Nothing is refused.
+/// Anyone may implement it; one that counts nothing has both constants 0.
+pub trait StreamCipherBackend<R: Rounds, V: Variant>: ParBlocksSizeUser {
+    ghost PAR_STEPS: { ℕ };
+
+    ghost ONE_STEPS: { ℕ };
+
+    /// Quarter rounds of a parallel call, for each double round. This crate's own.
+    const PAR_STEPS: usize;
+
+    /// Quarter rounds of a call for one block, for each double round. This crate's own.
+    const ONE_STEPS: usize;
+
+    /// The next block.
+    fn gen_ks_block(state: &mut [u32; 16], block: &mut [u8; 64], steps: &mut Steps)
+        ensures block { block.new ≡ next_block R.COUNT V.layout state.old 0 }
+        ensures state { state.new ≡ advanced V.layout 1 state.old }
+        ensures steps { Grows (for_call 0 1 (ONE_STEPS * R.COUNT)) steps.old steps.new };
+
+    /// The next `PAR_BLOCKS` blocks.
+    fn gen_par_ks_blocks(state: &mut [u32; 16], blocks: &mut [[u8; 64]], steps: &mut Steps)
+        requires { length blocks.old ≡ Self.PAR_BLOCKS }
+        ensures blocks { (i : ℕ) → i < length blocks.old
+            → slice_get blocks.new i ≡ Some (next_block R.COUNT V.layout state.old i) }
+        ensures state { state.new ≡ advanced V.layout (length blocks.old) state.old }
+        ensures steps { Grows (for_call 1 0 (PAR_STEPS * R.COUNT)) steps.old steps.new };
+
+    /// Fewer blocks than `PAR_BLOCKS`, none included.
+    fn gen_tail_blocks(state: &mut [u32; 16], blocks: &mut [[u8; 64]], steps: &mut Steps)
+        requires { length blocks.old < Self.PAR_BLOCKS }
+        ensures blocks { (i : ℕ) → i < length blocks.old
+            → slice_get blocks.new i ≡ Some (next_block R.COUNT V.layout state.old i) }
+        ensures state { state.new ≡ advanced V.layout (length blocks.old) state.old }
+        ensures steps { Grows (for_tail (ONE_STEPS * R.COUNT) (length blocks.old)) steps.old steps.new };
+}
+
+/// Hands out the blocks of a keystream one after another, in order of counter. Counters wrap; nothing is refused.
+pub trait StreamCipherCore: Keystream + BlockSizeUser + ParBlocksSizeUser {
+    // The counter of the next block.
+    ghost counter: { Self → ℕ };
+
+    // Quarter rounds of a parallel call and of a call for one block.
+    ghost par_cost: { ℕ };
+
+    ghost one_cost: { ℕ };
+
+    /// How many blocks a cipher may still take: all but the one with the greatest counter.
+    fn remaining_blocks(&self) -> Option<usize>
+        ensures remaining { result ≡ remaining Self.modulus (counter self.now) }
+        ensures below { counter self.now < Self.modulus };
+
+    /// Writes the next block.
+    fn write_keystream_block(&mut self, block: &mut [u8; 64])
+        ensures block { block.new ≡ Self.block_at (Self.fixed self.old) (counter self.old) }
+        ensures fixed { Self.fixed self.new ≡ Self.fixed self.old }
+        ensures counter { counter self.new ≡ (counter self.old + 1) % Self.modulus }
+    {
+        let mut steps = Steps::new();
+        self.write_block_counted(block, &mut steps);
+    }
+
+    /// Writes the next block, and counts its steps. This crate's own.
+    fn write_block_counted(&mut self, block: &mut [u8; 64], steps: &mut Steps)
+        ensures block { block.new ≡ Self.block_at (Self.fixed self.old) (counter self.old) }
+        ensures fixed { Self.fixed self.new ≡ Self.fixed self.old }
+        ensures counter { counter self.new ≡ (counter self.old + 1) % Self.modulus }
+        ensures steps { Grows (for_call 0 1 one_cost) steps.old steps.new };
+
+    /// Combines whole blocks of bytes with the next blocks by exclusive or, and counts the steps. This crate's own.
+    fn apply_blocks_counted(&mut self, data: &mut [u8], steps: &mut Steps)
+        requires { length «data».old % 64 ≡ 0 }
+        ensures data { «data».new ≡ applied (keystream Self.modulus (Self.block_at (Self.fixed self.old)))
+            (64 * counter self.old) «data».old }
+        ensures fixed { Self.fixed self.new ≡ Self.fixed self.old }
+        ensures counter { counter self.new ≡ (counter self.old + length «data».old / 64) % Self.modulus }
+        ensures steps { Grows (for_blocks Self.PAR_BLOCKS par_cost one_cost (length «data».old / 64) 0) steps.old steps.new };
+
+    ghost block_size: { Self.BLOCK_SIZE ≡ 64 };
+}
+
+/// A core whose counter can be read and set.
+pub trait StreamCipherSeekCore: StreamCipherCore {
+    /// The counter's type.
+    type Counter: StreamCipherCounter;
+
+    /// The counter of the next block.
+    fn get_block_pos(&self) -> Self::Counter
+        ensures { Self.Counter.value result ≡ Self.counter self.now };
+
+    /// Sets the counter of the next block; all else stays.
+    fn set_block_pos(&mut self, pos: Self::Counter)
+        ensures fixed { Self.fixed self.new ≡ Self.fixed self.old }
+        ensures counter { Self.counter self.new ≡ Self.Counter.value pos };
+
+    ghost counters: { Self.modulus ≡ Self.Counter.M };
+}
+
+/// A cipher that combines bytes with a keystream, from a position on that moves with them.
+pub trait StreamCipher {
+    // The greatest position.
+    ghost limit: { ℕ };
+
+    // The position, and the cipher at another position.
+    ghost position: { Self → ℕ };
+
+    ghost at: { Self → ℕ → Self };
+
+    // Byte p of the cipher's keystream.
+    ghost stream: { Self → ℕ → ℕ };
+
+    // What an application to so many bytes from a position on may count.
+    ghost cost: { ℕ → ℕ → Bounds };
+
+    /// Whether so many bytes more can be taken: `Err` exactly where they would pass the limit.
+    fn check_remaining(&self, len: usize) -> Result<(), StreamCipherError>
+        ensures accepted { IsOk result ↔ (position self.now + len ≤ limit) }
+        ensures within { position self.now ≤ limit };
+
+    /// Combines bytes with the keystream by exclusive or, and counts the steps. `Err` exactly where the bytes would
+    /// pass the limit; then nothing changes. This crate's own.
+    fn try_apply_keystream_counted(
+        &mut self,
+        buf: &mut [u8],
+        steps: &mut Steps,
+    ) -> Result<(), StreamCipherError>
+        ensures accepted { IsOk result ↔ (position self.old + length buf.old ≤ limit) }
+        ensures bytes { OnOk result (buf.new ≡ applied (stream self.old) (position self.old) buf.old) }
+        ensures moved { OnOk result (self.new ≡ at self.old (position self.old + length buf.old)) }
+        ensures steps { OnOk result (Grows (cost (position self.old) (length buf.old)) steps.old steps.new) }
+        ensures refused { OnErr result ((buf.new ≡ buf.old) × (self.new ≡ self.old) × (steps.new ≡ steps.old)) };
+
+    /// Combines bytes with the keystream by exclusive or (RFC 8439, section 2.4). `Err` exactly where the bytes would
+    /// pass the limit; then nothing changes. To decrypt is the same call.
+    fn try_apply_keystream(&mut self, buf: &mut [u8]) -> Result<(), StreamCipherError>
+        ensures accepted { IsOk result ↔ (position self.old + length buf.old ≤ limit) }
+        ensures bytes { OnOk result (buf.new ≡ applied (stream self.old) (position self.old) buf.old) }
+        ensures moved { OnOk result (self.new ≡ at self.old (position self.old + length buf.old)) }
+        ensures refused { OnErr result ((buf.new ≡ buf.old) × (self.new ≡ self.old)) }
+    {
+        let mut steps = Steps::new();
+        self.try_apply_keystream_counted(buf, &mut steps)
+    }
+
+    ghost position_at: { (c : Self) (p : ℕ) → position (at c p) ≡ p };
+
+    ghost stream_at: { (c : Self) (p : ℕ) → stream (at c p) ≡ stream c };
+
+    ghost at_at: { (c : Self) (p q : ℕ) → at (at c p) q ≡ at c q };
+}

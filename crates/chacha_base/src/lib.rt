@@ -1,0 +1,11 @@
+//! What holds for any stream cipher over blocks of 64 bytes, and the ChaCha block function.
+//!
+//! The crate `chacha20` stands on this one and exports what its users need.
+#![tactic(auto)]
+
+pub mod backends;
+pub mod bytes;
+pub mod cipher;
+pub mod rounds;
+pub mod variants;
+pub mod wrapper;

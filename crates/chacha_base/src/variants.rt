@@ -1,0 +1,137 @@
+//! The layouts of a state's last row: where the counter stands, and how many counters there are.
+
+ghost use Rattle.std.specs.Prelude.{◌≡◌, ◌≤◌, ◌<◌, ◌+◌, ◌-◌, ◌%◌, ◌^◌, ◌⊎◌, ℕ, length, Some};
+ghost use Rattle.chacha_base.specs.Layout.{Layout, ietf, modulus, counter_len, row_counter, row_at, remaining};
+
+mod sealed {
+    pub trait Sealed {}
+}
+
+use sealed::Sealed;
+
+/// A counter of blocks: `u32` or `u64`. It is sealed.
+pub trait StreamCipherCounter: Sealed + Copy {
+    // How many counters there are, and the number of one.
+    ghost M: { ℕ };
+
+    ghost value: { Self → ℕ };
+
+    /// The counter with this number. This crate's own.
+    fn from_u64(number: u64) -> Self
+        requires { number < M }
+        ensures { value result ≡ number };
+
+    /// The number of a counter. This crate's own.
+    fn to_u64(self) -> u64
+        ensures value { result ≡ value self }
+        ensures below { result < M };
+
+    /// The counter so many blocks on; it wraps. This crate's own.
+    fn advanced_by(self, blocks: usize) -> Self
+        ensures { value result ≡ (value self + blocks) % M };
+
+    ghost sizes: { (M ≡ 2 ^ 32) ⊎ (M ≡ 2 ^ 64) };
+}
+
+impl Sealed for u32 {}
+
+impl Sealed for u64 {}
+
+impl StreamCipherCounter for u32 {
+    ghost use Rattle.std.proofs.Common.{refl, inl};
+
+    ghost M = { 2 ^ 32 };
+
+    ghost value = { λ c. c };
+
+    ghost sizes = { inl refl };
+
+    fn from_u64(number: u64) -> u32 {
+        number as u32
+    }
+
+    fn to_u64(self) -> u64 {
+        u64::from(self)
+    }
+
+    fn advanced_by(self, blocks: usize) -> u32 {
+        self.wrapping_add((blocks & 0xffff_ffff) as u32)
+    }
+}
+
+impl StreamCipherCounter for u64 {
+    ghost use Rattle.std.proofs.Common.{refl, inr};
+
+    ghost M = { 2 ^ 64 };
+
+    ghost value = { λ c. c };
+
+    ghost sizes = { inr refl };
+
+    fn from_u64(number: u64) -> u64 {
+        number
+    }
+
+    fn to_u64(self) -> u64 {
+        self
+    }
+
+    fn advanced_by(self, blocks: usize) -> u64 {
+        self.wrapping_add(blocks as u64)
+    }
+}
+
+/// A layout of counter and nonce. A row here is the words of a state from word 12 on, or any words that begin with
+/// the counter's. It is sealed.
+pub trait Variant: Sealed {
+    /// The counter's type.
+    type Counter: StreamCipherCounter;
+
+    // Which layout it is.
+    ghost layout: { Layout };
+
+    /// The counter at the front of a row.
+    fn get_block_pos(row: &[u32]) -> Self::Counter
+        requires { counter_len layout ≤ length row.now }
+        ensures { Self.Counter.value result ≡ row_counter layout row.now };
+
+    /// Puts a counter at the front of a row. The other words stay.
+    fn set_block_pos(row: &mut [u32], pos: Self::Counter)
+        requires { counter_len layout ≤ length row.old }
+        ensures { row.new ≡ row_at layout (Self.Counter.value pos) row.old };
+
+    /// How many blocks a cipher may still take where its next block has this counter: all but the one with the
+    /// greatest counter.
+    fn remaining_blocks(block_pos: Self::Counter) -> Option<usize>
+        ensures { result ≡ remaining (modulus layout) (Self.Counter.value block_pos) };
+
+    ghost counters: { Self.Counter.M ≡ modulus layout };
+}
+
+/// The layout of RFC 8439: a counter of 32 bits in word 12, and a nonce of 12 bytes.
+#[derive(Clone, Copy, Debug)]
+pub enum Ietf {}
+
+impl Sealed for Ietf {}
+
+impl Variant for Ietf {
+    ghost use Rattle.std.specs.Prelude.{refl};
+
+    type Counter = u32;
+
+    ghost layout = { ietf };
+
+    ghost counters = { refl };
+
+    fn get_block_pos(row: &[u32]) -> u32 {
+        row[0]
+    }
+
+    fn set_block_pos(row: &mut [u32], pos: u32) {
+        row[0] = pos;
+    }
+
+    fn remaining_blocks(block_pos: u32) -> Option<usize> {
+        Some((u32::MAX - block_pos) as usize)
+    }
+}

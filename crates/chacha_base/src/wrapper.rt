@@ -1,0 +1,173 @@
+//! A byte stream over a core of blocks.
+
+ghost use Rattle.std.specs.Prelude.{◌≡◌, ℕ, ◌+◌, ◌-◌, ◌*◌, ◌/◌, ◌%◌, ◌≤◌, ◌<◌, length, min};
+ghost use Rattle.chacha_base.specs.Keystream.{keystream, applied, limit_of};
+ghost use Rattle.chacha_base.specs.Buffered.{left_at};
+ghost use Rattle.chacha_base.specs.Counts.{Grows, for_bytes, for_blocks, for_call};
+
+use crate::bytes::xor_bytes;
+use crate::cipher::{
+    IvSizeUser, KeyIvInit, KeySizeUser, Keystream, StreamCipher, StreamCipherError,
+    StreamCipherSeekCore,
+};
+use crate::rounds::Steps;
+use crate::variants::StreamCipherCounter;
+use std::marker::Model;
+
+/// A cipher over bytes, of a core that hands out blocks.
+///
+/// Clauses see it as its fixed part and its position in bytes (`Cipher`). It keeps one block, so that a message may
+/// come in pieces of any size, and takes all blocks of the core but the one with the greatest counter.
+#[derive(Drop)]
+pub struct StreamCipherCoreWrapper<C: StreamCipherSeekCore> {
+    core: C,
+    // The last block that the core made, of which the last `left` bytes are still to be used.
+    buffer: [u8; 64],
+    left: usize,
+}
+
+impl<C: StreamCipherSeekCore> Model for StreamCipherCoreWrapper<C> {
+    ghost use Rattle.chacha_base.specs.Cipher.{Cipher};
+    ghost use Rattle.chacha_base.specs.Buffered.{IsBuffered, position_of};
+
+    ghost Value = { Cipher };
+
+    ghost view = { λ w. record { fixed = C.fixed w.core; position = position_of (C.counter w.core) w.left } };
+
+    ghost invariant = { λ w. IsBuffered C.modulus (C.block_at (C.fixed w.core)) (C.counter w.core) w.buffer w.left };
+}
+
+impl<C: StreamCipherSeekCore> Keystream for StreamCipherCoreWrapper<C> {
+    ghost fixed = { λ w. w.fixed };
+
+    ghost modulus = { C.modulus };
+
+    ghost block_at = { C.block_at };
+}
+
+impl<C: StreamCipherSeekCore + KeySizeUser> KeySizeUser for StreamCipherCoreWrapper<C> {
+    ghost KEY_SIZE = { C.KEY_SIZE };
+
+    const KEY_SIZE: usize = C::KEY_SIZE;
+}
+
+impl<C: StreamCipherSeekCore + IvSizeUser> IvSizeUser for StreamCipherCoreWrapper<C> {
+    ghost IV_SIZE = { C.IV_SIZE };
+
+    const IV_SIZE: usize = C::IV_SIZE;
+}
+
+impl<C: StreamCipherSeekCore + KeyIvInit> KeyIvInit for StreamCipherCoreWrapper<C> {
+    type Key = C::Key;
+
+    type Iv = C::Iv;
+
+    ghost init = { λ key iv. record { fixed = C.fixed (C.init key iv); position = 0 } };
+
+    ghost block = { C.block };
+
+    fn new(key: &C::Key, iv: &C::Iv) -> Self {
+        let mut core = C::new(key, iv);
+        core.set_block_pos(C::Counter::from_u64(0));
+        StreamCipherCoreWrapper {
+            core,
+            buffer: [0; 64],
+            left: 0,
+        }
+    }
+}
+
+impl<C: StreamCipherSeekCore> StreamCipher for StreamCipherCoreWrapper<C> {
+    ghost use Rattle.std.specs.Prelude.{refl};
+
+    ghost limit = { limit_of C.modulus };
+
+    ghost position = { λ w. w.position };
+
+    ghost at = { λ w p. record w { position = p } };
+
+    ghost stream = { λ w p. keystream C.modulus (C.block_at w.fixed) p };
+
+    ghost cost = { for_bytes C.PAR_BLOCKS C.par_cost C.one_cost };
+
+    ghost position_at = { λ c p. refl };
+
+    ghost stream_at = { λ c p. refl };
+
+    ghost at_at = { λ c p q. refl };
+
+    fn check_remaining(&self, len: usize) -> Result<(), StreamCipherError> {
+        match self.core.remaining_blocks() {
+            Some(blocks) if len as u128 > 64 * blocks as u128 + self.left as u128 => Err(
+                StreamCipherError,
+            ),
+            _ => Ok(()),
+        }
+    }
+
+    fn try_apply_keystream_counted(
+        &mut self,
+        buf: &mut [u8],
+        steps: &mut Steps,
+    ) -> Result<(), StreamCipherError> {
+        self.check_remaining(buf.len())?;
+        let begun = buf.len().min(self.left());
+        let whole = (buf.len() - begun) / 64 * 64;
+        let (front, rest) = buf.split_at_mut(begun);
+        let (blocks, last) = rest.split_at_mut(whole);
+        self.apply_begun(front);
+        self.apply_whole(blocks, steps);
+        self.apply_last(last, steps);
+        Ok(())
+    }
+}
+
+impl<C: StreamCipherSeekCore> StreamCipherCoreWrapper<C> {
+    // How many bytes are left of the block that has been begun.
+    fn left(&self) -> usize
+        ensures { result ≡ left_at self.now.position }
+    {
+        self.left
+    }
+
+    // Combines bytes with what is left of the block that has been begun.
+    fn apply_begun(&mut self, bytes: &mut [u8])
+        requires { length bytes.old ≤ left_at self.old.position }
+        ensures bytes { bytes.new ≡ applied (keystream C.modulus (C.block_at self.old.fixed)) self.old.position bytes.old }
+        ensures moved { self.new ≡ record self.old { position = self.old.position + length bytes.old } }
+    {
+        let from = 64 - self.left;
+        xor_bytes(bytes, &self.buffer[from..from + bytes.len()]);
+        self.left -= bytes.len();
+    }
+
+    // Combines whole blocks, where none has been begun.
+    fn apply_whole(&mut self, blocks: &mut [u8], steps: &mut Steps)
+        requires whole { length blocks.old % 64 ≡ 0 }
+        requires front { 0 < length blocks.old → self.old.position % 64 ≡ 0 }
+        requires fits { self.old.position + length blocks.old ≤ limit_of C.modulus }
+        ensures bytes { blocks.new ≡ applied (keystream C.modulus (C.block_at self.old.fixed)) self.old.position blocks.old }
+        ensures moved { self.new ≡ record self.old { position = self.old.position + length blocks.old } }
+        ensures steps { Grows (for_blocks C.PAR_BLOCKS C.par_cost C.one_cost (length blocks.old / 64) 0) steps.old steps.new }
+    {
+        if !blocks.is_empty() {
+            self.core.apply_blocks_counted(blocks, steps);
+        }
+    }
+
+    // Combines a last part, of less than a block, where no block has been begun.
+    fn apply_last(&mut self, bytes: &mut [u8], steps: &mut Steps)
+        requires part { length bytes.old < 64 }
+        requires front { 0 < length bytes.old → self.old.position % 64 ≡ 0 }
+        requires fits { self.old.position + length bytes.old ≤ limit_of C.modulus }
+        ensures bytes { bytes.new ≡ applied (keystream C.modulus (C.block_at self.old.fixed)) self.old.position bytes.old }
+        ensures moved { self.new ≡ record self.old { position = self.old.position + length bytes.old } }
+        ensures steps { Grows (for_call 0 (min 1 (length bytes.old)) (min 1 (length bytes.old) * C.one_cost)) steps.old steps.new }
+    {
+        if !bytes.is_empty() {
+            self.core.write_block_counted(&mut self.buffer, steps);
+            xor_bytes(bytes, &self.buffer[..bytes.len()]);
+            self.left = 64 - bytes.len();
+        }
+    }
+}
