@@ -43,3 +43,13 @@ words-more (suc i) (a ∷ b ∷ c ∷ d ∷ bs) h =
     let two : 4 * suc i + 2 ≡ suc (suc (suc (suc (4 * i + 2)))) = omega arith in
     let three : 4 * suc i + 3 ≡ suc (suc (suc (suc (4 * i + 3)))) = omega arith in
     rw (whole, one, two, three, front) (ap (λ t. (a + 256 * b + 256 ^ 2 * c + 256 ^ 3 * d) ∷ t) (words-more i bs (omega arith)))
+
+-- four bytes a word
+pub length-words : (n : ℕ) (bs : List ℕ) → length bs ≡ 4 * n → length (words bs) ≡ n
+length-words zero [] h = refl
+length-words zero (a ∷ bs) h = absurd (omega arith)
+length-words (suc n) [] h = absurd (omega arith)
+length-words (suc n) (a ∷ []) h = absurd (omega arith)
+length-words (suc n) (a ∷ b ∷ []) h = absurd (omega arith)
+length-words (suc n) (a ∷ b ∷ c ∷ []) h = absurd (omega arith)
+length-words (suc n) (a ∷ b ∷ c ∷ d ∷ bs) h = ap suc (length-words n bs (omega arith))

@@ -1,0 +1,2 @@
+pub mod BlocksLemmas
+pub mod StartLemmas

@@ -1,0 +1,20 @@
+-- A start state that is written part by part.
+use Rattle.std.proofs.Common.{◌≡◌, ℕ, List, [], ◌∷◌, ◌++◌, length, replicate, refl, ap, ◌∙◌}
+use borrow.Rule.Slice.PartMut.{put_mid}
+use Rattle.chacha_base.specs.Block.{constants}
+use Rattle.chacha_base.proofs.ListLemmas.{each}
+
+-- sixteen zeros with their first four words written, and then a key of eight and a row of four
+pub written : (first key row : List ℕ) → first ≡ constants → length key ≡ 8 → length row ≡ 4
+    → put_mid 12 4 (put_mid 4 8 (first ++ replicate 12 0) key) row ≡ constants ++ key ++ row
+written first key row same eight four =
+    ap (λ f. put_mid 12 4 (put_mid 4 8 (f ++ replicate 12 0) key) row) same
+    ∙ each 8 (λ ks. put_mid 12 4 (put_mid 4 8 (constants ++ replicate 12 0) ks) row ≡ constants ++ ks ++ row)
+    (λ x0 x1 x2 x3 x4 x5 x6 x7.
+    each 4 (λ r. put_mid 12 4 (put_mid 4 8 (constants ++ replicate 12 0) (x0 ∷ x1 ∷ x2 ∷ x3 ∷ x4 ∷ x5 ∷ x6 ∷ x7 ∷ [])) r
+    ≡ constants ++ (x0 ∷ x1 ∷ x2 ∷ x3 ∷ x4 ∷ x5 ∷ x6 ∷ x7 ∷ []) ++ r)
+    (λ y0 y1 y2 y3. refl) row four) key eight
+
+-- four zeros with their last three words written
+pub row_written : (nonce : List ℕ) → length nonce ≡ 3 → put_mid 1 3 (replicate 4 0) nonce ≡ 0 ∷ nonce
+row_written = each 3 (λ ns. put_mid 1 3 (replicate 4 0) ns ≡ 0 ∷ ns) (λ y0 y1 y2. refl)

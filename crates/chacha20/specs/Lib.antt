@@ -1,0 +1,11 @@
+pub mod Blocks
+pub use Rattle.chacha_base.specs.Words
+pub use Rattle.chacha_base.specs.QuarterRound
+pub use Rattle.chacha_base.specs.Rounds
+pub use Rattle.chacha_base.specs.Bytes
+pub use Rattle.chacha_base.specs.Layout
+pub use Rattle.chacha_base.specs.Block
+pub use Rattle.chacha_base.specs.State
+pub use Rattle.chacha_base.specs.Keystream
+pub use Rattle.chacha_base.specs.Cipher
+pub use Rattle.chacha_base.specs.Counts

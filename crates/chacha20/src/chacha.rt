@@ -1,0 +1,17 @@
+//! The ciphers of RFC 8439.
+
+use crate::chacha_core::ChaChaCore;
+use chacha_base::backends::Soft;
+use chacha_base::rounds::R20;
+use chacha_base::variants::Ietf;
+use chacha_base::wrapper::StreamCipherCoreWrapper;
+
+/// A key of 32 bytes.
+pub type Key = [u8; 32];
+
+/// A nonce of 12 bytes. No two messages under one key may have the same.
+pub type Nonce = [u8; 12];
+
+/// ChaCha20 (RFC 8439, section 2.4), from block 0 on. It takes 274877906880 bytes for one key and nonce: all blocks
+/// but the one with the greatest counter.
+pub type ChaCha20 = StreamCipherCoreWrapper<ChaChaCore<R20, Ietf, Soft>>;

@@ -1,0 +1,236 @@
+//! A state of sixteen words, and the engine that hands out its blocks.
+
+ghost use Rattle.std.specs.Prelude.{◌≡◌, ◌≤◌, ◌<◌, ℕ, ◌+◌, ◌*◌, ◌/◌, ◌%◌, List, ◌++◌, length};
+ghost use Rattle.chacha_base.specs.Layout.{ietf, modulus};
+ghost use Rattle.chacha_base.specs.Block.{constants, start, block};
+ghost use Rattle.chacha_base.specs.Bytes.{words};
+ghost use Rattle.chacha_base.specs.State.{state_counter, fixed_words, block_of, advanced};
+ghost use Rattle.chacha_base.specs.Keystream.{keystream, applied};
+ghost use Rattle.chacha_base.specs.Counts.{Grows, for_call, for_tail, for_blocks};
+ghost use Rattle.chacha20.specs.Blocks.{byte_of};
+
+use crate::chacha::{Key, Nonce};
+use chacha_base::bytes::{read_words, xor_bytes};
+use chacha_base::cipher::{
+    BlockSizeUser, IvSizeUser, KeyIvInit, KeySizeUser, Keystream, ParBlocksSizeUser,
+    StreamCipherBackend, StreamCipherCore, StreamCipherSeekCore,
+};
+use chacha_base::rounds::{Rounds, Steps};
+use chacha_base::variants::{Ietf, Variant};
+use std::marker::{Model, PhantomData};
+
+const CONSTANTS: [u32; 4] = [0x6170_7865, 0x3320_646e, 0x7962_2d32, 0x6b20_6574];
+
+/// The core of a ChaCha cipher: sixteen words, of which the variant says where the counter stands. Clauses see it as
+/// the list of its words. `R` is the number of double rounds, `V` the layout, `B` the backend that makes the blocks.
+pub struct ChaChaCore<R: Rounds, V: Variant, B> {
+    state: [u32; 16],
+    rounds: PhantomData<R>,
+    variant: PhantomData<V>,
+    backend: PhantomData<B>,
+}
+
+impl<R: Rounds, V: Variant, B> Drop for ChaChaCore<R, V, B> {
+    fn drop(self) {
+        let ChaChaCore {
+            state: _,
+            rounds: _,
+            variant: _,
+            backend: _,
+        } = self;
+    }
+}
+
+impl<R: Rounds, V: Variant, B> Model for ChaChaCore<R, V, B> {
+    ghost Value = { List ℕ };
+
+    ghost view = { λ core. core.state };
+}
+
+impl<R: Rounds, V: Variant, B> Keystream for ChaChaCore<R, V, B> {
+    ghost fixed = { fixed_words V.layout };
+
+    ghost modulus = { modulus V.layout };
+
+    ghost block_at = { block_of R.COUNT V.layout };
+}
+
+impl<R: Rounds, V: Variant, B> BlockSizeUser for ChaChaCore<R, V, B> {
+    ghost BLOCK_SIZE = { 64 };
+
+    const BLOCK_SIZE: usize = 64;
+}
+
+impl<R: Rounds, V: Variant, B: ParBlocksSizeUser> ParBlocksSizeUser for ChaChaCore<R, V, B> {
+    ghost PAR_BLOCKS = { B.PAR_BLOCKS };
+
+    const PAR_BLOCKS: usize = B::PAR_BLOCKS;
+
+    ghost par_blocks_from = { B.par_blocks_from };
+
+    ghost par_blocks_to = { B.par_blocks_to };
+}
+
+impl<R: Rounds, B> KeySizeUser for ChaChaCore<R, Ietf, B> {
+    ghost KEY_SIZE = { 32 };
+
+    const KEY_SIZE: usize = 32;
+}
+
+impl<R: Rounds, B> IvSizeUser for ChaChaCore<R, Ietf, B> {
+    ghost IV_SIZE = { 12 };
+
+    const IV_SIZE: usize = 12;
+}
+
+impl<R: Rounds, B> KeyIvInit for ChaChaCore<R, Ietf, B> {
+    type Key = Key;
+
+    type Iv = Nonce;
+
+    ghost init = { λ key iv. start ietf key iv 0 };
+
+    ghost block = { block R.COUNT ietf };
+
+    fn new(key: &Key, iv: &Nonce) -> Self {
+        let mut last_row = [0; 4];
+        read_words(iv, &mut last_row[1..]);
+        ChaChaCore {
+            state: start_state(key, &last_row),
+            rounds: PhantomData,
+            variant: PhantomData,
+            backend: PhantomData,
+        }
+    }
+}
+
+// The state of a key and a last row.
+fn start_state(key: &Key, last_row: &[u32; 4]) -> [u32; 16]
+    ensures { result ≡ constants ++ words key.now ++ last_row.now }
+{
+    let mut state = [0; 16];
+    state[..4].copy_from_slice(&CONSTANTS);
+    read_words(key, &mut state[4..12]);
+    state[12..].copy_from_slice(last_row);
+    state
+}
+
+// The counter of a state.
+fn counter_of<V: Variant>(state: &[u32; 16]) -> V::Counter
+    ensures value { V.Counter.value result ≡ state_counter V.layout state.now }
+    ensures below { state_counter V.layout state.now < modulus V.layout }
+{
+    V::get_block_pos(&state[12..])
+}
+
+// Writes the block of a state, and moves its counter.
+fn write_block<R: Rounds, V: Variant, B: StreamCipherBackend<R, V>>(
+    state: &mut [u32; 16],
+    block: &mut [u8; 64],
+    steps: &mut Steps,
+)
+    ensures block { block.new ≡ block_of R.COUNT V.layout (fixed_words V.layout state.old) (state_counter V.layout state.old) }
+    ensures state { state.new ≡ advanced V.layout 1 state.old }
+    ensures steps { Grows (for_call 0 1 (B.ONE_STEPS * R.COUNT)) steps.old steps.new }
+{
+    B::gen_ks_block(state, block, steps);
+}
+
+// Combines bytes with whole blocks.
+#[inline(always)]
+fn xor_blocks(data: &mut [u8], blocks: &[[u8; 64]])
+    requires { length «data».old ≡ 64 * length blocks.now }
+    ensures { «data».new ≡ applied (byte_of blocks.now) 0 «data».old }
+{
+    for i in 0..blocks.len() {
+        xor_bytes(&mut data[64 * i..64 * i + 64], &blocks[i]);
+    }
+}
+
+// Combines bytes with the blocks of parallel calls alone.
+#[inline(always)]
+fn apply_groups<R: Rounds, V: Variant, B: StreamCipherBackend<R, V>>(
+    state: &mut [u32; 16],
+    blocks: &mut [[u8; 64]; 16],
+    data: &mut [u8],
+    groups: usize,
+    steps: &mut Steps,
+)
+    requires { length «data».old ≡ 64 * (B.PAR_BLOCKS * groups) }
+    ensures data { «data».new ≡ applied (keystream (modulus V.layout) (block_of R.COUNT V.layout (fixed_words V.layout state.old)))
+        (64 * state_counter V.layout state.old) «data».old }
+    ensures state { state.new ≡ advanced V.layout (B.PAR_BLOCKS * groups) state.old }
+    ensures steps { Grows (for_call groups 0 (groups * (B.PAR_STEPS * R.COUNT))) steps.old steps.new }
+{
+    let made = &mut blocks[..B::PAR_BLOCKS];
+    'groups: for group in 0..groups {
+        B::gen_par_ks_blocks(state, made, steps);
+        let at = 64 * (B::PAR_BLOCKS * group);
+        xor_blocks(&mut data[at..at + 64 * made.len()], made);
+    }
+}
+
+// Combines bytes with fewer blocks than a parallel call makes.
+#[inline(always)]
+fn apply_tail<R: Rounds, V: Variant, B: StreamCipherBackend<R, V>>(
+    state: &mut [u32; 16],
+    blocks: &mut [[u8; 64]; 16],
+    data: &mut [u8],
+    steps: &mut Steps,
+)
+    requires whole { length «data».old % 64 ≡ 0 }
+    requires few { length «data».old < 64 * B.PAR_BLOCKS }
+    ensures data { «data».new ≡ applied (keystream (modulus V.layout) (block_of R.COUNT V.layout (fixed_words V.layout state.old)))
+        (64 * state_counter V.layout state.old) «data».old }
+    ensures state { state.new ≡ advanced V.layout (length «data».old / 64) state.old }
+    ensures steps { Grows (for_tail (B.ONE_STEPS * R.COUNT) (length «data».old / 64)) steps.old steps.new }
+{
+    let made = &mut blocks[..data.len() / 64];
+    B::gen_tail_blocks(state, made, steps);
+    xor_blocks(data, made);
+}
+
+impl<R: Rounds, V: Variant, B: StreamCipherBackend<R, V>> StreamCipherCore for ChaChaCore<R, V, B> {
+    ghost use Rattle.std.specs.Prelude.{refl};
+
+    ghost counter = { state_counter V.layout };
+
+    ghost par_cost = { B.PAR_STEPS * R.COUNT };
+
+    ghost one_cost = { B.ONE_STEPS * R.COUNT };
+
+    ghost block_size = { refl };
+
+    fn remaining_blocks(&self) -> Option<usize> {
+        V::remaining_blocks(counter_of::<V>(&self.state))
+    }
+
+    fn write_block_counted(&mut self, block: &mut [u8; 64], steps: &mut Steps) {
+        write_block::<R, V, B>(&mut self.state, block, steps);
+    }
+
+    fn apply_blocks_counted(&mut self, data: &mut [u8], steps: &mut Steps) {
+        let mut blocks = [[0; 64]; 16];
+        let groups = data.len() / 64 / B::PAR_BLOCKS;
+        let (whole, tail) = data.split_at_mut(64 * (B::PAR_BLOCKS * groups));
+        apply_groups::<R, V, B>(&mut self.state, &mut blocks, whole, groups, steps);
+        apply_tail::<R, V, B>(&mut self.state, &mut blocks, tail, steps);
+    }
+}
+
+impl<R: Rounds, V: Variant, B: StreamCipherBackend<R, V>> StreamCipherSeekCore
+    for ChaChaCore<R, V, B> {
+    ghost use Rattle.std.proofs.Common.{sym};
+
+    type Counter = V::Counter;
+
+    ghost counters = { sym V.counters };
+
+    fn get_block_pos(&self) -> V::Counter {
+        counter_of::<V>(&self.state)
+    }
+
+    fn set_block_pos(&mut self, pos: V::Counter) {
+        V::set_block_pos(&mut self.state[12..], pos);
+    }
+}

@@ -1,0 +1,17 @@
+//! The ChaCha stream ciphers.
+//!
+//! ```text
+//! use chacha20::ChaCha20;
+//! use chacha20::cipher::{KeyIvInit, StreamCipher};
+//! ```
+#![tactic(auto)]
+
+mod chacha;
+mod chacha_core;
+
+pub use chacha::{ChaCha20, Key, Nonce};
+pub use chacha_base::cipher::KeyIvInit;
+pub use chacha_base::rounds::{R20, Rounds, Steps};
+pub use chacha_base::wrapper::StreamCipherCoreWrapper;
+pub use chacha_base::{backends, cipher, variants};
+pub use chacha_core::ChaChaCore;
