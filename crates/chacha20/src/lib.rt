@@ -8,6 +8,8 @@
 
 mod chacha;
 mod chacha_core;
+#[cfg(test)]
+mod tests;
 
 pub use chacha::{ChaCha20, Key, Nonce};
 pub use chacha_base::cipher::KeyIvInit;

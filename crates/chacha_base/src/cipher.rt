@@ -80,7 +80,7 @@ pub trait KeyIvInit: Keystream {
     /// The first value of a key and a nonce: no block and no byte is taken yet.
     fn new(key: &Self::Key, iv: &Self::Iv) -> Self
         ensures value { result ≡ init key.now iv.now }
-        ensures blocks { (c : ℕ) → c < Self.modulus → Self.block_at (Self.fixed result) c ≡ block key.now iv.now c };
+        ensures blocks { Self.block_at (Self.fixed result) ≡ block key.now iv.now };
 }
 
 /// Makes the blocks of a state one after another. The functions have no receiver, so that a backend is a marker.

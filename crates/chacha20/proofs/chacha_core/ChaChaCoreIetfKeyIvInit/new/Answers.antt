@@ -1,4 +1,5 @@
 use Rattle.std.proofs.Common.{◌≡◌, ◌∙◌, ◌++◌, [], ◌∷◌, length, sym, ap, append_assoc}
+use Rattle.std.proofs.Math.Path.{fun_ext}
 use Rattle.chacha_base.specs.Bytes.{bytes, words}
 use Rattle.chacha_base.specs.Layout.{ietf}
 use Rattle.chacha_base.specs.Rounds.{mix}
@@ -18,6 +19,7 @@ returns-clause-value g c =
     ∙ sym (append_assoc (constants ++ key) (0 ∷ []) (words c.args.iv.now))
 
 pub returns-clause-blocks : goal.returns-clause-blocks
-returns-clause-blocks g c counter below =
+returns-clause-blocks g c =
+    fun_ext (λ counter.
     ap (λ s. block_of g.R.Rounds.COUNT ietf (fixed_words ietf s) counter) (returns-clause-value g c)
-    ∙ ap (λ s. bytes (mix g.R.Rounds.COUNT s)) (start-joined ietf c.args.key.now c.args.iv.now counter (length-words 8 _ c.told-key))
+    ∙ ap (λ s. bytes (mix g.R.Rounds.COUNT s)) (start-joined ietf c.args.key.now c.args.iv.now counter (length-words 8 _ c.told-key)))

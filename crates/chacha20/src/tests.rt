@@ -1,0 +1,27 @@
+//! What no contract says: published vectors, and what a caller learns.
+
+ghost use Rattle.std.specs.Prelude.{◌≡◌, ◌+◌, ◌≤◌, ◌^◌, ◌↔◌, length, IsOk, OnOk, OnErr};
+ghost use Rattle.chacha_base.specs.Layout.{ietf};
+ghost use Rattle.chacha_base.specs.Block.{block};
+ghost use Rattle.chacha_base.specs.Keystream.{keystream, applied};
+
+mod rfc8439;
+mod rows;
+
+use crate::cipher::{KeyIvInit, StreamCipher, StreamCipherError};
+use crate::{ChaCha20, Key, Nonce};
+
+// The key 00 to 1f.
+const COUNTING: Key = [
+    0, 1, 2, 3, 4, 5, 6, 7, 8, 9, 10, 11, 12, 13, 14, 15, 16, 17, 18, 19, 20, 21, 22, 23, 24, 25,
+    26, 27, 28, 29, 30, 31,
+];
+
+// A message under a key and a nonce, as RFC 8439 has it: two public contracts say so, with no proof of ours.
+fn encrypt(key: &Key, nonce: &Nonce, message: &mut [u8]) -> Result<(), StreamCipherError>
+    ensures accepted { IsOk result ↔ (length message.old ≤ 274877906880) }
+    ensures bytes { OnOk result (message.new ≡ applied (keystream (2 ^ 32) (block 10 ietf key.now nonce.now)) 0 message.old) }
+    ensures refused { OnErr result (message.new ≡ message.old) }
+{
+    ChaCha20::new(key, nonce).try_apply_keystream(message)
+}
