@@ -3,6 +3,7 @@ pub mod BytesLemmas
 pub mod CountsLemmas
 pub mod KeystreamLemmas
 pub mod ListLemmas
+pub mod RfcVectors
 pub mod RoundLemmas
 pub mod StateLemmas
 pub mod WordLemmas

@@ -7,5 +7,7 @@ pub mod backends;
 pub mod bytes;
 pub mod cipher;
 pub mod rounds;
+#[cfg(test)]
+mod tests;
 pub mod variants;
 pub mod wrapper;
