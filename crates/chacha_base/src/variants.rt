@@ -109,7 +109,7 @@ pub trait Variant: Sealed {
 }
 
 /// The layout of RFC 8439: a counter of 32 bits in word 12, and a nonce of 12 bytes.
-#[derive(Clone, Copy, Debug)]
+#[derive(Clone, Copy)]
 pub enum Ietf {}
 
 impl Sealed for Ietf {}
