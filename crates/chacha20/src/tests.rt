@@ -5,11 +5,12 @@ ghost use Rattle.chacha_base.specs.Layout.{ietf};
 ghost use Rattle.chacha_base.specs.Block.{block};
 ghost use Rattle.chacha_base.specs.Keystream.{keystream, applied};
 
+mod readme;
 mod rfc8439;
 mod rows;
 
 use crate::cipher::{KeyIvInit, StreamCipher, StreamCipherError};
-use crate::{ChaCha20, Key, Nonce};
+use crate::{ChaCha20, Key, Nonce, Steps};
 
 // The key 00 to 1f.
 const COUNTING: Key = [
@@ -24,4 +25,20 @@ fn encrypt(key: &Key, nonce: &Nonce, message: &mut [u8]) -> Result<(), StreamCip
     ensures refused { OnErr result (message.new ≡ message.old) }
 {
     ChaCha20::new(key, nonce).try_apply_keystream(message)
+}
+
+// What the plain backend may count for nine blocks and a last part of ten bytes: 9 parallel calls, 1 other and 800
+// quarter rounds.
+fn apply_586_bytes(steps: &mut Steps) -> Result<(), StreamCipherError>
+    ensures accepted { IsOk result }
+    ensures par { steps.new.par ≤ steps.old.par + 9 }
+    ensures other { steps.new.other ≤ steps.old.other + 1 }
+    ensures rounds { steps.new.rounds ≡ steps.old.rounds + 800 }
+{
+    ChaCha20::new(&[0; 32], &[0; 12]).try_apply_keystream_counted(&mut [0; 586], steps)
+}
+
+#[test]
+fn counted(rt: HostRuntime) {
+    assert_eq!(rt; apply_586_bytes(&mut Steps::new()), Ok(()));
 }
