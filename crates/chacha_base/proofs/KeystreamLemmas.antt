@@ -1,6 +1,7 @@
 -- Bytes combined with a stream.
-use Rattle.std.proofs.Common.{◌≡◌, ℕ, suc, ◌+◌, ◌<◌, List, [], ◌∷◌, ◌++◌, length, slice_index, bit_xor, arith, refl, ap, ap₂, ◌∙◌}
-use Rattle.chacha_base.specs.Keystream.{applied}
+use Rattle.std.proofs.Common.{◌≡◌, ℕ, zero, suc, ◌+◌, ◌<◌, List, [], ◌∷◌, ◌++◌, length, replicate, slice_index, bit_xor, arith, refl, ap, ap₂, ◌∙◌}
+use Rattle.std.specs.Int.Bits.{xor_zero_l}
+use Rattle.chacha_base.specs.Keystream.{applied, streamed}
 
 -- bytes that are combined one by one
 pub applied_is : (stream : ℕ → ℕ) (p : ℕ) (xs ys : List ℕ) → length ys ≡ length xs
@@ -30,3 +31,8 @@ pub applied-parts : (stream : ℕ → ℕ) (p q r : ℕ) (all front rest blocks 
 applied-parts stream p q r all front rest blocks last new_front new_blocks new_last parts more at_blocks at_last f b l =
     rw (parts, more, applied-append stream p front (blocks ++ last), ← at_blocks, applied-append stream q blocks last, ← at_last)
     (ap₂ ◌++◌ f (ap₂ ◌++◌ b l))
+
+-- zeros combined with a stream are the stream
+pub applied-zeros : (stream : ℕ → ℕ) (p n : ℕ) → applied stream p (replicate n 0) ≡ streamed stream p n
+applied-zeros stream p zero = refl
+applied-zeros stream p (suc n) = ap₂ ◌∷◌ (xor_zero_l (stream p)) (applied-zeros stream (p + 1) n)

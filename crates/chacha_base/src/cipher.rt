@@ -1,9 +1,9 @@
 //! The traits of backends, cores and ciphers, and their errors.
 
-ghost use Rattle.std.specs.Prelude.{◌≡◌, ◌↔◌, ◌≤◌, ◌<◌, ◌+◌, ◌-◌, ◌*◌, ◌/◌, ◌%◌, ◌^◌, ℕ, List, length, slice_get, Some, IsOk, OnOk, OnErr};
+ghost use Rattle.std.specs.Prelude.{◌≡◌, ◌↔◌, ◌≤◌, ◌<◌, ◌+◌, ◌-◌, ◌*◌, ◌/◌, ◌%◌, ◌^◌, ℕ, List, length, slice_get, Some, IsOk, IfOk, OnOk, OnErr, IsSomeAnd, IfSome};
 ghost use Rattle.chacha_base.specs.Layout.{remaining};
 ghost use Rattle.chacha_base.specs.State.{advanced, next_block};
-ghost use Rattle.chacha_base.specs.Keystream.{keystream, applied};
+ghost use Rattle.chacha_base.specs.Keystream.{keystream, applied, streamed};
 ghost use Rattle.chacha_base.specs.Counts.{Bounds, Grows, for_call, for_tail, for_blocks};
 
 use crate::rounds::{Rounds, Steps};
@@ -14,6 +14,10 @@ pub use crate::wrapper::StreamCipherCoreWrapper;
 /// The refusal of a call on a cipher, which leaves the cipher and all buffers as they were.
 #[derive(Clone, Copy, Debug, PartialEq, Eq)]
 pub struct StreamCipherError;
+
+/// A position that is greater than the greatest number of the type that was asked for.
+#[derive(Clone, Copy, Debug, PartialEq, Eq)]
+pub struct OverflowError;
 
 /// The size of a block in bytes.
 pub trait BlockSizeUser {
@@ -227,6 +231,70 @@ pub trait StreamCipher {
     {
         let mut steps = Steps::new();
         self.try_apply_keystream_counted(buf, &mut steps)
+    }
+
+    /// Writes the keystream: each byte becomes the one at its position, whatever stood there. `Err` exactly where the
+    /// bytes would pass the limit; then nothing changes.
+    fn try_write_keystream(&mut self, buf: &mut [u8]) -> Result<(), StreamCipherError>
+        ensures accepted { IsOk result ↔ (position self.old + length buf.old ≤ limit) }
+        ensures bytes { OnOk result (buf.new ≡ streamed (stream self.old) (position self.old) (length buf.old)) }
+        ensures moved { OnOk result (self.new ≡ at self.old (position self.old + length buf.old)) }
+        ensures refused { OnErr result ((buf.new ≡ buf.old) × (self.new ≡ self.old)) }
+    {
+        self.check_remaining(buf.len())?;
+        buf.fill(0);
+        self.try_apply_keystream(buf)
+    }
+
+    /// Combines the input with the keystream by exclusive or into the output (RFC 8439, section 2.4). `Err` where the
+    /// lengths differ, at any position, and where the bytes would pass the limit, and nowhere else; then nothing
+    /// changes.
+    fn try_apply_keystream_b2b(
+        &mut self,
+        input: &[u8],
+        output: &mut [u8],
+    ) -> Result<(), StreamCipherError>
+        ensures accepted { IsOk result ↔ ((length input.now ≡ length output.old)
+            × (position self.old + length input.now ≤ limit)) }
+        ensures bytes { OnOk result (output.new ≡ applied (stream self.old) (position self.old) input.now) }
+        ensures moved { OnOk result (self.new ≡ at self.old (position self.old + length input.now)) }
+        ensures refused { OnErr result ((output.new ≡ output.old) × (self.new ≡ self.old)) }
+    {
+        if input.len() != output.len() {
+            return Err(StreamCipherError);
+        }
+        self.check_remaining(input.len())?;
+        output.copy_from_slice(input);
+        self.try_apply_keystream(output)
+    }
+
+    /// Combines bytes with the keystream by exclusive or (RFC 8439, section 2.4). The caller keeps within the limit.
+    fn apply_keystream(&mut self, buf: &mut [u8])
+        requires { position self.old + length buf.old ≤ limit }
+        ensures bytes { buf.new ≡ applied (stream self.old) (position self.old) buf.old }
+        ensures moved { self.new ≡ at self.old (position self.old + length buf.old) }
+    {
+        self.try_apply_keystream(buf).unwrap()
+    }
+
+    /// Writes the keystream, whatever stood there. The caller keeps within the limit.
+    fn write_keystream(&mut self, buf: &mut [u8])
+        requires { position self.old + length buf.old ≤ limit }
+        ensures bytes { buf.new ≡ streamed (stream self.old) (position self.old) (length buf.old) }
+        ensures moved { self.new ≡ at self.old (position self.old + length buf.old) }
+    {
+        self.try_write_keystream(buf).unwrap()
+    }
+
+    /// Combines the input with the keystream by exclusive or into the output (RFC 8439, section 2.4). The caller gives
+    /// slices of one length and keeps within the limit.
+    fn apply_keystream_b2b(&mut self, input: &[u8], output: &mut [u8])
+        requires same { length input.now ≡ length output.old }
+        requires fits { position self.old + length input.now ≤ limit }
+        ensures bytes { output.new ≡ applied (stream self.old) (position self.old) input.now }
+        ensures moved { self.new ≡ at self.old (position self.old + length input.now) }
+    {
+        self.try_apply_keystream_b2b(input, output).unwrap()
     }
 
     ghost position_at: { (c : Self) (p : ℕ) → position (at c p) ≡ p };
