@@ -6,10 +6,13 @@ ghost use Rattle.chacha_base.specs.State.{advanced, next_block};
 ghost use Rattle.chacha_base.specs.Keystream.{keystream, applied, streamed};
 ghost use Rattle.chacha_base.specs.Counts.{Bounds, Grows, for_call, for_tail, for_blocks};
 
+mod seek_num;
+
 use crate::rounds::{Rounds, Steps};
 pub use crate::variants::StreamCipherCounter;
 use crate::variants::Variant;
 pub use crate::wrapper::StreamCipherCoreWrapper;
+pub use seek_num::SeekNum;
 
 /// The refusal of a call on a cipher, which leaves the cipher and all buffers as they were.
 #[derive(Clone, Copy, Debug, PartialEq, Eq)]
@@ -302,4 +305,35 @@ pub trait StreamCipher {
     ghost stream_at: { (c : Self) (p : ℕ) → stream (at c p) ≡ stream c };
 
     ghost at_at: { (c : Self) (p q : ℕ) → at (at c p) q ≡ at c q };
+}
+
+/// A cipher whose position can be read and set. A position is a number of bytes from the keystream's first one.
+pub trait StreamCipherSeek: StreamCipher {
+    /// Moves to a position. `Err` exactly where the number is negative or past the limit; then nothing changes. The
+    /// limit itself is accepted.
+    fn try_seek<T: SeekNum>(&mut self, pos: T) -> Result<(), StreamCipherError>
+        ensures accepted { IsOk result ↔ IsSomeAnd (T.position pos) (λ p. p ≤ Self.limit) }
+        ensures moved { OnOk result (IfSome (T.position pos) (λ p. self.new ≡ Self.at self.old p)) }
+        ensures refused { OnErr result (self.new ≡ self.old) };
+
+    /// The position. `Err` exactly where it is greater than the type's greatest number.
+    fn try_current_pos<T: SeekNum>(&self) -> Result<T, OverflowError>
+        ensures accepted { IsOk result ↔ (Self.position self.now ≤ T.greatest) }
+        ensures value { IfOk result (λ number. T.position number ≡ Some (Self.position self.now)) };
+
+    /// Moves to a position. The caller gives a number that is not negative and keeps within the limit.
+    fn seek<T: SeekNum>(&mut self, pos: T)
+        requires { IsSomeAnd (T.position pos) (λ p. p ≤ Self.limit) }
+        ensures { IfSome (T.position pos) (λ p. self.new ≡ Self.at self.old p) }
+    {
+        self.try_seek(pos).unwrap()
+    }
+
+    /// The position. The caller asks for a type that has a number so great.
+    fn current_pos<T: SeekNum>(&self) -> T
+        requires { Self.position self.now ≤ T.greatest }
+        ensures { T.position result ≡ Some (Self.position self.now) }
+    {
+        self.try_current_pos().unwrap()
+    }
 }

@@ -7,8 +7,8 @@ ghost use Rattle.chacha_base.specs.Counts.{Grows, for_bytes, for_blocks, for_cal
 
 use crate::bytes::xor_bytes;
 use crate::cipher::{
-    IvSizeUser, KeyIvInit, KeySizeUser, Keystream, StreamCipher, StreamCipherError,
-    StreamCipherSeekCore,
+    IvSizeUser, KeyIvInit, KeySizeUser, Keystream, OverflowError, SeekNum, StreamCipher,
+    StreamCipherError, StreamCipherSeek, StreamCipherSeekCore,
 };
 use crate::rounds::Steps;
 use crate::variants::StreamCipherCounter;
@@ -122,6 +122,23 @@ impl<C: StreamCipherSeekCore> StreamCipher for StreamCipherCoreWrapper<C> {
     }
 }
 
+impl<C: StreamCipherSeekCore> StreamCipherSeek for StreamCipherCoreWrapper<C> {
+    fn try_seek<T: SeekNum>(&mut self, pos: T) -> Result<(), StreamCipherError> {
+        match pos.to_position() {
+            Some(place) if place <= 64 * u128::from(C::Counter::last()) => {
+                self.move_to(place);
+                Ok(())
+            }
+            _ => Err(StreamCipherError),
+        }
+    }
+
+    fn try_current_pos<T: SeekNum>(&self) -> Result<T, OverflowError> {
+        let counter = self.core.get_block_pos().to_u64();
+        T::from_position(64 * u128::from(counter) - self.left as u128)
+    }
+}
+
 impl<C: StreamCipherSeekCore> StreamCipherCoreWrapper<C> {
     // How many bytes are left of the block that has been begun.
     fn left(&self) -> usize
@@ -169,5 +186,18 @@ impl<C: StreamCipherSeekCore> StreamCipherCoreWrapper<C> {
             xor_bytes(bytes, &self.buffer[..bytes.len()]);
             self.left = 64 - bytes.len();
         }
+    }
+    // Moves to a position. It makes the block that the position lies in, and none where that is a block's front.
+    fn move_to(&mut self, place: u128)
+        requires { place ≤ limit_of C.modulus }
+        ensures { self.new ≡ record self.old { position = place } }
+    {
+        let used = (place % 64) as usize;
+        self.core
+            .set_block_pos(C::Counter::from_u64((place / 64) as u64));
+        if used > 0 {
+            self.core.write_keystream_block(&mut self.buffer);
+        }
+        self.left = (64 - used) % 64;
     }
 }
