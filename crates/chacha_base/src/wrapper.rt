@@ -187,6 +187,7 @@ impl<C: StreamCipherSeekCore> StreamCipherCoreWrapper<C> {
             self.left = 64 - bytes.len();
         }
     }
+
     // Moves to a position. It makes the block that the position lies in, and none where that is a block's front.
     fn move_to(&mut self, place: u128)
         requires { place ≤ limit_of C.modulus }
