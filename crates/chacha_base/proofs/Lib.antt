@@ -1,5 +1,6 @@
 pub mod BufferedLemmas
 pub mod BytesLemmas
+pub mod CipherLemmas
 pub mod CountsLemmas
 pub mod KeystreamLemmas
 pub mod ListLemmas

@@ -14,6 +14,10 @@ use crate::variants::Variant;
 pub use crate::wrapper::StreamCipherCoreWrapper;
 pub use seek_num::SeekNum;
 
+// How many bytes are filled or copied before the keystream goes over them: few enough to stay in a near cache, so that
+// memory is passed once.
+const PIECE: usize = 0x4000;
+
 /// The refusal of a call on a cipher, which leaves the cipher and all buffers as they were.
 #[derive(Clone, Copy, Debug, PartialEq, Eq)]
 pub struct StreamCipherError;
@@ -245,8 +249,15 @@ pub trait StreamCipher {
         ensures refused { OnErr result ((buf.new ≡ buf.old) × (self.new ≡ self.old)) }
     {
         self.check_remaining(buf.len())?;
-        buf.fill(0);
-        self.try_apply_keystream(buf)
+        let mut done = 0;
+        'pieces: while done < buf.len() {
+            let end = done + PIECE.min(buf.len() - done);
+            let piece = &mut buf[done..end];
+            piece.fill(0);
+            self.apply_keystream(piece);
+            done = end;
+        }
+        Ok(())
     }
 
     /// Combines the input with the keystream by exclusive or into the output (RFC 8439, section 2.4). `Err` where the
@@ -267,8 +278,15 @@ pub trait StreamCipher {
             return Err(StreamCipherError);
         }
         self.check_remaining(input.len())?;
-        output.copy_from_slice(input);
-        self.try_apply_keystream(output)
+        let mut done = 0;
+        'pieces: while done < input.len() {
+            let end = done + PIECE.min(input.len() - done);
+            let piece = &mut output[done..end];
+            piece.copy_from_slice(&input[done..end]);
+            self.apply_keystream(piece);
+            done = end;
+        }
+        Ok(())
     }
 
     /// Combines bytes with the keystream by exclusive or (RFC 8439, section 2.4). The caller keeps within the limit.
@@ -299,6 +317,8 @@ pub trait StreamCipher {
     {
         self.try_apply_keystream_b2b(input, output).unwrap()
     }
+
+    ghost at_position: { (c : Self) → at c (position c) ≡ c };
 
     ghost position_at: { (c : Self) (p : ℕ) → position (at c p) ≡ p };
 

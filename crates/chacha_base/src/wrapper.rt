@@ -90,6 +90,8 @@ impl<C: StreamCipherSeekCore> StreamCipher for StreamCipherCoreWrapper<C> {
 
     ghost cost = { for_bytes C.PAR_BLOCKS C.par_cost C.one_cost };
 
+    ghost at_position = { λ c. refl };
+
     ghost position_at = { λ c p. refl };
 
     ghost stream_at = { λ c p. refl };
