@@ -128,7 +128,7 @@ impl<C: StreamCipherSeekCore> StreamCipherSeek for StreamCipherCoreWrapper<C> {
     fn try_seek<T: SeekNum>(&mut self, pos: T) -> Result<(), StreamCipherError> {
         match pos.to_position() {
             Some(place) if place <= 64 * u128::from(C::Counter::last()) => {
-                self.move_to(place);
+                self.move_to(place, &mut Steps::new());
                 Ok(())
             }
             _ => Err(StreamCipherError),
@@ -191,15 +191,16 @@ impl<C: StreamCipherSeekCore> StreamCipherCoreWrapper<C> {
     }
 
     // Moves to a position. It makes the block that the position lies in, and none where that is a block's front.
-    fn move_to(&mut self, place: u128)
+    fn move_to(&mut self, place: u128, steps: &mut Steps)
         requires { place ≤ limit_of C.modulus }
-        ensures { self.new ≡ record self.old { position = place } }
+        ensures moved { self.new ≡ record self.old { position = place } }
+        ensures steps { Grows (for_call 0 (min 1 (place % 64)) (min 1 (place % 64) * C.one_cost)) steps.old steps.new }
     {
         let used = (place % 64) as usize;
-        self.core
-            .set_block_pos(C::Counter::from_u64((place / 64) as u64));
+        let counter = (place / 64) as u64;
+        self.core.set_block_pos(C::Counter::from_u64(counter));
         if used > 0 {
-            self.core.write_keystream_block(&mut self.buffer);
+            self.core.write_block_counted(&mut self.buffer, steps);
         }
         self.left = (64 - used) % 64;
     }

@@ -1,7 +1,6 @@
 use Rattle.std.proofs.Common.{◌≡◌, ◌+◌, ◌-◌, length, take, drop, replicate, add-zero, arith, refl, sym, ap, ◌∙◌, rules}
 use Rattle.std.proofs.Math.Seq.{take-length}
 use Rattle.std.proofs.lemmas.Grind.{common_steps}
-use Rattle.chacha_base.specs.Keystream.{applied, streamed}
 use Rattle.chacha_base.proofs.CipherLemmas.{position_is, moved_on}
 use Rattle.chacha_base.proofs.KeystreamLemmas.{applied-zeros, streamed-written}
 use Rattle.chacha_base.proofs.cipher.StreamCipher.try_write_keystream.Goals as goal
