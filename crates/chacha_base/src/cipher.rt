@@ -16,7 +16,7 @@ pub use seek_num::SeekNum;
 
 // How many bytes are filled or copied before the keystream goes over them: few enough to stay in a near cache, so that
 // memory is passed once.
-const PIECE: usize = 0x4000;
+const PIECE: usize = 0x1_0000;
 
 /// The refusal of a call on a cipher, which leaves the cipher and all buffers as they were.
 #[derive(Clone, Copy, Debug, PartialEq, Eq)]
