@@ -1,8 +1,10 @@
 pub mod BufferedLemmas
 pub mod BytesLemmas
+pub mod CipherLemmas
 pub mod CountsLemmas
 pub mod KeystreamLemmas
 pub mod ListLemmas
+pub mod PieceLemmas
 pub mod RfcVectors
 pub mod RoundLemmas
 pub mod StateLemmas

@@ -10,3 +10,4 @@ pub mod Counts
 pub mod Number
 pub mod Cipher
 pub mod Buffered
+pub mod SeekNum

@@ -1,19 +1,30 @@
 //! The traits of backends, cores and ciphers, and their errors.
 
-ghost use Rattle.std.specs.Prelude.{◌≡◌, ◌↔◌, ◌≤◌, ◌<◌, ◌+◌, ◌-◌, ◌*◌, ◌/◌, ◌%◌, ◌^◌, ℕ, List, length, slice_get, Some, IsOk, OnOk, OnErr};
+ghost use Rattle.std.specs.Prelude.{◌≡◌, ◌↔◌, ◌≤◌, ◌<◌, ◌+◌, ◌-◌, ◌*◌, ◌/◌, ◌%◌, ◌^◌, ℕ, List, length, slice_get, Some, IsOk, IfOk, OnOk, OnErr, IsSomeAnd, IfSome};
 ghost use Rattle.chacha_base.specs.Layout.{remaining};
 ghost use Rattle.chacha_base.specs.State.{advanced, next_block};
-ghost use Rattle.chacha_base.specs.Keystream.{keystream, applied};
+ghost use Rattle.chacha_base.specs.Keystream.{keystream, applied, streamed};
 ghost use Rattle.chacha_base.specs.Counts.{Bounds, Grows, for_call, for_tail, for_blocks};
+
+mod seek_num;
 
 use crate::rounds::{Rounds, Steps};
 pub use crate::variants::StreamCipherCounter;
 use crate::variants::Variant;
 pub use crate::wrapper::StreamCipherCoreWrapper;
+pub use seek_num::SeekNum;
+
+// How many bytes are filled or copied before the keystream goes over them: few enough to stay in a near cache, so that
+// memory is passed once.
+const PIECE: usize = 0x1_0000;
 
 /// The refusal of a call on a cipher, which leaves the cipher and all buffers as they were.
 #[derive(Clone, Copy, Debug, PartialEq, Eq)]
 pub struct StreamCipherError;
+
+/// A position that is greater than the greatest number of the type that was asked for.
+#[derive(Clone, Copy, Debug, PartialEq, Eq)]
+pub struct OverflowError;
 
 /// The size of a block in bytes.
 pub trait BlockSizeUser {
@@ -229,9 +240,120 @@ pub trait StreamCipher {
         self.try_apply_keystream_counted(buf, &mut steps)
     }
 
+    /// Writes the keystream: each byte becomes the one at its position, whatever stood there. `Err` exactly where the
+    /// bytes would pass the limit; then nothing changes.
+    fn try_write_keystream(&mut self, buf: &mut [u8]) -> Result<(), StreamCipherError>
+        ensures accepted { IsOk result ↔ (position self.old + length buf.old ≤ limit) }
+        ensures bytes { OnOk result (buf.new ≡ streamed (stream self.old) (position self.old) (length buf.old)) }
+        ensures moved { OnOk result (self.new ≡ at self.old (position self.old + length buf.old)) }
+        ensures refused { OnErr result ((buf.new ≡ buf.old) × (self.new ≡ self.old)) }
+    {
+        self.check_remaining(buf.len())?;
+        let mut done = 0;
+        'pieces: while done < buf.len() {
+            let end = done + PIECE.min(buf.len() - done);
+            let piece = &mut buf[done..end];
+            piece.fill(0);
+            self.apply_keystream(piece);
+            done = end;
+        }
+        Ok(())
+    }
+
+    /// Combines the input with the keystream by exclusive or into the output (RFC 8439, section 2.4). `Err` where the
+    /// lengths differ, at any position, and where the bytes would pass the limit, and nowhere else; then nothing
+    /// changes.
+    fn try_apply_keystream_b2b(
+        &mut self,
+        input: &[u8],
+        output: &mut [u8],
+    ) -> Result<(), StreamCipherError>
+        ensures accepted { IsOk result ↔ ((length input.now ≡ length output.old)
+            × (position self.old + length input.now ≤ limit)) }
+        ensures bytes { OnOk result (output.new ≡ applied (stream self.old) (position self.old) input.now) }
+        ensures moved { OnOk result (self.new ≡ at self.old (position self.old + length input.now)) }
+        ensures refused { OnErr result ((output.new ≡ output.old) × (self.new ≡ self.old)) }
+    {
+        if input.len() != output.len() {
+            return Err(StreamCipherError);
+        }
+        self.check_remaining(input.len())?;
+        let mut done = 0;
+        'pieces: while done < input.len() {
+            let end = done + PIECE.min(input.len() - done);
+            let piece = &mut output[done..end];
+            piece.copy_from_slice(&input[done..end]);
+            self.apply_keystream(piece);
+            done = end;
+        }
+        Ok(())
+    }
+
+    /// Combines bytes with the keystream by exclusive or (RFC 8439, section 2.4). The caller keeps within the limit.
+    fn apply_keystream(&mut self, buf: &mut [u8])
+        requires { position self.old + length buf.old ≤ limit }
+        ensures bytes { buf.new ≡ applied (stream self.old) (position self.old) buf.old }
+        ensures moved { self.new ≡ at self.old (position self.old + length buf.old) }
+    {
+        self.try_apply_keystream(buf).unwrap()
+    }
+
+    /// Writes the keystream, whatever stood there. The caller keeps within the limit.
+    fn write_keystream(&mut self, buf: &mut [u8])
+        requires { position self.old + length buf.old ≤ limit }
+        ensures bytes { buf.new ≡ streamed (stream self.old) (position self.old) (length buf.old) }
+        ensures moved { self.new ≡ at self.old (position self.old + length buf.old) }
+    {
+        self.try_write_keystream(buf).unwrap()
+    }
+
+    /// Combines the input with the keystream by exclusive or into the output (RFC 8439, section 2.4). The caller gives
+    /// slices of one length and keeps within the limit.
+    fn apply_keystream_b2b(&mut self, input: &[u8], output: &mut [u8])
+        requires same { length input.now ≡ length output.old }
+        requires fits { position self.old + length input.now ≤ limit }
+        ensures bytes { output.new ≡ applied (stream self.old) (position self.old) input.now }
+        ensures moved { self.new ≡ at self.old (position self.old + length input.now) }
+    {
+        self.try_apply_keystream_b2b(input, output).unwrap()
+    }
+
+    ghost at_position: { (c : Self) → at c (position c) ≡ c };
+
     ghost position_at: { (c : Self) (p : ℕ) → position (at c p) ≡ p };
 
     ghost stream_at: { (c : Self) (p : ℕ) → stream (at c p) ≡ stream c };
 
     ghost at_at: { (c : Self) (p q : ℕ) → at (at c p) q ≡ at c q };
+}
+
+/// A cipher whose position can be read and set. A position is a number of bytes from the keystream's first one.
+pub trait StreamCipherSeek: StreamCipher {
+    /// Moves to a position. `Err` exactly where the number is negative or past the limit; then nothing changes. The
+    /// limit itself is accepted.
+    fn try_seek<T: SeekNum>(&mut self, pos: T) -> Result<(), StreamCipherError>
+        ensures accepted { IsOk result ↔ IsSomeAnd (T.position pos) (λ p. p ≤ Self.limit) }
+        ensures moved { OnOk result (IfSome (T.position pos) (λ p. self.new ≡ Self.at self.old p)) }
+        ensures refused { OnErr result (self.new ≡ self.old) };
+
+    /// The position. `Err` exactly where it is greater than the type's greatest number.
+    fn try_current_pos<T: SeekNum>(&self) -> Result<T, OverflowError>
+        ensures accepted { IsOk result ↔ (Self.position self.now ≤ T.greatest) }
+        ensures value { IfOk result (λ number. T.position number ≡ Some (Self.position self.now)) };
+
+    /// Moves to a position. The caller gives a number that is not negative and keeps within the limit.
+    fn seek<T: SeekNum>(&mut self, pos: T)
+        requires { IsSomeAnd (T.position pos) (λ p. p ≤ Self.limit) }
+        ensures { IfSome (T.position pos) (λ p. self.new ≡ Self.at self.old p) }
+    {
+        self.try_seek(pos).unwrap()
+    }
+
+    /// The position. The caller asks for a type that has a number so great.
+    fn current_pos<T: SeekNum>(&self) -> T
+        requires { Self.position self.now ≤ T.greatest }
+        ensures { T.position result ≡ Some (Self.position self.now) }
+    {
+        self.try_current_pos().unwrap()
+    }
 }

@@ -26,6 +26,10 @@ pub trait StreamCipherCounter: Sealed + Copy {
         ensures value { result ≡ value self }
         ensures below { result < M };
 
+    /// The greatest number of a counter. This crate's own.
+    fn last() -> u64
+        ensures { result + 1 ≡ M };
+
     /// The counter so many blocks on; it wraps. This crate's own.
     fn advanced_by(self, blocks: usize) -> Self
         ensures { value result ≡ (value self + blocks) % M };
@@ -54,6 +58,10 @@ impl StreamCipherCounter for u32 {
         u64::from(self)
     }
 
+    fn last() -> u64 {
+        u64::from(u32::MAX)
+    }
+
     fn advanced_by(self, blocks: usize) -> u32 {
         self.wrapping_add((blocks & 0xffff_ffff) as u32)
     }
@@ -74,6 +82,10 @@ impl StreamCipherCounter for u64 {
 
     fn to_u64(self) -> u64 {
         self
+    }
+
+    fn last() -> u64 {
+        u64::MAX
     }
 
     fn advanced_by(self, blocks: usize) -> u64 {

@@ -7,8 +7,8 @@ ghost use Rattle.chacha_base.specs.Counts.{Grows, for_bytes, for_blocks, for_cal
 
 use crate::bytes::xor_bytes;
 use crate::cipher::{
-    IvSizeUser, KeyIvInit, KeySizeUser, Keystream, StreamCipher, StreamCipherError,
-    StreamCipherSeekCore,
+    IvSizeUser, KeyIvInit, KeySizeUser, Keystream, OverflowError, SeekNum, StreamCipher,
+    StreamCipherError, StreamCipherSeek, StreamCipherSeekCore,
 };
 use crate::rounds::Steps;
 use crate::variants::StreamCipherCounter;
@@ -90,6 +90,8 @@ impl<C: StreamCipherSeekCore> StreamCipher for StreamCipherCoreWrapper<C> {
 
     ghost cost = { for_bytes C.PAR_BLOCKS C.par_cost C.one_cost };
 
+    ghost at_position = { λ c. refl };
+
     ghost position_at = { λ c p. refl };
 
     ghost stream_at = { λ c p. refl };
@@ -119,6 +121,23 @@ impl<C: StreamCipherSeekCore> StreamCipher for StreamCipherCoreWrapper<C> {
         self.apply_whole(blocks, steps);
         self.apply_last(last, steps);
         Ok(())
+    }
+}
+
+impl<C: StreamCipherSeekCore> StreamCipherSeek for StreamCipherCoreWrapper<C> {
+    fn try_seek<T: SeekNum>(&mut self, pos: T) -> Result<(), StreamCipherError> {
+        match pos.to_position() {
+            Some(place) if place <= 64 * u128::from(C::Counter::last()) => {
+                self.move_to(place, &mut Steps::new());
+                Ok(())
+            }
+            _ => Err(StreamCipherError),
+        }
+    }
+
+    fn try_current_pos<T: SeekNum>(&self) -> Result<T, OverflowError> {
+        let counter = self.core.get_block_pos().to_u64();
+        T::from_position(64 * u128::from(counter) - self.left as u128)
     }
 }
 
@@ -169,5 +188,20 @@ impl<C: StreamCipherSeekCore> StreamCipherCoreWrapper<C> {
             xor_bytes(bytes, &self.buffer[..bytes.len()]);
             self.left = 64 - bytes.len();
         }
+    }
+
+    // Moves to a position. It makes the block that the position lies in, and none where that is a block's front.
+    fn move_to(&mut self, place: u128, steps: &mut Steps)
+        requires { place ≤ limit_of C.modulus }
+        ensures moved { self.new ≡ record self.old { position = place } }
+        ensures steps { Grows (for_call 0 (min 1 (place % 64)) (min 1 (place % 64) * C.one_cost)) steps.old steps.new }
+    {
+        let used = (place % 64) as usize;
+        let counter = (place / 64) as u64;
+        self.core.set_block_pos(C::Counter::from_u64(counter));
+        if used > 0 {
+            self.core.write_block_counted(&mut self.buffer, steps);
+        }
+        self.left = (64 - used) % 64;
     }
 }
