@@ -8,6 +8,7 @@
 
 mod chacha;
 mod chacha_core;
+pub mod runs;
 #[cfg(test)]
 mod tests;
 

@@ -339,7 +339,8 @@ pub trait StreamCipherSeek: StreamCipher {
     /// The position. `Err` exactly where it is greater than the type's greatest number.
     fn try_current_pos<T: SeekNum>(&self) -> Result<T, OverflowError>
         ensures accepted { IsOk result ↔ (Self.position self.now ≤ T.greatest) }
-        ensures value { IfOk result (λ number. T.position number ≡ Some (Self.position self.now)) };
+        ensures value { IfOk result (λ number. T.position number ≡ Some (Self.position self.now)) }
+        ensures within { Self.position self.now ≤ Self.limit };
 
     /// Moves to a position. The caller gives a number that is not negative and keeps within the limit.
     fn seek<T: SeekNum>(&mut self, pos: T)

@@ -1,0 +1,129 @@
+//! Lists of calls. This crate's own: one contract that speaks of any list of calls on a cipher, from any state.
+
+ghost use Rattle.std.specs.Prelude.{◌≡◌, ◌≤◌, ◌+◌, ℕ, List, [], ◌∷◌, All, length, sum};
+ghost use Rattle.chacha_base.specs.Keystream.{keystream, limit_of};
+ghost use Rattle.chacha20.specs.Runs.{setting, outcome_of, run_of, InSlices, pieces};
+
+use chacha_base::cipher::{StreamCipher, StreamCipherSeek, StreamCipherSeekCore};
+use chacha_base::wrapper::StreamCipherCoreWrapper;
+
+/// A call on a cipher. Ranges and lengths are in bytes; `at` is a place in the data, `from` one in the input.
+#[derive(Clone, Copy, Debug, PartialEq, Eq)]
+pub enum CipherCall {
+    /// `check_remaining`
+    CheckRemaining(usize),
+    /// `try_apply_keystream` on `data[at..at + len]`
+    Apply {
+        at: usize,
+        len: usize,
+    },
+    /// `try_write_keystream` on `data[at..at + len]`
+    Write {
+        at: usize,
+        len: usize,
+    },
+    /// `try_apply_keystream_b2b` from `input[from..from + from_len]` to `data[at..at + len]`
+    ApplyFrom {
+        from: usize,
+        from_len: usize,
+        at: usize,
+        len: usize,
+    },
+    /// `try_seek`
+    Seek(u128),
+    /// `try_seek`
+    SeekI32(i32),
+    /// `try_current_pos`
+    Pos,
+    /// `try_current_pos`
+    PosI32,
+}
+
+/// The answer to a call on a cipher.
+#[derive(Clone, Copy, Debug, PartialEq, Eq)]
+pub enum CipherAnswer {
+    /// Accepted.
+    Done,
+    /// Refused; nothing changed.
+    Refused,
+    /// The position.
+    Position(u128),
+    /// The position.
+    PositionI32(i32),
+    /// The position is greater than the type's greatest number.
+    Overflow,
+}
+
+// Makes one call.
+fn call_cipher<C: StreamCipherSeekCore>(
+    cipher: &mut StreamCipherCoreWrapper<C>,
+    input: &[u8],
+    data: &mut [u8],
+    call: CipherCall,
+) -> CipherAnswer
+    requires { InSlices (length input.now) (length «data».old) call }
+    ensures { outcome_of (setting C.modulus C.block_at input.now) cipher.old «data».old call
+        ≡ record { answer = result; cipher = cipher.new; bytes = «data».new } }
+{
+    match call {
+        CipherCall::CheckRemaining(len) => match cipher.check_remaining(len) {
+            Ok(()) => CipherAnswer::Done,
+            Err(_) => CipherAnswer::Refused,
+        },
+        CipherCall::Apply { at, len } => match cipher.try_apply_keystream(&mut data[at..at + len]) {
+            Ok(()) => CipherAnswer::Done,
+            Err(_) => CipherAnswer::Refused,
+        },
+        CipherCall::Write { at, len } => match cipher.try_write_keystream(&mut data[at..at + len]) {
+            Ok(()) => CipherAnswer::Done,
+            Err(_) => CipherAnswer::Refused,
+        },
+        CipherCall::ApplyFrom {
+            from,
+            from_len,
+            at,
+            len,
+        } => match cipher.try_apply_keystream_b2b(
+            &input[from..from + from_len],
+            &mut data[at..at + len],
+        ) {
+            Ok(()) => CipherAnswer::Done,
+            Err(_) => CipherAnswer::Refused,
+        },
+        CipherCall::Seek(place) => match cipher.try_seek(place) {
+            Ok(()) => CipherAnswer::Done,
+            Err(_) => CipherAnswer::Refused,
+        },
+        CipherCall::SeekI32(place) => match cipher.try_seek(place) {
+            Ok(()) => CipherAnswer::Done,
+            Err(_) => CipherAnswer::Refused,
+        },
+        CipherCall::Pos => match cipher.try_current_pos() {
+            Ok(place) => CipherAnswer::Position(place),
+            Err(_) => CipherAnswer::Overflow,
+        },
+        CipherCall::PosI32 => match cipher.try_current_pos() {
+            Ok(place) => CipherAnswer::PositionI32(place),
+            Err(_) => CipherAnswer::Overflow,
+        },
+    }
+}
+
+/// Makes calls in order, from the cipher's state on, and writes the answer of each at its place. What the answers were
+/// before doesn't matter. All ranges lie in the slices, and there are as many answers as calls. This crate's own.
+pub fn run_cipher<C: StreamCipherSeekCore>(
+    cipher: &mut StreamCipherCoreWrapper<C>,
+    input: &[u8],
+    data: &mut [u8],
+    calls: &[CipherCall],
+    answers: &mut [CipherAnswer],
+)
+    requires ranges { All (InSlices (length input.now) (length «data».old)) calls.now }
+    requires places { length answers.old ≡ length calls.now }
+    ensures run { (answers.new, cipher.new, «data».new)
+        ≡ run_of (setting C.modulus C.block_at input.now) cipher.old «data».old calls.now }
+{
+    'calls: for i in 0..calls.len() {
+        answers[i] = call_cipher(cipher, input, data, calls[i]);
+    }
+}
