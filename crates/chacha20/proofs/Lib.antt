@@ -1,2 +1,3 @@
 pub mod BlocksLemmas
 pub mod StartLemmas
+pub mod RunLemmas

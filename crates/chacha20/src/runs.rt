@@ -2,6 +2,8 @@
 
 ghost use Rattle.std.specs.Prelude.{◌≡◌, ◌≤◌, ◌+◌, ℕ, List, [], ◌∷◌, All, length, sum};
 ghost use Rattle.chacha_base.specs.Keystream.{keystream, limit_of};
+ghost use Rattle.chacha20.specs.declared.runs.CipherCall.TheVariants.{Apply, Seek};
+ghost use Rattle.chacha20.specs.declared.runs.CipherAnswer.TheVariants.{Done};
 ghost use Rattle.chacha20.specs.Runs.{setting, outcome_of, run_of, InSlices, pieces};
 
 use chacha_base::cipher::{StreamCipher, StreamCipherSeek, StreamCipherSeekCore};
@@ -122,6 +124,16 @@ pub fn run_cipher<C: StreamCipherSeekCore>(
     requires places { length answers.old ≡ length calls.now }
     ensures run { (answers.new, cipher.new, «data».new)
         ≡ run_of (setting C.modulus C.block_at input.now) cipher.old «data».old calls.now }
+
+    // A range that is applied, and applied again after a seek back, is as it was.
+    ensures seek_back { (at len : ℕ) → calls.now ≡ Apply at len ∷ Seek cipher.old.position ∷ Apply at len ∷ []
+        → answers.new ≡ Done ∷ Done ∷ Done ∷ []
+        → (cipher.new ≡ record cipher.old { position = cipher.old.position + len }) × («data».new ≡ «data».old) }
+
+    // A range that is applied in pieces of any lengths is applied as a whole, where the whole is accepted.
+    ensures cut_anywhere { (at : ℕ) (lens : List ℕ) → calls.now ≡ pieces at lens
+        → let whole = outcome_of (setting C.modulus C.block_at input.now) cipher.old «data».old (Apply at (sum lens)) in
+        whole.answer ≡ Done → (cipher.new ≡ whole.cipher) × («data».new ≡ whole.bytes) }
 {
     'calls: for i in 0..calls.len() {
         answers[i] = call_cipher(cipher, input, data, calls[i]);
