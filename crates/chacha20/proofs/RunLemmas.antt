@@ -95,22 +95,21 @@ run-pieces s input at (len ∷ lens) c bytes ranges fits =
     let rest = subst (λ n. AllByRecursion (InSlices input n) (pieces (at + len) lens)) (sym long) ranges.1 in
     let next = run-pieces s input (at + len) lens c1 b1 rest (omega arith) in
     let behind : part (at + len) more b1 ≡ take more (drop len (drop at bytes)) =
-        ap (take more) (drop-put at len ys bytes (omega arith) size ∙ sym (drop-drop len at bytes)) in
+    ap (take more) (drop-put at len ys bytes (omega arith) size ∙ sym (drop-drop len at bytes)) in
     let joined : ys ++ applied stream (p + len) (part (at + len) more b1) ≡ applied stream p (part at (len + more) bytes) =
-        ap (λ t. ys ++ applied stream (p + len) t) behind
-        ∙ sym (ap (λ k. ys ++ applied stream (p + k) (take more (drop len (drop at bytes)))) first)
-        ∙ sym (applied-append stream p (part at len bytes) (take more (drop len (drop at bytes))))
-        ∙ ap (applied stream p) (sym (take-add len more (drop at bytes))) in
+    ap (λ t. ys ++ applied stream (p + len) t) behind
+    ∙ sym (ap (λ k. ys ++ applied stream (p + k) (take more (drop len (drop at bytes)))) first)
+    ∙ sym (applied-append stream p (part at len bytes) (take more (drop len (drop at bytes))))
+    ∙ ap (applied stream p) (sym (take-add len more (drop at bytes))) in
     let place : p + len + more ≡ p + sum (len ∷ lens) = omega (arith, all) in
     let whole = put at (sum (len ∷ lens)) (applied stream p (part at (sum (len ∷ lens)) bytes)) bytes in
     let after = λ (a : Outcome). run_of s a.cipher a.bytes (pieces (at + len) lens) in
     subst (λ (a : Outcome). ((after a).1 ≡ record c { position = p + sum (len ∷ lens) }) × ((after a).2 ≡ whole))
-    (sym (accepted-apply s c bytes at len (omega (arith, all))))
-    (
+    (sym (accepted-apply s c bytes at len (omega (arith, all)))) (
       next.0 ∙ ap (λ q. record c { position = q }) place,
       next.1
-      ∙ put-next at len more ys (applied stream (p + len) (part (at + len) more b1)) bytes (omega arith) size
-      ∙ ap₂ (λ n zs. put at n zs bytes) (sym all) (joined ∙ ap (λ n. applied stream p (part at n bytes)) (sym all)),
+          ∙ put-next at len more ys (applied stream (p + len) (part (at + len) more b1)) bytes (omega arith) size
+          ∙ ap₂ (λ n zs. put at n zs bytes) (sym all) (joined ∙ ap (λ n. applied stream p (part at n bytes)) (sym all)),
     )
 
 -- to apply a keystream twice is to leave the bytes alone
@@ -150,12 +149,13 @@ run-seek_back s c bytes at len inside done =
     let again : part at len b1 ≡ applied stream p old = part-put at len (applied stream p old) bytes (omega arith) size in
     subst (Back (Seek p ∷ Apply at len ∷ [])) (sym (accepted-apply s c bytes at len fits))
     (subst (Back (Apply at len ∷ [])) (sym (accepted-seek s end b1 p (omega arith)))
-    (subst (Back []) (sym (accepted-apply s c b1 at len fits))
-    (refl,
-    ap (λ t. put at len (applied stream p t) b1) again
-    ∙ ap (λ t. put at len t b1) (applied-applied stream p old)
-    ∙ put-put at len (applied stream p old) old bytes (omega arith) size
-    ∙ put-part at len bytes)))
+    (subst (Back []) (sym (accepted-apply s c b1 at len fits)) (
+      refl,
+      ap (λ t. put at len (applied stream p t) b1) again
+          ∙ ap (λ t. put at len t b1) (applied-applied stream p old)
+          ∙ put-put at len (applied stream p old) old bytes (omega arith) size
+          ∙ put-part at len bytes,
+    )))
 
 -- the end of a run whose answers have been written one after another
 pub run-all : (s : Setting) (c d : Cipher) (old new : List ℕ) (calls : List CipherCall) (answers : List CipherAnswer) (i : ℕ)

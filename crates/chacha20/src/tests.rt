@@ -5,9 +5,11 @@ ghost use Rattle.chacha_base.specs.Layout.{ietf};
 ghost use Rattle.chacha_base.specs.Block.{block};
 ghost use Rattle.chacha_base.specs.Keystream.{keystream, applied};
 
+mod positions;
 mod readme;
 mod rfc8439;
 mod rows;
+mod runs;
 
 use crate::cipher::{KeyIvInit, StreamCipher, StreamCipherError};
 use crate::{ChaCha20, Key, Nonce, Steps};

@@ -20,8 +20,10 @@ fn print_rows(rt: &impl Print) -> io::Result<bool> {
         print!(rt; "{byte:02x}")?;
     }
     println!(rt; "")?;
-    let mut all_right = true;
+    let mut all_right = print_row(rt, 1, rows::row_1())?;
     all_right &= print_row(rt, 4, rows::row_4())?;
+    all_right &= print_row(rt, 11, rows::row_11())?;
+    all_right &= print_row(rt, 16, rows::row_16())?;
     Ok(all_right)
 }
 

@@ -6,6 +6,6 @@ pub returns-in-Err-try_current_pos : goal.returns-in-Err-try_current_pos
 returns-in-Err-try_current_pos g c =
     let same = g.met.C.StreamCipherSeekCore.counters in
     let wide : g.C.Keystream.modulus ≤ 2 ^ 64 =
-        elim g.met.C.Counter.StreamCipherCounter.sizes [ inl e ↦ omega (arith, same) | inr e ↦ omega (arith, same) ] in
+    elim g.met.C.Counter.StreamCipherCounter.sizes [ inl e ↦ omega (arith, same) | inr e ↦ omega (arith, same) ] in
     let no : false ≡ true = c.in-Err-try_current_pos.ensures.accepted.1 (omega (arith, c.in-Err-try_current_pos.ensures.within)) in
     cc
