@@ -7,6 +7,7 @@ ghost use Rattle.chacha_base.specs.Keystream.{keystream, applied};
 
 mod positions;
 mod readme;
+mod records;
 mod rfc8439;
 mod rows;
 mod runs;

@@ -6,8 +6,6 @@
 pub mod backends;
 pub mod bytes;
 pub mod cipher;
-#[cfg(test)]
-mod record_tests;
 pub mod rounds;
 #[cfg(test)]
 mod tests;

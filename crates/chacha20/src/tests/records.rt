@@ -3,7 +3,10 @@
 ghost use Rattle.std.specs.Prelude.{◌≡◌, ◌↔◌, ◌≤◌, ◌+◌, ◌*◌, length, IsOk, OnOk, OnErr};
 ghost use Rattle.chacha_base.specs.Keystream.{applied};
 
-use crate::cipher::{StreamCipherError, StreamCipherSeek};
+use super::COUNTING;
+use crate::ChaCha20;
+use crate::cipher::{KeyIvInit, StreamCipher, StreamCipherError, StreamCipherSeek};
+use std::test::Fail;
 
 // Encrypts record k of a file of records of one length, each at its own place in the keystream. `Err` exactly where
 // the record would pass the cipher's limit; then nothing changes.
@@ -23,4 +26,28 @@ fn encrypt_record<S: StreamCipherSeek>(
     cipher.try_seek(start + len)?;
     cipher.try_seek(start)?;
     cipher.try_apply_keystream(record)
+}
+
+// Four records of 100 bytes, in any order, are what one application gives.
+#[test]
+fn records(rt: HostRuntime) -> Result<(), Fail> {
+    let mut whole = [9; 400];
+    let mut file = whole;
+    ChaCha20::new(&COUNTING, &[0; 12]).try_apply_keystream(&mut whole)?;
+    let mut cipher = ChaCha20::new(&COUNTING, &[0; 12]);
+    for k in [2, 0, 3, 1] {
+        encrypt_record(
+            &mut cipher,
+            k,
+            &mut file[100 * k as usize..100 * k as usize + 100],
+        )?;
+    }
+    assert_eq!(rt; whole.as_slice(), file.as_slice());
+    assert_eq!(rt;
+        encrypt_record(&mut cipher, u64::MAX, &mut file),
+        Err(StreamCipherError)
+    );
+    assert_eq!(rt; whole.as_slice(), file.as_slice());
+    assert_eq!(rt; cipher.try_current_pos(), Ok(200u32));
+    Ok(())
 }
