@@ -1,2 +1,4 @@
 pub mod BlocksLemmas
 pub mod StartLemmas
+pub mod XChaChaLemmas
+pub mod XChaChaVectors

@@ -8,6 +8,7 @@ ghost use Rattle.chacha_base.specs.Keystream.{keystream, applied};
 mod readme;
 mod rfc8439;
 mod rows;
+mod xchacha;
 
 use crate::cipher::{KeyIvInit, StreamCipher, StreamCipherError};
 use crate::{ChaCha20, Key, Nonce, Steps};

@@ -9,7 +9,7 @@ use std::test::Fail;
 
 // No rounds: a block is its start state, each word doubled.
 #[derive(Clone, Copy)]
-struct R0;
+pub(super) struct R0;
 
 impl Rounds for R0 {
     ghost COUNT = { 0 };
