@@ -20,12 +20,10 @@ use std::marker::Model;
 /// (draft-irtf-cfrg-xchacha, section 2.3).
 pub type XNonce = [u8; 24];
 
-/// XChaCha with 8 rounds. The draft defines 20 alone; this one is the Rust crate's. It takes as many bytes as
-/// `XChaCha20`.
+/// XChaCha with 8 rounds, this crate's own number: the draft defines 20 alone. It takes as many bytes as `XChaCha20`.
 pub type XChaCha8 = StreamCipherCoreWrapper<XChaChaCore<R8, Soft>>;
 
-/// XChaCha with 12 rounds. The draft defines 20 alone; this one is the Rust crate's. It takes as many bytes as
-/// `XChaCha20`.
+/// XChaCha with 12 rounds, this crate's own number: the draft defines 20 alone. It takes as many bytes as `XChaCha20`.
 pub type XChaCha12 = StreamCipherCoreWrapper<XChaChaCore<R12, Soft>>;
 
 /// XChaCha20 (draft-irtf-cfrg-xchacha, section 2.3), from block 0 on: ChaCha20 under the key and the nonce that
@@ -34,7 +32,7 @@ pub type XChaCha12 = StreamCipherCoreWrapper<XChaChaCore<R12, Soft>>;
 pub type XChaCha20 = StreamCipherCoreWrapper<XChaChaCore<R20, Soft>>;
 
 /// The 32 bytes that HChaCha makes of a key and of 16 bytes more (draft-irtf-cfrg-xchacha, section 2.2, for `R20`;
-/// other numbers of rounds are the Rust crate's).
+/// other numbers of rounds are this crate's own).
 pub fn hchacha<R: Rounds>(key: &Key, input: &[u8; 16]) -> [u8; 32]
     ensures { result ≡ hchacha R.COUNT key.now input.now }
 {

@@ -9,7 +9,7 @@ ghost use Rattle.chacha20.specs.XChaCha.{subkey, subnonce};
 use super::COUNTING;
 use super::rows::R0;
 use crate::backends::Soft;
-use crate::cipher::{KeyIvInit, StreamCipher, StreamCipherError};
+use crate::cipher::{KeyIvInit, Keystream, StreamCipher, StreamCipherError};
 use crate::variants::Ietf;
 use crate::{
     ChaChaCore, Key, R8, R12, R20, Rounds, StreamCipherCoreWrapper, XChaCha8, XChaCha12, XChaCha20,
@@ -78,13 +78,28 @@ fn stream(rt: HostRuntime) -> Result<(), Fail> {
     Ok(())
 }
 
-// The cipher of RFC 8439's layout under the key and the nonce that are derived.
-fn derived<R: Rounds>() -> StreamCipherCoreWrapper<ChaChaCore<R, Ietf, Soft>> {
+// An XChaCha cipher, and the cipher of RFC 8439's layout under the key and the nonce that are derived: the same fixed
+// part, position and blocks.
+fn both<R: Rounds>(
+    key: &Key,
+    nonce: &XNonce,
+) -> (
+    StreamCipherCoreWrapper<XChaChaCore<R, Soft>>,
+    StreamCipherCoreWrapper<ChaChaCore<R, Ietf, Soft>>,
+)
+    ensures value { result.0 ≡ result.1 }
+    ensures blocks { ⟦<StreamCipherCoreWrapper<XChaChaCore<R, Soft>> as Keystream>⟧.block_at
+        ≡ ⟦<StreamCipherCoreWrapper<ChaChaCore<R, Ietf, Soft>> as Keystream>⟧.block_at }
+{
     let mut input = [0; 16];
-    input.copy_from_slice(&NONCE[..16]);
-    let mut nonce = [0; 12];
-    nonce[4..].copy_from_slice(&NONCE[16..]);
-    StreamCipherCoreWrapper::new(&hchacha::<R>(&KEY, &input), &nonce)
+    input.copy_from_slice(&nonce[..16]);
+    let mut derived = [0; 12];
+    derived[4..].copy_from_slice(&nonce[16..]);
+    let subkey = hchacha::<R>(key, &input);
+    (
+        StreamCipherCoreWrapper::new(key, nonce),
+        StreamCipherCoreWrapper::new(&subkey, &derived),
+    )
 }
 
 fn keystream_of(mut cipher: impl StreamCipher + Drop) -> Result<[u8; 130], StreamCipherError> {
@@ -93,15 +108,17 @@ fn keystream_of(mut cipher: impl StreamCipher + Drop) -> Result<[u8; 130], Strea
     Ok(stream)
 }
 
+// Each cipher has its own number of rounds.
 #[test]
 fn as_the_derived_ciphers(rt: HostRuntime) -> Result<(), Fail> {
     let of_8 = keystream_of(XChaCha8::new(&KEY, &NONCE))?;
-    assert_eq!(rt; of_8, keystream_of(derived::<R8>())?);
     let of_12 = keystream_of(XChaCha12::new(&KEY, &NONCE))?;
-    assert_eq!(rt; of_12, keystream_of(derived::<R12>())?);
     let of_20 = keystream_of(XChaCha20::new(&KEY, &NONCE))?;
-    assert_eq!(rt; of_20, keystream_of(derived::<R20>())?);
+    assert_eq!(rt; of_8, keystream_of(both::<R8>(&KEY, &NONCE).1)?);
+    assert_eq!(rt; of_12, keystream_of(both::<R12>(&KEY, &NONCE).1)?);
+    assert_eq!(rt; of_20, keystream_of(both::<R20>(&KEY, &NONCE).1)?);
     assert_ne!(rt; of_8, of_12);
+    assert_ne!(rt; of_8, of_20);
     assert_ne!(rt; of_12, of_20);
     Ok(())
 }
