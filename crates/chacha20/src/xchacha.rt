@@ -17,7 +17,7 @@ use chacha_base::wrapper::StreamCipherCoreWrapper;
 use std::marker::Model;
 
 /// A nonce of 24 bytes. No two messages under one key may have the same; it is long enough to be drawn at random
-/// (draft-irtf-cfrg-xchacha, section 2.3).
+/// (draft-irtf-cfrg-xchacha).
 pub type XNonce = [u8; 24];
 
 /// XChaCha with 8 rounds, this crate's own number: the draft defines 20 alone. It takes as many bytes as `XChaCha20`.
