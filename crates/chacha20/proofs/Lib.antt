@@ -1,3 +1,5 @@
 pub mod BlocksLemmas
 pub mod StartLemmas
 pub mod RunLemmas
+pub mod XChaChaLemmas
+pub mod XChaChaVectors

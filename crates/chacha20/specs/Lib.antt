@@ -1,5 +1,6 @@
 pub mod Blocks
 pub mod Runs
+pub mod XChaCha
 pub use Rattle.chacha_base.specs.Words
 pub use Rattle.chacha_base.specs.QuarterRound
 pub use Rattle.chacha_base.specs.Rounds

@@ -105,7 +105,7 @@ impl<R: Rounds, B> KeyIvInit for ChaChaCore<R, Ietf, B> {
 }
 
 // The state of a key and a last row.
-fn start_state(key: &Key, last_row: &[u32; 4]) -> [u32; 16]
+pub(crate) fn start_state(key: &Key, last_row: &[u32; 4]) -> [u32; 16]
     ensures { result ≡ constants ++ words key.now ++ last_row.now }
 {
     let mut state = [0; 16];

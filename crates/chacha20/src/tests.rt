@@ -11,6 +11,7 @@ mod records;
 mod rfc8439;
 mod rows;
 mod runs;
+mod xchacha;
 
 use crate::cipher::{KeyIvInit, StreamCipher, StreamCipherError};
 use crate::{ChaCha20, Key, Nonce, Steps};

@@ -1,8 +1,9 @@
 //! Numbers of double rounds, and the quarter round (RFC 8439, sections 2.1 to 2.3).
 
-ghost use Rattle.std.specs.Prelude.{◌≡◌, ◌≢◌, ◌<◌, ℕ, ◌+◌, slice_index};
+ghost use Rattle.std.specs.Prelude.{◌≡◌, ◌≢◌, ◌<◌, ℕ, ◌+◌, ◌*◌, slice_index};
 ghost use Rattle.chacha_base.specs.Words.{rotl};
 ghost use Rattle.chacha_base.specs.QuarterRound.{quarter, quarter_of, quarter_round};
+ghost use Rattle.chacha_base.specs.Rounds.{columns, diagonals, rounds};
 
 mod steps;
 
@@ -15,6 +16,26 @@ pub trait Rounds: Copy {
 
     /// The number of double rounds.
     const COUNT: usize;
+}
+
+/// Four double rounds. This crate's own number; RFC 8439 defines ten alone.
+#[derive(Clone, Copy, Debug)]
+pub struct R8;
+
+impl Rounds for R8 {
+    ghost COUNT = { 4 };
+
+    const COUNT: usize = 4;
+}
+
+/// Six double rounds. This crate's own number; RFC 8439 defines ten alone.
+#[derive(Clone, Copy, Debug)]
+pub struct R12;
+
+impl Rounds for R12 {
+    ghost COUNT = { 6 };
+
+    const COUNT: usize = 6;
 }
 
 /// Ten double rounds, those of ChaCha20 (RFC 8439, section 2.3).
@@ -80,4 +101,44 @@ pub fn quarter_round(
     state[c] = new_c;
     state[d] = new_d;
     steps.add_round();
+}
+
+// A quarter round of each column.
+#[inline(always)]
+#[tactic(auto, using(crate::proofs::RoundLemmas::columns_are))]
+fn column_round(state: &mut [u32; 16], steps: &mut Steps)
+    ensures state { state.new ≡ columns state.old }
+    ensures steps { steps.new ≡ record steps.old { rounds = steps.old.rounds + 4 } }
+{
+    quarter_round(0, 4, 8, 12, state, steps);
+    quarter_round(1, 5, 9, 13, state, steps);
+    quarter_round(2, 6, 10, 14, state, steps);
+    quarter_round(3, 7, 11, 15, state, steps);
+}
+
+// A quarter round of each diagonal.
+#[inline(always)]
+#[tactic(auto, using(crate::proofs::RoundLemmas::diagonals_are))]
+fn diagonal_round(state: &mut [u32; 16], steps: &mut Steps)
+    ensures state { state.new ≡ diagonals state.old }
+    ensures steps { steps.new ≡ record steps.old { rounds = steps.old.rounds + 4 } }
+{
+    quarter_round(0, 5, 10, 15, state, steps);
+    quarter_round(1, 6, 11, 12, state, steps);
+    quarter_round(2, 7, 8, 13, state, steps);
+    quarter_round(3, 4, 9, 14, state, steps);
+}
+
+/// So many double rounds on a state, each of the columns and then of the diagonals (RFC 8439, section 2.3). Each
+/// counts as eight quarter rounds. `chacha20` does not export it.
+#[inline(always)]
+#[tactic(auto, unfolding(crate::specs::Rounds::rounds))]
+pub fn double_rounds(count: usize, state: &mut [u32; 16], steps: &mut Steps)
+    ensures state { state.new ≡ rounds count state.old }
+    ensures steps { steps.new ≡ record steps.old { rounds = steps.old.rounds + 8 * count } }
+{
+    'rounds: for _round in 0..count {
+        column_round(state, steps);
+        diagonal_round(state, steps);
+    }
 }

@@ -1,57 +1,18 @@
 //! The plain backend: one block at a time, on words.
 
 ghost use Rattle.std.specs.Prelude.{◌≡◌, ℕ, ◌+◌, ◌*◌};
-ghost use Rattle.chacha_base.specs.Rounds.{columns, diagonals, rounds, add_states, mix};
+ghost use Rattle.chacha_base.specs.Rounds.{add_states, mix};
 ghost use Rattle.chacha_base.specs.State.{advanced};
 ghost use Rattle.chacha_base.specs.Bytes.{bytes};
 
 use crate::bytes::write_bytes;
 use crate::cipher::{ParBlocksSizeUser, StreamCipherBackend};
-use crate::rounds::{Rounds, Steps, quarter_round};
+use crate::rounds::{Rounds, Steps, double_rounds};
 use crate::variants::{StreamCipherCounter, Variant};
 
 /// The plain block function, a block at a time (RFC 8439, section 2.3).
 #[derive(Clone, Copy, Debug)]
 pub struct Soft;
-
-// A quarter round of each column.
-#[inline(always)]
-#[tactic(auto, using(crate::proofs::RoundLemmas::columns_are))]
-fn column_round(state: &mut [u32; 16], steps: &mut Steps)
-    ensures state { state.new ≡ columns state.old }
-    ensures steps { steps.new ≡ record steps.old { rounds = steps.old.rounds + 4 } }
-{
-    quarter_round(0, 4, 8, 12, state, steps);
-    quarter_round(1, 5, 9, 13, state, steps);
-    quarter_round(2, 6, 10, 14, state, steps);
-    quarter_round(3, 7, 11, 15, state, steps);
-}
-
-// A quarter round of each diagonal.
-#[inline(always)]
-#[tactic(auto, using(crate::proofs::RoundLemmas::diagonals_are))]
-fn diagonal_round(state: &mut [u32; 16], steps: &mut Steps)
-    ensures state { state.new ≡ diagonals state.old }
-    ensures steps { steps.new ≡ record steps.old { rounds = steps.old.rounds + 4 } }
-{
-    quarter_round(0, 5, 10, 15, state, steps);
-    quarter_round(1, 6, 11, 12, state, steps);
-    quarter_round(2, 7, 8, 13, state, steps);
-    quarter_round(3, 4, 9, 14, state, steps);
-}
-
-/// Double rounds on a state. Not exported by `chacha20`.
-#[inline(always)]
-#[tactic(auto, unfolding(crate::specs::Rounds::rounds))]
-pub fn double_rounds(count: usize, state: &mut [u32; 16], steps: &mut Steps)
-    ensures state { state.new ≡ rounds count state.old }
-    ensures steps { steps.new ≡ record steps.old { rounds = steps.old.rounds + 8 * count } }
-{
-    'rounds: for _round in 0..count {
-        column_round(state, steps);
-        diagonal_round(state, steps);
-    }
-}
 
 // Adds each word of one state to the word of the other.
 #[inline(always)]

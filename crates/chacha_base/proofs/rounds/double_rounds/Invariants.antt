@@ -1,6 +1,6 @@
 use Rattle.std.proofs.Common.{◌≡◌, ◌+◌, ◌*◌}
 use Rattle.chacha_base.specs.Rounds.{rounds}
-use Rattle.chacha_base.proofs.backends.soft.double_rounds.Given as goal
+use Rattle.chacha_base.proofs.rounds.double_rounds.Given as goal
 
 abbrev pub invariant-rounds : goal.invariant-rounds
 invariant-rounds l = record {

@@ -1,0 +1,176 @@
+//! HChaCha, and the ciphers with a nonce of 24 bytes (draft-irtf-cfrg-xchacha, section 2).
+
+ghost use Rattle.std.specs.Prelude.{◌≡◌};
+ghost use Rattle.chacha20.specs.XChaCha.{hchacha};
+
+use crate::chacha::Key;
+use crate::chacha_core::{ChaChaCore, start_state};
+use chacha_base::backends::Soft;
+use chacha_base::bytes::{read_words, write_bytes};
+use chacha_base::cipher::{
+    BlockSizeUser, IvSizeUser, KeyIvInit, KeySizeUser, Keystream, ParBlocksSizeUser,
+    StreamCipherBackend, StreamCipherCore, StreamCipherSeekCore,
+};
+use chacha_base::rounds::{R8, R12, R20, Rounds, Steps, double_rounds};
+use chacha_base::variants::Ietf;
+use chacha_base::wrapper::StreamCipherCoreWrapper;
+use std::marker::Model;
+
+/// A nonce of 24 bytes. No two messages under one key may have the same; it is long enough to be drawn at random
+/// (draft-irtf-cfrg-xchacha).
+pub type XNonce = [u8; 24];
+
+/// XChaCha with 8 rounds, this crate's own number: the draft defines 20 alone. It takes as many bytes as `XChaCha20`.
+pub type XChaCha8 = StreamCipherCoreWrapper<XChaChaCore<R8, Soft>>;
+
+/// XChaCha with 12 rounds, this crate's own number: the draft defines 20 alone. It takes as many bytes as `XChaCha20`.
+pub type XChaCha12 = StreamCipherCoreWrapper<XChaChaCore<R12, Soft>>;
+
+/// XChaCha20 (draft-irtf-cfrg-xchacha, section 2.3), from block 0 on: ChaCha20 under the key and the nonce that
+/// `XChaChaCore` derives. It takes 274877906880 bytes for one key and nonce: all blocks but the one with the greatest
+/// counter.
+pub type XChaCha20 = StreamCipherCoreWrapper<XChaChaCore<R20, Soft>>;
+
+/// The 32 bytes that HChaCha makes of a key and of 16 bytes more (draft-irtf-cfrg-xchacha, section 2.2, for `R20`;
+/// other numbers of rounds are this crate's own).
+pub fn hchacha<R: Rounds>(key: &Key, input: &[u8; 16]) -> [u8; 32]
+    ensures { result ≡ hchacha R.COUNT key.now input.now }
+{
+    let mut last_row = [0; 4];
+    read_words(input, &mut last_row);
+    let mut state = start_state(key, &last_row);
+    double_rounds(R::COUNT, &mut state, &mut Steps::new());
+    let mut subkey = [0; 32];
+    write_bytes(&state[..4], &mut subkey[..16]);
+    write_bytes(&state[12..], &mut subkey[16..]);
+    subkey
+}
+
+/// The core of an XChaCha cipher: the core of RFC 8439's layout under a key and a nonce made of the ones given
+/// (draft-irtf-cfrg-xchacha, section 2.3). Its key is `hchacha` of the key and the first 16 bytes of the nonce, with as
+/// many double rounds; its nonce is four zero bytes and the last eight. Clauses see it as the list of that core's words.
+#[derive_where(Debug)]
+pub struct XChaChaCore<R: Rounds, B> {
+    #[derive_where(skip(Debug))]
+    core: ChaChaCore<R, Ietf, B>,
+}
+
+impl<R: Rounds, B> Drop for XChaChaCore<R, B> {
+    fn drop(self) {
+        let XChaChaCore { core: _ } = self;
+    }
+}
+
+impl<R: Rounds, B> Model for XChaChaCore<R, B> {
+    ghost use Rattle.std.specs.Prelude.{ℕ, List};
+
+    ghost Value = { List ℕ };
+
+    ghost view = { λ x. x.core };
+}
+
+impl<R: Rounds, B> Keystream for XChaChaCore<R, B> {
+    ghost use Rattle.chacha_base.specs.Layout.{ietf, modulus};
+    ghost use Rattle.chacha_base.specs.State.{fixed_words, block_of};
+
+    ghost fixed = { fixed_words ietf };
+
+    ghost modulus = { modulus ietf };
+
+    ghost block_at = { block_of R.COUNT ietf };
+}
+
+impl<R: Rounds, B> BlockSizeUser for XChaChaCore<R, B> {
+    ghost BLOCK_SIZE = { 64 };
+
+    const BLOCK_SIZE: usize = 64;
+}
+
+impl<R: Rounds, B: ParBlocksSizeUser> ParBlocksSizeUser for XChaChaCore<R, B> {
+    ghost PAR_BLOCKS = { B.PAR_BLOCKS };
+
+    const PAR_BLOCKS: usize = B::PAR_BLOCKS;
+
+    ghost par_blocks_from = { B.par_blocks_from };
+
+    ghost par_blocks_to = { B.par_blocks_to };
+}
+
+impl<R: Rounds, B> KeySizeUser for XChaChaCore<R, B> {
+    ghost KEY_SIZE = { 32 };
+
+    const KEY_SIZE: usize = 32;
+}
+
+impl<R: Rounds, B> IvSizeUser for XChaChaCore<R, B> {
+    ghost IV_SIZE = { 24 };
+
+    const IV_SIZE: usize = 24;
+}
+
+impl<R: Rounds, B> KeyIvInit for XChaChaCore<R, B> {
+    ghost use Rattle.chacha_base.specs.Layout.{ietf};
+    ghost use Rattle.chacha_base.specs.Block.{start, block};
+    ghost use Rattle.chacha20.specs.XChaCha.{subkey, subnonce};
+
+    type Key = Key;
+
+    type Iv = XNonce;
+
+    ghost init = { λ key iv. start ietf (subkey R.COUNT key iv) (subnonce iv) 0 };
+
+    ghost block = { λ key iv. block R.COUNT ietf (subkey R.COUNT key iv) (subnonce iv) };
+
+    fn new(key: &Key, iv: &XNonce) -> Self {
+        let mut input = [0; 16];
+        input.copy_from_slice(&iv[..16]);
+        let mut nonce = [0; 12];
+        nonce[4..].copy_from_slice(&iv[16..]);
+        let subkey = hchacha::<R>(key, &input);
+        XChaChaCore {
+            core: ChaChaCore::new(&subkey, &nonce),
+        }
+    }
+}
+
+impl<R: Rounds, B: StreamCipherBackend<R, Ietf>> StreamCipherCore for XChaChaCore<R, B> {
+    ghost use Rattle.std.specs.Prelude.{refl, ◌*◌};
+    ghost use Rattle.chacha_base.specs.Layout.{ietf};
+    ghost use Rattle.chacha_base.specs.State.{state_counter};
+
+    ghost counter = { state_counter ietf };
+
+    ghost par_cost = { B.PAR_STEPS * R.COUNT };
+
+    ghost one_cost = { B.ONE_STEPS * R.COUNT };
+
+    ghost block_size = { refl };
+
+    fn remaining_blocks(&self) -> Option<usize> {
+        self.core.remaining_blocks()
+    }
+
+    fn write_block_counted(&mut self, block: &mut [u8; 64], steps: &mut Steps) {
+        self.core.write_block_counted(block, steps);
+    }
+
+    fn apply_blocks_counted(&mut self, data: &mut [u8], steps: &mut Steps) {
+        self.core.apply_blocks_counted(data, steps);
+    }
+}
+
+impl<R: Rounds, B: StreamCipherBackend<R, Ietf>> StreamCipherSeekCore for XChaChaCore<R, B> {
+    ghost use Rattle.std.specs.Prelude.{refl};
+
+    type Counter = u32;
+
+    ghost counters = { refl };
+
+    fn get_block_pos(&self) -> u32 {
+        self.core.get_block_pos()
+    }
+
+    fn set_block_pos(&mut self, pos: u32) {
+        self.core.set_block_pos(pos);
+    }
+}
