@@ -17,6 +17,26 @@ pub trait Rounds: Copy {
     const COUNT: usize;
 }
 
+/// Four double rounds. This crate's own number; RFC 8439 defines ten alone.
+#[derive(Clone, Copy, Debug)]
+pub struct R8;
+
+impl Rounds for R8 {
+    ghost COUNT = { 4 };
+
+    const COUNT: usize = 4;
+}
+
+/// Six double rounds. This crate's own number; RFC 8439 defines ten alone.
+#[derive(Clone, Copy, Debug)]
+pub struct R12;
+
+impl Rounds for R12 {
+    ghost COUNT = { 6 };
+
+    const COUNT: usize = 6;
+}
+
 /// Ten double rounds, those of ChaCha20 (RFC 8439, section 2.3).
 #[derive(Clone, Copy, Debug)]
 pub struct R20;

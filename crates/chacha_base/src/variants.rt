@@ -1,7 +1,7 @@
 //! The layouts of a state's last row: where the counter stands, and how many counters there are.
 
 ghost use Rattle.std.specs.Prelude.{◌≡◌, ◌≤◌, ◌<◌, ◌+◌, ◌-◌, ◌%◌, ◌^◌, ◌⊎◌, ℕ, length, Some};
-ghost use Rattle.chacha_base.specs.Layout.{Layout, ietf, modulus, counter_len, row_counter, row_at, remaining};
+ghost use Rattle.chacha_base.specs.Layout.{Layout, ietf, legacy, modulus, counter_len, row_counter, row_at, remaining};
 
 mod sealed {
     pub trait Sealed {}
@@ -133,5 +133,34 @@ impl Variant for Ietf {
 
     fn remaining_blocks(block_pos: u32) -> Option<usize> {
         Some((u32::MAX - block_pos) as usize)
+    }
+}
+
+/// The layout from before RFC 8439: a counter of 64 bits in words 12 (low) and 13 (high), and a nonce of 8 bytes.
+#[derive(Clone, Copy)]
+pub enum Legacy {}
+
+impl Sealed for Legacy {}
+
+impl Variant for Legacy {
+    ghost use Rattle.std.specs.Prelude.{refl};
+
+    type Counter = u64;
+
+    ghost layout = { legacy };
+
+    ghost counters = { refl };
+
+    fn get_block_pos(row: &[u32]) -> u64 {
+        (u64::from(row[1]) << 32) | u64::from(row[0])
+    }
+
+    fn set_block_pos(row: &mut [u32], pos: u64) {
+        row[0] = (pos & 0xffff_ffff) as u32;
+        row[1] = (pos >> 32) as u32;
+    }
+
+    fn remaining_blocks(block_pos: u64) -> Option<usize> {
+        Some((u64::MAX - block_pos) as usize)
     }
 }
