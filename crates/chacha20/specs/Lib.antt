@@ -1,4 +1,5 @@
 pub mod Blocks
+pub mod Text
 pub use Rattle.chacha_base.specs.Words
 pub use Rattle.chacha_base.specs.QuarterRound
 pub use Rattle.chacha_base.specs.Rounds

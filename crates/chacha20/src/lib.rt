@@ -8,12 +8,14 @@
 
 mod chacha;
 mod chacha_core;
+mod legacy;
 #[cfg(test)]
 mod tests;
 
-pub use chacha::{ChaCha20, Key, Nonce};
+pub use chacha::{ChaCha8, ChaCha12, ChaCha20, Key, Nonce};
 pub use chacha_base::cipher::KeyIvInit;
-pub use chacha_base::rounds::{R20, Rounds, Steps};
+pub use chacha_base::rounds::{R8, R12, R20, Rounds, Steps};
 pub use chacha_base::wrapper::StreamCipherCoreWrapper;
 pub use chacha_base::{backends, cipher, variants};
 pub use chacha_core::ChaChaCore;
+pub use legacy::{ChaCha20Legacy, ChaCha20LegacyCore, LegacyNonce};

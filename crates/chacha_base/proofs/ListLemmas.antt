@@ -65,10 +65,10 @@ pub written_more : {X : Type 0} (f : ℕ → X) (a k : ℕ) (xs ys : List X) →
     → (i : ℕ) → i < a + k → slice_get (put_mid a k xs ys) i ≡ Some (f i)
 written_more f a k xs ys room same before part i inside =
     elim (cases_lt i a) [
-      inl below ↦ slice_get-put_mid_below a k i xs ys below room ∙ before i below
-    | inr above ↦
-        let place : a + (i - a) ≡ i = omega arith in
-        let here : i - a < length ys = omega arith in
-        let less : i - a < k = omega arith in
-        rw (← place) (slice_get-put_mid_inside a k (i - a) xs ys here room ∙ part (i - a) less)
+      | inl below ↦ slice_get-put_mid_below a k i xs ys below room ∙ before i below
+      | inr above ↦
+          let place : a + (i - a) ≡ i = omega arith in
+          let here : i - a < length ys = omega arith in
+          let less : i - a < k = omega arith in
+          rw (← place) (slice_get-put_mid_inside a k (i - a) xs ys here room ∙ part (i - a) less)
     ]

@@ -178,11 +178,7 @@ pub trait StreamCipherCore: Keystream + BlockSizeUser + ParBlocksSizeUser {
         let width = Self::PAR_BLOCKS;
         let mut done = 0;
         'groups: while blocks.len() - done >= width {
-            apply_group(
-                self,
-                &mut made[..width],
-                &mut blocks[done..done + width],
-            );
+            apply_group(self, &mut made[..width], &mut blocks[done..done + width]);
             done += width;
         }
         let rest = blocks.len() - done;

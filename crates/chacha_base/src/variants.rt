@@ -1,6 +1,6 @@
 //! The layouts of a state's last row: where the counter stands, and how many counters there are.
 
-ghost use Rattle.std.specs.Prelude.{◌≡◌, ◌≤◌, ◌<◌, ◌+◌, ◌-◌, ◌%◌, ◌^◌, ◌⊎◌, ℕ, length, Some};
+ghost use Rattle.std.specs.Prelude.{◌≡◌, ◌≤◌, ◌<◌, ◌+◌, ◌-◌, ◌*◌, ◌%◌, ◌^◌, ◌⊎◌, ℕ, length, Some};
 ghost use Rattle.chacha_base.specs.Layout.{Layout, ietf, legacy, modulus, counter_len, row_counter, row_at, remaining};
 
 mod sealed {
@@ -15,6 +15,11 @@ pub trait StreamCipherCounter: Sealed + Copy {
     ghost M: { ℕ };
 
     ghost value: { Self → ℕ };
+
+    ghost BITS: { ℕ };
+
+    /// Bits in a counter.
+    const BITS: u32;
 
     /// The counter with this number. This crate's own.
     fn from_u64(number: u64) -> Self
@@ -44,6 +49,10 @@ impl StreamCipherCounter for u32 {
 
     ghost value = { λ c. c };
 
+    ghost BITS = { 32 };
+
+    const BITS: u32 = 32;
+
     ghost sizes = { inl refl };
 
     fn from_u64(number: u64) -> u32 {
@@ -65,6 +74,10 @@ impl StreamCipherCounter for u64 {
     ghost M = { 2 ^ 64 };
 
     ghost value = { λ c. c };
+
+    ghost BITS = { 64 };
+
+    const BITS: u32 = 64;
 
     ghost sizes = { inr refl };
 
@@ -106,6 +119,8 @@ pub trait Variant: Sealed {
         ensures { result ≡ remaining (modulus layout) (Self.Counter.value block_pos) };
 
     ghost counters: { Self.Counter.M ≡ modulus layout };
+
+    ghost bits: { Self.Counter.BITS ≡ 32 * counter_len layout };
 }
 
 /// The layout of RFC 8439: a counter of 32 bits in word 12, and a nonce of 12 bytes.
@@ -122,6 +137,8 @@ impl Variant for Ietf {
     ghost layout = { ietf };
 
     ghost counters = { refl };
+
+    ghost bits = { refl };
 
     fn get_block_pos(row: &[u32]) -> u32 {
         row[0]
@@ -150,6 +167,8 @@ impl Variant for Legacy {
     ghost layout = { legacy };
 
     ghost counters = { refl };
+
+    ghost bits = { refl };
 
     fn get_block_pos(row: &[u32]) -> u64 {
         (u64::from(row[1]) << 32) | u64::from(row[0])

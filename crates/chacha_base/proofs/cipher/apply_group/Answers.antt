@@ -20,10 +20,10 @@ loop-i-preserved g c =
     let long : length (slice_index_or now i []) ≡ 64 = ap length same ∙ c.told-blocks i (omega arith) in
     record {
       done = below_more _ _ (λ k below. slice_get-set_below now i k c.xor_bytes.new.output below ∙ c.loop-i.invariant.done k below)
-        (slice_get-set_same now i c.xor_bytes.new.output inside
-        ∙ ap Some (applied-block modulus block counter _ (slice_index_or now i []) _ (get_or_from_slice_get _ i _ [] (c.write_keystream_blocks.ensures.blocks i (omega arith)))
-        (omega arith) (omega arith) c.xor_bytes.ensures
-        ∙ ap (applied (keystream modulus block) (64 * counter)) same));
+          (slice_get-set_same now i c.xor_bytes.new.output inside
+          ∙ ap Some (applied-block modulus block counter _ (slice_index_or now i []) _ (get_or_from_slice_get _ i _ [] (c.write_keystream_blocks.ensures.blocks i (omega arith)))
+          (omega arith) (omega arith) c.xor_bytes.ensures
+          ∙ ap (applied (keystream modulus block) (64 * counter)) same));
       rest = λ k above. let apart : k ≢ i = omega arith in get_or-set_other now i k c.xor_bytes.new.output [] apart ∙ c.loop-i.invariant.rest k (omega arith);
     }
 
