@@ -2,6 +2,7 @@ pub mod BufferedLemmas
 pub mod BytesLemmas
 pub mod CountsLemmas
 pub mod KeystreamLemmas
+pub mod LegacyVectors
 pub mod ListLemmas
 pub mod RfcVectors
 pub mod RoundLemmas
