@@ -20,6 +20,6 @@ pub type ChaCha8 = StreamCipherCoreWrapper<ChaChaCore<R8, Ietf, Soft>>;
 /// the one with the greatest counter. The number of rounds is this crate's own.
 pub type ChaCha12 = StreamCipherCoreWrapper<ChaChaCore<R12, Ietf, Soft>>;
 
-/// ChaCha20, with ten double rounds (RFC 8439, section 2.4), from block 0 on. It takes 274877906880 bytes for one key and nonce: all blocks
-/// but the one with the greatest counter.
+/// ChaCha20, with ten double rounds (RFC 8439, section 2.4), from block 0 on. It takes 274877906880 bytes for one key
+/// and nonce: all blocks but the one with the greatest counter.
 pub type ChaCha20 = StreamCipherCoreWrapper<ChaChaCore<R20, Ietf, Soft>>;

@@ -59,7 +59,7 @@ impl<R: Rounds, V: Variant, B> ChaChaCore<R, V, B> {
         counter_of::<V>(&self.state)
     }
 
-    /// Sets the counter of the next block; the other words stay.
+    /// Sets the counter of the next block. No counter is refused.
     pub fn set_block_pos(&mut self, pos: V::Counter)
         ensures state { self.new ≡ state_at V.layout (V.Counter.value pos) self.old }
         ensures fixed { fixed_words V.layout self.new ≡ fixed_words V.layout self.old }
@@ -77,7 +77,7 @@ impl<R: Rounds, V: Variant, B> ChaChaCore<R, V, B> {
     }
 }
 
-/// The text of the Rust crate, with a parenthesis that closes nothing. The words stay secret.
+/// The text of the Rust crate, with a parenthesis that closes nothing. No word of the state is printed.
 impl<R: Rounds, V: Variant, B> fmt::Debug for ChaChaCore<R, V, B> {
     ghost debug_output = { λ _. Some (core_text R.COUNT V.layout) };
 

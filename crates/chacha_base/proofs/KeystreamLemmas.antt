@@ -1,6 +1,6 @@
 -- Bytes combined with a stream.
 use Rattle.std.proofs.Common.{◌≡◌, ℕ, suc, ◌+◌, ◌*◌, ◌/◌, ◌%◌, ◌<◌, ◌≤◌, List, take, drop, [], ◌∷◌, ◌++◌, length, slice_index, slice_index_or, bit_xor, arith, refl, sym, ap, ap₂, ◌∙◌, append_assoc, append-nil}
-use Rattle.std.proofs.Math.Nat.{mod-add-mod}
+use Rattle.std.proofs.Math.Nat.{mod-add-mod, mod-mod}
 use Rattle.std.proofs.Math.Seq.{take-add}
 use Rattle.std.specs.Prelude.{slice_get, Some}
 use Rattle.std.proofs.lemmas.List.{get_or-take, get_or-drop, length-take-le, take_at, take_all, drop_at, drop_all, drop-drop}
@@ -110,19 +110,25 @@ counter-more modulus first c a k n e same moved all =
     let place : first + a + k ≡ first + n = omega arith in
     moved ∙ sym (mod-add-mod c modulus k) ∙ ap (λ q. (q + k) % modulus) same ∙ mod-add-mod (first + a) modulus k ∙ ap (λ q. q % modulus) place
 
+pub counter-wrapped : (modulus first c a k n e : ℕ) → c % modulus ≡ (first + a) % modulus → e ≡ (c + k) % modulus → a + k ≡ n
+    → e % modulus ≡ (first + n) % modulus
+counter-wrapped modulus first c a k n e same moved all =
+    ap (λ q. q % modulus) (counter-more modulus first c a k n e same moved all) ∙ mod-mod (first + n) modulus
+
 -- k blocks of bytes more that are combined, from block a on
-pub blocks-more : (modulus : ℕ) (block : ℕ → List ℕ) (first c a k : ℕ) (old now part : List (List ℕ)) → c % modulus ≡ (first + a) % modulus
-    → a ≤ length now → length part ≡ k
+pub blocks-more : (modulus : ℕ) (block other : ℕ → List ℕ) (first c a k : ℕ) (old now part : List (List ℕ)) → other ≡ block
+    → c % modulus ≡ (first + a) % modulus → a ≤ length now → length part ≡ k
     → ((i : ℕ) → i < a → slice_get now i ≡ Some (applied (keystream modulus block) (64 * (first + i)) (slice_index_or old i [])))
     → ((i : ℕ) → a ≤ i → slice_index_or now i [] ≡ slice_index_or old i [])
-    → ((i : ℕ) → i < k → slice_get part i ≡ Some (applied (keystream modulus block) (64 * (c + i)) (slice_index_or (take k (drop a now)) i [])))
+    → ((i : ℕ) → i < k → slice_get part i ≡ Some (applied (keystream modulus other) (64 * (c + i)) (slice_index_or (take k (drop a now)) i [])))
     → (i : ℕ) → i < a + k → slice_get (put_mid a k now part) i ≡ Some (applied (keystream modulus block) (64 * (first + i)) (slice_index_or old i []))
-blocks-more modulus block first c a k old now part same room long before rest made =
+blocks-more modulus block other first c a k old now part alike same room long before rest made =
     written_more (λ i. applied (keystream modulus block) (64 * (first + i)) (slice_index_or old i [])) a k now part room long before
     (λ i less.
     let place : first + a + i ≡ first + (a + i) = omega arith in
     let behind : a ≤ a + i = omega arith in
     made i less
-    ∙ ap Some (ap (applied (keystream modulus block) (64 * (c + i))) (get_or-take k (drop a now) i [] less ∙ get_or-drop a now i [] ∙ rest (a + i) behind)
+    ∙ ap Some (ap (applied (keystream modulus other) (64 * (c + i))) (get_or-take k (drop a now) i [] less ∙ get_or-drop a now i [] ∙ rest (a + i) behind)
+    ∙ ap (λ b. applied (keystream modulus b) (64 * (c + i)) (slice_index_or old (a + i) [])) alike
     ∙ keystream-same modulus block c (first + a) i (slice_index_or old (a + i) []) same
     ∙ ap (λ q. applied (keystream modulus block) (64 * q) (slice_index_or old (a + i) [])) place))

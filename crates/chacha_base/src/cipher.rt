@@ -123,7 +123,8 @@ pub trait StreamCipherBackend<R: Rounds, V: Variant>: ParBlocksSizeUser {
         ensures steps { Grows (for_tail (ONE_STEPS * R.COUNT) (length blocks.old)) steps.old steps.new };
 }
 
-/// Hands out the blocks of a keystream one after another, in order of counter. Counters wrap; nothing is refused.
+/// Hands out the blocks of a keystream one after another, in order of counter. Counters wrap; nothing is refused, and
+/// the block with the greatest counter is handed out too.
 pub trait StreamCipherCore: Keystream + BlockSizeUser + ParBlocksSizeUser {
     // The counter of the next block.
     ghost counter: { Self → ℕ };
@@ -166,7 +167,8 @@ pub trait StreamCipherCore: Keystream + BlockSizeUser + ParBlocksSizeUser {
         ensures fixed { Self.fixed self.new ≡ Self.fixed self.old }
         ensures counter { counter self.new ≡ (counter self.old + length blocks.old) % Self.modulus };
 
-    /// Combines blocks of bytes with the next blocks by exclusive or, in order.
+    /// Combines blocks of bytes with the next blocks by exclusive or, in order. The blocks are made in groups of
+    /// `PAR_BLOCKS`, and the rest at the end.
     final fn apply_keystream_blocks(&mut self, blocks: &mut [[u8; 64]])
         ensures blocks { (i : ℕ) → i < length blocks.old
             → slice_get blocks.new i ≡ Some (applied (keystream Self.modulus (Self.block_at (Self.fixed self.old)))
