@@ -1,10 +1,14 @@
 -- Bytes combined with blocks in a row.
-use Rattle.std.proofs.Common.{◌≡◌, ℕ, ◌+◌, ◌*◌, ◌/◌, ◌%◌, ◌<◌, List, [], ◌++◌, length, slice_index, arith, refl, sym, ap, ap₂, ◌∙◌}
+use Rattle.std.proofs.Common.{◌≡◌, ℕ, ◌+◌, ◌*◌, ◌/◌, ◌%◌, ◌<◌, ◌≤◌, List, [], ◌++◌, length, slice_index, arith, refl, sym, ap, ap₂, ◌∙◌}
 use Rattle.std.specs.Prelude.{slice_get, Some, slice_index_or}
 use Rattle.std.proofs.lemmas.Option.{get_or_from_slice_get}
 use Rattle.chacha_base.specs.Layout.{Layout, modulus}
 use Rattle.chacha_base.specs.State.{state_counter, fixed_words, block_of, counter_after, advanced, next_block}
-use Rattle.chacha_base.proofs.StateLemmas.{fixed_words-state_at, state_counter-state_at}
+use Rattle.chacha_base.specs.Bytes.{bytes}
+use Rattle.chacha_base.specs.Rounds.{mix}
+use borrow.Rule.Slice.PartMut.{put_mid}
+use Rattle.chacha_base.proofs.ListLemmas.{written_more}
+use Rattle.chacha_base.proofs.StateLemmas.{fixed_words-state_at, state_counter-state_at, advanced-advanced}
 use Rattle.chacha_base.specs.Keystream.{keystream, applied}
 use Rattle.chacha_base.proofs.KeystreamLemmas.{applied-same, applied-append, keystream-wrapped}
 use Rattle.chacha20.specs.Blocks.{byte_of}
@@ -64,3 +68,22 @@ applied-after n layout s t i all front back new_front new_back h moved parts len
     b ∙ ap₂ (λ w k. applied (keystream m (block_of n layout w)) (64 * k) back) (fixed_words-advanced layout i s t h moved) (state_counter-advanced layout i s t h moved)
     ∙ keystream-wrapped m (block_of n layout (fixed_words layout s)) (c + i) (64 * c + length front) back place in
     ap₂ ◌++◌ f last ∙ sym (applied-append stream (64 * c) front back) ∙ ap (applied stream (64 * c)) (sym parts)
+
+-- k blocks more of a state that is a blocks on
+pub blocks-more : (n : ℕ) (layout : Layout) (s t : List ℕ) (a k : ℕ) (now part : List (List ℕ)) → length s ≡ 16 → t ≡ advanced layout a s
+    → a ≤ length now → length part ≡ k
+    → ((i : ℕ) → i < a → slice_get now i ≡ Some (next_block n layout s i))
+    → ((i : ℕ) → i < k → slice_get part i ≡ Some (next_block n layout t i))
+    → (i : ℕ) → i < a + k → slice_get (put_mid a k now part) i ≡ Some (next_block n layout s i)
+blocks-more n layout s t a k now part h moved room long before made =
+    written_more (next_block n layout s) a k now part room long before
+    (λ i less.
+    made i less
+    ∙ ap (λ u. Some (next_block n layout u i)) moved
+    ∙ ap (λ u. Some (bytes (mix n u))) (advanced-advanced layout a i s h))
+
+-- the state k blocks on from one that is a blocks on
+pub state-more : (layout : Layout) (s t u : List ℕ) (a k e : ℕ) → length s ≡ 16 → t ≡ advanced layout a s → u ≡ advanced layout k t → a + k ≡ e
+    → u ≡ advanced layout e s
+state-more layout s t u a k e h moved more all =
+    more ∙ ap (advanced layout k) moved ∙ advanced-advanced layout a k s h ∙ ap (λ i. advanced layout i s) all

@@ -1,5 +1,5 @@
 -- Lists of calls that apply a keystream.
-use Rattle.std.proofs.Common.{inl, inr, ◌≡◌, ℕ, ◌+◌, ◌-◌, ◌≤◌, ◌<◌, List, [], ◌∷◌, ◌++◌, length, take, drop, replicate, Bool, true, false, arith, refl, sym, ap, ap₂, subst, ◌∙◌, append_assoc, append-nil, length-append, length-drop}
+use Rattle.std.proofs.Common.{inl, inr, ◌≡◌, ℕ, ◌+◌, ◌≤◌, List, [], ◌∷◌, ◌++◌, length, take, drop, arith, refl, sym, ap, ap₂, subst, ◌∙◌, append_assoc, append-nil, length-append, length-drop}
 use Rattle.std.specs.Prelude.{sum, nat_le}
 use Rattle.std.specs.List.{AllByRecursion}
 use Rattle.std.proofs.lemmas.List.{take_at, take_all, drop_at, drop_all, drop-drop, length-take-le, take-append-drop}
@@ -14,7 +14,7 @@ use Rattle.chacha20.specs.declared.runs.CipherCall.{CipherCall}
 use Rattle.chacha20.specs.declared.runs.CipherCall.TheVariants.{Apply, Seek}
 use Rattle.chacha20.specs.declared.runs.CipherAnswer.{CipherAnswer}
 use Rattle.chacha20.specs.declared.runs.CipherAnswer.TheVariants.{Done, Refused}
-use Rattle.chacha20.specs.Runs.{Setting, Outcome, part, put, done_if, outcome_of, run_of, InSlices, pieces}
+use Rattle.chacha20.specs.Runs.{Setting, Outcome, part, put, outcome_of, run_of, InSlices, pieces}
 
 -- a range that was put in, and what lies before and behind it
 pub part-put : (at len : ℕ) (ys xs : List ℕ) → at ≤ length xs → length ys ≡ len → part at len (put at len ys xs) ≡ ys

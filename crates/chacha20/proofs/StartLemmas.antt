@@ -15,6 +15,9 @@ written first key row same eight four =
     ≡ constants ++ (x0 ∷ x1 ∷ x2 ∷ x3 ∷ x4 ∷ x5 ∷ x6 ∷ x7 ∷ []) ++ r)
     (λ y0 y1 y2 y3. refl) row four) key eight
 
--- four zeros with their last three words written
+-- four zeros with their last three words written, or their last two
 pub row_written : (nonce : List ℕ) → length nonce ≡ 3 → put_mid 1 3 (replicate 4 0) nonce ≡ 0 ∷ nonce
 row_written = each 3 (λ ns. put_mid 1 3 (replicate 4 0) ns ≡ 0 ∷ ns) (λ y0 y1 y2. refl)
+
+pub legacy_row_written : (nonce : List ℕ) → length nonce ≡ 2 → put_mid 2 2 (replicate 4 0) nonce ≡ 0 ∷ 0 ∷ nonce
+legacy_row_written = each 2 (λ ns. put_mid 2 2 (replicate 4 0) ns ≡ 0 ∷ 0 ∷ ns) (λ y0 y1. refl)

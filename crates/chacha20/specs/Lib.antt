@@ -1,6 +1,7 @@
 pub mod Blocks
 pub mod Runs
 pub mod XChaCha
+pub mod Text
 pub use Rattle.chacha_base.specs.Words
 pub use Rattle.chacha_base.specs.QuarterRound
 pub use Rattle.chacha_base.specs.Rounds

@@ -1,22 +1,25 @@
 //! A state of sixteen words, and the engine that hands out its blocks.
 
-ghost use Rattle.std.specs.Prelude.{◌≡◌, ◌≤◌, ◌<◌, ℕ, ◌+◌, ◌*◌, ◌/◌, ◌%◌, List, ◌++◌, length};
-ghost use Rattle.chacha_base.specs.Layout.{ietf, modulus};
+ghost use Rattle.std.specs.Prelude.{◌≡◌, ◌≤◌, ◌<◌, ℕ, ◌+◌, ◌*◌, ◌/◌, ◌%◌, List, ◌++◌, length, replicate, slice_get, Some};
+ghost use Rattle.chacha_base.specs.Layout.{ietf, legacy, modulus};
 ghost use Rattle.chacha_base.specs.Block.{constants, start, block};
 ghost use Rattle.chacha_base.specs.Bytes.{words};
-ghost use Rattle.chacha_base.specs.State.{state_counter, fixed_words, block_of, advanced};
+ghost use Rattle.chacha_base.specs.State.{state_counter, fixed_words, state_at, block_of, advanced, next_block};
 ghost use Rattle.chacha_base.specs.Keystream.{keystream, applied};
 ghost use Rattle.chacha_base.specs.Counts.{Grows, for_call, for_tail, for_blocks};
 ghost use Rattle.chacha20.specs.Blocks.{byte_of};
+ghost use Rattle.chacha20.specs.Text.{core_text};
 
 use crate::chacha::{Key, Nonce};
+use crate::legacy::LegacyNonce;
 use chacha_base::bytes::{read_words, xor_bytes};
 use chacha_base::cipher::{
     BlockSizeUser, IvSizeUser, KeyIvInit, KeySizeUser, Keystream, ParBlocksSizeUser,
     StreamCipherBackend, StreamCipherCore, StreamCipherSeekCore,
 };
-use chacha_base::rounds::{Rounds, Steps};
-use chacha_base::variants::{Ietf, Variant};
+use chacha_base::rounds::{R20, Rounds, Steps};
+use chacha_base::variants::{Ietf, Legacy, StreamCipherCounter, Variant};
+use std::fmt;
 use std::marker::{Model, PhantomData};
 
 const CONSTANTS: [u32; 4] = [0x6170_7865, 0x3320_646e, 0x7962_2d32, 0x6b20_6574];
@@ -45,6 +48,44 @@ impl<R: Rounds, V: Variant, B> Model for ChaChaCore<R, V, B> {
     ghost Value = { List ℕ };
 
     ghost view = { λ core. core.state };
+}
+
+impl<R: Rounds, V: Variant, B> ChaChaCore<R, V, B> {
+    /// The counter of the next block.
+    pub fn get_block_pos(&self) -> V::Counter
+        ensures value { V.Counter.value result ≡ state_counter V.layout self.now }
+        ensures below { state_counter V.layout self.now < modulus V.layout }
+    {
+        counter_of::<V>(&self.state)
+    }
+
+    /// Sets the counter of the next block. No counter is refused.
+    pub fn set_block_pos(&mut self, pos: V::Counter)
+        ensures state { self.new ≡ state_at V.layout (V.Counter.value pos) self.old }
+        ensures fixed { fixed_words V.layout self.new ≡ fixed_words V.layout self.old }
+        ensures counter { state_counter V.layout self.new ≡ V.Counter.value pos }
+    {
+        V::set_block_pos(&mut self.state[12..], pos);
+    }
+
+    /// Sets all words to zero, the constants and the counter included. Nothing is claimed of other copies in memory.
+    /// This crate's own.
+    pub fn zeroize(&mut self)
+        ensures { self.new ≡ replicate 16 0 }
+    {
+        self.state = [0; 16];
+    }
+}
+
+/// The text of the Rust crate, with a parenthesis that closes nothing. No word of the state is printed.
+impl<R: Rounds, V: Variant, B> fmt::Debug for ChaChaCore<R, V, B> {
+    ghost debug_output = { λ _. Some (core_text R.COUNT V.layout) };
+
+    fn fmt<W: fmt::Write>(&self, f: &mut fmt::Formatter<W>) -> fmt::Result {
+        let count = R::COUNT;
+        let bits = V::Counter::BITS;
+        write!(f, "ChaChaCore<R: {count}, V: {bits}-bit)> {{ ... }}")
+    }
 }
 
 impl<R: Rounds, V: Variant, B> Keystream for ChaChaCore<R, V, B> {
@@ -104,6 +145,39 @@ impl<R: Rounds, B> KeyIvInit for ChaChaCore<R, Ietf, B> {
     }
 }
 
+impl<B> KeySizeUser for ChaChaCore<R20, Legacy, B> {
+    ghost KEY_SIZE = { 32 };
+
+    const KEY_SIZE: usize = 32;
+}
+
+impl<B> IvSizeUser for ChaChaCore<R20, Legacy, B> {
+    ghost IV_SIZE = { 8 };
+
+    const IV_SIZE: usize = 8;
+}
+
+impl<B> KeyIvInit for ChaChaCore<R20, Legacy, B> {
+    type Key = Key;
+
+    type Iv = LegacyNonce;
+
+    ghost init = { λ key iv. start legacy key iv 0 };
+
+    ghost block = { block 10 legacy };
+
+    fn new(key: &Key, iv: &LegacyNonce) -> Self {
+        let mut last_row = [0; 4];
+        read_words(iv, &mut last_row[2..]);
+        ChaChaCore {
+            state: start_state(key, &last_row),
+            rounds: PhantomData,
+            variant: PhantomData,
+            backend: PhantomData,
+        }
+    }
+}
+
 // The state of a key and a last row.
 pub(crate) fn start_state(key: &Key, last_row: &[u32; 4]) -> [u32; 16]
     ensures { result ≡ constants ++ words key.now ++ last_row.now }
@@ -134,6 +208,24 @@ fn write_block<R: Rounds, V: Variant, B: StreamCipherBackend<R, V>>(
     ensures steps { Grows (for_call 0 1 (B.ONE_STEPS * R.COUNT)) steps.old steps.new }
 {
     B::gen_ks_block(state, block, steps);
+}
+
+// Writes the blocks of a state, and moves its counter.
+fn write_blocks<R: Rounds, V: Variant, B: StreamCipherBackend<R, V>>(
+    state: &mut [u32; 16],
+    blocks: &mut [[u8; 64]],
+)
+    ensures blocks { (i : ℕ) → i < length blocks.old → slice_get blocks.new i ≡ Some (next_block R.COUNT V.layout state.old i) }
+    ensures state { state.new ≡ advanced V.layout (length blocks.old) state.old }
+{
+    let mut steps = Steps::new();
+    let width = B::PAR_BLOCKS;
+    let mut done = 0;
+    'groups: while blocks.len() - done >= width {
+        B::gen_par_ks_blocks(state, &mut blocks[done..done + width], &mut steps);
+        done += width;
+    }
+    B::gen_tail_blocks(state, &mut blocks[done..], &mut steps);
 }
 
 // Combines bytes with whole blocks.
@@ -205,6 +297,10 @@ impl<R: Rounds, V: Variant, B: StreamCipherBackend<R, V>> StreamCipherCore for C
         V::remaining_blocks(counter_of::<V>(&self.state))
     }
 
+    fn write_keystream_blocks(&mut self, blocks: &mut [[u8; 64]]) {
+        write_blocks::<R, V, B>(&mut self.state, blocks);
+    }
+
     fn write_block_counted(&mut self, block: &mut [u8; 64], steps: &mut Steps) {
         write_block::<R, V, B>(&mut self.state, block, steps);
     }
@@ -227,10 +323,10 @@ impl<R: Rounds, V: Variant, B: StreamCipherBackend<R, V>> StreamCipherSeekCore
     ghost counters = { sym V.counters };
 
     fn get_block_pos(&self) -> V::Counter {
-        counter_of::<V>(&self.state)
+        self.get_block_pos()
     }
 
     fn set_block_pos(&mut self, pos: V::Counter) {
-        V::set_block_pos(&mut self.state[12..], pos);
+        self.set_block_pos(pos);
     }
 }

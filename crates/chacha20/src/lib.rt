@@ -8,15 +8,17 @@
 
 mod chacha;
 mod chacha_core;
+mod legacy;
 pub mod runs;
 #[cfg(test)]
 mod tests;
 mod xchacha;
 
-pub use chacha::{ChaCha20, Key, Nonce};
+pub use chacha::{ChaCha8, ChaCha12, ChaCha20, Key, Nonce};
 pub use chacha_base::cipher::KeyIvInit;
 pub use chacha_base::rounds::{R8, R12, R20, Rounds, Steps};
 pub use chacha_base::wrapper::StreamCipherCoreWrapper;
 pub use chacha_base::{backends, cipher, variants};
 pub use chacha_core::ChaChaCore;
+pub use legacy::{ChaCha20Legacy, ChaCha20LegacyCore, LegacyNonce};
 pub use xchacha::{XChaCha8, XChaCha12, XChaCha20, XChaChaCore, XNonce, hchacha};

@@ -5,6 +5,8 @@ ghost use Rattle.chacha_base.specs.Layout.{ietf};
 ghost use Rattle.chacha_base.specs.Block.{block};
 ghost use Rattle.chacha_base.specs.Keystream.{keystream, applied};
 
+mod core;
+mod legacy;
 mod positions;
 mod readme;
 mod records;
@@ -14,13 +16,23 @@ mod runs;
 mod xchacha;
 
 use crate::cipher::{KeyIvInit, StreamCipher, StreamCipherError};
-use crate::{ChaCha20, Key, Nonce, Steps};
+use crate::{ChaCha20, Key, Nonce, Rounds, Steps};
 
 // The key 00 to 1f.
 const COUNTING: Key = [
     0, 1, 2, 3, 4, 5, 6, 7, 8, 9, 10, 11, 12, 13, 14, 15, 16, 17, 18, 19, 20, 21, 22, 23, 24, 25,
     26, 27, 28, 29, 30, 31,
 ];
+
+// No rounds: a block is its start state, each word doubled.
+#[derive(Clone, Copy)]
+struct R0;
+
+impl Rounds for R0 {
+    ghost COUNT = { 0 };
+
+    const COUNT: usize = 0;
+}
 
 // A message under a key and a nonce, as RFC 8439 has it: two public contracts say so, with no proof of ours.
 fn encrypt(key: &Key, nonce: &Nonce, message: &mut [u8]) -> Result<(), StreamCipherError>

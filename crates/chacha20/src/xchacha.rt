@@ -51,7 +51,6 @@ pub fn hchacha<R: Rounds>(key: &Key, input: &[u8; 16]) -> [u8; 32]
 /// many double rounds; its nonce is four zero bytes and the last eight. Clauses see it as the list of that core's words.
 #[derive_where(Debug)]
 pub struct XChaChaCore<R: Rounds, B> {
-    #[derive_where(skip(Debug))]
     core: ChaChaCore<R, Ietf, B>,
 }
 
@@ -148,6 +147,10 @@ impl<R: Rounds, B: StreamCipherBackend<R, Ietf>> StreamCipherCore for XChaChaCor
 
     fn remaining_blocks(&self) -> Option<usize> {
         self.core.remaining_blocks()
+    }
+
+    fn write_keystream_blocks(&mut self, blocks: &mut [[u8; 64]]) {
+        self.core.write_keystream_blocks(blocks)
     }
 
     fn write_block_counted(&mut self, block: &mut [u8; 64], steps: &mut Steps) {

@@ -1,18 +1,10 @@
 -- Bytes of a block kept in a buffer.
-use Rattle.std.proofs.Common.{◌≡◌, ℕ, ◌+◌, ◌-◌, ◌*◌, ◌/◌, ◌%◌, ◌<◌, ◌≤◌, List, length, take, drop, slice_index, bit_xor, arith, refl, ap, ◌∙◌}
+use Rattle.std.proofs.Common.{◌≡◌, ℕ, ◌+◌, ◌-◌, ◌*◌, ◌<◌, ◌≤◌, List, length, take, drop, slice_index, bit_xor, arith, sym, ap, ◌∙◌}
 use Rattle.std.proofs.lemmas.List.{get_or-take, get_or-drop}
 use Rattle.std.proofs.Math.Nat.{mod-eq_of_lt}
 use Rattle.chacha_base.specs.Keystream.{keystream, applied}
 use Rattle.chacha_base.specs.Buffered.{IsBuffered, position_of}
-use Rattle.chacha_base.proofs.KeystreamLemmas.{applied_is}
-
--- byte i of the block of a counter
-pub block_byte : (modulus : ℕ) (block : ℕ → List ℕ) (counter i : ℕ) → counter < modulus → i < 64
-    → slice_index (block counter) i ≡ keystream modulus block (64 * counter + i)
-block_byte modulus block counter i below inside =
-    let which : (64 * counter + i) / 64 ≡ counter = omega arith in
-    let place : (64 * counter + i) % 64 ≡ i = omega arith in
-    rw (which, place, mod-eq_of_lt below) refl
+use Rattle.chacha_base.proofs.KeystreamLemmas.{applied_is, applied-block, keystream_byte}
 
 -- bytes combined with the front of a block
 pub applied_front : (modulus : ℕ) (block : ℕ → List ℕ) (counter p : ℕ) (buffer xs ys : List ℕ) → counter < modulus → buffer ≡ block counter
@@ -20,12 +12,9 @@ pub applied_front : (modulus : ℕ) (block : ℕ → List ℕ) (counter p : ℕ)
     → ((i : ℕ) → i < length xs → slice_index ys i ≡ bit_xor (slice_index xs i) (slice_index (take (length xs) buffer) i))
     → ys ≡ applied (keystream modulus block) p xs
 applied_front modulus block counter p buffer xs ys below held place fits same each =
-    applied_is (keystream modulus block) p xs ys same (λ i less.
-    each i less
-    ∙ ap (bit_xor (slice_index xs i)) (get_or-take (length xs) buffer i 0 less
-    ∙ ap (λ b. slice_index b i) held
-    ∙ block_byte modulus block counter i below (omega arith)
-    ∙ ap (λ q. keystream modulus block (q + i)) place))
+    applied-block modulus block counter buffer xs ys (held ∙ sym (ap block (mod-eq_of_lt below))) fits same
+    (λ i less. each i less ∙ ap (bit_xor (slice_index xs i)) (get_or-take (length xs) buffer i 0 less))
+    ∙ ap (λ q. applied (keystream modulus block) q xs) place
 
 -- bytes combined with what is left of the buffered block
 pub applied_begun : (modulus : ℕ) (block : ℕ → List ℕ) (counter left p : ℕ) (buffer xs ys : List ℕ) → IsBuffered modulus block counter buffer left
@@ -42,6 +31,6 @@ applied_begun modulus block counter left p buffer xs ys kept place fits same eac
     each i less
     ∙ ap (bit_xor (slice_index xs i)) (get_or-take (64 - left + length xs - (64 - left)) (drop (64 - left) buffer) i 0 (omega arith)
     ∙ get_or-drop (64 - left) buffer i 0
-    ∙ ap (λ b. slice_index b (64 - left + i)) (kept.held (omega arith))
-    ∙ block_byte modulus block (counter - 1) (64 - left + i) below (omega arith)
+    ∙ ap (λ b. slice_index b (64 - left + i)) (kept.held (omega arith) ∙ sym (ap block (mod-eq_of_lt below)))
+    ∙ keystream_byte modulus block (counter - 1) (64 - left + i) (omega arith)
     ∙ ap (keystream modulus block) next))

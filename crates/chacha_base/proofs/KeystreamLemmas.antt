@@ -1,10 +1,12 @@
 -- Bytes combined with a stream.
-use Rattle.std.proofs.Common.{◌≡◌, ℕ, suc, ◌+◌, ◌*◌, ◌/◌, ◌%◌, ◌<◌, ◌≤◌, List, take, drop, [], ◌∷◌, ◌++◌, length, slice_index, bit_xor, arith, refl, sym, ap, ap₂, ◌∙◌, append_assoc, append-nil}
-use Rattle.std.proofs.Math.Nat.{mod-add-mod}
+use Rattle.std.proofs.Common.{◌≡◌, ℕ, suc, ◌+◌, ◌*◌, ◌/◌, ◌%◌, ◌<◌, ◌≤◌, List, take, drop, [], ◌∷◌, ◌++◌, length, slice_index, slice_index_or, bit_xor, arith, refl, sym, ap, ap₂, ◌∙◌, append_assoc, append-nil}
+use Rattle.std.proofs.Math.Nat.{mod-add-mod, mod-mod}
 use Rattle.std.proofs.Math.Seq.{take-add}
-use Rattle.std.proofs.lemmas.List.{length-take-le, take_at, take_all, drop_at, drop_all, drop-drop}
+use Rattle.std.specs.Prelude.{slice_get, Some}
+use Rattle.std.proofs.lemmas.List.{get_or-take, get_or-drop, length-take-le, take_at, take_all, drop_at, drop_all, drop-drop}
 use borrow.Rule.Slice.PartMut.{put_mid}
 use Rattle.chacha_base.specs.Keystream.{keystream, applied}
+use Rattle.chacha_base.proofs.ListLemmas.{written_more}
 
 -- bytes that are combined one by one
 pub applied_is : (stream : ℕ → ℕ) (p : ℕ) (xs ys : List ℕ) → length ys ≡ length xs
@@ -79,3 +81,54 @@ applied-more stream p a k e old now part ends inside before done =
 -- all of the bytes
 pub applied-whole : (stream : ℕ → ℕ) (p n : ℕ) (xs : List ℕ) → length xs ≤ n → applied stream p (take n xs) ++ drop n xs ≡ applied stream p xs
 applied-whole stream p n xs all = ap₂ (λ front rest. applied stream p front ++ rest) (take_all n xs all) (drop_all n xs all) ∙ append-nil (applied stream p xs)
+
+-- byte j of the block of a counter, which wraps
+pub keystream_byte : (modulus : ℕ) (block : ℕ → List ℕ) (c j : ℕ) → j < 64 → slice_index (block (c % modulus)) j ≡ keystream modulus block (64 * c + j)
+keystream_byte modulus block c j inside =
+    let which : (64 * c + j) / 64 ≡ c = omega arith in
+    let place : (64 * c + j) % 64 ≡ j = omega arith in
+    rw (which, place) refl
+
+-- bytes combined with the block of a counter
+pub applied-block : (modulus : ℕ) (block : ℕ → List ℕ) (c : ℕ) (key xs ys : List ℕ) → key ≡ block (c % modulus) → length xs ≤ 64 → length ys ≡ length xs
+    → ((j : ℕ) → j < length xs → slice_index ys j ≡ bit_xor (slice_index xs j) (slice_index key j)) → ys ≡ applied (keystream modulus block) (64 * c) xs
+applied-block modulus block c key xs ys made fits same each =
+    applied_is (keystream modulus block) (64 * c) xs ys same (λ j less.
+    each j less ∙ ap (bit_xor (slice_index xs j)) (ap (λ b. slice_index b j) made ∙ keystream_byte modulus block c j (omega arith)))
+
+-- counters that are the same when they wrap
+pub keystream-same : (modulus : ℕ) (block : ℕ → List ℕ) (c d i : ℕ) (xs : List ℕ) → c % modulus ≡ d % modulus
+    → applied (keystream modulus block) (64 * (c + i)) xs ≡ applied (keystream modulus block) (64 * (d + i)) xs
+keystream-same modulus block c d i xs same =
+    sym (keystream-wrapped modulus block (c + i) (64 * (c + i)) xs refl)
+    ∙ ap (λ k. applied (keystream modulus block) (64 * k) xs) (sym (mod-add-mod c modulus i) ∙ ap (λ k. (k + i) % modulus) same ∙ mod-add-mod d modulus i)
+    ∙ keystream-wrapped modulus block (d + i) (64 * (d + i)) xs refl
+
+-- k counters on from one that is `a` counters on
+pub counter-more : (modulus first c a k n e : ℕ) → c % modulus ≡ (first + a) % modulus → e ≡ (c + k) % modulus → a + k ≡ n → e ≡ (first + n) % modulus
+counter-more modulus first c a k n e same moved all =
+    let place : first + a + k ≡ first + n = omega arith in
+    moved ∙ sym (mod-add-mod c modulus k) ∙ ap (λ q. (q + k) % modulus) same ∙ mod-add-mod (first + a) modulus k ∙ ap (λ q. q % modulus) place
+
+pub counter-wrapped : (modulus first c a k n e : ℕ) → c % modulus ≡ (first + a) % modulus → e ≡ (c + k) % modulus → a + k ≡ n
+    → e % modulus ≡ (first + n) % modulus
+counter-wrapped modulus first c a k n e same moved all =
+    ap (λ q. q % modulus) (counter-more modulus first c a k n e same moved all) ∙ mod-mod (first + n) modulus
+
+-- k blocks of bytes more that are combined, from block a on
+pub blocks-more : (modulus : ℕ) (block other : ℕ → List ℕ) (first c a k : ℕ) (old now part : List (List ℕ)) → other ≡ block
+    → c % modulus ≡ (first + a) % modulus → a ≤ length now → length part ≡ k
+    → ((i : ℕ) → i < a → slice_get now i ≡ Some (applied (keystream modulus block) (64 * (first + i)) (slice_index_or old i [])))
+    → ((i : ℕ) → a ≤ i → slice_index_or now i [] ≡ slice_index_or old i [])
+    → ((i : ℕ) → i < k → slice_get part i ≡ Some (applied (keystream modulus other) (64 * (c + i)) (slice_index_or (take k (drop a now)) i [])))
+    → (i : ℕ) → i < a + k → slice_get (put_mid a k now part) i ≡ Some (applied (keystream modulus block) (64 * (first + i)) (slice_index_or old i []))
+blocks-more modulus block other first c a k old now part alike same room long before rest made =
+    written_more (λ i. applied (keystream modulus block) (64 * (first + i)) (slice_index_or old i [])) a k now part room long before
+    (λ i less.
+    let place : first + a + i ≡ first + (a + i) = omega arith in
+    let behind : a ≤ a + i = omega arith in
+    made i less
+    ∙ ap Some (ap (applied (keystream modulus other) (64 * (c + i))) (get_or-take k (drop a now) i [] less ∙ get_or-drop a now i [] ∙ rest (a + i) behind)
+    ∙ ap (λ b. applied (keystream modulus b) (64 * (c + i)) (slice_index_or old (a + i) [])) alike
+    ∙ keystream-same modulus block c (first + a) i (slice_index_or old (a + i) []) same
+    ∙ ap (λ q. applied (keystream modulus block) (64 * q) (slice_index_or old (a + i) [])) place))

@@ -3,6 +3,7 @@ pub mod BytesLemmas
 pub mod CipherLemmas
 pub mod CountsLemmas
 pub mod KeystreamLemmas
+pub mod LegacyVectors
 pub mod ListLemmas
 pub mod PieceLemmas
 pub mod RfcVectors

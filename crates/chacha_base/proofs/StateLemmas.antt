@@ -1,5 +1,5 @@
 -- States of sixteen words: the counter, and the words that stay.
-use Rattle.std.proofs.Common.{◌≡◌, ℕ, ◌+◌, ◌*◌, ◌/◌, ◌%◌, ◌^◌, ◌<◌, List, ◌++◌, length, slice_index, arith, refl, sym, ap, ◌∙◌}
+use Rattle.std.proofs.Common.{◌≡◌, ℕ, ◌+◌, ◌*◌, ◌/◌, ◌%◌, ◌^◌, ◌<◌, List, ◌++◌, length, slice_index, arith, refl, ap, ◌∙◌}
 use Rattle.std.proofs.Math.Nat.{mod-add-mod, mod-eq_of_lt}
 use Rattle.chacha_base.specs.Layout.{Layout, ietf, legacy, modulus, counter_words}
 use Rattle.chacha_base.specs.Bytes.{words}

@@ -1,6 +1,6 @@
 //! The traits of backends, cores and ciphers, and their errors.
 
-ghost use Rattle.std.specs.Prelude.{◌≡◌, ◌↔◌, ◌≤◌, ◌<◌, ◌+◌, ◌-◌, ◌*◌, ◌/◌, ◌%◌, ◌^◌, ℕ, List, length, slice_get, Some, IsOk, IfOk, OnOk, OnErr, IsSomeAnd, IfSome};
+ghost use Rattle.std.specs.Prelude.{◌≡◌, ◌↔◌, ◌≤◌, ◌<◌, ◌+◌, ◌-◌, ◌*◌, ◌/◌, ◌%◌, ◌^◌, ℕ, List, [], length, slice_get, slice_index_or, Some, IsOk, IfOk, OnOk, OnErr, IsSomeAnd, IfSome};
 ghost use Rattle.chacha_base.specs.Layout.{remaining};
 ghost use Rattle.chacha_base.specs.State.{advanced, next_block};
 ghost use Rattle.chacha_base.specs.Keystream.{keystream, applied, streamed};
@@ -8,6 +8,7 @@ ghost use Rattle.chacha_base.specs.Counts.{Bounds, Grows, for_call, for_tail, fo
 
 mod seek_num;
 
+use crate::bytes::xor_bytes;
 use crate::rounds::{Rounds, Steps};
 pub use crate::variants::StreamCipherCounter;
 use crate::variants::Variant;
@@ -133,7 +134,8 @@ pub trait StreamCipherBackend<R: Rounds, V: Variant>: ParBlocksSizeUser {
         ensures steps { Grows (for_tail (ONE_STEPS * R.COUNT) (length blocks.old)) steps.old steps.new };
 }
 
-/// Hands out the blocks of a keystream one after another, in order of counter. Counters wrap; nothing is refused.
+/// Hands out the blocks of a keystream one after another, in order of counter. Counters wrap; nothing is refused, and
+/// the block with the greatest counter is handed out too.
 pub trait StreamCipherCore: Keystream + BlockSizeUser + ParBlocksSizeUser {
     // The counter of the next block.
     ghost counter: { Self → ℕ };
@@ -158,6 +160,44 @@ pub trait StreamCipherCore: Keystream + BlockSizeUser + ParBlocksSizeUser {
         self.write_block_counted(block, &mut steps);
     }
 
+    /// Combines a block of bytes with the next block by exclusive or.
+    fn apply_keystream_block(&mut self, block: &mut [u8; 64])
+        ensures block { block.new ≡ applied (keystream Self.modulus (Self.block_at (Self.fixed self.old)))
+            (64 * counter self.old) block.old }
+        ensures fixed { Self.fixed self.new ≡ Self.fixed self.old }
+        ensures counter { counter self.new ≡ (counter self.old + 1) % Self.modulus }
+    {
+        let mut steps = Steps::new();
+        self.apply_blocks_counted(block, &mut steps);
+    }
+
+    /// Writes the next blocks, in order.
+    fn write_keystream_blocks(&mut self, blocks: &mut [[u8; 64]])
+        ensures blocks { (i : ℕ) → i < length blocks.old
+            → slice_get blocks.new i ≡ Some (Self.block_at (Self.fixed self.old) ((counter self.old + i) % Self.modulus)) }
+        ensures fixed { Self.fixed self.new ≡ Self.fixed self.old }
+        ensures counter { counter self.new ≡ (counter self.old + length blocks.old) % Self.modulus };
+
+    /// Combines blocks of bytes with the next blocks by exclusive or, in order. The blocks are made in groups of
+    /// `PAR_BLOCKS`, and the rest at the end.
+    final fn apply_keystream_blocks(&mut self, blocks: &mut [[u8; 64]])
+        ensures blocks { (i : ℕ) → i < length blocks.old
+            → slice_get blocks.new i ≡ Some (applied (keystream Self.modulus (Self.block_at (Self.fixed self.old)))
+            (64 * (counter self.old + i)) (slice_index_or blocks.old i [])) }
+        ensures fixed { Self.fixed self.new ≡ Self.fixed self.old }
+        ensures counter { counter self.new ≡ (counter self.old + length blocks.old) % Self.modulus }
+    {
+        let mut made = [[0; 64]; 16];
+        let width = Self::PAR_BLOCKS;
+        let mut done = 0;
+        'groups: while blocks.len() - done >= width {
+            apply_group(self, &mut made[..width], &mut blocks[done..done + width]);
+            done += width;
+        }
+        let rest = blocks.len() - done;
+        apply_group(self, &mut made[..rest], &mut blocks[done..]);
+    }
+
     /// Writes the next block, and counts its steps. This crate's own.
     fn write_block_counted(&mut self, block: &mut [u8; 64], steps: &mut Steps)
         ensures block { block.new ≡ Self.block_at (Self.fixed self.old) (counter self.old) }
@@ -175,6 +215,21 @@ pub trait StreamCipherCore: Keystream + BlockSizeUser + ParBlocksSizeUser {
         ensures steps { Grows (for_blocks Self.PAR_BLOCKS par_cost one_cost (length «data».old / 64) 0) steps.old steps.new };
 
     ghost block_size: { Self.BLOCK_SIZE ≡ 64 };
+}
+
+// Combines blocks of bytes with as many next blocks, which are made first.
+fn apply_group<C: StreamCipherCore>(core: &mut C, made: &mut [[u8; 64]], blocks: &mut [[u8; 64]])
+    requires { length made.old ≡ length blocks.old }
+    ensures blocks { (i : ℕ) → i < length blocks.old
+        → slice_get blocks.new i ≡ Some (applied (keystream C.modulus (C.block_at (C.fixed core.old)))
+        (64 * (C.counter core.old + i)) (slice_index_or blocks.old i [])) }
+    ensures fixed { C.fixed core.new ≡ C.fixed core.old }
+    ensures counter { C.counter core.new ≡ (C.counter core.old + length blocks.old) % C.modulus }
+{
+    core.write_keystream_blocks(made);
+    for i in 0..blocks.len() {
+        xor_bytes(&mut blocks[i], &made[i]);
+    }
 }
 
 /// A core whose counter can be read and set.

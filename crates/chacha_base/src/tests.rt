@@ -1,6 +1,8 @@
 mod toy;
 
-use crate::cipher::{KeyIvInit, StreamCipher, StreamCipherCoreWrapper, StreamCipherError};
+use crate::cipher::{
+    KeyIvInit, StreamCipher, StreamCipherCore, StreamCipherCoreWrapper, StreamCipherError,
+};
 use crate::rounds::{Steps, quarter_round};
 use toy::Toy;
 
@@ -64,6 +66,25 @@ fn toy_in_pieces(rt: HostRuntime) {
     assert_eq!(rt; cipher.try_apply_keystream(&mut buf[64..128]), Ok(()));
     assert_eq!(rt; cipher.try_apply_keystream(&mut buf[128..]), Ok(()));
     assert_eq!(rt; buf, APPLIED);
+}
+
+// Nine blocks at once, two groups of four and one more, and two alone.
+#[test]
+fn toy_in_blocks(rt: HostRuntime) {
+    let mut cipher = StreamCipherCoreWrapper::<Toy>::new(&7, &());
+    let mut stream = [0; 704];
+    assert_eq!(rt; cipher.try_apply_keystream(&mut stream), Ok(()));
+    let mut core = Toy::new(&7, &());
+    let mut blocks = [[0; 64]; 9];
+    core.apply_keystream_blocks(&mut blocks);
+    for i in 0..9usize {
+        assert_eq!(rt; blocks[i].as_slice(), &stream[64 * i..64 * i + 64]);
+    }
+    let mut block = [0; 64];
+    core.apply_keystream_block(&mut block);
+    assert_eq!(rt; block.as_slice(), &stream[576..640]);
+    core.write_keystream_block(&mut block);
+    assert_eq!(rt; block.as_slice(), &stream[640..]);
 }
 
 // No byte of the block with counter 2^32 - 1 is taken.

@@ -1,7 +1,7 @@
 //! The layouts of a state's last row: where the counter stands, and how many counters there are.
 
-ghost use Rattle.std.specs.Prelude.{◌≡◌, ◌≤◌, ◌<◌, ◌+◌, ◌-◌, ◌%◌, ◌^◌, ◌⊎◌, ℕ, length, Some};
-ghost use Rattle.chacha_base.specs.Layout.{Layout, ietf, modulus, counter_len, row_counter, row_at, remaining};
+ghost use Rattle.std.specs.Prelude.{◌≡◌, ◌≤◌, ◌<◌, ◌+◌, ◌-◌, ◌*◌, ◌%◌, ◌^◌, ◌⊎◌, ℕ, length, Some};
+ghost use Rattle.chacha_base.specs.Layout.{Layout, ietf, legacy, modulus, counter_len, row_counter, row_at, remaining};
 
 mod sealed {
     pub trait Sealed {}
@@ -15,6 +15,11 @@ pub trait StreamCipherCounter: Sealed + Copy {
     ghost M: { ℕ };
 
     ghost value: { Self → ℕ };
+
+    ghost BITS: { ℕ };
+
+    /// Bits in a counter.
+    const BITS: u32;
 
     /// The counter with this number. This crate's own.
     fn from_u64(number: u64) -> Self
@@ -48,6 +53,10 @@ impl StreamCipherCounter for u32 {
 
     ghost value = { λ c. c };
 
+    ghost BITS = { 32 };
+
+    const BITS: u32 = 32;
+
     ghost sizes = { inl refl };
 
     fn from_u64(number: u64) -> u32 {
@@ -73,6 +82,10 @@ impl StreamCipherCounter for u64 {
     ghost M = { 2 ^ 64 };
 
     ghost value = { λ c. c };
+
+    ghost BITS = { 64 };
+
+    const BITS: u32 = 64;
 
     ghost sizes = { inr refl };
 
@@ -118,6 +131,8 @@ pub trait Variant: Sealed {
         ensures { result ≡ remaining (modulus layout) (Self.Counter.value block_pos) };
 
     ghost counters: { Self.Counter.M ≡ modulus layout };
+
+    ghost bits: { Self.Counter.BITS ≡ 32 * counter_len layout };
 }
 
 /// The layout of RFC 8439: a counter of 32 bits in word 12, and a nonce of 12 bytes.
@@ -135,6 +150,8 @@ impl Variant for Ietf {
 
     ghost counters = { refl };
 
+    ghost bits = { refl };
+
     fn get_block_pos(row: &[u32]) -> u32 {
         row[0]
     }
@@ -145,5 +162,36 @@ impl Variant for Ietf {
 
     fn remaining_blocks(block_pos: u32) -> Option<usize> {
         Some((u32::MAX - block_pos) as usize)
+    }
+}
+
+/// The layout from before RFC 8439: a counter of 64 bits in words 12 (low) and 13 (high), and a nonce of 8 bytes.
+#[derive(Clone, Copy)]
+pub enum Legacy {}
+
+impl Sealed for Legacy {}
+
+impl Variant for Legacy {
+    ghost use Rattle.std.specs.Prelude.{refl};
+
+    type Counter = u64;
+
+    ghost layout = { legacy };
+
+    ghost counters = { refl };
+
+    ghost bits = { refl };
+
+    fn get_block_pos(row: &[u32]) -> u64 {
+        (u64::from(row[1]) << 32) | u64::from(row[0])
+    }
+
+    fn set_block_pos(row: &mut [u32], pos: u64) {
+        row[0] = (pos & 0xffff_ffff) as u32;
+        row[1] = (pos >> 32) as u32;
+    }
+
+    fn remaining_blocks(block_pos: u64) -> Option<usize> {
+        Some((u64::MAX - block_pos) as usize)
     }
 }

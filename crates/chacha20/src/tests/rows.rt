@@ -1,21 +1,11 @@
 //! Worked rows, by number, and the cipher without rounds, whose blocks can be computed by hand.
 
-use super::COUNTING;
+use super::{COUNTING, R0};
 use crate::backends::Soft;
 use crate::cipher::{KeyIvInit, StreamCipher};
 use crate::variants::Ietf;
-use crate::{ChaCha20, ChaChaCore, Rounds, StreamCipherCoreWrapper};
+use crate::{ChaCha20, ChaChaCore, StreamCipherCoreWrapper};
 use std::test::Fail;
-
-// No rounds: a block is its start state, each word doubled.
-#[derive(Clone, Copy)]
-pub struct R0;
-
-impl Rounds for R0 {
-    ghost COUNT = { 0 };
-
-    const COUNT: usize = 0;
-}
 
 const ROW_1: [u8; 16] = *b"\xe4\x05\x62\x6e\x4f\x12\x36\xb3\x67\x0e\xe4\x28\x33\x2e\xa2\x0e";
 

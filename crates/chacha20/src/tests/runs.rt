@@ -1,6 +1,6 @@
 //! A run on the cipher without rounds, directly and as a list of calls.
 
-use super::rows::R0;
+use super::R0;
 use crate::backends::Soft;
 use crate::cipher::{KeyIvInit, OverflowError, StreamCipher, StreamCipherError, StreamCipherSeek};
 use crate::runs::{CipherAnswer, CipherCall, run_cipher};

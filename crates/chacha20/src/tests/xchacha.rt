@@ -6,8 +6,7 @@ ghost use Rattle.chacha_base.specs.Block.{block};
 ghost use Rattle.chacha_base.specs.Keystream.{keystream, applied};
 ghost use Rattle.chacha20.specs.XChaCha.{subkey, subnonce};
 
-use super::COUNTING;
-use super::rows::R0;
+use super::{COUNTING, R0};
 use crate::backends::Soft;
 use crate::cipher::{KeyIvInit, Keystream, StreamCipher, StreamCipherError};
 use crate::variants::Ietf;

@@ -98,6 +98,12 @@ impl StreamCipherCore for Toy {
         Some((u32::MAX - self.counter) as usize)
     }
 
+    fn write_keystream_blocks(&mut self, blocks: &mut [[u8; 64]]) {
+        for i in 0..blocks.len() {
+            self.write_keystream_block(&mut blocks[i]);
+        }
+    }
+
     fn write_block_counted(&mut self, block: &mut [u8; 64], _steps: &mut Steps) {
         for i in 0..64usize {
             block[i] = byte(self.seed, self.counter, i);

@@ -1,0 +1,17 @@
+//! The cipher from before RFC 8439, with a counter of 64 bits.
+
+use crate::chacha_core::ChaChaCore;
+use chacha_base::backends::Soft;
+use chacha_base::rounds::R20;
+use chacha_base::variants::Legacy;
+use chacha_base::wrapper::StreamCipherCoreWrapper;
+
+/// A nonce of 8 bytes. No two messages under one key may have the same.
+pub type LegacyNonce = [u8; 8];
+
+/// The core of `ChaCha20Legacy`: ten double rounds, and a counter of 64 bits in words 12 and 13.
+pub type ChaCha20LegacyCore = ChaChaCore<R20, Legacy, Soft>;
+
+/// ChaCha20 as it was before RFC 8439, from block 0 on. It takes 1180591620717411303360 bytes for one key and nonce:
+/// all blocks but the one with the greatest counter.
+pub type ChaCha20Legacy = StreamCipherCoreWrapper<ChaCha20LegacyCore>;
