@@ -21,9 +21,14 @@ fn print_rows(rt: &impl Print) -> io::Result<bool> {
     }
     println!(rt; "")?;
     let mut all_right = print_row(rt, 1, rows::row_1())?;
+    all_right &= print_row(rt, 3, rows::row_3())?;
     all_right &= print_row(rt, 4, rows::row_4())?;
+    all_right &= print_row(rt, 5, rows::row_5())?;
+    all_right &= print_row(rt, 6, rows::row_6())?;
     all_right &= print_row(rt, 11, rows::row_11())?;
+    all_right &= print_row(rt, 12, rows::row_12())?;
     all_right &= print_row(rt, 16, rows::row_16())?;
+    all_right &= print_row(rt, 22, rows::row_22())?;
     Ok(all_right)
 }
 

@@ -1,8 +1,10 @@
 //! Worked rows: published calls with their answers. A row is right if each call answers as published.
 
-use chacha20::cipher::{KeyIvInit, StreamCipher, StreamCipherError, StreamCipherSeek};
+use chacha20::cipher::{
+    KeyIvInit, OverflowError, StreamCipher, StreamCipherError, StreamCipherSeek,
+};
 use chacha20::runs::{CipherAnswer, CipherCall, run_cipher};
-use chacha20::{ChaCha20, Key};
+use chacha20::{ChaCha20, ChaCha20Legacy, Key, LegacyNonce, R20, XChaCha20, XNonce, hchacha};
 
 // The key 00 to 1f.
 const COUNTING: Key = [
@@ -48,6 +50,14 @@ fn row_1_applied(
     Ok(())
 }
 
+/// HChaCha (draft-irtf-cfrg-xchacha, section 2.2.1).
+pub fn row_3() -> bool {
+    let input = *b"\x00\x00\x00\x09\x00\x00\x00\x4a\x00\x00\x00\x00\x31\x41\x59\x27";
+    let expected = b"\x82\x41\x3b\x42\x27\xb2\x7b\xfe\xd3\x0e\x42\x50\x8a\x87\x7d\x73\
+        \xa0\xf9\xe4\xd5\x8a\x74\xa8\x53\xc1\x2e\xc4\x13\x26\xd3\xec\xdc";
+    hchacha::<R20>(&COUNTING, &input) == *expected
+}
+
 /// A message from block 1 on (RFC 8439, section 2.4.2).
 pub fn row_4() -> bool {
     let mut text = *b"Ladies and Gentl";
@@ -60,6 +70,56 @@ fn row_4_applied(text: &mut [u8]) -> Result<(), StreamCipherError> {
     cipher.try_apply_keystream(&mut [0; 64])?;
     cipher.try_apply_keystream(text)
 }
+
+/// XChaCha20 from block 1 on.
+pub fn row_5() -> bool {
+    let mut dropped = [0; 64];
+    let mut stream = [0; 32];
+    let mut cipher = XChaCha20::new(&FROM_80, &X_NONCE);
+    cipher.try_write_keystream(&mut dropped).is_ok()
+        && cipher.try_write_keystream(&mut stream).is_ok()
+        && stream
+            == *b"\x29\x62\x4b\x4b\x1b\x14\x0a\xce\x53\x74\x0e\x40\x5b\x21\x68\x54\
+        \x0f\xd7\xd6\x30\xc1\xf5\x36\xfe\xcd\x72\x2f\xc3\xcd\xdb\xa7\xf4"
+}
+
+// The key 80 to 9f and its nonce.
+const FROM_80: Key = *b"\x80\x81\x82\x83\x84\x85\x86\x87\x88\x89\x8a\x8b\x8c\x8d\x8e\x8f\
+    \x90\x91\x92\x93\x94\x95\x96\x97\x98\x99\x9a\x9b\x9c\x9d\x9e\x9f";
+
+const X_NONCE: XNonce = *b"@ABCDEFGHIJKLMNOPQRSTUVX";
+
+/// The legacy cipher, from its start and from byte 17.
+pub fn row_6() -> bool {
+    let mut first = [0; 32];
+    let mut three = [0; 3];
+    let mut cipher = ChaCha20Legacy::new(&FROM_1, &LEGACY_NONCE);
+    row_6_applied(&mut cipher, &mut first, &mut three).is_ok()
+        && first
+            == *b"\xde\xeb\x6b\x9d\x06\xdf\xf3\xe0\x91\xbf\x3a\xd4\xf4\xd4\x92\xb6\
+        \xdd\x98\x24\x6f\x69\x69\x18\x02\xe4\x66\xe0\x3b\xad\x23\x57\x87"
+        && three == [0x98, 0x24, 0x6f]
+        && cipher.try_current_pos() == Ok(20u32)
+}
+
+fn row_6_applied(
+    cipher: &mut ChaCha20Legacy,
+    first: &mut [u8],
+    three: &mut [u8],
+) -> Result<(), StreamCipherError> {
+    cipher.try_apply_keystream(first)?;
+    cipher.try_seek(17u64)?;
+    cipher.try_apply_keystream(three)?;
+    cipher.try_apply_keystream(&mut [])
+}
+
+// The key 01 to 20 and its nonce.
+const FROM_1: Key = [
+    1, 2, 3, 4, 5, 6, 7, 8, 9, 10, 11, 12, 13, 14, 15, 16, 17, 18, 19, 20, 21, 22, 23, 24, 25, 26,
+    27, 28, 29, 30, 31, 32,
+];
+
+const LEGACY_NONCE: LegacyNonce = [3, 1, 4, 1, 5, 9, 2, 6];
 
 /// The end of the stream, as a list of calls: nothing can be taken there, and nothing is past it.
 pub fn row_11() -> bool {
@@ -87,6 +147,18 @@ pub fn row_11() -> bool {
             ]
 }
 
+/// Positions that a type can't say.
+pub fn row_12() -> bool {
+    let mut legacy = ChaCha20Legacy::new(&FROM_1, &LEGACY_NONCE);
+    let mut cipher = ChaCha20::new(&COUNTING, &[0; 12]);
+    legacy.try_seek(1180591620717411303360u128).is_ok()
+        && legacy.try_current_pos::<u64>() == Err(OverflowError)
+        && legacy.try_current_pos() == Ok(1180591620717411303360u128)
+        && cipher.try_seek(2147483648u32).is_ok()
+        && cipher.try_current_pos::<i32>() == Err(OverflowError)
+        && cipher.try_current_pos() == Ok(2147483648u32)
+}
+
 /// Two slices of different lengths.
 pub fn row_16() -> bool {
     let mut cipher = ChaCha20::new(&COUNTING, &[0; 12]);
@@ -96,4 +168,13 @@ pub fn row_16() -> bool {
         .is_err()
         && output == [1, 2, 3, 4]
         && cipher.try_current_pos() == Ok(0u32)
+}
+
+/// How much a fresh cipher takes.
+pub fn row_22() -> bool {
+    let cipher = ChaCha20::new(&COUNTING, &[0; 12]);
+    let legacy = ChaCha20Legacy::new(&FROM_1, &LEGACY_NONCE);
+    cipher.check_remaining(274877906880).is_ok()
+        && cipher.check_remaining(274877906881).is_err()
+        && legacy.check_remaining(usize::MAX).is_ok()
 }
