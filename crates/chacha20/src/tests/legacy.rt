@@ -5,7 +5,7 @@ ghost use Rattle.chacha_base.specs.Layout.{legacy};
 ghost use Rattle.chacha_base.specs.Block.{block};
 ghost use Rattle.chacha_base.specs.Keystream.{keystream, applied};
 
-use crate::cipher::{KeyIvInit, StreamCipher, StreamCipherError};
+use crate::cipher::{KeyIvInit, StreamCipher, StreamCipherError, StreamCipherSeek};
 use crate::variants::{Legacy, Variant};
 use crate::{ChaCha20Legacy, Key, LegacyNonce};
 use std::test::Fail;
@@ -39,6 +39,42 @@ fn stream(rt: HostRuntime) -> Result<(), Fail> {
     let mut stream = [0; 256];
     ChaCha20Legacy::new(&KEY, &NONCE).try_apply_keystream(&mut stream)?;
     assert_eq!(rt; stream.as_slice(), STREAM.as_slice());
+    Ok(())
+}
+
+// Moves to a byte, and applies in two parts.
+fn apply_from(
+    cipher: &mut ChaCha20Legacy,
+    from: usize,
+    front: &mut [u8],
+    back: &mut [u8],
+) -> Result<(), StreamCipherError> {
+    cipher.try_seek(from)?;
+    cipher.try_apply_keystream(front)?;
+    cipher.try_apply_keystream(back)
+}
+
+// From each byte to each other one, cut at each between them.
+#[test]
+fn every_cut(rt: HostRuntime) -> Result<(), Fail> {
+    let stream = STREAM.as_slice();
+    let mut cipher = ChaCha20Legacy::new(&KEY, &NONCE);
+    for from in 0..256usize {
+        for middle in from..256 {
+            for last in middle..256 {
+                let mut front = [0; 256];
+                let mut back = [0; 256];
+                apply_from(
+                    &mut cipher,
+                    from,
+                    &mut front[..middle - from],
+                    &mut back[..last - middle],
+                )?;
+                assert!(rt; &front[..middle - from] == &stream[from..middle]);
+                assert!(rt; &back[..last - middle] == &stream[middle..last]);
+            }
+        }
+    }
     Ok(())
 }
 

@@ -63,10 +63,16 @@ fn other_nonces(rt: HostRuntime) -> Result<(), Fail> {
 fn refusal(rt: HostRuntime) -> Result<(), Fail> {
     let mut cipher = ChaCha20::new(&[1; 32], &[2; 12]);
     assert_eq!(rt; cipher.check_remaining(274877906880), Ok(()));
-    assert_eq!(rt; cipher.check_remaining(274877906881), Err(StreamCipherError));
+    assert_eq!(rt;
+        cipher.check_remaining(274877906881),
+        Err(StreamCipherError)
+    );
     cipher.try_seek(274877906880u64)?;
     let mut byte = [7];
-    assert_eq!(rt; cipher.try_apply_keystream(&mut byte), Err(StreamCipherError));
+    assert_eq!(rt;
+        cipher.try_apply_keystream(&mut byte),
+        Err(StreamCipherError)
+    );
     assert_eq!(rt; byte, [7]);
     Ok(())
 }
