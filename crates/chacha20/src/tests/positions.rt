@@ -2,23 +2,27 @@
 
 use super::COUNTING;
 use crate::ChaCha20;
-use crate::cipher::{KeyIvInit, OverflowError, StreamCipher, StreamCipherError, StreamCipherSeek};
+use crate::cipher::{
+    KeyIvInit, OverflowError, SeekNum, StreamCipher, StreamCipherError, StreamCipherSeek,
+};
 use std::test::Fail;
 
 const LIMIT: u64 = 274877906880;
 
-// Where types end, and at the limit.
+// Where types end, and the limit.
+const PLACES: [u64; 6] = [
+    0,
+    0x7fff_ffff,
+    0x8000_0000,
+    0xffff_ffff,
+    0x1_0000_0000,
+    LIMIT,
+];
+
 #[test]
-fn in_each_type(rt: HostRuntime) -> Result<(), Fail> {
+fn answered_in_each_type(rt: HostRuntime) -> Result<(), Fail> {
     let mut cipher = ChaCha20::new(&COUNTING, &[0; 12]);
-    for place in [
-        0,
-        0x7fff_ffff,
-        0x8000_0000,
-        0xffff_ffff,
-        0x1_0000_0000,
-        LIMIT,
-    ] {
+    for place in PLACES {
         cipher.try_seek(place)?;
         assert_eq!(rt;
             cipher.try_current_pos(),
@@ -35,22 +39,28 @@ fn in_each_type(rt: HostRuntime) -> Result<(), Fail> {
     Ok(())
 }
 
-// The same places, sought in each type that has them.
-#[test]
-fn sought_in_each_type(rt: HostRuntime) {
+// A seek in a type, from another position.
+fn sought<T: SeekNum>(number: T) -> Result<u64, Fail> {
     let mut cipher = ChaCha20::new(&COUNTING, &[0; 12]);
-    assert_eq!(rt; cipher.try_seek(0x7fff_ffffi32), Ok(()));
-    assert_eq!(rt; cipher.try_current_pos(), Ok(0x7fff_ffffu64));
-    assert_eq!(rt; cipher.try_seek(0x8000_0000u32), Ok(()));
-    assert_eq!(rt; cipher.try_current_pos(), Ok(0x8000_0000u64));
-    assert_eq!(rt; cipher.try_seek(0xffff_ffffu32), Ok(()));
-    assert_eq!(rt; cipher.try_current_pos(), Ok(0xffff_ffffu64));
-    assert_eq!(rt; cipher.try_seek(0x1_0000_0000usize), Ok(()));
-    assert_eq!(rt; cipher.try_current_pos(), Ok(0x1_0000_0000u64));
-    assert_eq!(rt; cipher.try_seek(u128::from(LIMIT)), Ok(()));
-    assert_eq!(rt; cipher.try_current_pos(), Ok(LIMIT));
-    assert_eq!(rt; cipher.try_seek(LIMIT as usize), Ok(()));
-    assert_eq!(rt; cipher.try_seek(LIMIT), Ok(()));
+    cipher.try_seek(70u32)?;
+    cipher.try_seek(number)?;
+    Ok(cipher.try_current_pos()?)
+}
+
+#[test]
+fn sought_in_each_type(rt: HostRuntime) -> Result<(), Fail> {
+    for place in PLACES {
+        assert_eq!(rt; sought(place)?, place);
+        assert_eq!(rt; sought(u128::from(place))?, place);
+        assert_eq!(rt; sought(place as usize)?, place);
+        if let Ok(number) = u32::try_from(place) {
+            assert_eq!(rt; sought(number)?, place);
+        }
+        if let Ok(number) = i32::try_from(place) {
+            assert_eq!(rt; sought(number)?, place);
+        }
+    }
+    Ok(())
 }
 
 // Refused seeks leave the position.
