@@ -5,7 +5,7 @@ ghost use Rattle.chacha_base.specs.Layout.{ietf};
 ghost use Rattle.chacha_base.specs.Block.{block};
 ghost use Rattle.chacha_base.specs.Keystream.{keystream, applied};
 
-mod core;
+mod core_calls;
 mod legacy;
 mod positions;
 mod readme;
