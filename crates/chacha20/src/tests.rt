@@ -7,6 +7,7 @@ ghost use Rattle.chacha_base.specs.Keystream.{keystream, applied};
 
 mod core_calls;
 mod legacy;
+mod named;
 mod positions;
 mod readme;
 mod records;
