@@ -3,3 +3,4 @@ pub mod StartLemmas
 pub mod RunLemmas
 pub mod XChaChaLemmas
 pub mod XChaChaVectors
+pub mod GeneratorVectors

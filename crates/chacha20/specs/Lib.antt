@@ -12,3 +12,5 @@ pub use Rattle.chacha_base.specs.State
 pub use Rattle.chacha_base.specs.Keystream
 pub use Rattle.chacha_base.specs.Cipher
 pub use Rattle.chacha_base.specs.Counts
+pub mod Generator
+pub mod StateBytes

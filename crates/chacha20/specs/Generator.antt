@@ -1,0 +1,43 @@
+-- Generators of words: a seed, a stream, and a position that counts words and wraps (this crate).
+use Rattle.std.specs.Prelude.{ℕ, zero, suc, ◌+◌, ◌*◌, ◌/◌, ◌%◌, ◌^◌, List, [], ◌∷◌, take, slice_index}
+use Rattle.chacha_base.specs.Bytes.{bytes}
+use Rattle.chacha_base.specs.Block.{start}
+use Rattle.chacha_base.specs.Layout.{legacy, counter_words}
+use Rattle.chacha_base.specs.Rounds.{mix}
+
+pub record Generator : Type 0 where
+  pub seed : List ℕ
+  pub stream : ℕ
+  pub word_pos : ℕ
+
+-- how many positions there are: sixteen words for each counter of 64 bits
+abbrev pub positions : ℕ
+positions = 2 ^ 68
+
+-- the generator at a position
+abbrev pub at : Generator → ℕ → Generator
+at g w = record g { word_pos = w % positions }
+
+-- the 8 bytes of a number below 2^64, the low byte first
+abbrev pub bytes_of_8 : ℕ → List ℕ
+bytes_of_8 x = bytes (counter_words legacy x)
+
+-- the word at a position, after n double rounds: that of the block whose key is the seed and whose nonce is the stream
+abbrev pub word : ℕ → Generator → ℕ → ℕ
+word n g w = slice_index (mix n (start legacy g.seed (bytes_of_8 g.stream) (w % positions / 16))) (w % 16)
+
+-- so many words from a position on
+abbrev pub words_from : ℕ → Generator → ℕ → ℕ → List ℕ
+words_from n g w zero = []
+words_from n g w (suc k) = word n g w ∷ words_from n g (w + 1) k
+
+-- reads: the answer, and the generator after it
+abbrev pub next_u32 : ℕ → Generator → ℕ × Generator
+next_u32 n g = (word n g g.word_pos, at g (g.word_pos + 1))
+
+abbrev pub next_u64 : ℕ → Generator → ℕ × Generator
+next_u64 n g = (word n g g.word_pos + 2 ^ 32 * word n g (g.word_pos + 1), at g (g.word_pos + 2))
+
+-- a read of so many bytes takes whole words, and loses what is left of the last
+abbrev pub fill : ℕ → Generator → ℕ → List ℕ × Generator
+fill n g len = let k = (len + 3) / 4 in (take len (bytes (words_from n g g.word_pos k)), at g (g.word_pos + k))
