@@ -1,11 +1,17 @@
 -- States of sixteen words: the counter, and the words that stay.
-use Rattle.std.proofs.Common.{◌≡◌, ℕ, ◌+◌, ◌*◌, ◌/◌, ◌%◌, ◌^◌, ◌<◌, List, ◌++◌, length, slice_index, arith, refl, ap, ◌∙◌}
+use Rattle.std.proofs.Common.{◌≡◌, ℕ, ◌+◌, ◌*◌, ◌/◌, ◌%◌, ◌^◌, ◌<◌, ◌≤◌, List, ◌++◌, length, slice_index, arith, refl, ap, ◌∙◌}
 use Rattle.std.proofs.Math.Nat.{mod-add-mod, mod-eq_of_lt}
+use Rattle.std.proofs.lemmas.List.FromFn.{length-map-range_with_len, get_or-map-range_with_len, fill_by_all}
+use Rattle.std.proofs.lemmas.Option.{slice_get-get_or, get_or_from_slice_get}
+use Rattle.std.specs.Prelude.{slice_get, Some}
+use borrow.Rule.Slice.PartMut.{put_mid}
 use Rattle.chacha_base.specs.Layout.{Layout, ietf, legacy, modulus, counter_words}
 use Rattle.chacha_base.specs.Bytes.{words}
 use Rattle.chacha_base.specs.Block.{constants, start}
-use Rattle.chacha_base.specs.State.{state_counter, fixed_words, state_of, state_at, counter_after, advanced}
-use Rattle.chacha_base.proofs.ListLemmas.{each}
+use Rattle.chacha_base.specs.Rounds.{rounds, add_states, mix}
+use Rattle.chacha_base.specs.Words.{add}
+use Rattle.chacha_base.specs.State.{state_counter, fixed_words, state_of, state_at, counter_after, advanced, next_word, next_words}
+use Rattle.chacha_base.proofs.ListLemmas.{each, written_more}
 
 -- each word is below 2 ^ 32
 abbrev pub Words : List ℕ → Type 0
@@ -81,3 +87,30 @@ start-joined_words legacy nonce c =
 pub start-joined : (layout : Layout) (key nonce : List ℕ) (c : ℕ) → length (words key) ≡ 8
     → state_of layout (fixed_words layout (start layout key nonce 0)) c ≡ start layout key nonce c
 start-joined layout key nonce c = start-joined_words layout (words nonce) c (words key)
+
+pub length-mix : (n : ℕ) (s : List ℕ) → length (mix n s) ≡ 16
+unfolding add_states
+length-mix n s = length-map-range_with_len (λ w. add (slice_index (rounds n s) w) (slice_index s w)) 0 16
+
+-- the words of one block more
+pub next_words-more : (n : ℕ) (layout : Layout) (s t : List ℕ) (i : ℕ) (now part : List ℕ) → t ≡ advanced layout i s → part ≡ mix n t
+    → 16 * i ≤ length now → ((k : ℕ) → k < 16 * i → slice_get now k ≡ Some (next_word n layout s k))
+    → (k : ℕ) → k < 16 * i + 16 → slice_get (put_mid (16 * i) 16 now part) k ≡ Some (next_word n layout s k)
+next_words-more n layout s t i now part moved made room before =
+    let long : length part ≡ 16 = ap length made ∙ length-mix n t in
+    written_more (next_word n layout s) (16 * i) 16 now part room long before
+    (λ k less.
+    let which : (16 * i + k) / 16 ≡ i = omega arith in
+    let place : (16 * i + k) % 16 ≡ k = omega arith in
+    slice_get-get_or part k 0 (omega (arith, long, less))
+    ∙ ap Some (rw (which, place) (ap (λ u. slice_index u k) (made ∙ ap (mix n) moved))))
+
+pub next_words-are : (n : ℕ) (layout : Layout) (s now : List ℕ) → length now ≡ 64
+    → ((k : ℕ) → k < 64 → slice_get now k ≡ Some (next_word n layout s k)) → now ≡ next_words n layout s
+unfolding next_words
+next_words-are n layout s now long made =
+    fill_by_all (next_word n layout s) now 64 0 long (λ k less. get_or_from_slice_get now k _ 0 (made k less))
+
+pub next_words-at : (n : ℕ) (layout : Layout) (s : List ℕ) (i : ℕ) → i < 64 → slice_index (next_words n layout s) i ≡ next_word n layout s i
+unfolding next_words
+next_words-at n layout s i less = get_or-map-range_with_len (next_word n layout s) 0 64 i i 0 less (omega arith)

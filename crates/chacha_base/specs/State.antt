@@ -1,5 +1,6 @@
 -- A state as a counter and all its other words, and the blocks that it gives one after another (this crate).
-use Rattle.std.specs.Prelude.{ℕ, ◌+◌, ◌%◌, List, ◌++◌, take, drop}
+use Rattle.std.specs.Prelude.{ℕ, ◌+◌, ◌/◌, ◌%◌, List, ◌++◌, map, take, drop, slice_index}
+use Rattle.std.specs.List.{range_with_len}
 use Rattle.chacha_base.specs.Bytes.{bytes}
 use Rattle.chacha_base.specs.Layout.{Layout, modulus, counter_words, counter_len, row_counter}
 use Rattle.chacha_base.specs.Rounds.{mix}
@@ -35,3 +36,11 @@ advanced layout i s = state_at layout (counter_after layout s i) s
 -- block i from a state on
 abbrev pub next_block : ℕ → Layout → List ℕ → ℕ → List ℕ
 next_block n layout s i = bytes (mix n (advanced layout i s))
+
+-- word i from a state on: word i mod 16 of the block that is i div 16 blocks on
+abbrev pub next_word : ℕ → Layout → List ℕ → ℕ → ℕ
+next_word n layout s i = slice_index (mix n (advanced layout (i / 16) s)) (i % 16)
+
+-- the 64 words of the next four blocks
+unfoldable pub next_words : ℕ → Layout → List ℕ → List ℕ
+next_words n layout s = map (next_word n layout s) (range_with_len 0 64)

@@ -1,8 +1,8 @@
 //! The traits of backends, cores and ciphers, and their errors.
 
 ghost use Rattle.std.specs.Prelude.{◌≡◌, ◌↔◌, ◌≤◌, ◌<◌, ◌+◌, ◌-◌, ◌*◌, ◌/◌, ◌%◌, ◌^◌, ℕ, List, [], length, slice_get, slice_index_or, Some, IsOk, IfOk, OnOk, OnErr, IsSomeAnd, IfSome};
-ghost use Rattle.chacha_base.specs.Layout.{remaining};
-ghost use Rattle.chacha_base.specs.State.{advanced, next_block};
+ghost use Rattle.chacha_base.specs.Layout.{legacy, remaining};
+ghost use Rattle.chacha_base.specs.State.{advanced, next_block, next_words};
 ghost use Rattle.chacha_base.specs.Keystream.{keystream, applied, streamed};
 ghost use Rattle.chacha_base.specs.Counts.{Bounds, Grows, for_call, for_tail, for_blocks};
 
@@ -132,6 +132,24 @@ pub trait StreamCipherBackend<R: Rounds, V: Variant>: ParBlocksSizeUser {
             → slice_get blocks.new i ≡ Some (next_block R.COUNT V.layout state.old i) }
         ensures state { state.new ≡ advanced V.layout (length blocks.old) state.old }
         ensures steps { Grows (for_tail (ONE_STEPS * R.COUNT) (length blocks.old)) steps.old steps.new };
+}
+
+/// Makes the words of a generator, four blocks at a time, in the layout with a counter of 64 bits.
+///
+/// From counter c on these are the words of blocks c to c + 3, one block after another; the state is then the one with
+/// counter c + 4, and all its other words stay. Counters wrap at 2^64. Nothing is refused. Anyone may implement it; one
+/// that counts nothing has the constant 0. This crate's own.
+pub trait RngBackend<R: Rounds> {
+    ghost RNG_STEPS: { ℕ };
+
+    /// Quarter rounds of a call, for each double round.
+    const RNG_STEPS: usize;
+
+    /// The words of the next four blocks.
+    fn gen_ks_blocks(state: &mut [u32; 16], buffer: &mut [u32; 64], steps: &mut Steps)
+        ensures words { buffer.new ≡ next_words R.COUNT legacy state.old }
+        ensures state { state.new ≡ advanced legacy 4 state.old }
+        ensures steps { steps.new ≡ record steps.old { rounds = steps.old.rounds + RNG_STEPS * R.COUNT } };
 }
 
 /// Hands out the blocks of a keystream one after another, in order of counter. Counters wrap; nothing is refused, and

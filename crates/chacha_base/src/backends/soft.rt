@@ -6,9 +6,9 @@ ghost use Rattle.chacha_base.specs.State.{advanced};
 ghost use Rattle.chacha_base.specs.Bytes.{bytes};
 
 use crate::bytes::write_bytes;
-use crate::cipher::{ParBlocksSizeUser, StreamCipherBackend};
+use crate::cipher::{ParBlocksSizeUser, RngBackend, StreamCipherBackend};
 use crate::rounds::{Rounds, Steps, double_rounds};
-use crate::variants::{StreamCipherCounter, Variant};
+use crate::variants::{Legacy, StreamCipherCounter, Variant};
 
 /// The plain block function, a block at a time (RFC 8439, section 2.3).
 #[derive(Clone, Copy, Debug)]
@@ -24,16 +24,25 @@ fn add_words(state: &mut [u32; 16], start: &[u32; 16])
     }
 }
 
+// The words of a state's block.
+#[inline(always)]
+fn block_words<R: Rounds>(state: &[u32; 16], steps: &mut Steps) -> [u32; 16]
+    ensures words { result ≡ mix R.COUNT state.now }
+    ensures steps { steps.new ≡ record steps.old { rounds = steps.old.rounds + 8 * R.COUNT } }
+{
+    let mut mixed = *state;
+    double_rounds(R::COUNT, &mut mixed, steps);
+    add_words(&mut mixed, state);
+    mixed
+}
+
 // The bytes of a state's block.
 #[inline(always)]
 fn block_bytes<R: Rounds>(state: &[u32; 16], block: &mut [u8; 64], steps: &mut Steps)
     ensures block { block.new ≡ bytes (mix R.COUNT state.now) }
     ensures steps { steps.new ≡ record steps.old { rounds = steps.old.rounds + 8 * R.COUNT } }
 {
-    let mut mixed = *state;
-    double_rounds(R::COUNT, &mut mixed, steps);
-    add_words(&mut mixed, state);
-    write_bytes(&mixed, block);
+    write_bytes(&block_words::<R>(state, steps), block);
 }
 
 // Moves the counter of a state.
@@ -80,5 +89,18 @@ impl<R: Rounds, V: Variant> StreamCipherBackend<R, V> for Soft {
 
     fn gen_tail_blocks(state: &mut [u32; 16], _blocks: &mut [[u8; 64]], _steps: &mut Steps) {
         advance::<V>(state, 0);
+    }
+}
+
+impl<R: Rounds> RngBackend<R> for Soft {
+    ghost RNG_STEPS = { 32 };
+
+    const RNG_STEPS: usize = 32;
+
+    fn gen_ks_blocks(state: &mut [u32; 16], buffer: &mut [u32; 64], steps: &mut Steps) {
+        'four: for i in 0..4usize {
+            buffer[16 * i..16 * i + 16].copy_from_slice(&block_words::<R>(state, steps));
+            advance::<Legacy>(state, 1);
+        }
     }
 }
