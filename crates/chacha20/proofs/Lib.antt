@@ -4,3 +4,7 @@ pub mod RunLemmas
 pub mod XChaChaLemmas
 pub mod XChaChaVectors
 pub mod GeneratorVectors
+pub mod GeneratorLemmas
+pub mod ReadLemmas
+pub mod GeneratorEquality
+pub mod StateBytesLemmas

@@ -1,4 +1,4 @@
--- Lists of calls that apply a keystream.
+-- Lists of calls that apply a keystream, and runs of any calls whose answers are written one after another.
 use Rattle.std.proofs.Common.{inl, inr, ◌≡◌, ℕ, ◌+◌, ◌≤◌, List, [], ◌∷◌, ◌++◌, length, take, drop, arith, refl, sym, ap, ap₂, subst, ◌∙◌, append_assoc, append-nil, length-append, length-drop}
 use Rattle.std.specs.Prelude.{sum, nat_le}
 use Rattle.std.specs.List.{AllByRecursion}
@@ -157,14 +157,14 @@ run-seek_back s c bytes at len inside done =
           ∙ put-part at len bytes,
     )))
 
--- the end of a run whose answers have been written one after another
-pub run-all : (s : Setting) (c d : Cipher) (old new : List ℕ) (calls : List CipherCall) (answers : List CipherAnswer) (i : ℕ)
-    → (let rest = run_of s d new (drop i calls) in run_of s c old calls ≡ (take i answers ++ rest.0, rest.1, rest.2))
-    → length calls ≤ i → length answers ≤ i → (answers, d, new) ≡ run_of s c old calls
-run-all s c d old new calls answers i ran all same =
+-- the end of a run whose answers have been written one after another; `rest` is the run of what is left, from there on
+pub run-all : {K A S : Type 0} (whole : List A × S × List ℕ) (rest : List K → List A × S × List ℕ) (end : S) (new : List ℕ) (calls : List K) (answers : List A) (i : ℕ)
+    → rest [] ≡ ([], end, new) → (let left = rest (drop i calls) in whole ≡ (take i answers ++ left.0, left.1, left.2))
+    → length calls ≤ i → length answers ≤ i → (answers, end, new) ≡ whole
+run-all whole rest end new calls answers i none ran all same =
     sym (ran
-    ∙ ap (λ ks. let rest = run_of s d new ks in (take i answers ++ rest.0, rest.1, rest.2)) (drop_all i calls all)
-    ∙ ap (λ xs. (xs, d, new)) (append-nil (take i answers) ∙ take_all i answers same))
+    ∙ ap (λ left. (take i answers ++ left.0, left.1, left.2)) (ap rest (drop_all i calls all) ∙ none)
+    ∙ ap (λ xs. (xs, end, new)) (append-nil (take i answers) ∙ take_all i answers same))
 
 -- the two laws, of any run of such calls
 pub law-seek_back : (s : Setting) (input : ℕ) (c d : Cipher) (old new : List ℕ) (calls : List CipherCall) (answers : List CipherAnswer) (at len : ℕ)

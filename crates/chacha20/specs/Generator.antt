@@ -1,5 +1,8 @@
 -- Generators of words: a seed, a stream, and a position that counts words and wraps (this crate).
-use Rattle.std.specs.Prelude.{ℕ, zero, suc, ◌+◌, ◌*◌, ◌/◌, ◌%◌, ◌^◌, List, [], ◌∷◌, take, slice_index}
+use Rattle.std.specs.Prelude.{ℕ, zero, suc, ◌+◌, ◌*◌, ◌/◌, ◌%◌, ◌^◌, ◌==◌, Bool, List, [], ◌∷◌, take, slice_index}
+use Rattle.std.specs.Ordering.{on, eq_of_both}
+use Rattle.std.specs.Cmp.Lexicographic.{pointwise}
+use Rattle.rand_core.specs.Steps.{Steps}
 use Rattle.chacha_base.specs.Bytes.{bytes}
 use Rattle.chacha_base.specs.Block.{start}
 use Rattle.chacha_base.specs.Layout.{legacy, counter_words}
@@ -13,6 +16,10 @@ pub record Generator : Type 0 where
 -- how many positions there are: sixteen words for each counter of 64 bits
 abbrev pub positions : ℕ
 positions = 2 ^ 68
+
+-- the generator of a seed, at the start of stream 0
+abbrev pub of_seed : List ℕ → Generator
+of_seed seed = record { seed = seed; stream = 0; word_pos = 0 }
 
 -- the generator at a position
 abbrev pub at : Generator → ℕ → Generator
@@ -41,3 +48,13 @@ next_u64 n g = (word n g g.word_pos + 2 ^ 32 * word n g (g.word_pos + 1), at g (
 -- a read of so many bytes takes whole words, and loses what is left of the last
 abbrev pub fill : ℕ → Generator → ℕ → List ℕ × Generator
 fill n g len = let k = (len + 3) / 4 in (take len (bytes (words_from n g g.word_pos k)), at g (g.word_pos + k))
+
+-- the three reads, as rand_core's crate names them
+abbrev pub reads : ℕ → Steps Generator
+reads n = record { next_u32 = next_u32 n; next_u64 = next_u64 n; fill_bytes = λ len g. fill n g len }
+
+-- the same seed, stream and position
+abbrev pub same : Generator → Generator → Bool
+same =
+    eq_of_both (on (λ g. g.word_pos) ◌==◌)
+    (eq_of_both (on (λ g. g.stream) ◌==◌) (on (λ g. g.seed) (pointwise ◌==◌)))

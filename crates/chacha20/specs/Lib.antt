@@ -14,3 +14,5 @@ pub use Rattle.chacha_base.specs.Cipher
 pub use Rattle.chacha_base.specs.Counts
 pub mod Generator
 pub mod StateBytes
+pub mod Unread
+pub mod GeneratorRuns

@@ -10,6 +10,8 @@ ghost use Rattle.chacha_base.specs.Counts.{Grows, for_call, for_tail, for_blocks
 ghost use Rattle.chacha20.specs.Blocks.{byte_of};
 ghost use Rattle.chacha20.specs.Text.{core_text};
 
+mod generator;
+
 use crate::chacha::{Key, Nonce};
 use crate::legacy::LegacyNonce;
 use chacha_base::bytes::{read_words, xor_bytes};
@@ -19,6 +21,7 @@ use chacha_base::cipher::{
 };
 use chacha_base::rounds::{R20, Rounds, Steps};
 use chacha_base::variants::{Ietf, Legacy, StreamCipherCounter, Variant};
+pub use generator::Generator;
 use std::fmt;
 use std::marker::{Model, PhantomData};
 

@@ -9,6 +9,7 @@
 mod chacha;
 mod chacha_core;
 mod legacy;
+mod rng;
 pub mod runs;
 #[cfg(test)]
 mod tests;
@@ -19,6 +20,8 @@ pub use chacha_base::cipher::KeyIvInit;
 pub use chacha_base::rounds::{R8, R12, R20, Rounds, Steps};
 pub use chacha_base::wrapper::StreamCipherCoreWrapper;
 pub use chacha_base::{backends, cipher, variants};
-pub use chacha_core::ChaChaCore;
+pub use chacha_core::{ChaChaCore, Generator};
 pub use legacy::{ChaCha20Legacy, ChaCha20LegacyCore, LegacyNonce};
+pub use rand_core;
+pub use rng::{ChaCha8Rng, ChaCha12Rng, ChaCha20Rng, ChaChaRng, Seed, SerializedRngState};
 pub use xchacha::{XChaCha8, XChaCha12, XChaCha20, XChaChaCore, XNonce, hchacha};

@@ -1,4 +1,5 @@
-//! Lists of calls. This crate's own: one contract that speaks of any list of calls on a cipher, from any state.
+//! Lists of calls. This crate's own: one contract that speaks of any list of calls on a cipher, from any state, and one
+//! of any list of calls on a generator.
 
 ghost use Rattle.std.specs.Prelude.{◌≡◌, ◌≤◌, ◌+◌, ℕ, List, [], ◌∷◌, All, length, sum};
 ghost use Rattle.chacha_base.specs.Keystream.{keystream, limit_of};
@@ -6,8 +7,11 @@ ghost use Rattle.chacha20.specs.declared.runs.CipherCall.TheVariants.{Apply, See
 ghost use Rattle.chacha20.specs.declared.runs.CipherAnswer.TheVariants.{Done};
 ghost use Rattle.chacha20.specs.Runs.{setting, outcome_of, run_of, InSlices, pieces};
 
+mod rng;
+
 use chacha_base::cipher::{StreamCipher, StreamCipherSeek, StreamCipherSeekCore};
 use chacha_base::wrapper::StreamCipherCoreWrapper;
+pub use rng::{RngAnswer, RngCall, run_rng};
 
 /// A call on a cipher. Ranges and lengths are in bytes; `at` is a place in the data, `from` one in the input.
 #[derive(Clone, Copy, Debug, PartialEq, Eq)]

@@ -6,6 +6,7 @@ ghost use Rattle.chacha_base.specs.Block.{block};
 ghost use Rattle.chacha_base.specs.Keystream.{keystream, applied};
 
 mod core_calls;
+mod generators;
 mod legacy;
 mod named;
 mod positions;

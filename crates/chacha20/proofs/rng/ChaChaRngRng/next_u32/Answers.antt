@@ -1,0 +1,6 @@
+use Rattle.rand_core.proofs.StepsLemmas.{meets_next_u32}
+use Rattle.chacha20.specs.Generator.{reads}
+use Rattle.chacha20.proofs.rng.ChaChaRngRng.next_u32.Goals as goal
+
+pub returns : goal.returns
+returns g c = meets_next_u32 (reads g.R.Rounds.COUNT) c.args.self.now c.next_u32.new.self c.next_u32.result c.next_u32.ensures.value

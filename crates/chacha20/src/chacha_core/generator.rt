@@ -1,0 +1,95 @@
+//! Cores with a counter of 64 bits as makers of words, four blocks at a time.
+
+ghost use Rattle.std.specs.Prelude.{◌≡◌, ◌<◌, ◌^◌, ℕ, List, ◌++◌, replicate, take};
+ghost use Rattle.rand_core.specs.Pcg32Seed.{pcg32_seed};
+ghost use Rattle.chacha_base.specs.Layout.{legacy, counter_words};
+ghost use Rattle.chacha_base.specs.Block.{start};
+ghost use Rattle.chacha_base.specs.State.{advanced, next_words};
+ghost use Rattle.chacha20.specs.Unread.{seed_of, stream_of};
+
+use super::{ChaChaCore, start_state};
+use crate::rng::Seed;
+use chacha_base::bytes::write_bytes;
+use chacha_base::cipher::RngBackend;
+use chacha_base::rounds::{Rounds, Steps};
+use chacha_base::variants::{Legacy, Variant};
+use rand_core::SeedableRng;
+use std::marker::PhantomData;
+
+/// What makes its output a buffer at a time. This crate's own.
+pub trait Generator {
+    /// What one call makes.
+    type Output;
+
+    // What a call makes, and the generator after it.
+    ghost generated: { Self → Self.Output };
+
+    ghost after: { Self → Self };
+
+    /// Makes the next output. What it was before doesn't matter.
+    fn generate(&mut self, output: &mut Self::Output)
+        ensures output { output.new ≡ generated self.old }
+        ensures moved { self.new ≡ after self.old };
+}
+
+/// The output is the 64 words of the next four blocks, one block after another. The counter moves by four and wraps at
+/// 2^64.
+impl<R: Rounds, B: RngBackend<R>> Generator for ChaChaCore<R, Legacy, B> {
+    type Output = [u32; 64];
+
+    ghost generated = { next_words R.COUNT legacy };
+
+    ghost after = { advanced legacy 4 };
+
+    fn generate(&mut self, output: &mut [u32; 64]) {
+        B::gen_ks_blocks(&mut self.state, output, &mut Steps::new());
+    }
+}
+
+/// The key is the seed, the nonce is zero, and the first block is block 0.
+impl<R: Rounds, B: RngBackend<R>> SeedableRng for ChaChaCore<R, Legacy, B> {
+    type Seed = Seed;
+
+    ghost of_seed = { λ seed. start legacy seed (replicate 8 0) 0 };
+
+    ghost seed_of_u64 = { pcg32_seed 32 };
+
+    fn from_seed(seed: Seed) -> Self {
+        ChaChaCore {
+            state: start_state(&seed, &[0; 4]),
+            rounds: PhantomData,
+            variant: PhantomData,
+            backend: PhantomData,
+        }
+    }
+
+    fn seed_from_u64(state: u64) -> Self {
+        Self::from_seed(rand_core::Seed::from_u64(state))
+    }
+}
+
+impl<R: Rounds, B> ChaChaCore<R, Legacy, B> {
+    // The key.
+    pub(crate) fn seed(&self) -> Seed
+        ensures { result ≡ seed_of self.now }
+    {
+        let mut seed = [0; 32];
+        write_bytes(&self.state[4..12], &mut seed);
+        seed
+    }
+
+    // The nonce, as a number.
+    pub(crate) fn stream(&self) -> u64
+        ensures value { result ≡ stream_of self.now }
+        ensures below { result < 2 ^ 64 }
+    {
+        Legacy::get_block_pos(&self.state[14..])
+    }
+
+    // Sets the nonce. The other words stay.
+    pub(crate) fn set_stream(&mut self, stream: u64)
+        ensures { self.new ≡ take 14 self.old ++ counter_words legacy stream }
+    {
+        Legacy::set_block_pos(&mut self.state[14..], stream);
+    }
+}

@@ -1,0 +1,357 @@
+//! Seekable generators of random words (this crate). A generator is a seed, a stream and a position that counts words
+//! of 32 bits; the words are those of ChaCha's blocks in the layout with a counter of 64 bits.
+
+ghost use Rattle.std.specs.Prelude.{◌≡◌, ◌↔◌, ◌≤◌, ◌<◌, ◌+◌, ◌*◌, ◌/◌, ◌%◌, ◌^◌, [], ◌∷◌, ◌++◌, length, take, drop, slice_index, Some, IsTrue, codes};
+ghost use Rattle.rand_core.specs.Steps.{stream_of};
+ghost use Rattle.rand_core.specs.Pcg32Seed.{pcg32_seed};
+ghost use Rattle.chacha_base.specs.Bytes.{bytes};
+ghost use Rattle.chacha20.specs.Generator.{at, words_from, next_u32, next_u64, fill, reads, of_seed, same};
+ghost use Rattle.chacha20.specs.StateBytes.{number, state_bytes, of_state_bytes};
+ghost use Rattle.chacha20.specs.Unread.{generator_of, IsUnread};
+
+use crate::chacha_core::{ChaChaCore, Generator};
+use chacha_base::backends::Soft;
+use chacha_base::bytes::write_bytes;
+use chacha_base::cipher::RngBackend;
+use chacha_base::rounds::{R8, R12, R20, Rounds};
+use chacha_base::variants::Legacy;
+use rand_core::{CryptoRng, Rng, SeedableRng};
+use std::fmt;
+use std::marker::Model;
+
+/// The seed of a generator: a key of 32 bytes.
+pub type Seed = [u8; 32];
+
+/// The state of a generator: 32 bytes of seed, then the stream and the word position, which are 8 and 9 bytes with the
+/// low byte first. The upper half of the last byte is 0 where it is written, and says nothing where it is read.
+pub type SerializedRngState = [u8; 49];
+
+/// A generator with four double rounds.
+pub type ChaCha8Rng = ChaChaRng<R8, Soft>;
+
+/// A generator with six double rounds.
+pub type ChaCha12Rng = ChaChaRng<R12, Soft>;
+
+/// A generator with ten double rounds.
+pub type ChaCha20Rng = ChaChaRng<R20, Soft>;
+
+// How many word positions there are: sixteen words for each of 2^64 blocks.
+const POSITIONS: u128 = 1 << 68;
+
+/// A generator of random words.
+///
+/// Clauses see it as a seed, a stream and a word position (`Generator`). Word w of a stream is word w mod 16 of the
+/// block whose key is the seed, whose nonce is the stream's 8 bytes, the low byte first, and whose counter is w div 16.
+/// Positions wrap at 2^68, so a stream repeats after 2^68 words (1 ZiB). A seed has 2^64 streams. `R` is the number of
+/// double rounds, `B` the backend that makes the words. No call is refused.
+pub struct ChaChaRng<R: Rounds, B> {
+    core: ChaChaCore<R, Legacy, B>,
+    // The last words that the core made, of which the first `index` are used.
+    buffer: [u32; 64],
+    index: usize,
+}
+
+impl<R: Rounds, B> Drop for ChaChaRng<R, B> {
+    fn drop(self) {
+        let ChaChaRng {
+            core: _,
+            buffer: _,
+            index: _,
+        } = self;
+    }
+}
+
+impl<R: Rounds, B> Model for ChaChaRng<R, B> {
+    ghost use Rattle.chacha20.specs.Generator.{Generator};
+    ghost use Rattle.chacha20.specs.Unread.{generator_of, IsUnread};
+
+    ghost Value = { Generator };
+
+    ghost view = { λ rng. generator_of rng.core rng.index };
+
+    ghost invariant = { λ rng. IsUnread R.COUNT rng.core rng.buffer rng.index };
+}
+
+impl<R: Rounds, B: RngBackend<R>> ChaChaRng<R, B> {
+    /// The generator of a seed, at the start of stream 0. It makes no words yet.
+
+    pub fn from_seed(seed: Seed) -> Self
+        ensures { result ≡ of_seed seed }
+    {
+        Self::new(&seed)
+    }
+
+    /// Takes the next word.
+    #[inline]
+    pub fn next_u32(&mut self) -> u32
+        ensures value { (result, self.new) ≡ next_u32 R.COUNT self.old }
+        ensures kept { (self.new.seed ≡ self.old.seed) × (self.new.stream ≡ self.old.stream) }
+    {
+        refill(&mut self.core, &mut self.buffer, &mut self.index);
+        let word = self.buffer[self.index];
+        self.index += 1;
+        word
+    }
+
+    /// Takes the next two words; the first is the low half of the answer.
+    #[inline]
+    pub fn next_u64(&mut self) -> u64
+        ensures value { (result, self.new) ≡ next_u64 R.COUNT self.old }
+        ensures kept { (self.new.seed ≡ self.old.seed) × (self.new.stream ≡ self.old.stream) }
+    {
+        let low = self.next_u32();
+        let high = self.next_u32();
+        (u64::from(high) << 32) | u64::from(low)
+    }
+
+    /// Fills a slice with the bytes of the next words, the low byte of each first. The bytes of the last word that the
+    /// slice has no room for are lost; a fill of no bytes takes no word.
+    pub fn fill_bytes(&mut self, dst: &mut [u8])
+        ensures value { (dst.new, self.new) ≡ fill R.COUNT self.old (length dst.old) }
+        ensures kept { (self.new.seed ≡ self.old.seed) × (self.new.stream ≡ self.old.stream) }
+    {
+        let (words, last) = dst.split_at_mut(dst.len() / 4 * 4);
+        self.fill_words(words);
+        if !last.is_empty() {
+            let word = self.next_u32().to_le_bytes();
+            last.copy_from_slice(&word[..last.len()]);
+        }
+    }
+
+    /// The word position.
+    pub fn get_word_pos(&self) -> u128
+        ensures value { result ≡ self.now.word_pos }
+        ensures below { result < 2 ^ 68 }
+    {
+        let first = self.core.get_block_pos().wrapping_sub(4);
+        (16 * u128::from(first) + self.index as u128) % POSITIONS
+    }
+
+    /// Sets the word position, modulo 2^68. It makes one buffer of words.
+    pub fn set_word_pos(&mut self, word_pos: u128)
+        ensures value { self.new ≡ at self.old word_pos }
+        ensures position { self.new.word_pos ≡ word_pos % 2 ^ 68 }
+    {
+        let place = word_pos % POSITIONS;
+        self.core.set_block_pos((place / 16) as u64);
+        self.core.generate(&mut self.buffer);
+        self.index = (place % 16) as usize;
+    }
+
+    /// The number of the block that the next word lies in.
+    pub fn get_block_pos(&self) -> u64
+        ensures { result ≡ self.now.word_pos / 16 }
+    {
+        (self.get_word_pos() / 16) as u64
+    }
+
+    /// Moves to the first word of a block. No block is made yet.
+    pub fn set_block_pos(&mut self, block_pos: u64)
+        ensures { self.new ≡ record self.old { word_pos = 16 * block_pos } }
+    {
+        self.core.set_block_pos(block_pos);
+        self.index = 64;
+    }
+
+    /// The stream.
+    pub fn get_stream(&self) -> u64
+        ensures { result ≡ self.now.stream }
+    {
+        self.core.stream()
+    }
+
+    /// Moves to the first word of a stream. The seed stays, and no block is made yet.
+    pub fn set_stream(&mut self, stream: u64)
+        ensures { self.new ≡ record self.old { stream = stream; word_pos = 0 } }
+    {
+        self.core.set_stream(stream);
+        self.core.set_block_pos(0);
+        self.index = 64;
+    }
+
+    /// The seed.
+    pub fn get_seed(&self) -> Seed
+        ensures { result ≡ self.now.seed }
+    {
+        self.core.seed()
+    }
+
+    /// The state as bytes, which give the generator again.
+    pub fn serialize_state(&self) -> SerializedRngState
+        ensures value { result ≡ state_bytes self.now }
+        ensures restored { of_state_bytes result ≡ self.now }
+    {
+        let word_pos = self.get_word_pos();
+        let mut state = [0; 49];
+        state[..32].copy_from_slice(&self.get_seed());
+        state[32..40].copy_from_slice(&self.get_stream().to_le_bytes());
+        state[40..48].copy_from_slice(&((word_pos & u128::from(u64::MAX)) as u64).to_le_bytes());
+        state[48] = (word_pos >> 64) as u8;
+        state
+    }
+
+    /// The generator of a state. Any bytes are a state: the upper half of the last one is ignored.
+    pub fn deserialize_state(state: &SerializedRngState) -> Self
+        ensures value { result ≡ of_state_bytes state.now }
+        ensures stored { state_bytes result ≡ take 48 state.now ++ (slice_index state.now 48 % 16 ∷ []) }
+    {
+        let mut seed = [0; 32];
+        seed.copy_from_slice(&state[..32]);
+        let low = read_u64(&state[40..48]);
+        let mut rng = Self::from_seed(seed);
+        rng.set_stream(read_u64(&state[32..40]));
+        rng.set_word_pos((u128::from(state[48]) << 64) | u128::from(low));
+        rng
+    }
+
+    // The generator of a seed.
+    fn new(seed: &Seed) -> Self
+        ensures { result ≡ of_seed seed.now }
+    {
+        ChaChaRng {
+            core: ChaChaCore::from_seed(*seed),
+            buffer: [0; 64],
+            index: 64,
+        }
+    }
+
+    // Fills a slice with whole words.
+
+    fn fill_words(&mut self, dst: &mut [u8])
+        requires { length dst.old % 4 ≡ 0 }
+        ensures dst { dst.new ≡ bytes (words_from R.COUNT self.old self.old.word_pos (length dst.old / 4)) }
+        ensures moved { self.new ≡ at self.old (self.old.word_pos + length dst.old / 4) }
+    {
+        let mut done = 0;
+        'words: while 4 * done < dst.len() {
+            refill(&mut self.core, &mut self.buffer, &mut self.index);
+            let count = (dst.len() / 4 - done).min(64 - self.index);
+            write_bytes(
+                &self.buffer[self.index..self.index + count],
+                &mut dst[4 * done..4 * (done + count)],
+            );
+            self.index += count;
+            done += count;
+        }
+    }
+}
+
+// Makes words where none are left in the buffer.
+#[inline]
+fn refill<R: Rounds, B: RngBackend<R>>(
+    core: &mut ChaChaCore<R, Legacy, B>,
+    buffer: &mut [u32; 64],
+    index: &mut usize,
+)
+    requires { IsUnread R.COUNT core.old buffer.old index.old }
+    ensures unread { IsUnread R.COUNT core.new buffer.new index.new }
+    ensures long { length buffer.new ≡ 64 }
+    ensures some { index.new < 64 }
+    ensures same { generator_of core.new index.new ≡ generator_of core.old index.old }
+{
+    if *index == 64 {
+        core.generate(buffer);
+        *index = 0;
+    }
+}
+
+// The number of 8 bytes, the low byte first.
+fn read_u64(bytes: &[u8]) -> u64
+    requires { length bytes.now ≡ 8 }
+    ensures { result ≡ number bytes.now }
+{
+    let mut number = [0; 8];
+    number.copy_from_slice(bytes);
+    u64::from_le_bytes(number)
+}
+
+/// `from_seed` and `seed_from_u64`, which makes a seed of a number as `rand_core` does.
+impl<R: Rounds, B: RngBackend<R>> SeedableRng for ChaChaRng<R, B> {
+    type Seed = Seed;
+
+    ghost of_seed = { of_seed };
+
+    ghost seed_of_u64 = { pcg32_seed 32 };
+
+    fn from_seed(seed: Seed) -> Self {
+        Self::from_seed(seed)
+    }
+
+    fn seed_from_u64(state: u64) -> Self {
+        Self::from_seed(rand_core::Seed::from_u64(state))
+    }
+}
+
+/// The reads of the generator. `TryRng` comes with it; its calls always succeed.
+impl<R: Rounds, B: RngBackend<R>> Rng for ChaChaRng<R, B> {
+    ghost stream = { stream_of (reads R.COUNT) };
+
+    #[inline]
+    fn next_u32(&mut self) -> u32 {
+        self.next_u32()
+    }
+
+    #[inline]
+    fn next_u64(&mut self) -> u64 {
+        self.next_u64()
+    }
+
+    fn fill_bytes(&mut self, dst: &mut [u8]) {
+        self.fill_bytes(dst)
+    }
+}
+
+impl<R: Rounds, B: RngBackend<R>> CryptoRng for ChaChaRng<R, B> {}
+
+/// Two generators are equal where seed, stream and word position are, whatever their buffers hold.
+impl<R: Rounds, B: RngBackend<R>> PartialEq for ChaChaRng<R, B> {
+    ghost use Rattle.std.proofs.Common.{rules};
+    ghost use Rattle.std.specs.Cmp.Rules.{comparing};
+
+    ghost eq = { same };
+
+    ghost laws = { Prim.search (comparing, rules) };
+
+    fn eq(&self, other: &Self) -> bool
+        ensures value { result ≡ same self.now other.now }
+        ensures same { IsTrue result ↔ (self.now ≡ other.now) }
+    {
+        self.get_word_pos() == other.get_word_pos()
+            && self.get_stream() == other.get_stream()
+            && self.get_seed() == other.get_seed()
+    }
+}
+
+impl<R: Rounds, B: RngBackend<R>> Eq for ChaChaRng<R, B> {
+    ghost use Rattle.std.proofs.Common.{rules};
+    ghost use Rattle.std.specs.Cmp.Rules.{comparing};
+
+    ghost laws = { Prim.search (comparing, rules) };
+}
+
+/// A text that says nothing of seed, stream and position.
+impl<B> fmt::Debug for ChaChaRng<R8, B> {
+    ghost debug_output = { λ _. Some (codes "ChaCha8Rng { ... }") };
+
+    fn fmt<W: fmt::Write>(&self, f: &mut fmt::Formatter<W>) -> fmt::Result {
+        f.write_str("ChaCha8Rng { ... }")
+    }
+}
+
+/// A text that says nothing of seed, stream and position.
+impl<B> fmt::Debug for ChaChaRng<R12, B> {
+    ghost debug_output = { λ _. Some (codes "ChaCha12Rng { ... }") };
+
+    fn fmt<W: fmt::Write>(&self, f: &mut fmt::Formatter<W>) -> fmt::Result {
+        f.write_str("ChaCha12Rng { ... }")
+    }
+}
+
+/// A text that says nothing of seed, stream and position.
+impl<B> fmt::Debug for ChaChaRng<R20, B> {
+    ghost debug_output = { λ _. Some (codes "ChaCha20Rng { ... }") };
+
+    fn fmt<W: fmt::Write>(&self, f: &mut fmt::Formatter<W>) -> fmt::Result {
+        f.write_str("ChaCha20Rng { ... }")
+    }
+}
