@@ -6,6 +6,11 @@ ghost use Rattle.chacha_base.specs.Block.{block};
 ghost use Rattle.chacha_base.specs.Keystream.{keystream, applied};
 
 mod core_calls;
+mod generator_cores;
+mod generator_runs;
+mod generator_states;
+mod generator_traits;
+mod generator_vectors;
 mod generators;
 mod legacy;
 mod named;
@@ -24,6 +29,12 @@ use crate::{ChaCha20, Key, Nonce, Rounds, Steps};
 const COUNTING: Key = [
     0, 1, 2, 3, 4, 5, 6, 7, 8, 9, 10, 11, 12, 13, 14, 15, 16, 17, 18, 19, 20, 21, 22, 23, 24, 25,
     26, 27, 28, 29, 30, 31,
+];
+
+// The key or seed 01 to 20.
+const FROM_1: Key = [
+    1, 2, 3, 4, 5, 6, 7, 8, 9, 10, 11, 12, 13, 14, 15, 16, 17, 18, 19, 20, 21, 22, 23, 24, 25, 26,
+    27, 28, 29, 30, 31, 32,
 ];
 
 // No rounds: a block is its start state, each word doubled.

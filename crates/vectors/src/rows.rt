@@ -1,180 +1,46 @@
 //! Worked rows: published calls with their answers. A row is right if each call answers as published.
 
-use chacha20::cipher::{
-    KeyIvInit, OverflowError, StreamCipher, StreamCipherError, StreamCipherSeek,
-};
-use chacha20::runs::{CipherAnswer, CipherCall, run_cipher};
-use chacha20::{ChaCha20, ChaCha20Legacy, Key, LegacyNonce, R20, XChaCha20, XNonce, hchacha};
+mod ciphers;
+mod cores;
+mod generators;
 
-// The key 00 to 1f.
-const COUNTING: Key = [
+pub use ciphers::first_ciphertext;
+
+// The key or seed 00 to 1f.
+const COUNTING: [u8; 32] = [
     0, 1, 2, 3, 4, 5, 6, 7, 8, 9, 10, 11, 12, 13, 14, 15, 16, 17, 18, 19, 20, 21, 22, 23, 24, 25,
     26, 27, 28, 29, 30, 31,
 ];
 
-const PLAINTEXT: [u8; 16] = [0, 1, 2, 3, 4, 5, 6, 7, 8, 9, 10, 11, 12, 13, 14, 15];
-
-const CIPHERTEXT: [u8; 16] = *b"\xe4\x05\x62\x6e\x4f\x12\x36\xb3\x67\x0e\xe4\x28\x33\x2e\xa2\x0e";
-
-/// The first row's ciphertext; its plaintext, if the cipher refuses it.
-pub fn first_ciphertext() -> [u8; 16] {
-    let mut data = PLAINTEXT;
-    let _ = ChaCha20::new(&[0x42; 32], &[0x24; 12]).try_apply_keystream(&mut data);
-    data
-}
-
-/// There and back, and there again in pieces of 3.
-pub fn row_1() -> bool {
-    let mut once = PLAINTEXT;
-    let mut twice = CIPHERTEXT;
-    let mut pieces = PLAINTEXT;
-    row_1_applied(&mut once, &mut twice, &mut pieces).is_ok()
-        && once == CIPHERTEXT
-        && twice == PLAINTEXT
-        && pieces == CIPHERTEXT
-}
-
-fn row_1_applied(
-    once: &mut [u8],
-    twice: &mut [u8],
-    pieces: &mut [u8],
-) -> Result<(), StreamCipherError> {
-    let mut cipher = ChaCha20::new(&[0x42; 32], &[0x24; 12]);
-    cipher.try_apply_keystream(once)?;
-    cipher.try_seek(0u32)?;
-    cipher.try_apply_keystream(twice)?;
-    cipher.try_seek(0u32)?;
-    for piece in pieces.chunks_mut(3) {
-        cipher.try_apply_keystream(piece)?;
-    }
-    Ok(())
-}
-
-/// HChaCha (draft-irtf-cfrg-xchacha, section 2.2.1).
-pub fn row_3() -> bool {
-    let input = *b"\x00\x00\x00\x09\x00\x00\x00\x4a\x00\x00\x00\x00\x31\x41\x59\x27";
-    let expected = b"\x82\x41\x3b\x42\x27\xb2\x7b\xfe\xd3\x0e\x42\x50\x8a\x87\x7d\x73\
-        \xa0\xf9\xe4\xd5\x8a\x74\xa8\x53\xc1\x2e\xc4\x13\x26\xd3\xec\xdc";
-    hchacha::<R20>(&COUNTING, &input) == *expected
-}
-
-/// A message from block 1 on (RFC 8439, section 2.4.2).
-pub fn row_4() -> bool {
-    let mut text = *b"Ladies and Gentl";
-    row_4_applied(&mut text).is_ok()
-        && text == *b"\x6e\x2e\x35\x9a\x25\x68\xf9\x80\x41\xba\x07\x28\xdd\x0d\x69\x81"
-}
-
-fn row_4_applied(text: &mut [u8]) -> Result<(), StreamCipherError> {
-    let mut cipher = ChaCha20::new(&COUNTING, &[0, 0, 0, 0, 0, 0, 0, 0x4a, 0, 0, 0, 0]);
-    cipher.try_apply_keystream(&mut [0; 64])?;
-    cipher.try_apply_keystream(text)
-}
-
-/// XChaCha20 from block 1 on.
-pub fn row_5() -> bool {
-    let mut dropped = [0; 64];
-    let mut stream = [0; 32];
-    let mut cipher = XChaCha20::new(&FROM_80, &X_NONCE);
-    cipher.try_write_keystream(&mut dropped).is_ok()
-        && cipher.try_write_keystream(&mut stream).is_ok()
-        && stream
-            == *b"\x29\x62\x4b\x4b\x1b\x14\x0a\xce\x53\x74\x0e\x40\x5b\x21\x68\x54\
-        \x0f\xd7\xd6\x30\xc1\xf5\x36\xfe\xcd\x72\x2f\xc3\xcd\xdb\xa7\xf4"
-}
-
-// The key 80 to 9f and its nonce.
-const FROM_80: Key = *b"\x80\x81\x82\x83\x84\x85\x86\x87\x88\x89\x8a\x8b\x8c\x8d\x8e\x8f\
-    \x90\x91\x92\x93\x94\x95\x96\x97\x98\x99\x9a\x9b\x9c\x9d\x9e\x9f";
-
-const X_NONCE: XNonce = *b"@ABCDEFGHIJKLMNOPQRSTUVX";
-
-/// The legacy cipher, from its start and from byte 17.
-pub fn row_6() -> bool {
-    let mut first = [0; 32];
-    let mut three = [0; 3];
-    let mut cipher = ChaCha20Legacy::new(&FROM_1, &LEGACY_NONCE);
-    row_6_applied(&mut cipher, &mut first, &mut three).is_ok()
-        && first
-            == *b"\xde\xeb\x6b\x9d\x06\xdf\xf3\xe0\x91\xbf\x3a\xd4\xf4\xd4\x92\xb6\
-        \xdd\x98\x24\x6f\x69\x69\x18\x02\xe4\x66\xe0\x3b\xad\x23\x57\x87"
-        && three == [0x98, 0x24, 0x6f]
-        && cipher.try_current_pos() == Ok(20u32)
-}
-
-fn row_6_applied(
-    cipher: &mut ChaCha20Legacy,
-    first: &mut [u8],
-    three: &mut [u8],
-) -> Result<(), StreamCipherError> {
-    cipher.try_apply_keystream(first)?;
-    cipher.try_seek(17u64)?;
-    cipher.try_apply_keystream(three)?;
-    cipher.try_apply_keystream(&mut [])
-}
-
-// The key 01 to 20 and its nonce.
-const FROM_1: Key = [
+// The key or seed 01 to 20.
+const FROM_1: [u8; 32] = [
     1, 2, 3, 4, 5, 6, 7, 8, 9, 10, 11, 12, 13, 14, 15, 16, 17, 18, 19, 20, 21, 22, 23, 24, 25, 26,
     27, 28, 29, 30, 31, 32,
 ];
 
-const LEGACY_NONCE: LegacyNonce = [3, 1, 4, 1, 5, 9, 2, 6];
-
-/// The end of the stream, as a list of calls: nothing can be taken there, and nothing is past it.
-pub fn row_11() -> bool {
-    let mut cipher = ChaCha20::new(&COUNTING, &[0; 12]);
-    let mut data = [7];
-    let calls = [
-        CipherCall::Seek(274877906880),
-        CipherCall::Apply { at: 0, len: 0 },
-        CipherCall::Apply { at: 0, len: 1 },
-        CipherCall::Seek(274877906881),
-        CipherCall::SeekI32(-1),
-        CipherCall::Pos,
-    ];
-    let mut answers = [CipherAnswer::Overflow; 6];
-    run_cipher(&mut cipher, &[], &mut data, &calls, &mut answers);
-    data == [7]
-        && answers
-            == [
-                CipherAnswer::Done,
-                CipherAnswer::Done,
-                CipherAnswer::Refused,
-                CipherAnswer::Refused,
-                CipherAnswer::Refused,
-                CipherAnswer::Position(274877906880),
-            ]
-}
-
-/// Positions that a type can't say.
-pub fn row_12() -> bool {
-    let mut legacy = ChaCha20Legacy::new(&FROM_1, &LEGACY_NONCE);
-    let mut cipher = ChaCha20::new(&COUNTING, &[0; 12]);
-    legacy.try_seek(1180591620717411303360u128).is_ok()
-        && legacy.try_current_pos::<u64>() == Err(OverflowError)
-        && legacy.try_current_pos() == Ok(1180591620717411303360u128)
-        && cipher.try_seek(2147483648u32).is_ok()
-        && cipher.try_current_pos::<i32>() == Err(OverflowError)
-        && cipher.try_current_pos() == Ok(2147483648u32)
-}
-
-/// Two slices of different lengths.
-pub fn row_16() -> bool {
-    let mut cipher = ChaCha20::new(&COUNTING, &[0; 12]);
-    let mut output = [1, 2, 3, 4];
-    cipher
-        .try_apply_keystream_b2b(&[5, 6, 7], &mut output)
-        .is_err()
-        && output == [1, 2, 3, 4]
-        && cipher.try_current_pos() == Ok(0u32)
-}
-
-/// How much a fresh cipher takes.
-pub fn row_22() -> bool {
-    let cipher = ChaCha20::new(&COUNTING, &[0; 12]);
-    let legacy = ChaCha20Legacy::new(&FROM_1, &LEGACY_NONCE);
-    cipher.check_remaining(274877906880).is_ok()
-        && cipher.check_remaining(274877906881).is_err()
-        && legacy.check_remaining(usize::MAX).is_ok()
+/// Each row's number, in order, and whether the row is right.
+pub fn verdicts() -> [(u32, bool); 21] {
+    [
+        (1, ciphers::row_1()),
+        (3, ciphers::row_3()),
+        (4, ciphers::row_4()),
+        (5, ciphers::row_5()),
+        (6, ciphers::row_6()),
+        (7, generators::row_7()),
+        (8, generators::row_8()),
+        (9, generators::row_9()),
+        (10, generators::row_10()),
+        (11, ciphers::row_11()),
+        (12, ciphers::row_12()),
+        (13, cores::row_13()),
+        (14, generators::row_14()),
+        (15, generators::row_15()),
+        (16, ciphers::row_16()),
+        (17, generators::row_17()),
+        (19, generators::row_19()),
+        (20, generators::row_20()),
+        (21, generators::row_21()),
+        (22, ciphers::row_22()),
+        (23, generators::row_23()),
+    ]
 }

@@ -5,16 +5,11 @@ ghost use Rattle.chacha_base.specs.Layout.{legacy};
 ghost use Rattle.chacha_base.specs.Block.{block};
 ghost use Rattle.chacha_base.specs.Keystream.{keystream, applied};
 
+use super::FROM_1;
 use crate::cipher::{KeyIvInit, StreamCipher, StreamCipherError, StreamCipherSeek};
 use crate::variants::{Legacy, Variant};
 use crate::{ChaCha20Legacy, Key, LegacyNonce};
 use std::test::Fail;
-
-// The key 01 to 20.
-const KEY: Key = [
-    1, 2, 3, 4, 5, 6, 7, 8, 9, 10, 11, 12, 13, 14, 15, 16, 17, 18, 19, 20, 21, 22, 23, 24, 25, 26,
-    27, 28, 29, 30, 31, 32,
-];
 
 const NONCE: LegacyNonce = [3, 1, 4, 1, 5, 9, 2, 6];
 
@@ -29,7 +24,7 @@ fn encrypt(key: &Key, nonce: &LegacyNonce, message: &mut [u8]) -> Result<(), Str
 #[test]
 fn row_6(rt: HostRuntime) -> Result<(), Fail> {
     let mut stream = [0; 32];
-    encrypt(&KEY, &NONCE, &mut stream)?;
+    encrypt(&FROM_1, &NONCE, &mut stream)?;
     assert_eq!(rt; stream.as_slice(), &STREAM[..32]);
     Ok(())
 }
@@ -37,7 +32,7 @@ fn row_6(rt: HostRuntime) -> Result<(), Fail> {
 #[test]
 fn stream(rt: HostRuntime) -> Result<(), Fail> {
     let mut stream = [0; 256];
-    ChaCha20Legacy::new(&KEY, &NONCE).try_apply_keystream(&mut stream)?;
+    ChaCha20Legacy::new(&FROM_1, &NONCE).try_apply_keystream(&mut stream)?;
     assert_eq!(rt; stream.as_slice(), STREAM.as_slice());
     Ok(())
 }
@@ -58,7 +53,7 @@ fn apply_from(
 #[test]
 fn every_cut(rt: HostRuntime) -> Result<(), Fail> {
     let stream = STREAM.as_slice();
-    let mut cipher = ChaCha20Legacy::new(&KEY, &NONCE);
+    let mut cipher = ChaCha20Legacy::new(&FROM_1, &NONCE);
     for from in 0..256usize {
         for middle in from..256 {
             for last in middle..256 {
@@ -80,7 +75,7 @@ fn every_cut(rt: HostRuntime) -> Result<(), Fail> {
 
 #[test]
 fn row_22(rt: HostRuntime) {
-    let cipher = ChaCha20Legacy::new(&KEY, &NONCE);
+    let cipher = ChaCha20Legacy::new(&FROM_1, &NONCE);
     assert_eq!(rt; cipher.check_remaining(usize::MAX), Ok(()));
 }
 

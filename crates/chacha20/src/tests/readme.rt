@@ -1,7 +1,8 @@
 //! The examples of the README, as a user writes them.
 
 use crate::cipher::{KeyIvInit, StreamCipher, StreamCipherError, StreamCipherSeek};
-use crate::{ChaCha20, ChaCha20Legacy, XChaCha20};
+use crate::rand_core::{Rng, SeedableRng};
+use crate::{ChaCha20, ChaCha20Legacy, ChaCha20Rng, XChaCha20};
 use std::test::Fail;
 
 #[test]
@@ -75,4 +76,51 @@ fn refusal(rt: HostRuntime) -> Result<(), Fail> {
     );
     assert_eq!(rt; byte, [7]);
     Ok(())
+}
+
+// How many of 600 throws of two dice give seven.
+fn sevens<G: Rng>(rng: &mut G) -> u32 {
+    let mut sevens = 0;
+    for _ in 0..600u32 {
+        let first = rng.next_u32() % 6 + 1;
+        let second = rng.next_u32() % 6 + 1;
+        if first + second == 7 {
+            sevens += 1;
+        }
+    }
+    sevens
+}
+
+#[test]
+fn simulation(rt: HostRuntime) {
+    let estimate = sevens(&mut ChaCha20Rng::seed_from_u64(2024));
+    let again = sevens(&mut ChaCha20Rng::seed_from_u64(2024));
+    assert_eq!(rt; estimate, again);
+}
+
+#[test]
+fn stored(rt: HostRuntime) {
+    let mut rng = ChaCha20Rng::from_seed([1; 32]);
+    rng.fill_bytes(&mut [0; 1000]);
+    let state = rng.serialize_state();
+
+    let mut restored = ChaCha20Rng::deserialize_state(&state);
+    assert_eq!(rt; restored, rng);
+    assert_eq!(rt; restored.next_u64(), rng.next_u64());
+}
+
+// The generator of one worker of many.
+fn of_worker(worker: u64) -> ChaCha20Rng {
+    let mut rng = ChaCha20Rng::from_seed([1; 32]);
+    rng.set_stream(worker);
+    rng
+}
+
+#[test]
+fn workers(rt: HostRuntime) {
+    let mut first = of_worker(0);
+    let mut second = of_worker(1);
+    let word = second.next_u64();
+    assert_ne!(rt; first.next_u64(), word);
+    assert_eq!(rt; of_worker(1).next_u64(), word);
 }

@@ -1,0 +1,202 @@
+//! Rows of generators.
+
+use super::{COUNTING, FROM_1};
+use chacha20::backends::Soft;
+use chacha20::cipher::RngBackend;
+use chacha20::runs::{RngAnswer, RngCall, run_rng};
+use chacha20::{ChaCha8Rng, ChaCha12Rng, ChaCha20Rng, ChaChaRng, Rounds, Seed, SerializedRngState};
+
+// How many word positions there are.
+const POSITIONS: u128 = 1 << 68;
+
+/// Bytes in pieces: what is left of a word is lost.
+pub fn row_7() -> bool {
+    let mut rng = ChaCha20Rng::from_seed(FROM_1);
+    let mut first = [0; 13];
+    let mut second = [0; 13];
+    rng.fill_bytes(&mut first);
+    let after_first = rng.get_word_pos();
+    rng.fill_bytes(&mut second);
+    first == *b"\xb1\x69\x7e\x9f\xc6\x46\x1e\x19\x83\xd1\x31\xcf\x69"
+        && second == *b"\xa7\xa3\xfc\x13\x4f\x14\x98\x80\xe8\xbb\x2b\x5d\x23"
+        && after_first == 4
+        && rng.get_word_pos() == 8
+}
+
+/// How far each kind of read moves.
+pub fn row_8() -> bool {
+    let mut seed = [0; 32];
+    seed[1] = 0xff;
+    let mut rng = ChaCha20Rng::from_seed(seed);
+    rng.set_word_pos(32);
+    let first = next_words(&mut rng);
+    for _ in 0..12 {
+        let _ = rng.next_u32();
+    }
+    let after_words = rng.get_word_pos();
+    rng.fill_bytes(&mut [0; 32]);
+    let after_32_bytes = rng.get_word_pos();
+    rng.fill_bytes(&mut [0; 25]);
+    let after_25_bytes = rng.get_word_pos();
+    let _ = rng.next_u64();
+    let after_u64 = rng.get_word_pos();
+    let _ = rng.next_u32();
+    let _ = rng.next_u64();
+    let after_both = rng.get_word_pos();
+    rng.fill_bytes(&mut [0]);
+    first == [0xfb4d_d572, 0x4bc4_2ef1, 0xdf92_2636, 0x327f_1394]
+        && [after_words, after_32_bytes, after_25_bytes] == [48, 56, 63]
+        && [after_u64, after_both, rng.get_word_pos()] == [65, 68, 69]
+}
+
+fn next_words(rng: &mut ChaCha20Rng) -> [u32; 4] {
+    let mut words = [0; 4];
+    for word in &mut words {
+        *word = rng.next_u32();
+    }
+    words
+}
+
+/// The last block, and then the first.
+pub fn row_9() -> bool {
+    let mut rng = ChaCha20Rng::from_seed([0; 32]);
+    rng.set_block_pos(u64::MAX);
+    let mut last = [0; 64];
+    let mut first = [0; 8];
+    rng.fill_bytes(&mut last);
+    let after_last = rng.get_block_pos();
+    rng.fill_bytes(&mut first);
+    last.starts_with(b"\xd7\x91\x8c\xd8\x62\x0c\xf8\x32\x53\x26\x52\xc0\x4c\x01\xa5\x53")
+        && after_last == 0
+        && first == *b"\x76\xb8\xe0\xad\xa0\xf1\x3d\x90"
+}
+
+/// A carry into the upper 32 bits of the block's number.
+pub fn row_10() -> bool {
+    let mut rng = ChaCha20Rng::from_seed([0; 32]);
+    rng.set_block_pos(0xffff_ffff);
+    let mut bytes = [0; 80];
+    rng.fill_bytes(&mut bytes);
+    bytes.starts_with(b"\xac\xe4\xcd\x09\xe2\x94\xd1\x91\x2d\x4a\xd2\x05\xd0\x6f\x95\xd9")
+        && bytes.ends_with(b"\x3d\xb4\x1d\x3a\xa0\xd3\x29\x28\x5d\xe6\xf2\x25\xe6\xe2\x4b\xd5")
+}
+
+/// The state after 100 words, whatever the number of rounds.
+pub fn row_14() -> bool {
+    is_stored(&mut ChaCha8Rng::from_seed(FROM_1))
+        && is_stored(&mut ChaCha12Rng::from_seed(FROM_1))
+        && is_stored(&mut ChaCha20Rng::from_seed(FROM_1))
+}
+
+fn is_stored<R: Rounds, B: RngBackend<R>>(rng: &mut ChaChaRng<R, B>) -> bool {
+    rng.set_stream(0xf0f1_f2f3_f4f5_f6f7);
+    for _ in 0..100 {
+        let _ = rng.next_u32();
+    }
+    let mut expected: SerializedRngState = [0; 49];
+    expected[..32].copy_from_slice(&FROM_1);
+    expected[32..40].copy_from_slice(b"\xf7\xf6\xf5\xf4\xf3\xf2\xf1\xf0");
+    expected[40] = 0x64;
+    rng.serialize_state() == expected
+}
+
+/// The last position, and positions past it.
+pub fn row_15() -> bool {
+    let mut rng = ChaCha20Rng::deserialize_state(&[0xff; 49]);
+    let last = rng.get_word_pos();
+    let state = rng.serialize_state();
+    rng.set_word_pos(POSITIONS + 5);
+    let wrapped = rng.get_word_pos();
+    rng.set_word_pos(POSITIONS - 16);
+    let mut expected: SerializedRngState = [0xff; 49];
+    expected[48] = 0x0f;
+    last == POSITIONS - 1
+        && state == expected
+        && wrapped == 5
+        && rng.get_word_pos() == POSITIONS - 16
+}
+
+/// A generator that another one seeds.
+pub fn row_17() -> bool {
+    let mut seed = [0; 32];
+    seed[8] = 1;
+    seed[16] = 2;
+    seed[24] = 3;
+    let mut first = ChaCha20Rng::from_seed(seed);
+    let word = first.next_u32();
+    let mut second_seed = [0; 32];
+    first.fill_bytes(&mut second_seed);
+    word == 137206642
+        && ChaCha20Rng::from_seed(second_seed).next_u32() == 1325750369
+        && first.get_word_pos() == 9
+}
+
+/// A stream and a block whose start state is that of RFC 8439's example (section 2.3.2).
+pub fn row_19() -> bool {
+    let mut rng = ChaCha20Rng::from_seed(COUNTING);
+    rng.set_stream(0x0000_0000_4a00_0000);
+    rng.set_block_pos(0x0900_0000_0000_0000);
+    rng.fill_bytes(&mut [0; 64]);
+    next_words(&mut rng) == [0xe4e7_f110, 0x1559_3bd1, 0x1fdd_0f50, 0xc471_20a3]
+        && rng.get_block_pos() == 0x0900_0000_0000_0001
+}
+
+/// Two words around the wrap, as a list of calls.
+pub fn row_20() -> bool {
+    let calls = [
+        RngCall::SetWordPos(POSITIONS - 64),
+        RngCall::Fill { at: 0, len: 252 },
+        RngCall::NextU64,
+        RngCall::GetWordPos,
+    ];
+    let mut answers = [RngAnswer::Done; 4];
+    let mut rng = ChaCha20Rng::from_seed([0; 32]);
+    run_rng(&mut rng, &mut [0; 252], &calls, &mut answers);
+    answers
+        == [
+            RngAnswer::Done,
+            RngAnswer::Done,
+            RngAnswer::U64(0xade0_b876_8976_b107),
+            RngAnswer::U128(1),
+        ]
+}
+
+/// Another stream of the same seed, as a list of calls.
+pub fn row_21() -> bool {
+    let calls = [
+        RngCall::Fill { at: 0, len: 16 },
+        RngCall::NextU32,
+        RngCall::SetStream(0x0200_0000_0000_0000),
+        RngCall::GetWordPos,
+        RngCall::GetSeed,
+        RngCall::NextU32,
+    ];
+    let mut answers = [RngAnswer::Done; 6];
+    let mut rng = ChaCha20Rng::from_seed([0; 32]);
+    run_rng(&mut rng, &mut [0; 16], &calls, &mut answers);
+    answers
+        == [
+            RngAnswer::Done,
+            RngAnswer::U32(0xb819_d2bd),
+            RngAnswer::Done,
+            RngAnswer::U128(0),
+            RngAnswer::Seed([0; 32]),
+            RngAnswer::U32(0x374d_c6c2),
+        ]
+}
+
+/// Generators are equal where seed, stream and position are, however they came there.
+pub fn row_23() -> bool {
+    let mut first = ChaCha20Rng::from_seed(FROM_1);
+    let mut second = ChaCha20Rng::from_seed(FROM_1);
+    for _ in 0..7 {
+        let _ = first.next_u32();
+    }
+    first.set_word_pos(0);
+    let at_0 = first == second;
+    let _ = first.next_u32();
+    second.set_word_pos(1);
+    let at_1 = first == second;
+    second.set_stream(1);
+    at_0 && at_1 && first != second
+}
