@@ -3,10 +3,12 @@ pub mod BytesLemmas
 pub mod CipherLemmas
 pub mod CountsLemmas
 pub mod KeystreamLemmas
+pub mod LaneLemmas
 pub mod LegacyVectors
 pub mod ListLemmas
 pub mod PieceLemmas
 pub mod RfcVectors
 pub mod RoundLemmas
+pub mod RowLemmas
 pub mod StateLemmas
 pub mod WordLemmas

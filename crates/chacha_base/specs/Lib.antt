@@ -11,3 +11,6 @@ pub mod Number
 pub mod Cipher
 pub mod Buffered
 pub mod SeekNum
+pub mod Lanes
+pub mod RowVectors
+pub mod RowShifts

@@ -1,5 +1,17 @@
 //! Backends: markers whose functions make the blocks of a state.
 
+mod counter;
+mod group;
+mod kernel;
+mod lanes4;
+mod lanes8;
+mod rows;
+mod rows8;
+mod shift;
 mod soft;
+mod vector;
 
+pub use lanes4::Lanes4;
+pub use lanes8::Lanes8;
+pub use rows8::Rows8;
 pub use soft::Soft;

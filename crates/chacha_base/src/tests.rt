@@ -1,3 +1,4 @@
+mod lanes;
 mod toy;
 
 use crate::cipher::{

@@ -2,13 +2,13 @@
 
 ghost use Rattle.std.specs.Prelude.{◌≡◌, ℕ, ◌+◌, ◌*◌};
 ghost use Rattle.chacha_base.specs.Rounds.{add_states, mix};
-ghost use Rattle.chacha_base.specs.State.{advanced};
 ghost use Rattle.chacha_base.specs.Bytes.{bytes};
 
+use crate::backends::counter::advance;
 use crate::bytes::write_bytes;
 use crate::cipher::{ParBlocksSizeUser, RngBackend, StreamCipherBackend};
 use crate::rounds::{Rounds, Steps, double_rounds};
-use crate::variants::{Legacy, StreamCipherCounter, Variant};
+use crate::variants::{Legacy, Variant};
 
 /// The plain block function, a block at a time (RFC 8439, section 2.3).
 #[derive(Clone, Copy, Debug)]
@@ -43,15 +43,6 @@ fn block_bytes<R: Rounds>(state: &[u32; 16], block: &mut [u8; 64], steps: &mut S
     ensures steps { steps.new ≡ record steps.old { rounds = steps.old.rounds + 8 * R.COUNT } }
 {
     write_bytes(&block_words::<R>(state, steps), block);
-}
-
-// Moves the counter of a state.
-#[inline(always)]
-fn advance<V: Variant>(state: &mut [u32; 16], blocks: usize)
-    ensures { state.new ≡ advanced V.layout blocks state.old }
-{
-    let pos = V::get_block_pos(&state[12..]);
-    V::set_block_pos(&mut state[12..], pos.advanced_by(blocks));
 }
 
 impl ParBlocksSizeUser for Soft {

@@ -1,0 +1,117 @@
+//! The wide kernel: it makes a whole group of blocks from a state on, of which a caller takes what it needs.
+
+ghost use Rattle.std.specs.Prelude.{◌≡◌, ◌≤◌, ◌<◌, ◌≢◌, ℕ, ◌+◌, ◌*◌, min, [], length, slice_get, slice_index_or, Some};
+ghost use Rattle.chacha_base.specs.Layout.{legacy};
+ghost use Rattle.chacha_base.specs.Rounds.{mix};
+ghost use Rattle.chacha_base.specs.State.{advanced, next_block, next_words};
+
+use crate::backends::counter::{advance, last_rows};
+use crate::backends::group::{Group, mixed};
+use crate::bytes::write_bytes;
+use crate::rounds::{Rounds, Steps};
+use crate::variants::{Legacy, Variant};
+
+/// The words of the next blocks, as many as a group has. The state stays.
+#[inline(always)]
+fn group_words<R: Rounds, V: Variant, G: Group, const W: usize>(
+    state: &[u32; 16],
+    steps: &mut Steps,
+) -> [[u32; 16]; W]
+    requires width { G.BLOCKS ≡ W }
+    requires few { W ≤ 16 }
+    ensures words { (g : ℕ) → g < W → slice_index_or result g [] ≡ mix R.COUNT (advanced V.layout g state.now) }
+    ensures steps { steps.new ≡ record steps.old { rounds = steps.old.rounds + 2 * G.ROUND_STEPS * R.COUNT } }
+{
+    let mut rows = [[0; 4]; W];
+    last_rows::<V>(state, &mut rows);
+    let mut words = [[0; 16]; W];
+    mixed(G::start(state, &rows), R::COUNT, steps).store(&mut words);
+    words
+}
+
+/// The next block. The counter moves on by one, whatever else the group makes.
+#[inline(always)]
+pub fn next_one<R: Rounds, V: Variant, G: Group, const W: usize>(
+    state: &mut [u32; 16],
+    block: &mut [u8; 64],
+    steps: &mut Steps,
+)
+    requires width { G.BLOCKS ≡ W }
+    requires few { W ≤ 16 }
+    requires some { W ≢ 0 }
+    ensures block { block.new ≡ next_block R.COUNT V.layout state.old 0 }
+    ensures state { state.new ≡ advanced V.layout 1 state.old }
+    ensures steps { steps.new ≡ record steps.old { rounds = steps.old.rounds + 2 * G.ROUND_STEPS * R.COUNT } }
+{
+    let words = group_words::<R, V, G, W>(state, steps);
+    let made = &words[..];
+    write_bytes(&made[0], block);
+    advance::<V>(state, 1);
+}
+
+/// The next blocks, at most as many as a group has. The counter moves on past them, whatever else the group makes.
+#[inline(always)]
+pub fn next_blocks<R: Rounds, V: Variant, G: Group, const W: usize>(
+    state: &mut [u32; 16],
+    blocks: &mut [[u8; 64]],
+    steps: &mut Steps,
+)
+    requires width { G.BLOCKS ≡ W }
+    requires few { W ≤ 16 }
+    requires within { length blocks.old ≤ W }
+    ensures blocks { (i : ℕ) → i < length blocks.old
+        → slice_get blocks.new i ≡ Some (next_block R.COUNT V.layout state.old i) }
+    ensures state { state.new ≡ advanced V.layout (length blocks.old) state.old }
+    ensures steps { steps.new ≡ record steps.old { rounds = steps.old.rounds + 2 * G.ROUND_STEPS * R.COUNT } }
+{
+    let words = group_words::<R, V, G, W>(state, steps);
+    let made = &words[..];
+    'each: for g in 0..blocks.len() {
+        write_bytes(&made[g], &mut blocks[g]);
+    }
+    advance::<V>(state, blocks.len());
+}
+
+/// Fewer blocks than a group has, none included. Where there are any, the group is made once, and counts as one other
+/// call; where there are none, nothing is made.
+#[inline(always)]
+pub fn next_tail<R: Rounds, V: Variant, G: Group, const W: usize>(
+    state: &mut [u32; 16],
+    blocks: &mut [[u8; 64]],
+    steps: &mut Steps,
+)
+    requires width { G.BLOCKS ≡ W }
+    requires few { W ≤ 16 }
+    requires within { length blocks.old ≤ W }
+    ensures blocks { (i : ℕ) → i < length blocks.old
+        → slice_get blocks.new i ≡ Some (next_block R.COUNT V.layout state.old i) }
+    ensures state { state.new ≡ advanced V.layout (length blocks.old) state.old }
+    ensures steps { steps.new ≡ record steps.old {
+      other = steps.old.other + min 1 (length blocks.old);
+      rounds = steps.old.rounds + min 1 (length blocks.old) * (2 * G.ROUND_STEPS * R.COUNT);
+    } }
+{
+    if !blocks.is_empty() {
+        steps.add_other();
+        next_blocks::<R, V, G, W>(state, blocks, steps);
+    }
+}
+
+/// The words of the next four blocks, in the layout with a counter of 64 bits. The counter moves on past them.
+#[inline(always)]
+pub fn next_four<R: Rounds, G: Group>(
+    state: &mut [u32; 16],
+    buffer: &mut [u32; 64],
+    steps: &mut Steps,
+)
+    requires { G.BLOCKS ≡ 4 }
+    ensures words { buffer.new ≡ next_words R.COUNT legacy state.old }
+    ensures state { state.new ≡ advanced legacy 4 state.old }
+    ensures steps { steps.new ≡ record steps.old { rounds = steps.old.rounds + 2 * G.ROUND_STEPS * R.COUNT } }
+{
+    let words = group_words::<R, Legacy, G, 4>(state, steps);
+    'four: for i in 0..4usize {
+        buffer[16 * i..16 * i + 16].copy_from_slice(&words[i]);
+    }
+    advance::<Legacy>(state, 4);
+}

@@ -1,0 +1,188 @@
+//! Vectors of words that hold the same row of several blocks, four lanes a block.
+
+ghost use Rattle.std.specs.Prelude.{◌≡◌, ◌≤◌, ◌<◌, ℕ, ◌*◌, bit_xor, slice_index};
+ghost use Rattle.chacha_base.specs.Words.{add, rotl};
+ghost use Rattle.chacha_base.specs.Lanes.{row, turned_1, turned_2, turned_3};
+
+use std::simd::prelude::*;
+
+/// A vector with a row of each of its blocks, in order of counter.
+pub trait Vector: Copy {
+    // The word in a lane.
+    ghost lane: { Self → ℕ → ℕ };
+
+    ghost BLOCKS: { ℕ };
+
+    /// Blocks in a vector.
+    const BLOCKS: usize;
+
+    /// The vector of the first of these words.
+    fn from_words(words: &[u32; 16]) -> Self
+        ensures { (j : ℕ) → j < 4 * BLOCKS → lane result j ≡ slice_index words.now j };
+
+    /// Its words, and any others behind them.
+    fn to_words(self) -> [u32; 16]
+        ensures { (j : ℕ) → j < 4 * BLOCKS → slice_index result j ≡ lane self j };
+
+    /// The sums of the lanes.
+    fn plus(self, other: Self) -> Self
+        ensures { (j : ℕ) → j < 4 * BLOCKS → lane result j ≡ add (lane self j) (lane other j) };
+
+    /// The lanes combined by exclusive or and rotated to the left.
+    fn xor_rotated(self, other: Self, by: u32) -> Self
+        requires some { 0 < by }
+        requires most { by < 32 }
+        ensures { (j : ℕ) → j < 4 * BLOCKS → lane result j ≡ rotl (bit_xor (lane self j) (lane other j)) by };
+
+    /// The row of each block turned to the left by one place.
+    fn turned_1(self) -> Self
+        ensures { (g : ℕ) → g < BLOCKS → row (lane result) g ≡ turned_1 (row (lane self) g) };
+
+    /// The row of each block turned to the left by two places.
+    fn turned_2(self) -> Self
+        ensures { (g : ℕ) → g < BLOCKS → row (lane result) g ≡ turned_2 (row (lane self) g) };
+
+    /// The row of each block turned to the left by three places.
+    fn turned_3(self) -> Self
+        ensures { (g : ℕ) → g < BLOCKS → row (lane result) g ≡ turned_3 (row (lane self) g) };
+
+    ghost blocks_to: { 4 * BLOCKS ≤ 16 };
+}
+
+// The vector of the first of these words, at any width.
+#[inline(always)]
+fn lanes_from<const N: usize>(words: &[u32; 16]) -> Simd<u32, N>
+    requires { N ≤ 16 }
+    ensures { (j : ℕ) → j < N → slice_index result j ≡ slice_index words.now j }
+{
+    Simd::from_slice(words)
+}
+
+// The words of a vector of any width.
+#[inline(always)]
+fn lanes_to<const N: usize>(vector: Simd<u32, N>) -> [u32; 16]
+    requires { N ≤ 16 }
+    ensures { (j : ℕ) → j < N → slice_index result j ≡ slice_index vector.entry j }
+{
+    let mut words = [0; 16];
+    vector.copy_to_slice(&mut words);
+    words
+}
+
+// The sums of the lanes of two vectors of any width.
+#[inline(always)]
+fn lanes_plus<const N: usize>(one: Simd<u32, N>, other: Simd<u32, N>) -> Simd<u32, N>
+    ensures { (j : ℕ) → j < N → slice_index result j ≡ add (slice_index one.entry j) (slice_index other.entry j) }
+{
+    one + other
+}
+
+// The lanes of two vectors of any width, combined by exclusive or and rotated to the left.
+#[inline(always)]
+fn lanes_xor_rotated<const N: usize>(
+    one: Simd<u32, N>,
+    other: Simd<u32, N>,
+    by: u32,
+) -> Simd<u32, N>
+    requires some { 0 < by }
+    requires most { by < 32 }
+    ensures { (j : ℕ) → j < N
+        → slice_index result j ≡ rotl (bit_xor (slice_index one.entry j) (slice_index other.entry j)) by }
+{
+    let mixed = one ^ other;
+    (mixed << Simd::splat(by)) | (mixed >> Simd::splat(32 - by))
+}
+
+impl Vector for u32x4 {
+    ghost use Rattle.std.proofs.Common.{lit≤};
+
+    ghost lane = { λ vector j. slice_index vector j };
+
+    ghost BLOCKS = { 1 };
+
+    const BLOCKS: usize = 1;
+
+    ghost blocks_to = { lit≤ tt };
+
+    #[inline(always)]
+    fn from_words(words: &[u32; 16]) -> u32x4 {
+        lanes_from(words)
+    }
+
+    #[inline(always)]
+    fn to_words(self) -> [u32; 16] {
+        lanes_to(self)
+    }
+
+    #[inline(always)]
+    fn plus(self, other: u32x4) -> u32x4 {
+        lanes_plus(self, other)
+    }
+
+    #[inline(always)]
+    fn xor_rotated(self, other: u32x4, by: u32) -> u32x4 {
+        lanes_xor_rotated(self, other, by)
+    }
+
+    #[inline(always)]
+    fn turned_1(self) -> u32x4 {
+        self.swizzle([1, 2, 3, 0])
+    }
+
+    #[inline(always)]
+    fn turned_2(self) -> u32x4 {
+        self.swizzle([2, 3, 0, 1])
+    }
+
+    #[inline(always)]
+    fn turned_3(self) -> u32x4 {
+        self.swizzle([3, 0, 1, 2])
+    }
+}
+
+impl Vector for u32x8 {
+    ghost use Rattle.std.proofs.Common.{lit≤};
+
+    ghost lane = { λ vector j. slice_index vector j };
+
+    ghost BLOCKS = { 2 };
+
+    const BLOCKS: usize = 2;
+
+    ghost blocks_to = { lit≤ tt };
+
+    #[inline(always)]
+    fn from_words(words: &[u32; 16]) -> u32x8 {
+        lanes_from(words)
+    }
+
+    #[inline(always)]
+    fn to_words(self) -> [u32; 16] {
+        lanes_to(self)
+    }
+
+    #[inline(always)]
+    fn plus(self, other: u32x8) -> u32x8 {
+        lanes_plus(self, other)
+    }
+
+    #[inline(always)]
+    fn xor_rotated(self, other: u32x8, by: u32) -> u32x8 {
+        lanes_xor_rotated(self, other, by)
+    }
+
+    #[inline(always)]
+    fn turned_1(self) -> u32x8 {
+        self.swizzle([1, 2, 3, 0, 5, 6, 7, 4])
+    }
+
+    #[inline(always)]
+    fn turned_2(self) -> u32x8 {
+        self.swizzle([2, 3, 0, 1, 6, 7, 4, 5])
+    }
+
+    #[inline(always)]
+    fn turned_3(self) -> u32x8 {
+        self.swizzle([3, 0, 1, 2, 7, 4, 5, 6])
+    }
+}
