@@ -6,7 +6,7 @@ use Rattle.chacha_base.specs.Layout.{legacy, counter_words}
 use Rattle.chacha_base.specs.State.{state_counter, state_at}
 use Rattle.chacha_base.proofs.BytesLemmas.{length-words}
 use Rattle.chacha_base.proofs.ListLemmas.{each}
-use Rattle.chacha_base.proofs.StateLemmas.{Words, halves}
+use Rattle.chacha_base.proofs.StateLemmas.{halves}
 use Rattle.chacha20.specs.Generator.{positions, bytes_of_8}
 use Rattle.chacha20.specs.Unread.{seed_of, stream_of, generator_of, IsUnread}
 
@@ -38,10 +38,6 @@ bytes-word a b c d ha hb hc hd =
     let e1 : x / 256 % 256 ≡ b = omega arith in
     let e2 : x / 256 ^ 2 % 256 ≡ c = omega arith in
     let e3 : x / 256 ^ 3 % 256 ≡ d = omega arith in cc
-
-pub words-bytes : (ws : List ℕ) → Words ws → words (bytes ws) ≡ ws
-words-bytes [] fits = refl
-words-bytes (x ∷ xs) fits = ap₂ ◌∷◌ (word-bytes x (fits 0)) (words-bytes xs (λ i. fits (suc i)))
 
 pub bytes-words : (n : ℕ) (bs : List ℕ) → length bs ≡ 4 * n → Bytes bs → bytes (words bs) ≡ bs
 bytes-words zero [] long fits = refl
@@ -185,7 +181,7 @@ generator_of-start seed stream c used core long fits below same =
     (seed_of-start seed (bytes_of_8 stream) c long fits) (stream_of-start seed stream c long below)
     ∙ ap (λ d. record { seed = seed; stream = stream; word_pos = (16 * d + (positions - 64) + used) % positions }) (state_counter-start seed (bytes_of_8 stream) c long)
 
--- a core that is put to a counter below 2^64, with a buffer of which no word is left
+-- a start state with a buffer of which no word is left, and the generator that they stand for
 pub unread-start : (n : ℕ) (seed : List ℕ) (stream c : ℕ) (core buffer : List ℕ) → length seed ≡ 32 → Bytes seed → stream < 2 ^ 64
     → core ≡ start legacy seed (bytes_of_8 stream) c → IsUnread n core buffer 64
 unread-start n seed stream c core buffer long fits below same = record {

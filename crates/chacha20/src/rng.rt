@@ -1,7 +1,7 @@
 //! Seekable generators of random words (this crate). A generator is a seed, a stream and a position that counts words
 //! of 32 bits; the words are those of ChaCha's blocks in the layout with a counter of 64 bits.
 
-ghost use Rattle.std.specs.Prelude.{◌≡◌, ◌↔◌, ◌≤◌, ◌<◌, ◌+◌, ◌*◌, ◌/◌, ◌%◌, ◌^◌, [], ◌∷◌, ◌++◌, length, take, drop, slice_index, Some, IsTrue, codes};
+ghost use Rattle.std.specs.Prelude.{◌≡◌, ◌↔◌, ◌≤◌, ◌<◌, ◌+◌, ◌-◌, ◌*◌, ◌/◌, ◌%◌, ◌^◌, [], ◌∷◌, ◌++◌, length, take, drop, slice_index, Some, IsTrue, codes};
 ghost use Rattle.rand_core.specs.Steps.{stream_of};
 ghost use Rattle.rand_core.specs.Pcg32Seed.{pcg32_seed};
 ghost use Rattle.chacha_base.specs.Bytes.{bytes};
@@ -123,7 +123,7 @@ impl<R: Rounds, B: RngBackend<R>> ChaChaRng<R, B> {
         ensures value { result ≡ self.now.word_pos }
         ensures below { result < 2 ^ 68 }
     {
-        let first = self.core.get_block_pos().wrapping_sub(4);
+        let first = first_block(self.core.get_block_pos());
         (16 * u128::from(first) + self.index as u128) % POSITIONS
     }
 
@@ -234,6 +234,13 @@ impl<R: Rounds, B: RngBackend<R>> ChaChaRng<R, B> {
             done += count;
         }
     }
+}
+
+// The number of the buffer's first block, where the core's next one has this number.
+fn first_block(next: u64) -> u64
+    ensures { result ≡ (next + (2 ^ 64 - 4)) % 2 ^ 64 }
+{
+    next.wrapping_sub(4)
 }
 
 // Makes words where none are left in the buffer.

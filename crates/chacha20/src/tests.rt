@@ -5,6 +5,7 @@ ghost use Rattle.chacha_base.specs.Layout.{ietf};
 ghost use Rattle.chacha_base.specs.Block.{block};
 ghost use Rattle.chacha_base.specs.Keystream.{keystream, applied};
 
+mod backends;
 mod core_calls;
 mod generator_cores;
 mod generator_runs;

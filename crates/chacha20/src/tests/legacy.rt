@@ -11,7 +11,7 @@ use crate::variants::{Legacy, Variant};
 use crate::{ChaCha20Legacy, Key, LegacyNonce};
 use std::test::Fail;
 
-const NONCE: LegacyNonce = [3, 1, 4, 1, 5, 9, 2, 6];
+pub const NONCE: LegacyNonce = [3, 1, 4, 1, 5, 9, 2, 6];
 
 // A message under a key and a nonce. No message is too long for a new cipher.
 fn encrypt(key: &Key, nonce: &LegacyNonce, message: &mut [u8]) -> Result<(), StreamCipherError>
@@ -85,7 +85,7 @@ fn remaining_blocks(rt: HostRuntime) {
     assert_eq!(rt; Legacy::remaining_blocks(0), Some(usize::MAX));
 }
 
-const STREAM: &[u8; 256] = b"\
+pub const STREAM: &[u8; 256] = b"\
     \xde\xeb\x6b\x9d\x06\xdf\xf3\xe0\x91\xbf\x3a\xd4\xf4\xd4\x92\xb6\
     \xdd\x98\x24\x6f\x69\x69\x18\x02\xe4\x66\xe0\x3b\xad\x23\x57\x87\
     \x0f\x1c\x6c\x01\x0b\x6c\x2e\x65\x0c\x4b\xf5\x8d\x2d\x35\xc7\x2a\
