@@ -1,8 +1,9 @@
-//! The ChaCha stream ciphers.
+//! The ChaCha stream ciphers, and seekable generators of random words over the same block function.
 //!
 //! ```text
-//! use chacha20::ChaCha20;
+//! use chacha20::{ChaCha20, ChaCha20Rng};
 //! use chacha20::cipher::{KeyIvInit, StreamCipher};
+//! use chacha20::rand_core::{Rng, SeedableRng};
 //! ```
 #![tactic(auto)]
 

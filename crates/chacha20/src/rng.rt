@@ -74,7 +74,6 @@ impl<R: Rounds, B> Model for ChaChaRng<R, B> {
 
 impl<R: Rounds, B: RngBackend<R>> ChaChaRng<R, B> {
     /// The generator of a seed, at the start of stream 0. It makes no words yet.
-
     pub fn from_seed(seed: Seed) -> Self
         ensures { result ≡ of_seed seed }
     {
@@ -216,7 +215,6 @@ impl<R: Rounds, B: RngBackend<R>> ChaChaRng<R, B> {
     }
 
     // Fills a slice with whole words.
-
     fn fill_words(&mut self, dst: &mut [u8])
         requires { length dst.old % 4 ≡ 0 }
         ensures dst { dst.new ≡ bytes (words_from R.COUNT self.old self.old.word_pos (length dst.old / 4)) }
