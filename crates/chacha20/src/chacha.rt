@@ -1,7 +1,7 @@
 //! The ciphers in the layout of RFC 8439, which defines ChaCha20 alone.
 
 use crate::chacha_core::ChaChaCore;
-use chacha_base::backends::Soft;
+use chacha_base::backends::Lanes16;
 use chacha_base::rounds::{R8, R12, R20};
 use chacha_base::variants::Ietf;
 use chacha_base::wrapper::StreamCipherCoreWrapper;
@@ -14,12 +14,12 @@ pub type Nonce = [u8; 12];
 
 /// ChaCha with four double rounds, from block 0 on. It takes 274877906880 bytes for one key and nonce: all blocks but
 /// the one with the greatest counter. The number of rounds is this crate's own.
-pub type ChaCha8 = StreamCipherCoreWrapper<ChaChaCore<R8, Ietf, Soft>>;
+pub type ChaCha8 = StreamCipherCoreWrapper<ChaChaCore<R8, Ietf, Lanes16>>;
 
 /// ChaCha with six double rounds, from block 0 on. It takes 274877906880 bytes for one key and nonce: all blocks but
 /// the one with the greatest counter. The number of rounds is this crate's own.
-pub type ChaCha12 = StreamCipherCoreWrapper<ChaChaCore<R12, Ietf, Soft>>;
+pub type ChaCha12 = StreamCipherCoreWrapper<ChaChaCore<R12, Ietf, Lanes16>>;
 
 /// ChaCha20, with ten double rounds (RFC 8439, section 2.4), from block 0 on. It takes 274877906880 bytes for one key
 /// and nonce: all blocks but the one with the greatest counter.
-pub type ChaCha20 = StreamCipherCoreWrapper<ChaChaCore<R20, Ietf, Soft>>;
+pub type ChaCha20 = StreamCipherCoreWrapper<ChaChaCore<R20, Ietf, Lanes16>>;

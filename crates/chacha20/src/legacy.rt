@@ -1,7 +1,7 @@
 //! The cipher from before RFC 8439, with a counter of 64 bits.
 
 use crate::chacha_core::ChaChaCore;
-use chacha_base::backends::Soft;
+use chacha_base::backends::Lanes16;
 use chacha_base::rounds::R20;
 use chacha_base::variants::Legacy;
 use chacha_base::wrapper::StreamCipherCoreWrapper;
@@ -10,7 +10,7 @@ use chacha_base::wrapper::StreamCipherCoreWrapper;
 pub type LegacyNonce = [u8; 8];
 
 /// The core of `ChaCha20Legacy`: ten double rounds, and a counter of 64 bits in words 12 and 13.
-pub type ChaCha20LegacyCore = ChaChaCore<R20, Legacy, Soft>;
+pub type ChaCha20LegacyCore = ChaChaCore<R20, Legacy, Lanes16>;
 
 /// ChaCha20 as it was before RFC 8439, from block 0 on. It takes 1180591620717411303360 bytes for one key and nonce:
 /// all blocks but the one with the greatest counter.

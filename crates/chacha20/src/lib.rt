@@ -12,8 +12,6 @@ mod chacha_core;
 mod legacy;
 mod rng;
 pub mod runs;
-#[cfg(test)]
-mod tests;
 mod xchacha;
 
 pub use chacha::{ChaCha8, ChaCha12, ChaCha20, Key, Nonce};

@@ -10,7 +10,7 @@ ghost use Rattle.chacha20.specs.StateBytes.{number, state_bytes, of_state_bytes}
 ghost use Rattle.chacha20.specs.Unread.{generator_of, IsUnread};
 
 use crate::chacha_core::{ChaChaCore, Generator};
-use chacha_base::backends::Soft;
+use chacha_base::backends::Lanes8;
 use chacha_base::bytes::write_bytes;
 use chacha_base::cipher::RngBackend;
 use chacha_base::rounds::{R8, R12, R20, Rounds};
@@ -27,13 +27,13 @@ pub type Seed = [u8; 32];
 pub type SerializedRngState = [u8; 49];
 
 /// A generator with four double rounds.
-pub type ChaCha8Rng = ChaChaRng<R8, Soft>;
+pub type ChaCha8Rng = ChaChaRng<R8, Lanes8>;
 
 /// A generator with six double rounds.
-pub type ChaCha12Rng = ChaChaRng<R12, Soft>;
+pub type ChaCha12Rng = ChaChaRng<R12, Lanes8>;
 
 /// A generator with ten double rounds.
-pub type ChaCha20Rng = ChaChaRng<R20, Soft>;
+pub type ChaCha20Rng = ChaChaRng<R20, Lanes8>;
 
 // How many word positions there are: sixteen words for each of 2^64 blocks.
 const POSITIONS: u128 = 1 << 68;

@@ -5,7 +5,7 @@ ghost use Rattle.chacha20.specs.XChaCha.{hchacha};
 
 use crate::chacha::Key;
 use crate::chacha_core::{ChaChaCore, start_state};
-use chacha_base::backends::Soft;
+use chacha_base::backends::Lanes16;
 use chacha_base::bytes::{read_words, write_bytes};
 use chacha_base::cipher::{
     BlockSizeUser, IvSizeUser, KeyIvInit, KeySizeUser, Keystream, ParBlocksSizeUser,
@@ -21,15 +21,15 @@ use std::marker::Model;
 pub type XNonce = [u8; 24];
 
 /// XChaCha with 8 rounds, this crate's own number: the draft defines 20 alone. It takes as many bytes as `XChaCha20`.
-pub type XChaCha8 = StreamCipherCoreWrapper<XChaChaCore<R8, Soft>>;
+pub type XChaCha8 = StreamCipherCoreWrapper<XChaChaCore<R8, Lanes16>>;
 
 /// XChaCha with 12 rounds, this crate's own number: the draft defines 20 alone. It takes as many bytes as `XChaCha20`.
-pub type XChaCha12 = StreamCipherCoreWrapper<XChaChaCore<R12, Soft>>;
+pub type XChaCha12 = StreamCipherCoreWrapper<XChaChaCore<R12, Lanes16>>;
 
 /// XChaCha20 (draft-irtf-cfrg-xchacha, section 2.3), from block 0 on: ChaCha20 under the key and the nonce that
 /// `XChaChaCore` derives. It takes 274877906880 bytes for one key and nonce: all blocks but the one with the greatest
 /// counter.
-pub type XChaCha20 = StreamCipherCoreWrapper<XChaChaCore<R20, Soft>>;
+pub type XChaCha20 = StreamCipherCoreWrapper<XChaChaCore<R20, Lanes16>>;
 
 /// The 32 bytes that HChaCha makes of a key and of 16 bytes more (draft-irtf-cfrg-xchacha, section 2.2, for `R20`;
 /// other numbers of rounds are this crate's own).

@@ -1,5 +1,5 @@
 -- Counts of the steps that calls take (this crate).
-use Rattle.std.specs.Prelude.{ℕ, ◌+◌, ◌-◌, ◌*◌, ◌/◌, ◌%◌, ◌≤◌, min}
+use Rattle.std.specs.Prelude.{ℕ, ◌+◌, ◌-◌, ◌*◌, ◌/◌, ◌%◌, ◌≤◌, min, nat_lt, cond}
 
 -- parallel calls of a backend, other calls for a block, and quarter rounds
 pub record Counts : Type 0 where
@@ -30,6 +30,15 @@ for_call par other rounds = record { par = par; other = other; least = rounds; m
 -- for k blocks, fewer than a parallel call makes, with `one` quarter rounds a single block
 abbrev pub for_tail : (one k : ℕ) → Bounds
 for_tail one k = record { par = 0; other = k; least = min 1 k * one; most = k * one }
+
+-- counts after one kernel made a tail of k blocks in `made` quarter rounds; where there are no blocks nothing is made
+abbrev pub after_tail : (made k : ℕ) → Counts → Counts
+after_tail made k counts = record counts { other = counts.other + min 1 k; rounds = counts.rounds + min 1 k * made }
+
+-- quarter rounds, for each double round, of a tail of k blocks where sixteen are the width: up to four blocks fit in one
+-- vector a row, up to eight in two, and the rest in four
+abbrev pub tail_of_16 : ℕ → ℕ
+tail_of_16 k = cond (nat_lt k 1) 0 (cond (nat_lt k 5) 2 (cond (nat_lt k 9) 4 8))
 
 -- for m blocks in groups of w, with `par` quarter rounds a group and `one` a single block, and k single blocks after them
 abbrev pub for_blocks : (w par one m k : ℕ) → Bounds

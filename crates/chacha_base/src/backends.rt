@@ -3,6 +3,7 @@
 mod counter;
 mod group;
 mod kernel;
+mod lanes16;
 mod lanes4;
 mod lanes8;
 mod rows;
@@ -13,5 +14,6 @@ mod vector;
 
 pub use lanes4::Lanes4;
 pub use lanes8::Lanes8;
+pub use lanes16::Lanes16;
 pub use rows8::Rows8;
 pub use soft::Soft;

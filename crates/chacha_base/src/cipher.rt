@@ -105,6 +105,9 @@ pub trait StreamCipherBackend<R: Rounds, V: Variant>: ParBlocksSizeUser {
 
     ghost ONE_STEPS: { ℕ };
 
+    // Quarter rounds of a tail of so many blocks, for each double round.
+    ghost tail_steps: { ℕ → ℕ };
+
     /// Quarter rounds of a parallel call, for each double round. This crate's own.
     const PAR_STEPS: usize;
 
@@ -131,7 +134,8 @@ pub trait StreamCipherBackend<R: Rounds, V: Variant>: ParBlocksSizeUser {
         ensures blocks { (i : ℕ) → i < length blocks.old
             → slice_get blocks.new i ≡ Some (next_block R.COUNT V.layout state.old i) }
         ensures state { state.new ≡ advanced V.layout (length blocks.old) state.old }
-        ensures steps { Grows (for_tail (ONE_STEPS * R.COUNT) (length blocks.old)) steps.old steps.new };
+        ensures steps { Grows (for_tail (ONE_STEPS * R.COUNT) (length blocks.old)) steps.old steps.new }
+        ensures rounds { steps.new.rounds ≡ steps.old.rounds + tail_steps (length blocks.old) * R.COUNT };
 }
 
 /// Makes the words of a generator, four blocks at a time, in the layout with a counter of 64 bits.

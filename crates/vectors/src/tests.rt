@@ -1,54 +1,19 @@
-//! Generators as a user of the crate `rand` draws from them. What a draw must be is asked, and not which it is.
+//! What no contract says: published bytes over each backend; and what a caller learns from contracts.
 
-use chacha20::ChaCha20Rng;
-use chacha20::rand_core::Rng;
-use rand::RngExt;
-use rand::seq::SliceRandom;
-
-// A hundred rolls of a die.
-fn rolls<R: Rng>(rng: &mut R) -> [u8; 100] {
-    let mut rolls = [0; 100];
-    for roll in &mut rolls {
-        *roll = rng.random_range(1..=6);
-    }
-    rolls
-}
-
-// The numbers 0 to 51 in a new order.
-fn shuffled_deck<R: Rng>(rng: &mut R) -> [u8; 52] {
-    let mut deck = [0; 52];
-    for i in 0..52u8 {
-        deck[usize::from(i)] = i;
-    }
-    deck.shuffle(rng);
-    deck
-}
-
-#[test]
-fn rolls_of_a_die(rt: HostRuntime) {
-    let mut rng = ChaCha20Rng::from_seed([1; 32]);
-    for roll in rolls(&mut rng) {
-        assert!(rt; 1 <= roll && roll <= 6, "a {roll}");
-    }
-}
-
-#[test]
-fn every_card_once(rt: HostRuntime) {
-    let deck = shuffled_deck(&mut ChaCha20Rng::from_seed([2; 32]));
-    for card in 0..52u8 {
-        assert!(rt; deck.contains(&card), "no card {card}");
-    }
-}
-
-// Two generators of one seed, and a third from the state of one of them, draw the same.
-#[test]
-fn drawn_again(rt: HostRuntime) {
-    let mut first = ChaCha20Rng::from_seed([3; 32]);
-    let mut second = ChaCha20Rng::from_seed([3; 32]);
-    assert_eq!(rt; rolls(&mut first), rolls(&mut second));
-    let mut restored = ChaCha20Rng::deserialize_state(&first.serialize_state());
-    let deck = shuffled_deck(&mut first);
-    assert_eq!(rt; shuffled_deck(&mut second), deck);
-    assert_eq!(rt; shuffled_deck(&mut restored), deck);
-    assert_eq!(rt; restored, first);
-}
+mod backends;
+mod contracts;
+mod core_calls;
+mod draws;
+mod generator_cores;
+mod generator_runs;
+mod generator_states;
+mod generator_traits;
+mod generators;
+mod named;
+mod positions;
+mod readme;
+mod records;
+mod rfc8439;
+mod runs;
+mod streams;
+mod xchacha;

@@ -1,5 +1,7 @@
 //! Four blocks at once, two to a vector of eight words.
 
+ghost use Rattle.std.specs.Prelude.{◌*◌, min};
+
 use crate::backends::group::{InRows, Two};
 use crate::backends::kernel::{next_blocks, next_four, next_one, next_tail};
 use crate::backends::shift::ShiftCda;
@@ -32,6 +34,8 @@ impl<R: Rounds, V: Variant> StreamCipherBackend<R, V> for Lanes8 {
     ghost PAR_STEPS = { 4 };
 
     ghost ONE_STEPS = { 4 };
+
+    ghost tail_steps = { λ k. min 1 k * 4 };
 
     const PAR_STEPS: usize = 4;
 

@@ -1,5 +1,7 @@
 //! Eight blocks at once, each in vectors of four words.
 
+ghost use Rattle.std.specs.Prelude.{◌*◌, min};
+
 use crate::backends::group::{InRows, Two};
 use crate::backends::kernel::{next_blocks, next_four, next_one, next_tail};
 use crate::backends::shift::ShiftBcd;
@@ -34,6 +36,8 @@ impl<R: Rounds, V: Variant> StreamCipherBackend<R, V> for Rows8 {
     ghost PAR_STEPS = { 16 };
 
     ghost ONE_STEPS = { 16 };
+
+    ghost tail_steps = { λ k. min 1 k * 16 };
 
     const PAR_STEPS: usize = 16;
 

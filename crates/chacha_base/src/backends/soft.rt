@@ -62,6 +62,8 @@ impl<R: Rounds, V: Variant> StreamCipherBackend<R, V> for Soft {
 
     ghost ONE_STEPS = { 8 };
 
+    ghost tail_steps = { λ k. k * 8 };
+
     const PAR_STEPS: usize = 8;
 
     const ONE_STEPS: usize = 8;

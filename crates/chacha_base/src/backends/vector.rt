@@ -186,3 +186,50 @@ impl Vector for u32x8 {
         self.swizzle([3, 0, 1, 2, 7, 4, 5, 6])
     }
 }
+
+impl Vector for u32x16 {
+    ghost use Rattle.std.proofs.Common.{lit≤};
+
+    ghost lane = { λ vector j. slice_index vector j };
+
+    ghost BLOCKS = { 4 };
+
+    const BLOCKS: usize = 4;
+
+    ghost blocks_to = { lit≤ tt };
+
+    #[inline(always)]
+    fn from_words(words: &[u32; 16]) -> u32x16 {
+        lanes_from(words)
+    }
+
+    #[inline(always)]
+    fn to_words(self) -> [u32; 16] {
+        lanes_to(self)
+    }
+
+    #[inline(always)]
+    fn plus(self, other: u32x16) -> u32x16 {
+        lanes_plus(self, other)
+    }
+
+    #[inline(always)]
+    fn xor_rotated(self, other: u32x16, by: u32) -> u32x16 {
+        lanes_xor_rotated(self, other, by)
+    }
+
+    #[inline(always)]
+    fn turned_1(self) -> u32x16 {
+        self.swizzle([1, 2, 3, 0, 5, 6, 7, 4, 9, 10, 11, 8, 13, 14, 15, 12])
+    }
+
+    #[inline(always)]
+    fn turned_2(self) -> u32x16 {
+        self.swizzle([2, 3, 0, 1, 6, 7, 4, 5, 10, 11, 8, 9, 14, 15, 12, 13])
+    }
+
+    #[inline(always)]
+    fn turned_3(self) -> u32x16 {
+        self.swizzle([3, 0, 1, 2, 7, 4, 5, 6, 11, 8, 9, 10, 15, 12, 13, 14])
+    }
+}

@@ -2,7 +2,7 @@
 
 ghost use Rattle.std.specs.Prelude.{◌≤◌};
 
-use crate::backends::{Lanes4, Lanes8, Rows8, Soft};
+use crate::backends::{Lanes4, Lanes8, Lanes16, Rows8, Soft};
 use crate::cipher::{RngBackend, StreamCipherBackend};
 use crate::rounds::{R20, Rounds, Steps};
 use crate::variants::{Ietf, Legacy, Variant};
@@ -39,16 +39,16 @@ const START: [u32; 16] = [
 
 // Whether so many blocks in groups and a tail, and the state after them, are the plain backend's.
 fn blocks_as_soft<R: Rounds, V: Variant, B: StreamCipherBackend<R, V>>(count: usize) -> bool
-    requires { count ≤ 9 }
+    requires { count ≤ 33 }
 {
     let mut steps = Steps::new();
     let mut expected_state = START;
-    let mut expected = [[0; 64]; 9];
+    let mut expected = [[0; 64]; 33];
     for block in expected[..count].iter_mut() {
         <Soft as StreamCipherBackend<R, V>>::gen_ks_block(&mut expected_state, block, &mut steps);
     }
     let mut state = START;
-    let mut blocks = [[0; 64]; 9];
+    let mut blocks = [[0; 64]; 33];
     for group in blocks[..count].chunks_mut(B::PAR_BLOCKS) {
         if group.len() == B::PAR_BLOCKS {
             B::gen_par_ks_blocks(&mut state, group, &mut steps);
@@ -83,7 +83,7 @@ fn single_blocks_as_soft<R: Rounds, V: Variant, B: StreamCipherBackend<R, V>>() 
 // Whether all calls for blocks give what the plain backend gives.
 fn as_soft<R: Rounds, V: Variant, B: StreamCipherBackend<R, V>>() -> bool {
     let mut same = single_blocks_as_soft::<R, V, B>();
-    for count in 0..10usize {
+    for count in 0..34usize {
         same = same && blocks_as_soft::<R, V, B>(count);
     }
     same
@@ -133,4 +133,14 @@ fn rows8(rt: HostRuntime) {
     assert!(rt; as_soft::<R20, Legacy, Rows8>());
     assert!(rt; words_as_soft::<R0, Rows8>());
     assert!(rt; words_as_soft::<R20, Rows8>());
+}
+
+#[test]
+fn lanes16(rt: HostRuntime) {
+    assert!(rt; as_soft::<R0, Ietf, Lanes16>());
+    assert!(rt; as_soft::<R20, Ietf, Lanes16>());
+    assert!(rt; as_soft::<R0, Legacy, Lanes16>());
+    assert!(rt; as_soft::<R20, Legacy, Lanes16>());
+    assert!(rt; words_as_soft::<R0, Lanes16>());
+    assert!(rt; words_as_soft::<R20, Lanes16>());
 }

@@ -3,38 +3,65 @@
 use super::{COUNTING, FROM_1};
 use chacha20::cipher::{
     KeyIvInit, OverflowError, StreamCipher, StreamCipherError, StreamCipherSeek,
+    StreamCipherSeekCore,
 };
 use chacha20::runs::{CipherAnswer, CipherCall, run_cipher};
-use chacha20::{ChaCha20, ChaCha20Legacy, Key, LegacyNonce, R20, XChaCha20, XNonce, hchacha};
+use chacha20::{Key, LegacyNonce, Nonce, R20, StreamCipherCoreWrapper, XNonce, hchacha};
+
+/// A cipher with nonces of one type, at positions that can be set.
+pub trait SeekCipher<N>: KeyIvInit<Key = Key, Iv = N> + StreamCipherSeek + Drop {}
+
+impl<N, C: KeyIvInit<Key = Key, Iv = N> + StreamCipherSeek + Drop> SeekCipher<N> for C {}
 
 const PLAINTEXT: [u8; 16] = [0, 1, 2, 3, 4, 5, 6, 7, 8, 9, 10, 11, 12, 13, 14, 15];
 
 const CIPHERTEXT: [u8; 16] = *b"\xe4\x05\x62\x6e\x4f\x12\x36\xb3\x67\x0e\xe4\x28\x33\x2e\xa2\x0e";
 
+/// Each row's number, and whether the row is right: for a core in the layout of RFC 8439, and for ciphers with nonces of 8
+/// and of 24 bytes.
+pub fn verdicts<K, L, X>() -> [(usize, bool); 9]
+where
+    K: KeyIvInit<Key = Key, Iv = Nonce> + StreamCipherSeekCore + Drop,
+    L: SeekCipher<LegacyNonce>,
+    X: SeekCipher<XNonce>,
+{
+    [
+        (1, row_1::<StreamCipherCoreWrapper<K>>()),
+        (3, row_3()),
+        (4, row_4::<StreamCipherCoreWrapper<K>>()),
+        (5, row_5::<X>()),
+        (6, row_6::<L>()),
+        (11, row_11::<K>()),
+        (12, row_12::<StreamCipherCoreWrapper<K>, L>()),
+        (16, row_16::<StreamCipherCoreWrapper<K>>()),
+        (22, row_22::<StreamCipherCoreWrapper<K>, L>()),
+    ]
+}
+
 /// The first row's ciphertext; its plaintext, if the cipher refuses it.
-pub fn first_ciphertext() -> [u8; 16] {
+pub fn first_ciphertext<C: SeekCipher<Nonce>>() -> [u8; 16] {
     let mut data = PLAINTEXT;
-    let _ = ChaCha20::new(&[0x42; 32], &[0x24; 12]).try_apply_keystream(&mut data);
+    let _ = C::new(&[0x42; 32], &[0x24; 12]).try_apply_keystream(&mut data);
     data
 }
 
-/// There and back, and there again in pieces of 3.
-pub fn row_1() -> bool {
+// There and back, and there again in pieces of 3.
+fn row_1<C: SeekCipher<Nonce>>() -> bool {
     let mut once = PLAINTEXT;
     let mut twice = CIPHERTEXT;
     let mut pieces = PLAINTEXT;
-    row_1_applied(&mut once, &mut twice, &mut pieces).is_ok()
+    row_1_applied::<C>(&mut once, &mut twice, &mut pieces).is_ok()
         && once == CIPHERTEXT
         && twice == PLAINTEXT
         && pieces == CIPHERTEXT
 }
 
-fn row_1_applied(
+fn row_1_applied<C: SeekCipher<Nonce>>(
     once: &mut [u8],
     twice: &mut [u8],
     pieces: &mut [u8],
 ) -> Result<(), StreamCipherError> {
-    let mut cipher = ChaCha20::new(&[0x42; 32], &[0x24; 12]);
+    let mut cipher = C::new(&[0x42; 32], &[0x24; 12]);
     cipher.try_apply_keystream(once)?;
     cipher.try_seek(0u32)?;
     cipher.try_apply_keystream(twice)?;
@@ -45,32 +72,32 @@ fn row_1_applied(
     Ok(())
 }
 
-/// HChaCha (draft-irtf-cfrg-xchacha, section 2.2.1).
-pub fn row_3() -> bool {
+// HChaCha (draft-irtf-cfrg-xchacha, section 2.2.1).
+fn row_3() -> bool {
     let input = *b"\x00\x00\x00\x09\x00\x00\x00\x4a\x00\x00\x00\x00\x31\x41\x59\x27";
     let expected = b"\x82\x41\x3b\x42\x27\xb2\x7b\xfe\xd3\x0e\x42\x50\x8a\x87\x7d\x73\
         \xa0\xf9\xe4\xd5\x8a\x74\xa8\x53\xc1\x2e\xc4\x13\x26\xd3\xec\xdc";
     hchacha::<R20>(&COUNTING, &input) == *expected
 }
 
-/// A message from block 1 on (RFC 8439, section 2.4.2).
-pub fn row_4() -> bool {
+// A message from block 1 on (RFC 8439, section 2.4.2).
+fn row_4<C: SeekCipher<Nonce>>() -> bool {
     let mut text = *b"Ladies and Gentl";
-    row_4_applied(&mut text).is_ok()
+    row_4_applied::<C>(&mut text).is_ok()
         && text == *b"\x6e\x2e\x35\x9a\x25\x68\xf9\x80\x41\xba\x07\x28\xdd\x0d\x69\x81"
 }
 
-fn row_4_applied(text: &mut [u8]) -> Result<(), StreamCipherError> {
-    let mut cipher = ChaCha20::new(&COUNTING, &[0, 0, 0, 0, 0, 0, 0, 0x4a, 0, 0, 0, 0]);
+fn row_4_applied<C: SeekCipher<Nonce>>(text: &mut [u8]) -> Result<(), StreamCipherError> {
+    let mut cipher = C::new(&COUNTING, &[0, 0, 0, 0, 0, 0, 0, 0x4a, 0, 0, 0, 0]);
     cipher.try_apply_keystream(&mut [0; 64])?;
     cipher.try_apply_keystream(text)
 }
 
-/// XChaCha20 from block 1 on.
-pub fn row_5() -> bool {
+// XChaCha20 from block 1 on.
+fn row_5<C: SeekCipher<XNonce>>() -> bool {
     let mut dropped = [0; 64];
     let mut stream = [0; 32];
-    let mut cipher = XChaCha20::new(&FROM_80, &X_NONCE);
+    let mut cipher = C::new(&FROM_80, &X_NONCE);
     cipher.try_write_keystream(&mut dropped).is_ok()
         && cipher.try_write_keystream(&mut stream).is_ok()
         && stream
@@ -84,11 +111,11 @@ const FROM_80: Key = *b"\x80\x81\x82\x83\x84\x85\x86\x87\x88\x89\x8a\x8b\x8c\x8d
 
 const X_NONCE: XNonce = *b"@ABCDEFGHIJKLMNOPQRSTUVX";
 
-/// The legacy cipher, from its start and from byte 17.
-pub fn row_6() -> bool {
+// The legacy cipher, from its start and from byte 17.
+fn row_6<C: SeekCipher<LegacyNonce>>() -> bool {
     let mut first = [0; 32];
     let mut three = [0; 3];
-    let mut cipher = ChaCha20Legacy::new(&FROM_1, &LEGACY_NONCE);
+    let mut cipher = C::new(&FROM_1, &LEGACY_NONCE);
     row_6_applied(&mut cipher, &mut first, &mut three).is_ok()
         && first
             == *b"\xde\xeb\x6b\x9d\x06\xdf\xf3\xe0\x91\xbf\x3a\xd4\xf4\xd4\x92\xb6\
@@ -97,8 +124,8 @@ pub fn row_6() -> bool {
         && cipher.try_current_pos() == Ok(20u32)
 }
 
-fn row_6_applied(
-    cipher: &mut ChaCha20Legacy,
+fn row_6_applied<C: SeekCipher<LegacyNonce>>(
+    cipher: &mut C,
     first: &mut [u8],
     three: &mut [u8],
 ) -> Result<(), StreamCipherError> {
@@ -111,9 +138,9 @@ fn row_6_applied(
 // The nonce of the key 01 to 20.
 const LEGACY_NONCE: LegacyNonce = [3, 1, 4, 1, 5, 9, 2, 6];
 
-/// The end of the stream, as a list of calls: nothing can be taken there, and nothing is past it.
-pub fn row_11() -> bool {
-    let mut cipher = ChaCha20::new(&COUNTING, &[0; 12]);
+// The end of the stream, as a list of calls: nothing can be taken there, and nothing is past it.
+fn row_11<C: KeyIvInit<Key = Key, Iv = Nonce> + StreamCipherSeekCore + Drop>() -> bool {
+    let mut cipher = StreamCipherCoreWrapper::<C>::new(&COUNTING, &[0; 12]);
     let mut data = [7];
     let calls = [
         CipherCall::Seek(274877906880),
@@ -137,10 +164,10 @@ pub fn row_11() -> bool {
             ]
 }
 
-/// Positions that a type can't say.
-pub fn row_12() -> bool {
-    let mut legacy = ChaCha20Legacy::new(&FROM_1, &LEGACY_NONCE);
-    let mut cipher = ChaCha20::new(&COUNTING, &[0; 12]);
+// Positions that a type can't say.
+fn row_12<C: SeekCipher<Nonce>, L: SeekCipher<LegacyNonce>>() -> bool {
+    let mut legacy = L::new(&FROM_1, &LEGACY_NONCE);
+    let mut cipher = C::new(&COUNTING, &[0; 12]);
     legacy.try_seek(1180591620717411303360u128).is_ok()
         && legacy.try_current_pos::<u64>() == Err(OverflowError)
         && legacy.try_current_pos() == Ok(1180591620717411303360u128)
@@ -149,9 +176,9 @@ pub fn row_12() -> bool {
         && cipher.try_current_pos() == Ok(2147483648u32)
 }
 
-/// Two slices of different lengths.
-pub fn row_16() -> bool {
-    let mut cipher = ChaCha20::new(&COUNTING, &[0; 12]);
+// Two slices of different lengths.
+fn row_16<C: SeekCipher<Nonce>>() -> bool {
+    let mut cipher = C::new(&COUNTING, &[0; 12]);
     let mut output = [1, 2, 3, 4];
     cipher
         .try_apply_keystream_b2b(&[5, 6, 7], &mut output)
@@ -160,10 +187,10 @@ pub fn row_16() -> bool {
         && cipher.try_current_pos() == Ok(0u32)
 }
 
-/// How much a fresh cipher takes.
-pub fn row_22() -> bool {
-    let cipher = ChaCha20::new(&COUNTING, &[0; 12]);
-    let legacy = ChaCha20Legacy::new(&FROM_1, &LEGACY_NONCE);
+// How much a fresh cipher takes.
+fn row_22<C: SeekCipher<Nonce>, L: SeekCipher<LegacyNonce>>() -> bool {
+    let cipher = C::new(&COUNTING, &[0; 12]);
+    let legacy = L::new(&FROM_1, &LEGACY_NONCE);
     cipher.check_remaining(274877906880).is_ok()
         && cipher.check_remaining(274877906881).is_err()
         && legacy.check_remaining(usize::MAX).is_ok()

@@ -1,20 +1,8 @@
 //! Rows of cores alone.
 
-use chacha20::backends::Soft;
 use chacha20::cipher::{KeyIvInit, StreamCipherCore, StreamCipherSeekCore};
 use chacha20::rand_core::SeedableRng;
-use chacha20::variants::{Ietf, Legacy};
-use chacha20::{ChaChaCore, Rounds};
-
-// No rounds: a block is its start state, each word doubled.
-#[derive(Clone, Copy)]
-struct R0;
-
-impl Rounds for R0 {
-    ghost COUNT = { 0 };
-
-    const COUNT: usize = 0;
-}
+use chacha20::{Key, Nonce, Seed};
 
 // The next block of a core.
 fn next_block<C: StreamCipherCore>(core: &mut C) -> [u8; 64] {
@@ -29,13 +17,16 @@ fn is_first_block(block: &[u8; 64]) -> bool {
         && block.ends_with(&[0; 48])
 }
 
-/// A counter that wraps: without a carry where it has 32 bits, and with one where it has 64.
-pub fn row_13() -> bool {
-    wraps_in_32_bits() && carries_in_64_bits()
+/// A counter that wraps: without a carry where it has 32 bits, and with one where it has 64. Both cores make no rounds.
+pub fn row_13<I, L>() -> bool
+where
+    I: KeyIvInit<Key = Key, Iv = Nonce> + StreamCipherSeekCore<Counter = u32> + Drop,
+    L: SeedableRng<Seed = Seed> + StreamCipherSeekCore<Counter = u64> + Drop,
+{
+    wraps_in_32_bits(I::new(&[0; 32], &[0; 12])) && carries_in_64_bits(L::from_seed([0; 32]))
 }
 
-fn wraps_in_32_bits() -> bool {
-    let mut core = ChaChaCore::<R0, Ietf, Soft>::new(&[0; 32], &[0; 12]);
+fn wraps_in_32_bits<C: StreamCipherSeekCore<Counter = u32> + Drop>(mut core: C) -> bool {
     let first = next_block(&mut core);
     core.set_block_pos(u32::MAX);
     let last = next_block(&mut core);
@@ -46,8 +37,7 @@ fn wraps_in_32_bits() -> bool {
         && core.get_block_pos() == 1
 }
 
-fn carries_in_64_bits() -> bool {
-    let mut core = ChaChaCore::<R0, Legacy, Soft>::from_seed([0; 32]);
+fn carries_in_64_bits<C: StreamCipherSeekCore<Counter = u64> + Drop>(mut core: C) -> bool {
     let first = next_block(&mut core);
     core.set_block_pos(0xffff_ffff);
     let last = next_block(&mut core);

@@ -1,17 +1,33 @@
 //! Rows of generators.
 
 use super::{COUNTING, FROM_1};
-use chacha20::backends::Soft;
 use chacha20::cipher::RngBackend;
 use chacha20::runs::{RngAnswer, RngCall, run_rng};
-use chacha20::{ChaCha8Rng, ChaCha12Rng, ChaCha20Rng, ChaChaRng, Rounds, Seed, SerializedRngState};
+use chacha20::{ChaChaRng, R8, R12, R20, Rounds, SerializedRngState};
+
+/// Each row's number, and whether the row is right, for generators over a backend.
+pub fn verdicts<B: RngBackend<R8> + RngBackend<R12> + RngBackend<R20>>() -> [(usize, bool); 11] {
+    [
+        (7, row_7::<B>()),
+        (8, row_8::<B>()),
+        (9, row_9::<B>()),
+        (10, row_10::<B>()),
+        (14, row_14::<B>()),
+        (15, row_15::<B>()),
+        (17, row_17::<B>()),
+        (19, row_19::<B>()),
+        (20, row_20::<B>()),
+        (21, row_21::<B>()),
+        (23, row_23::<B>()),
+    ]
+}
 
 // How many word positions there are.
 const POSITIONS: u128 = 1 << 68;
 
-/// Bytes in pieces: what is left of a word is lost.
-pub fn row_7() -> bool {
-    let mut rng = ChaCha20Rng::from_seed(FROM_1);
+// Bytes in pieces: what is left of a word is lost.
+fn row_7<B: RngBackend<R20>>() -> bool {
+    let mut rng = ChaChaRng::<R20, B>::from_seed(FROM_1);
     let mut first = [0; 13];
     let mut second = [0; 13];
     rng.fill_bytes(&mut first);
@@ -23,11 +39,11 @@ pub fn row_7() -> bool {
         && rng.get_word_pos() == 8
 }
 
-/// How far each kind of read moves.
-pub fn row_8() -> bool {
+// How far each kind of read moves.
+fn row_8<B: RngBackend<R20>>() -> bool {
     let mut seed = [0; 32];
     seed[1] = 0xff;
-    let mut rng = ChaCha20Rng::from_seed(seed);
+    let mut rng = ChaChaRng::<R20, B>::from_seed(seed);
     rng.set_word_pos(32);
     let first = next_words(&mut rng);
     for _ in 0..12 {
@@ -49,7 +65,7 @@ pub fn row_8() -> bool {
         && [after_u64, after_both, rng.get_word_pos()] == [65, 68, 69]
 }
 
-fn next_words(rng: &mut ChaCha20Rng) -> [u32; 4] {
+fn next_words<B: RngBackend<R20>>(rng: &mut ChaChaRng<R20, B>) -> [u32; 4] {
     let mut words = [0; 4];
     for word in &mut words {
         *word = rng.next_u32();
@@ -57,9 +73,9 @@ fn next_words(rng: &mut ChaCha20Rng) -> [u32; 4] {
     words
 }
 
-/// The last block, and then the first.
-pub fn row_9() -> bool {
-    let mut rng = ChaCha20Rng::from_seed([0; 32]);
+// The last block, and then the first.
+fn row_9<B: RngBackend<R20>>() -> bool {
+    let mut rng = ChaChaRng::<R20, B>::from_seed([0; 32]);
     rng.set_block_pos(u64::MAX);
     let mut last = [0; 64];
     let mut first = [0; 8];
@@ -71,9 +87,9 @@ pub fn row_9() -> bool {
         && first == *b"\x76\xb8\xe0\xad\xa0\xf1\x3d\x90"
 }
 
-/// A carry into the upper 32 bits of the block's number.
-pub fn row_10() -> bool {
-    let mut rng = ChaCha20Rng::from_seed([0; 32]);
+// A carry into the upper 32 bits of the block's number.
+fn row_10<B: RngBackend<R20>>() -> bool {
+    let mut rng = ChaChaRng::<R20, B>::from_seed([0; 32]);
     rng.set_block_pos(0xffff_ffff);
     let mut bytes = [0; 80];
     rng.fill_bytes(&mut bytes);
@@ -81,11 +97,11 @@ pub fn row_10() -> bool {
         && bytes.ends_with(b"\x3d\xb4\x1d\x3a\xa0\xd3\x29\x28\x5d\xe6\xf2\x25\xe6\xe2\x4b\xd5")
 }
 
-/// The state after 100 words, whatever the number of rounds.
-pub fn row_14() -> bool {
-    is_stored(&mut ChaCha8Rng::from_seed(FROM_1))
-        && is_stored(&mut ChaCha12Rng::from_seed(FROM_1))
-        && is_stored(&mut ChaCha20Rng::from_seed(FROM_1))
+// The state after 100 words, whatever the number of rounds.
+fn row_14<B: RngBackend<R8> + RngBackend<R12> + RngBackend<R20>>() -> bool {
+    is_stored(&mut ChaChaRng::<R8, B>::from_seed(FROM_1))
+        && is_stored(&mut ChaChaRng::<R12, B>::from_seed(FROM_1))
+        && is_stored(&mut ChaChaRng::<R20, B>::from_seed(FROM_1))
 }
 
 fn is_stored<R: Rounds, B: RngBackend<R>>(rng: &mut ChaChaRng<R, B>) -> bool {
@@ -100,9 +116,9 @@ fn is_stored<R: Rounds, B: RngBackend<R>>(rng: &mut ChaChaRng<R, B>) -> bool {
     rng.serialize_state() == expected
 }
 
-/// The last position, and positions past it.
-pub fn row_15() -> bool {
-    let mut rng = ChaCha20Rng::deserialize_state(&[0xff; 49]);
+// The last position, and positions past it.
+fn row_15<B: RngBackend<R20>>() -> bool {
+    let mut rng = ChaChaRng::<R20, B>::deserialize_state(&[0xff; 49]);
     let last = rng.get_word_pos();
     let state = rng.serialize_state();
     rng.set_word_pos(POSITIONS + 5);
@@ -116,24 +132,24 @@ pub fn row_15() -> bool {
         && rng.get_word_pos() == POSITIONS - 16
 }
 
-/// A generator that another one seeds.
-pub fn row_17() -> bool {
+// A generator that another one seeds.
+fn row_17<B: RngBackend<R20>>() -> bool {
     let mut seed = [0; 32];
     seed[8] = 1;
     seed[16] = 2;
     seed[24] = 3;
-    let mut first = ChaCha20Rng::from_seed(seed);
+    let mut first = ChaChaRng::<R20, B>::from_seed(seed);
     let word = first.next_u32();
     let mut second_seed = [0; 32];
     first.fill_bytes(&mut second_seed);
     word == 137206642
-        && ChaCha20Rng::from_seed(second_seed).next_u32() == 1325750369
+        && ChaChaRng::<R20, B>::from_seed(second_seed).next_u32() == 1325750369
         && first.get_word_pos() == 9
 }
 
-/// A stream and a block whose start state is that of RFC 8439's example (section 2.3.2).
-pub fn row_19() -> bool {
-    let mut rng = ChaCha20Rng::from_seed(COUNTING);
+// A stream and a block whose start state is that of RFC 8439's example (section 2.3.2).
+fn row_19<B: RngBackend<R20>>() -> bool {
+    let mut rng = ChaChaRng::<R20, B>::from_seed(COUNTING);
     rng.set_stream(0x0000_0000_4a00_0000);
     rng.set_block_pos(0x0900_0000_0000_0000);
     rng.fill_bytes(&mut [0; 64]);
@@ -141,8 +157,8 @@ pub fn row_19() -> bool {
         && rng.get_block_pos() == 0x0900_0000_0000_0001
 }
 
-/// Two words around the wrap, as a list of calls.
-pub fn row_20() -> bool {
+// Two words around the wrap, as a list of calls.
+fn row_20<B: RngBackend<R20>>() -> bool {
     let calls = [
         RngCall::SetWordPos(POSITIONS - 64),
         RngCall::Fill { at: 0, len: 252 },
@@ -150,7 +166,7 @@ pub fn row_20() -> bool {
         RngCall::GetWordPos,
     ];
     let mut answers = [RngAnswer::Done; 4];
-    let mut rng = ChaCha20Rng::from_seed([0; 32]);
+    let mut rng = ChaChaRng::<R20, B>::from_seed([0; 32]);
     run_rng(&mut rng, &mut [0; 252], &calls, &mut answers);
     answers
         == [
@@ -161,8 +177,8 @@ pub fn row_20() -> bool {
         ]
 }
 
-/// Another stream of the same seed, as a list of calls.
-pub fn row_21() -> bool {
+// Another stream of the same seed, as a list of calls.
+fn row_21<B: RngBackend<R20>>() -> bool {
     let calls = [
         RngCall::Fill { at: 0, len: 16 },
         RngCall::NextU32,
@@ -172,7 +188,7 @@ pub fn row_21() -> bool {
         RngCall::NextU32,
     ];
     let mut answers = [RngAnswer::Done; 6];
-    let mut rng = ChaCha20Rng::from_seed([0; 32]);
+    let mut rng = ChaChaRng::<R20, B>::from_seed([0; 32]);
     run_rng(&mut rng, &mut [0; 16], &calls, &mut answers);
     answers
         == [
@@ -185,10 +201,10 @@ pub fn row_21() -> bool {
         ]
 }
 
-/// Generators are equal where seed, stream and position are, however they came there.
-pub fn row_23() -> bool {
-    let mut first = ChaCha20Rng::from_seed(FROM_1);
-    let mut second = ChaCha20Rng::from_seed(FROM_1);
+// Generators are equal where seed, stream and position are, however they came there.
+fn row_23<B: RngBackend<R20>>() -> bool {
+    let mut first = ChaChaRng::<R20, B>::from_seed(FROM_1);
+    let mut second = ChaChaRng::<R20, B>::from_seed(FROM_1);
     for _ in 0..7 {
         let _ = first.next_u32();
     }

@@ -1,0 +1,81 @@
+//! Sixteen blocks at once, four to a vector of sixteen words.
+
+ghost use Rattle.chacha_base.specs.Counts.{tail_of_16};
+
+use crate::backends::group::{InRows, Two};
+use crate::backends::kernel::{next_blocks, next_four, next_one, next_tail};
+use crate::backends::shift::ShiftCda;
+use crate::cipher::{ParBlocksSizeUser, RngBackend, StreamCipherBackend};
+use crate::rounds::{Rounds, Steps};
+use crate::variants::Variant;
+use std::simd::prelude::*;
+
+/// Sixteen blocks in a parallel call, four to a vector of sixteen words. A tail is made by the narrowest kernel that
+/// holds it; a single block is made in vectors of four words. This crate's own name.
+#[derive(Clone, Copy, Debug)]
+pub struct Lanes16;
+
+// One block in vectors of four words, two in vectors of eight, and four, eight and sixteen in vectors of sixteen.
+type One = InRows<u32x4, ShiftCda>;
+
+type Pair = InRows<u32x8, ShiftCda>;
+
+type Four = InRows<u32x16, ShiftCda>;
+
+type Eight = Two<Four>;
+
+type Sixteen = Two<Eight>;
+
+impl ParBlocksSizeUser for Lanes16 {
+    ghost use Rattle.std.proofs.Common.{lit≤};
+
+    ghost PAR_BLOCKS = { 16 };
+
+    const PAR_BLOCKS: usize = 16;
+
+    ghost par_blocks_from = { lit≤ tt };
+
+    ghost par_blocks_to = { lit≤ tt };
+}
+
+impl<R: Rounds, V: Variant> StreamCipherBackend<R, V> for Lanes16 {
+    ghost PAR_STEPS = { 8 };
+
+    ghost ONE_STEPS = { 2 };
+
+    ghost tail_steps = { tail_of_16 };
+
+    const PAR_STEPS: usize = 8;
+
+    const ONE_STEPS: usize = 2;
+
+    fn gen_ks_block(state: &mut [u32; 16], block: &mut [u8; 64], steps: &mut Steps) {
+        steps.add_other();
+        next_one::<R, V, One, 1>(state, block, steps);
+    }
+
+    fn gen_par_ks_blocks(state: &mut [u32; 16], blocks: &mut [[u8; 64]], steps: &mut Steps) {
+        steps.add_par();
+        next_blocks::<R, V, Sixteen, 16>(state, blocks, steps);
+    }
+
+    fn gen_tail_blocks(state: &mut [u32; 16], blocks: &mut [[u8; 64]], steps: &mut Steps) {
+        match blocks.len() {
+            0 | 1 => next_tail::<R, V, One, 1>(state, blocks, steps),
+            2 => next_tail::<R, V, Pair, 2>(state, blocks, steps),
+            3 | 4 => next_tail::<R, V, Four, 4>(state, blocks, steps),
+            5..=8 => next_tail::<R, V, Eight, 8>(state, blocks, steps),
+            _ => next_tail::<R, V, Sixteen, 16>(state, blocks, steps),
+        }
+    }
+}
+
+impl<R: Rounds> RngBackend<R> for Lanes16 {
+    ghost RNG_STEPS = { 2 };
+
+    const RNG_STEPS: usize = 2;
+
+    fn gen_ks_blocks(state: &mut [u32; 16], buffer: &mut [u32; 64], steps: &mut Steps) {
+        next_four::<R, Four>(state, buffer, steps);
+    }
+}

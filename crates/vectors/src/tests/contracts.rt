@@ -1,0 +1,210 @@
+//! What callers learn from public contracts alone.
+
+ghost use Rattle.std.specs.Prelude.{◌≡◌, ◌+◌, ◌≤◌, ◌<◌, ◌^◌, ◌↔◌, ℕ, length, slice_get, IsOk, OnOk, OnErr};
+ghost use Rattle.chacha20.specs.Layout.{ietf, legacy};
+ghost use Rattle.chacha20.specs.Block.{block};
+ghost use Rattle.chacha20.specs.State.{fixed_words, state_counter};
+ghost use Rattle.chacha20.specs.Keystream.{keystream, applied};
+ghost use Rattle.chacha20.specs.XChaCha.{subkey, subnonce};
+
+use super::streams::{IETF_FROM_64, LEGACY, LEGACY_NONCE, NONCE, X_KEY, X_NONCE, XCHACHA_FROM_64};
+use crate::rows::{COUNTING, FROM_1};
+use chacha20::backends::{Lanes4, Lanes8, Lanes16, Rows8, Soft};
+use chacha20::cipher::{
+    KeyIvInit, Keystream, RngBackend, StreamCipher, StreamCipherBackend, StreamCipherCore,
+    StreamCipherError,
+};
+use chacha20::variants::{Ietf, Variant};
+use chacha20::{
+    ChaCha20, ChaCha20Legacy, ChaChaCore, Key, LegacyNonce, Nonce, R20, Rounds, Steps,
+    StreamCipherCoreWrapper, XChaCha20, XChaChaCore, XNonce, hchacha,
+};
+use std::test::Fail;
+
+type Ietf20<B> = StreamCipherCoreWrapper<ChaChaCore<R20, Ietf, B>>;
+
+// A message under a key and a nonce, as RFC 8439 has it: two public contracts say so, with no proof of ours.
+fn encrypt(key: &Key, nonce: &Nonce, message: &mut [u8]) -> Result<(), StreamCipherError>
+    ensures accepted { IsOk result ↔ (length message.old ≤ 274877906880) }
+    ensures bytes { OnOk result (message.new ≡ applied (keystream (2 ^ 32) (block 10 ietf key.now nonce.now)) 0 message.old) }
+    ensures refused { OnErr result (message.new ≡ message.old) }
+{
+    ChaCha20::new(key, nonce).try_apply_keystream(message)
+}
+
+// A message under a key and a nonce. No message is too long for a new cipher.
+fn encrypt_legacy(
+    key: &Key,
+    nonce: &LegacyNonce,
+    message: &mut [u8],
+) -> Result<(), StreamCipherError>
+    ensures accepted { IsOk result }
+    ensures bytes { OnOk result (message.new ≡ applied (keystream (2 ^ 64) (block 10 legacy key.now nonce.now)) 0 message.old) }
+{
+    ChaCha20Legacy::new(key, nonce).try_apply_keystream(message)
+}
+
+// A message under a key and a nonce: the cipher is that of RFC 8439 under the key and the nonce that are derived.
+pub fn encrypt_xchacha(
+    key: &Key,
+    nonce: &XNonce,
+    message: &mut [u8],
+) -> Result<(), StreamCipherError>
+    ensures accepted { IsOk result ↔ (length message.old ≤ 274877906880) }
+    ensures bytes { OnOk result (message.new
+        ≡ applied (keystream (2 ^ 32) (block 10 ietf (subkey 10 key.now nonce.now) (subnonce nonce.now))) 0 message.old) }
+    ensures refused { OnErr result (message.new ≡ message.old) }
+{
+    XChaCha20::new(key, nonce).try_apply_keystream(message)
+}
+
+#[test]
+fn encrypted(rt: HostRuntime) -> Result<(), Fail> {
+    let mut stream = [0; 178];
+    encrypt(&COUNTING, &NONCE, &mut stream)?;
+    assert!(rt; stream.ends_with(IETF_FROM_64));
+    let mut stream = [0; 256];
+    encrypt_legacy(&FROM_1, &LEGACY_NONCE, &mut stream)?;
+    assert!(rt; stream == *LEGACY);
+    let mut stream = [0; 368];
+    encrypt_xchacha(&X_KEY, &X_NONCE, &mut stream)?;
+    assert!(rt; stream.ends_with(XCHACHA_FROM_64));
+    Ok(())
+}
+
+// An XChaCha cipher, and the cipher of RFC 8439's layout under the key and the nonce that are derived: the same fixed
+// part, position and blocks.
+pub fn both<R: Rounds>(
+    key: &Key,
+    nonce: &XNonce,
+) -> (
+    StreamCipherCoreWrapper<XChaChaCore<R, Soft>>,
+    StreamCipherCoreWrapper<ChaChaCore<R, Ietf, Soft>>,
+)
+    ensures value { result.0 ≡ result.1 }
+    ensures blocks { ⟦<StreamCipherCoreWrapper<XChaChaCore<R, Soft>> as Keystream>⟧.block_at
+        ≡ ⟦<StreamCipherCoreWrapper<ChaChaCore<R, Ietf, Soft>> as Keystream>⟧.block_at }
+{
+    let mut input = [0; 16];
+    input.copy_from_slice(&nonce[..16]);
+    let mut derived = [0; 12];
+    derived[4..].copy_from_slice(&nonce[16..]);
+    let subkey = hchacha::<R>(key, &input);
+    (
+        StreamCipherCoreWrapper::new(key, nonce),
+        StreamCipherCoreWrapper::new(&subkey, &derived),
+    )
+}
+
+// Two backends: the same block, and the same state after it.
+fn same_block<R: Rounds, V: Variant, A: StreamCipherBackend<R, V>, B: StreamCipherBackend<R, V>>(
+    state: &mut [u32; 16],
+    block: &mut [u8; 64],
+    other_state: &mut [u32; 16],
+    other_block: &mut [u8; 64],
+    steps: &mut Steps,
+)
+    requires { state.old ≡ other_state.old }
+    ensures block { block.new ≡ other_block.new }
+    ensures state { state.new ≡ other_state.new }
+{
+    A::gen_ks_block(state, block, steps);
+    B::gen_ks_block(other_state, other_block, steps);
+}
+
+// Cores over two backends, whatever their widths: the same blocks, and the same core after them.
+fn same_blocks<R: Rounds, V: Variant, A: StreamCipherBackend<R, V>, B: StreamCipherBackend<R, V>>(
+    core: &mut ChaChaCore<R, V, A>,
+    blocks: &mut [[u8; 64]],
+    other_core: &mut ChaChaCore<R, V, B>,
+    other_blocks: &mut [[u8; 64]],
+)
+    requires cores { core.old ≡ other_core.old }
+    requires lengths { length blocks.old ≡ length other_blocks.old }
+    ensures blocks { (i : ℕ) → i < length blocks.old → slice_get blocks.new i ≡ slice_get other_blocks.new i }
+    ensures fixed { fixed_words V.layout core.new ≡ fixed_words V.layout other_core.new }
+    ensures counter { state_counter V.layout core.new ≡ state_counter V.layout other_core.new }
+{
+    core.write_keystream_blocks(blocks);
+    other_core.write_keystream_blocks(other_blocks);
+}
+
+// Two backends: the same words of a generator, and the same state after them.
+fn same_words<R: Rounds, A: RngBackend<R>, B: RngBackend<R>>(
+    state: &mut [u32; 16],
+    words: &mut [u32; 64],
+    other_state: &mut [u32; 16],
+    other_words: &mut [u32; 64],
+    steps: &mut Steps,
+)
+    requires { state.old ≡ other_state.old }
+    ensures words { words.new ≡ other_words.new }
+    ensures state { state.new ≡ other_state.new }
+{
+    A::gen_ks_blocks(state, words, steps);
+    B::gen_ks_blocks(other_state, other_words, steps);
+}
+
+// What a fresh cipher over each backend may count for nine blocks and a last part of ten bytes: parallel calls and others
+// at most, and quarter rounds.
+
+// Nine parallel calls of one block.
+fn apply_586_bytes_soft(steps: &mut Steps) -> Result<(), StreamCipherError>
+    ensures accepted { IsOk result }
+    ensures par { steps.new.par ≤ steps.old.par + 9 }
+    ensures other { steps.new.other ≤ steps.old.other + 1 }
+    ensures rounds { steps.new.rounds ≡ steps.old.rounds + 800 }
+{
+    Ietf20::<Soft>::new(&[0; 32], &[0; 12]).try_apply_keystream_counted(&mut [0; 586], steps)
+}
+
+// Two parallel calls of four blocks, a tail of one, and the last part.
+fn apply_586_bytes_lanes4(steps: &mut Steps) -> Result<(), StreamCipherError>
+    ensures accepted { IsOk result }
+    ensures par { steps.new.par ≤ steps.old.par + 2 }
+    ensures other { steps.new.other ≤ steps.old.other + 2 }
+    ensures rounds { steps.new.rounds ≡ steps.old.rounds + 320 }
+{
+    Ietf20::<Lanes4>::new(&[0; 32], &[0; 12]).try_apply_keystream_counted(&mut [0; 586], steps)
+}
+
+// The same, two blocks to a vector.
+fn apply_586_bytes_lanes8(steps: &mut Steps) -> Result<(), StreamCipherError>
+    ensures accepted { IsOk result }
+    ensures par { steps.new.par ≤ steps.old.par + 2 }
+    ensures other { steps.new.other ≤ steps.old.other + 2 }
+    ensures rounds { steps.new.rounds ≡ steps.old.rounds + 160 }
+{
+    Ietf20::<Lanes8>::new(&[0; 32], &[0; 12]).try_apply_keystream_counted(&mut [0; 586], steps)
+}
+
+// One parallel call of eight blocks, a tail of one, and the last part.
+fn apply_586_bytes_rows8(steps: &mut Steps) -> Result<(), StreamCipherError>
+    ensures accepted { IsOk result }
+    ensures par { steps.new.par ≤ steps.old.par + 1 }
+    ensures other { steps.new.other ≤ steps.old.other + 2 }
+    ensures rounds { steps.new.rounds ≡ steps.old.rounds + 480 }
+{
+    Ietf20::<Rows8>::new(&[0; 32], &[0; 12]).try_apply_keystream_counted(&mut [0; 586], steps)
+}
+
+// A tail of nine blocks, and the last part.
+fn apply_586_bytes_lanes16(steps: &mut Steps) -> Result<(), StreamCipherError>
+    ensures accepted { IsOk result }
+    ensures par { steps.new.par ≤ steps.old.par + 0 }
+    ensures other { steps.new.other ≤ steps.old.other + 10 }
+    ensures rounds_from { steps.old.rounds + 40 ≤ steps.new.rounds }
+    ensures rounds_to { steps.new.rounds ≤ steps.old.rounds + 200 }
+{
+    Ietf20::<Lanes16>::new(&[0; 32], &[0; 12]).try_apply_keystream_counted(&mut [0; 586], steps)
+}
+
+#[test]
+fn counted(rt: HostRuntime) {
+    let mut steps = Steps::new();
+    assert_eq!(rt; apply_586_bytes_soft(&mut steps), Ok(()));
+    assert_eq!(rt; apply_586_bytes_lanes4(&mut steps), Ok(()));
+    assert_eq!(rt; apply_586_bytes_lanes8(&mut steps), Ok(()));
+    assert_eq!(rt; apply_586_bytes_rows8(&mut steps), Ok(()));
+    assert_eq!(rt; apply_586_bytes_lanes16(&mut steps), Ok(()));
+}

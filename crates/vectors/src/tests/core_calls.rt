@@ -1,0 +1,96 @@
+//! Calls on a core alone.
+
+use crate::rows::{COUNTING, R0};
+use chacha20::backends::Soft;
+use chacha20::cipher::{KeyIvInit, StreamCipherCore};
+use chacha20::variants::{Ietf, Legacy, Variant};
+use chacha20::{ChaCha20LegacyCore, ChaChaCore, R8, R20};
+use std::test::Fail;
+
+type NoRounds = ChaChaCore<R0, Ietf, Soft>;
+
+#[test]
+fn zeroized(rt: HostRuntime) {
+    let mut core = NoRounds::new(&COUNTING, &[7; 12]);
+    core.set_block_pos(9);
+    core.zeroize();
+    let mut blocks = [[1; 64]; 2];
+    core.write_keystream_blocks(&mut blocks);
+    assert_eq!(rt; blocks[0].as_slice(), [0; 64].as_slice());
+    assert_eq!(rt; &blocks[1][..48], [0; 48].as_slice());
+    assert_eq!(rt; &blocks[1][48..52], b"\x02\0\0\0".as_slice());
+    assert_eq!(rt; &blocks[1][52..], [0; 12].as_slice());
+    assert_eq!(rt; core.get_block_pos(), 2);
+}
+
+#[test]
+fn debug(rt: HostRuntime) -> Result<(), Fail> {
+    let legacy = ChaCha20LegacyCore::new(&[0; 32], &[0; 8]);
+    assert_eq!(rt;
+        format!(in rt.alloc(); "{legacy:?}")?.as_str(),
+        "ChaChaCore<R: 10, V: 64-bit)> { ... }"
+    );
+    let few = ChaChaCore::<R8, Ietf, Soft>::new(&[0; 32], &[0; 12]);
+    assert_eq!(rt;
+        format!(in rt.alloc(); "{few:?}")?.as_str(),
+        "ChaChaCore<R: 4, V: 32-bit)> { ... }"
+    );
+    let many = ChaChaCore::<R20, Ietf, Soft>::new(&[0; 32], &[0; 12]);
+    assert_eq!(rt;
+        format!(in rt.alloc(); "{many:?}")?.as_str(),
+        "ChaChaCore<R: 10, V: 32-bit)> { ... }"
+    );
+    Ok(())
+}
+
+#[test]
+fn remaining_blocks(rt: HostRuntime) {
+    assert_eq!(rt; Ietf::remaining_blocks(0), Some(4294967295));
+    assert_eq!(rt; Ietf::remaining_blocks(u32::MAX), Some(0));
+    assert_eq!(rt; Legacy::remaining_blocks(0), Some(usize::MAX));
+    assert_eq!(rt; Legacy::remaining_blocks(u64::MAX), Some(0));
+}
+
+// None, one and three blocks at once are four single blocks, one after another.
+#[test]
+fn blocks_at_once(rt: HostRuntime) {
+    let mut single = ChaChaCore::<R20, Ietf, Soft>::new(&COUNTING, &[7; 12]);
+    let mut writes = ChaChaCore::<R20, Ietf, Soft>::new(&COUNTING, &[7; 12]);
+    let mut applies = ChaChaCore::<R20, Ietf, Soft>::new(&COUNTING, &[7; 12]);
+    let mut written = [[1; 64]; 4];
+    let mut applied = [[0xa5; 64]; 4];
+    writes.write_keystream_blocks(&mut []);
+    writes.write_keystream_blocks(&mut written[..1]);
+    writes.write_keystream_blocks(&mut written[1..]);
+    applies.apply_keystream_blocks(&mut []);
+    applies.apply_keystream_blocks(&mut applied[..1]);
+    applies.apply_keystream_blocks(&mut applied[1..]);
+    for i in 0..4usize {
+        let mut block = [0; 64];
+        single.write_keystream_block(&mut block);
+        assert_eq!(rt; written[i], block);
+        for byte in &mut block {
+            *byte ^= 0xa5;
+        }
+        assert_eq!(rt; applied[i], block);
+    }
+    assert_eq!(rt; writes.get_block_pos(), 4);
+    assert_eq!(rt; applies.get_block_pos(), 4);
+}
+
+// A block that is applied is the block that is written.
+#[test]
+fn block_applied(rt: HostRuntime) {
+    let mut writes = ChaCha20LegacyCore::new(&COUNTING, &[7; 8]);
+    let mut applies = ChaCha20LegacyCore::new(&COUNTING, &[7; 8]);
+    writes.set_block_pos(0xffff_ffff);
+    applies.set_block_pos(0xffff_ffff);
+    for _ in 0..2 {
+        let mut written = [1; 64];
+        let mut applied = [0; 64];
+        writes.write_keystream_block(&mut written);
+        applies.apply_keystream_block(&mut applied);
+        assert_eq!(rt; written.as_slice(), applied.as_slice());
+    }
+    assert_eq!(rt; applies.get_block_pos(), 0x1_0000_0001);
+}

@@ -1,0 +1,156 @@
+//! Generators through the traits of `rand_core`, as generic code uses them.
+
+use crate::rows::{FROM_1, R0};
+use chacha20::backends::Soft;
+use chacha20::cipher::StreamCipherCore;
+use chacha20::rand_core::{self, CryptoRng, Rng, SeedableRng, TryRng};
+use chacha20::{ChaCha8Rng, ChaCha12Rng, ChaCha20LegacyCore, ChaCha20Rng, ChaChaRng, Seed};
+use std::test::Fail;
+
+// What a list of reads answers: a word, two words, 5 bytes, no bytes, a word.
+#[derive(Clone, Copy, Debug, PartialEq, Eq)]
+struct Answers {
+    word: u32,
+    two_words: u64,
+    bytes: [u8; 5],
+    last: u32,
+}
+
+// The worked answers of a generator without rounds.
+const WORKED: Answers = Answers {
+    word: 0xc2e0_f0ca,
+    two_words: 0xf2c4_5a64_6640_c8dc,
+    bytes: *b"\xe8\xca\x40\xd6\x00",
+    last: 0,
+};
+
+fn reads<G: Rng>(rng: &mut G) -> Answers {
+    let word = rng.next_u32();
+    let two_words = rng.next_u64();
+    let mut bytes = [0; 5];
+    rng.fill_bytes(&mut bytes);
+    rng.fill_bytes(&mut []);
+    let last = rng.next_u32();
+    Answers {
+        word,
+        two_words,
+        bytes,
+        last,
+    }
+}
+
+fn try_reads<G: TryRng>(rng: &mut G) -> Result<Answers, G::Error> {
+    let word = rng.try_next_u32()?;
+    let two_words = rng.try_next_u64()?;
+    let mut bytes = [0; 5];
+    rng.try_fill_bytes(&mut bytes)?;
+    rng.try_fill_bytes(&mut [])?;
+    let last = rng.try_next_u32()?;
+    Ok(Answers {
+        word,
+        two_words,
+        bytes,
+        last,
+    })
+}
+
+#[test]
+fn without_rounds(rt: HostRuntime) -> Result<(), Fail> {
+    let mut rng = ChaChaRng::<R0, Soft>::from_seed([0; 32]);
+    assert_eq!(rt; reads(&mut rng), WORKED);
+    let mut rng = ChaChaRng::<R0, Soft>::from_seed([0; 32]);
+    assert_eq!(rt; try_reads(&mut rng)?, WORKED);
+    Ok(())
+}
+
+// Two reads of 13 bytes.
+fn fills<G: Rng>(rng: &mut G) -> [[u8; 13]; 2] {
+    let mut bytes = [[0; 13]; 2];
+    rng.fill_bytes(&mut bytes[0]);
+    rng.fill_bytes(&mut bytes[1]);
+    bytes
+}
+
+fn try_fills<G: TryRng>(rng: &mut G) -> Result<[[u8; 13]; 2], G::Error> {
+    let mut bytes = [[0; 13]; 2];
+    rng.try_fill_bytes(&mut bytes[0])?;
+    rng.try_fill_bytes(&mut bytes[1])?;
+    Ok(bytes)
+}
+
+#[test]
+fn row_7(rt: HostRuntime) -> Result<(), Fail> {
+    let expected = [
+        *b"\xb1\x69\x7e\x9f\xc6\x46\x1e\x19\x83\xd1\x31\xcf\x69",
+        *b"\xa7\xa3\xfc\x13\x4f\x14\x98\x80\xe8\xbb\x2b\x5d\x23",
+    ];
+    let mut rng = ChaCha20Rng::from_seed(FROM_1);
+    assert_eq!(rt; fills(&mut rng), expected);
+    assert_eq!(rt; rng.get_word_pos(), 8);
+    let mut rng = ChaCha20Rng::from_seed(FROM_1);
+    assert_eq!(rt; try_fills(&mut rng)?, expected);
+    assert_eq!(rt; rng.get_word_pos(), 8);
+    Ok(())
+}
+
+// A generator that another one seeds.
+fn seeded_by<G: SeedableRng + Rng>(first: &mut G) -> G {
+    G::from_rng(first)
+}
+
+#[test]
+fn row_17(rt: HostRuntime) {
+    let mut first = ChaCha20Rng::from_seed([
+        0, 0, 0, 0, 0, 0, 0, 0, 1, 0, 0, 0, 0, 0, 0, 0, 2, 0, 0, 0, 0, 0, 0, 0, 3, 0, 0, 0, 0, 0,
+        0, 0,
+    ]);
+    assert_eq!(rt; first.next_u32(), 137206642);
+    let mut second = seeded_by(&mut first);
+    assert_eq!(rt; second.next_u32(), 1325750369);
+    assert_eq!(rt; first.get_word_pos(), 9);
+}
+
+// A generator of a number.
+fn of_number<G: SeedableRng>(number: u64) -> G {
+    G::seed_from_u64(number)
+}
+
+// The seed of a number is the one that rand_core makes of it.
+#[test]
+fn seed_from_u64(rt: HostRuntime) {
+    for number in [0, 1, 0x0123_4567_89ab_cdef, u64::MAX] {
+        let seed: Seed = rand_core::Seed::from_u64(number);
+        assert_eq!(rt;
+            of_number::<ChaCha8Rng>(number),
+            ChaCha8Rng::from_seed(seed)
+        );
+        assert_eq!(rt;
+            of_number::<ChaCha12Rng>(number),
+            ChaCha12Rng::from_seed(seed)
+        );
+        let mut rng = of_number::<ChaCha20Rng>(number);
+        assert_eq!(rt; rng, ChaCha20Rng::from_seed(seed));
+        let mut core = of_number::<ChaCha20LegacyCore>(number);
+        let mut block = [0; 64];
+        let mut words = [0; 64];
+        core.write_keystream_block(&mut block);
+        rng.fill_bytes(&mut words);
+        assert_eq!(rt; block, words);
+    }
+}
+
+// A key, of a generator that is fit for it.
+fn draw_key<G: CryptoRng>(rng: &mut G) -> [u8; 16] {
+    let mut key = [0; 16];
+    rng.fill_bytes(&mut key);
+    key
+}
+
+#[test]
+fn key(rt: HostRuntime) {
+    let mut rng = ChaCha20Rng::from_seed([0; 32]);
+    assert_eq!(rt;
+        draw_key(&mut rng),
+        *b"\x76\xb8\xe0\xad\xa0\xf1\x3d\x90\x40\x5d\x6a\xe5\x53\x86\xbd\x28"
+    );
+}

@@ -1,0 +1,64 @@
+//! Words, bytes and texts of generators.
+
+use crate::rows::{FROM_1, R0};
+use chacha20::backends::Soft;
+use chacha20::{ChaCha8Rng, ChaCha12Rng, ChaCha20Rng, ChaChaRng};
+use std::test::Fail;
+
+// The worked reads of a generator without rounds, whose words are those of its start state, doubled.
+#[test]
+fn without_rounds(rt: HostRuntime) {
+    let mut rng = ChaChaRng::<R0, Soft>::from_seed([0; 32]);
+    assert_eq!(rt; rng.next_u32(), 0xc2e0_f0ca);
+    assert_eq!(rt; rng.next_u64(), 0xf2c4_5a64_6640_c8dc);
+    let mut bytes = [0; 5];
+    rng.fill_bytes(&mut bytes);
+    assert_eq!(rt; bytes, *b"\xe8\xca\x40\xd6\x00");
+    rng.fill_bytes(&mut []);
+    assert_eq!(rt; rng.next_u32(), 0);
+}
+
+// The first bytes of a zero seed are those of the cipher with a zero key (draft-strombergson-chacha-test-vectors, TC1,
+// keys of 256 bits).
+#[test]
+fn rounds(rt: HostRuntime) {
+    let mut of_8 = [0; 16];
+    let mut of_12 = [0; 16];
+    let mut of_20 = [0; 16];
+    ChaCha8Rng::from_seed([0; 32]).fill_bytes(&mut of_8);
+    ChaCha12Rng::from_seed([0; 32]).fill_bytes(&mut of_12);
+    ChaCha20Rng::from_seed([0; 32]).fill_bytes(&mut of_20);
+    assert_eq!(rt;
+        of_8,
+        *b"\x3e\x00\xef\x2f\x89\x5f\x40\xd6\x7f\x5b\xb8\xe8\x1f\x09\xa5\xa1"
+    );
+    assert_eq!(rt;
+        of_12,
+        *b"\x9b\xf4\x9a\x6a\x07\x55\xf9\x53\x81\x1f\xce\x12\x5f\x26\x83\xd5"
+    );
+    assert_eq!(rt;
+        of_20,
+        *b"\x76\xb8\xe0\xad\xa0\xf1\x3d\x90\x40\x5d\x6a\xe5\x53\x86\xbd\x28"
+    );
+}
+
+// The generator's part of row 16.
+#[test]
+fn debug(rt: HostRuntime) -> Result<(), Fail> {
+    let of_8 = ChaCha8Rng::from_seed(FROM_1);
+    let of_12 = ChaCha12Rng::from_seed(FROM_1);
+    let of_20 = ChaCha20Rng::from_seed(FROM_1);
+    assert_eq!(rt;
+        format!(in rt.alloc(); "{of_8:?}")?.as_str(),
+        "ChaCha8Rng { ... }"
+    );
+    assert_eq!(rt;
+        format!(in rt.alloc(); "{of_12:?}")?.as_str(),
+        "ChaCha12Rng { ... }"
+    );
+    assert_eq!(rt;
+        format!(in rt.alloc(); "{of_20:?}")?.as_str(),
+        "ChaCha20Rng { ... }"
+    );
+    Ok(())
+}

@@ -1,0 +1,53 @@
+//! Code as a user writes it, over any cipher whose position can be set.
+
+ghost use Rattle.std.specs.Prelude.{◌≡◌, ◌↔◌, ◌≤◌, ◌+◌, ◌*◌, length, IsOk, OnOk, OnErr};
+ghost use Rattle.chacha20.specs.Keystream.{applied};
+
+use crate::rows::COUNTING;
+use chacha20::ChaCha20;
+use chacha20::cipher::{KeyIvInit, StreamCipher, StreamCipherError, StreamCipherSeek};
+use std::test::Fail;
+
+// Encrypts record k of a file of records of one length, each at its own place in the keystream. `Err` exactly where
+// the record would pass the cipher's limit; then nothing changes.
+fn encrypt_record<S: StreamCipherSeek>(
+    cipher: &mut S,
+    k: u64,
+    record: &mut [u8],
+) -> Result<(), StreamCipherError>
+    ensures accepted { IsOk result ↔ (k * length «record».old + length «record».old ≤ S.limit) }
+    ensures bytes { OnOk result («record».new ≡ applied (S.stream cipher.old) (k * length «record».old) «record».old) }
+    ensures moved { OnOk result (cipher.new ≡ S.at cipher.old (k * length «record».old + length «record».old)) }
+    ensures refused { OnErr result ((«record».new ≡ «record».old) × (cipher.new ≡ cipher.old)) }
+{
+    let len = record.len() as u128;
+    let start = u128::from(k) * len;
+    // A seek to the record's end shows that all of it is below the limit.
+    cipher.try_seek(start + len)?;
+    cipher.try_seek(start)?;
+    cipher.try_apply_keystream(record)
+}
+
+// Four records of 100 bytes, in any order, are what one application gives.
+#[test]
+fn records(rt: HostRuntime) -> Result<(), Fail> {
+    let mut whole = [9; 400];
+    let mut file = whole;
+    ChaCha20::new(&COUNTING, &[0; 12]).try_apply_keystream(&mut whole)?;
+    let mut cipher = ChaCha20::new(&COUNTING, &[0; 12]);
+    for k in [2, 0, 3, 1] {
+        encrypt_record(
+            &mut cipher,
+            k,
+            &mut file[100 * k as usize..100 * k as usize + 100],
+        )?;
+    }
+    assert_eq!(rt; whole.as_slice(), file.as_slice());
+    assert_eq!(rt;
+        encrypt_record(&mut cipher, u64::MAX, &mut file),
+        Err(StreamCipherError)
+    );
+    assert_eq!(rt; whole.as_slice(), file.as_slice());
+    assert_eq!(rt; cipher.try_current_pos(), Ok(200u32));
+    Ok(())
+}
