@@ -1,6 +1,7 @@
 pub mod BufferedLemmas
 pub mod BytesLemmas
 pub mod CipherLemmas
+pub mod ColumnLemmas
 pub mod CountsLemmas
 pub mod KeystreamLemmas
 pub mod LaneLemmas

@@ -10,11 +10,11 @@ use Rattle.chacha_base.specs.State.{advanced}
 use Rattle.chacha_base.proofs.ListLemmas.{each}
 
 -- four words, each equal to another
-words-joined : {a b c d p q r s : ℕ} → p ≡ a → q ≡ b → r ≡ c → s ≡ d → p ∷ q ∷ r ∷ s ∷ [] ≡ a ∷ b ∷ c ∷ d ∷ []
+pub words-joined : {a b c d p q r s : ℕ} → p ≡ a → q ≡ b → r ≡ c → s ≡ d → p ∷ q ∷ r ∷ s ∷ [] ≡ a ∷ b ∷ c ∷ d ∷ []
 words-joined ea eb ec ed = rw (ea, eb, ec, ed) refl
 
 -- four rows, each equal to another
-rows-joined : {a b c d p q r s : List ℕ} → p ≡ a → q ≡ b → r ≡ c → s ≡ d → p ++ q ++ r ++ s ≡ a ++ b ++ c ++ d
+pub rows-joined : {a b c d p q r s : List ℕ} → p ≡ a → q ≡ b → r ≡ c → s ≡ d → p ++ q ++ r ++ s ≡ a ++ b ++ c ++ d
 rows-joined {a} {b} {c} {d} {p} {q} {r} {s} ea eb ec ed =
     ap (λ x. x ++ q ++ r ++ s) ea ∙ ap (λ x. a ++ x ++ r ++ s) eb ∙ ap (λ x. a ++ b ++ x ++ s) ec ∙ ap (λ x. a ++ b ++ c ++ x) ed
 

@@ -14,3 +14,4 @@ pub mod SeekNum
 pub mod Lanes
 pub mod RowVectors
 pub mod RowShifts
+pub mod ColumnVectors

@@ -1,5 +1,6 @@
 //! Backends: markers whose functions make the blocks of a state.
 
+mod columns;
 mod counter;
 mod group;
 mod kernel;

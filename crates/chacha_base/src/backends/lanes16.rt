@@ -1,7 +1,8 @@
-//! Sixteen blocks at once, four to a vector of sixteen words.
+//! Sixteen blocks at once, in vectors of sixteen words.
 
 ghost use Rattle.chacha_base.specs.Counts.{tail_of_16};
 
+use crate::backends::columns::Columns;
 use crate::backends::group::{InRows, Two};
 use crate::backends::kernel::{next_blocks, next_four, next_one, next_tail};
 use crate::backends::shift::ShiftCda;
@@ -10,8 +11,8 @@ use crate::rounds::{Rounds, Steps};
 use crate::variants::Variant;
 use std::simd::prelude::*;
 
-/// Sixteen blocks in a parallel call, four to a vector of sixteen words. A tail is made by the narrowest kernel that
-/// holds it; a single block is made in vectors of four words. This crate's own name.
+/// Sixteen blocks in a parallel call, with a vector of sixteen words for each word of a state. A tail is made in rows, by
+/// the narrowest kernel that holds it; a single block in vectors of four words. This crate's own name.
 #[derive(Clone, Copy, Debug)]
 pub struct Lanes16;
 
@@ -56,7 +57,7 @@ impl<R: Rounds, V: Variant> StreamCipherBackend<R, V> for Lanes16 {
 
     fn gen_par_ks_blocks(state: &mut [u32; 16], blocks: &mut [[u8; 64]], steps: &mut Steps) {
         steps.add_par();
-        next_blocks::<R, V, Sixteen, 16>(state, blocks, steps);
+        next_blocks::<R, V, Columns<u32x16>, 16>(state, blocks, steps);
     }
 
     fn gen_tail_blocks(state: &mut [u32; 16], blocks: &mut [[u8; 64]], steps: &mut Steps) {

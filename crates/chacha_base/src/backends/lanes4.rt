@@ -1,7 +1,8 @@
-//! Four blocks at once, each in vectors of four words.
+//! Four blocks at once, in vectors of four words.
 
 ghost use Rattle.std.specs.Prelude.{◌*◌, min};
 
+use crate::backends::columns::Columns;
 use crate::backends::group::{InRows, Two};
 use crate::backends::kernel::{next_blocks, next_four, next_one, next_tail};
 use crate::backends::shift::ShiftCda;
@@ -10,12 +11,12 @@ use crate::rounds::{Rounds, Steps};
 use crate::variants::Variant;
 use std::simd::prelude::*;
 
-/// Four blocks in a parallel call, one to a vector of four words. A single block makes four as well, and keeps the
-/// first. This crate's own name.
+/// Four blocks in a parallel call, with a vector of four words for each word of a state; one to a vector in all other
+/// calls. A single block makes four as well, and keeps the first. This crate's own name.
 #[derive(Clone, Copy, Debug)]
 pub struct Lanes4;
 
-// Four blocks, a vector for each row of each.
+// Four blocks, with a vector for each row of each.
 type Four = Two<Two<InRows<u32x4, ShiftCda>>>;
 
 impl ParBlocksSizeUser for Lanes4 {
@@ -48,7 +49,7 @@ impl<R: Rounds, V: Variant> StreamCipherBackend<R, V> for Lanes4 {
 
     fn gen_par_ks_blocks(state: &mut [u32; 16], blocks: &mut [[u8; 64]], steps: &mut Steps) {
         steps.add_par();
-        next_blocks::<R, V, Four, 4>(state, blocks, steps);
+        next_blocks::<R, V, Columns<u32x4>, 4>(state, blocks, steps);
     }
 
     fn gen_tail_blocks(state: &mut [u32; 16], blocks: &mut [[u8; 64]], steps: &mut Steps) {

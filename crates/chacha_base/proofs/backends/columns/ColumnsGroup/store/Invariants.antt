@@ -1,0 +1,6 @@
+use Rattle.std.proofs.Common.{◌≡◌, ℕ, ◌<◌, [], slice_index_or}
+use Rattle.chacha_base.specs.ColumnVectors.{words_at}
+use Rattle.chacha_base.proofs.backends.columns.ColumnsGroup.store.Given as goal
+
+abbrev pub invariant-each : goal.invariant-each
+invariant-each g l = (h : ℕ) → h < l.g → slice_index_or l.blocks h [] ≡ words_at g.V.Vector.lane l.fn.self h
