@@ -14,7 +14,7 @@ use chacha20::cipher::{
     KeyIvInit, Keystream, RngBackend, StreamCipher, StreamCipherBackend, StreamCipherCore,
     StreamCipherError,
 };
-use chacha20::variants::{Ietf, Variant};
+use chacha20::variants::{Ietf, Legacy, Variant};
 use chacha20::{
     ChaCha20, ChaCha20Legacy, ChaChaCore, Key, LegacyNonce, Nonce, R20, Rounds, Steps,
     StreamCipherCoreWrapper, XChaCha20, XChaChaCore, XNonce, hchacha,
@@ -143,6 +143,48 @@ fn same_words<R: Rounds, A: RngBackend<R>, B: RngBackend<R>>(
 {
     A::gen_ks_blocks(state, words, steps);
     B::gen_ks_blocks(other_state, other_words, steps);
+}
+
+// Whether two backends agree on a block, on nine blocks of a core, and on a generator's words.
+fn agree<A, B>() -> bool
+where
+    A: StreamCipherBackend<R20, Ietf> + StreamCipherBackend<R20, Legacy> + RngBackend<R20>,
+    B: StreamCipherBackend<R20, Ietf> + StreamCipherBackend<R20, Legacy> + RngBackend<R20>,
+{
+    let mut steps = Steps::new();
+    let mut state = [u32::MAX; 16];
+    let mut other_state = [u32::MAX; 16];
+    let mut block = [0; 64];
+    let mut other_block = [1; 64];
+    same_block::<R20, Legacy, A, B>(
+        &mut state,
+        &mut block,
+        &mut other_state,
+        &mut other_block,
+        &mut steps,
+    );
+    let mut words = [0; 64];
+    let mut other_words = [1; 64];
+    same_words::<R20, A, B>(
+        &mut state,
+        &mut words,
+        &mut other_state,
+        &mut other_words,
+        &mut steps,
+    );
+    let mut core = ChaChaCore::<R20, Ietf, A>::new(&COUNTING, &NONCE);
+    let mut other_core = ChaChaCore::<R20, Ietf, B>::new(&COUNTING, &NONCE);
+    let mut blocks = [[0; 64]; 9];
+    let mut other_blocks = [[1; 64]; 9];
+    same_blocks(&mut core, &mut blocks, &mut other_core, &mut other_blocks);
+    block == other_block && words == other_words && state == other_state && blocks == other_blocks
+}
+
+#[test]
+fn agreed(rt: HostRuntime) {
+    assert!(rt; agree::<Soft, Lanes4>());
+    assert!(rt; agree::<Soft, Lanes8>());
+    assert!(rt; agree::<Rows8, Lanes16>());
 }
 
 // What a fresh cipher over each backend may count for nine blocks and a last part of ten bytes: parallel calls and others
