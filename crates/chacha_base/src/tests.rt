@@ -1,5 +1,6 @@
 mod lanes;
 mod toy;
+mod words;
 
 use crate::cipher::{
     KeyIvInit, StreamCipher, StreamCipherCore, StreamCipherCoreWrapper, StreamCipherError,

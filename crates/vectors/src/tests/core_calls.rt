@@ -1,10 +1,10 @@
 //! Calls on a core alone.
 
 use crate::rows::{COUNTING, R0};
-use chacha20::backends::Soft;
-use chacha20::cipher::{KeyIvInit, StreamCipherCore};
+use chacha20::backends::{Lanes16, Soft};
+use chacha20::cipher::{KeyIvInit, StreamCipherCore, StreamCipherSeekCore};
 use chacha20::variants::{Ietf, Legacy, Variant};
-use chacha20::{ChaCha20LegacyCore, ChaChaCore, R8, R20};
+use chacha20::{ChaCha20LegacyCore, ChaChaCore, R8, R20, Steps, XChaChaCore};
 use std::test::Fail;
 
 type NoRounds = ChaChaCore<R0, Ietf, Soft>;
@@ -93,4 +93,23 @@ fn block_applied(rt: HostRuntime) {
         assert_eq!(rt; written.as_slice(), applied.as_slice());
     }
     assert_eq!(rt; applies.get_block_pos(), 0x1_0000_0001);
+}
+
+// Blocks of bytes are combined as blocks are written, and both cores then stand behind them.
+#[test]
+fn blocks_counted(rt: HostRuntime) {
+    let mut applies = XChaChaCore::<R20, Lanes16>::new(&COUNTING, &[7; 24]);
+    let mut writes = XChaChaCore::<R20, Soft>::new(&COUNTING, &[7; 24]);
+    let mut applied = [0; 192];
+    let mut written = [[0; 64]; 3];
+    let mut block = [0; 64];
+    applies.apply_blocks_counted(&mut applied, &mut Steps::new());
+    writes.write_keystream_blocks(&mut written[..2]);
+    writes.write_block_counted(&mut block, &mut Steps::new());
+    written[2] = block;
+    for i in 0..3usize {
+        assert_eq!(rt; &applied[64 * i..64 * i + 64], written[i].as_slice());
+    }
+    assert_eq!(rt; applies.get_block_pos(), 3);
+    assert_eq!(rt; writes.get_block_pos(), 3);
 }
