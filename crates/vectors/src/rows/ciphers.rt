@@ -1,6 +1,6 @@
 //! Rows of ciphers.
 
-use super::{COUNTING, FROM_1};
+use super::{COUNTING, FROM_1, LEGACY_NONCE};
 use chacha20::cipher::{
     KeyIvInit, OverflowError, StreamCipher, StreamCipherError, StreamCipherSeek,
     StreamCipherSeekCore,
@@ -134,9 +134,6 @@ fn row_6_applied<C: SeekCipher<LegacyNonce>>(
     cipher.try_apply_keystream(three)?;
     cipher.try_apply_keystream(&mut [])
 }
-
-// The nonce of the key 01 to 20.
-const LEGACY_NONCE: LegacyNonce = [3, 1, 4, 1, 5, 9, 2, 6];
 
 // The end of the stream, as a list of calls: nothing can be taken there, and nothing is past it.
 fn row_11<C: KeyIvInit<Key = Key, Iv = Nonce> + StreamCipherSeekCore + Drop>() -> bool {

@@ -7,8 +7,8 @@ ghost use Rattle.chacha20.specs.State.{fixed_words, state_counter};
 ghost use Rattle.chacha20.specs.Keystream.{keystream, applied};
 ghost use Rattle.chacha20.specs.XChaCha.{subkey, subnonce};
 
-use super::streams::{IETF_FROM_64, LEGACY, LEGACY_NONCE, NONCE, X_KEY, X_NONCE, XCHACHA_FROM_64};
-use crate::rows::{COUNTING, FROM_1};
+use super::streams::{IETF_FROM_64, LEGACY, NONCE, X_KEY, X_NONCE, XCHACHA_FROM_64};
+use crate::rows::{COUNTING, FROM_1, LEGACY_NONCE};
 use chacha20::backends::{Lanes4, Lanes8, Lanes16, Rows8, Soft};
 use chacha20::cipher::{
     KeyIvInit, Keystream, RngBackend, StreamCipher, StreamCipherBackend, StreamCipherCore,
