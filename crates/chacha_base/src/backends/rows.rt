@@ -8,7 +8,8 @@ ghost use Rattle.chacha_base.specs.RowVectors.{lanes_at, sums_at};
 use crate::backends::vector::Vector;
 use crate::rounds::Steps;
 
-/// Rows a, b, c and d of as many blocks as a vector holds.
+/// Four vectors that a quarter round takes lane by lane: rows a, b, c and d of as many blocks as a vector holds, or, where
+/// a vector has one word of each block (`columns`), the four words of a column or of a diagonal.
 #[derive(Clone, Copy)]
 pub struct Rows<V> {
     pub a: V,

@@ -80,6 +80,7 @@ impl<R: Rounds, V: Variant> StreamCipherBackend<R, V> for Soft {
         advance::<V>(state, 1);
     }
 
+    // A parallel call makes one block, so a tail has none, and the counter moves on by none.
     fn gen_tail_blocks(state: &mut [u32; 16], _blocks: &mut [[u8; 64]], _steps: &mut Steps) {
         advance::<V>(state, 0);
     }
