@@ -7,6 +7,7 @@ mod kernel;
 mod lanes16;
 mod lanes4;
 mod lanes8;
+mod place;
 mod rows;
 mod rows8;
 mod shift;

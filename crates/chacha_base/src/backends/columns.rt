@@ -4,6 +4,7 @@ ghost use Rattle.std.specs.Prelude.{◌≡◌, ◌≤◌, ◌<◌, ℕ, ◌*◌,
 ghost use Rattle.chacha_base.specs.ColumnVectors.{words_at};
 
 use crate::backends::group::Group;
+use crate::backends::place::Place;
 use crate::backends::rows::{Rows, quarter_round, sums};
 use crate::backends::vector::Vector;
 use crate::rounds::Steps;
@@ -75,7 +76,7 @@ impl<V: Vector> Group for Columns<V> {
     }
 
     #[inline(always)]
-    fn store(self, blocks: &mut [[u32; 16]]) {
+    fn store<P: Place>(self, places: &mut [P]) {
         let Columns {
             first,
             second,
@@ -99,10 +100,10 @@ impl<V: Vector> Group for Columns<V> {
         let w14 = third.d.to_words();
         let w15 = fourth.d.to_words();
         'each: for g in 0..4 * V::BLOCKS {
-            blocks[g] = [
+            places[g].put(&[
                 w0[g], w1[g], w2[g], w3[g], w4[g], w5[g], w6[g], w7[g], w8[g], w9[g], w10[g],
                 w11[g], w12[g], w13[g], w14[g], w15[g],
-            ];
+            ]);
         }
     }
 

@@ -1,9 +1,10 @@
 //! Groups of blocks whose rounds are made side by side.
 
-ghost use Rattle.std.specs.Prelude.{◌≡◌, ◌<◌, ℕ, ◌+◌, ◌-◌, ◌*◌, nat_lt, cond, List, [], length, slice_index_or};
+ghost use Rattle.std.specs.Prelude.{◌≡◌, ◌<◌, ℕ, ◌+◌, ◌-◌, ◌*◌, nat_lt, cond, List, [], length, slice_get, slice_index_or, Some};
 ghost use Rattle.chacha_base.specs.Rounds.{columns, diagonals, rounds, add_states, mix};
 ghost use Rattle.chacha_base.specs.RowVectors.{block_at, with_last_row};
 
+use crate::backends::place::Place;
 use crate::backends::rows::{Rows, quarter_round, repeated, set_row, sums};
 use crate::backends::shift::RowShift;
 use crate::backends::vector::Vector;
@@ -25,10 +26,10 @@ pub trait Group: Copy {
         requires { length last_rows.now ≡ BLOCKS }
         ensures { (g : ℕ) → g < BLOCKS → block result g ≡ with_last_row state.now (slice_index_or last_rows.now g []) };
 
-    /// Writes the words of the states.
-    fn store(self, blocks: &mut [[u32; 16]])
-        requires { length blocks.old ≡ BLOCKS }
-        ensures { (g : ℕ) → g < BLOCKS → slice_index_or blocks.new g [] ≡ block self g };
+    /// Puts the words of each state in its place.
+    fn store<P: Place>(self, places: &mut [P])
+        requires { length places.old ≡ BLOCKS }
+        ensures { (g : ℕ) → g < BLOCKS → slice_get places.new g ≡ Some (P.holding (block self g)) };
 
     /// A round of the columns of each state.
     fn column_round(self, steps: &mut Steps) -> Self
@@ -78,14 +79,14 @@ impl<V: Vector, S: RowShift> Group for InRows<V, S> {
     }
 
     #[inline(always)]
-    fn store(self, blocks: &mut [[u32; 16]]) {
+    fn store<P: Place>(self, places: &mut [P]) {
         let a = self.rows.a.to_words();
         let b = self.rows.b.to_words();
         let c = self.rows.c.to_words();
         let d = self.rows.d.to_words();
         'each: for g in 0..V::BLOCKS {
             let k = 4 * g;
-            blocks[g] = [
+            places[g].put(&[
                 a[k],
                 a[k + 1],
                 a[k + 2],
@@ -102,7 +103,7 @@ impl<V: Vector, S: RowShift> Group for InRows<V, S> {
                 d[k + 1],
                 d[k + 2],
                 d[k + 3],
-            ];
+            ]);
         }
     }
 
@@ -155,10 +156,10 @@ impl<G: Group> Group for Two<G> {
     }
 
     #[inline(always)]
-    fn store(self, blocks: &mut [[u32; 16]]) {
-        let half = blocks.len() / 2;
-        self.first.store(&mut blocks[..half]);
-        self.second.store(&mut blocks[half..]);
+    fn store<P: Place>(self, places: &mut [P]) {
+        let half = places.len() / 2;
+        self.first.store(&mut places[..half]);
+        self.second.store(&mut places[half..]);
     }
 
     #[inline(always)]

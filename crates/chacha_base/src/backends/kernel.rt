@@ -12,6 +12,22 @@ use crate::bytes::write_bytes;
 use crate::rounds::{Rounds, Steps};
 use crate::variants::{Legacy, Variant};
 
+/// The group of the next blocks. The state stays.
+#[inline(always)]
+fn next_group<R: Rounds, V: Variant, G: Group, const W: usize>(
+    state: &[u32; 16],
+    steps: &mut Steps,
+) -> G
+    requires width { G.BLOCKS ≡ W }
+    requires few { W ≤ 16 }
+    ensures blocks { (g : ℕ) → g < W → G.block result g ≡ mix R.COUNT (advanced V.layout g state.now) }
+    ensures steps { steps.new ≡ record steps.old { rounds = steps.old.rounds + 2 * G.ROUND_STEPS * R.COUNT } }
+{
+    let mut rows = [[0; 4]; W];
+    last_rows::<V>(state, &mut rows);
+    mixed(G::start(state, &rows), R::COUNT, steps)
+}
+
 /// The words of the next blocks, as many as a group has. The state stays.
 #[inline(always)]
 fn group_words<R: Rounds, V: Variant, G: Group, const W: usize>(
@@ -23,10 +39,8 @@ fn group_words<R: Rounds, V: Variant, G: Group, const W: usize>(
     ensures words { (g : ℕ) → g < W → slice_index_or result g [] ≡ mix R.COUNT (advanced V.layout g state.now) }
     ensures steps { steps.new ≡ record steps.old { rounds = steps.old.rounds + 2 * G.ROUND_STEPS * R.COUNT } }
 {
-    let mut rows = [[0; 4]; W];
-    last_rows::<V>(state, &mut rows);
     let mut words = [[0; 16]; W];
-    mixed(G::start(state, &rows), R::COUNT, steps).store(&mut words);
+    next_group::<R, V, G, W>(state, steps).store(&mut words);
     words
 }
 
@@ -50,9 +64,28 @@ pub fn next_one<R: Rounds, V: Variant, G: Group, const W: usize>(
     advance::<V>(state, 1);
 }
 
+/// The next blocks, exactly as many as a group has, which are put in place at once. The counter moves on past them.
+#[inline(always)]
+pub fn next_all<R: Rounds, V: Variant, G: Group, const W: usize>(
+    state: &mut [u32; 16],
+    blocks: &mut [[u8; 64]],
+    steps: &mut Steps,
+)
+    requires width { G.BLOCKS ≡ W }
+    requires few { W ≤ 16 }
+    requires all { length blocks.old ≡ W }
+    ensures blocks { (i : ℕ) → i < length blocks.old
+        → slice_get blocks.new i ≡ Some (next_block R.COUNT V.layout state.old i) }
+    ensures state { state.new ≡ advanced V.layout (length blocks.old) state.old }
+    ensures steps { steps.new ≡ record steps.old { rounds = steps.old.rounds + 2 * G.ROUND_STEPS * R.COUNT } }
+{
+    next_group::<R, V, G, W>(state, steps).store(blocks);
+    advance::<V>(state, W);
+}
+
 /// The next blocks, at most as many as a group has. The counter moves on past them, whatever else the group makes.
 #[inline(always)]
-pub fn next_blocks<R: Rounds, V: Variant, G: Group, const W: usize>(
+fn next_blocks<R: Rounds, V: Variant, G: Group, const W: usize>(
     state: &mut [u32; 16],
     blocks: &mut [[u8; 64]],
     steps: &mut Steps,

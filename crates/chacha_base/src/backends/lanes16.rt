@@ -4,7 +4,7 @@ ghost use Rattle.chacha_base.specs.Counts.{tail_of_16};
 
 use crate::backends::columns::Columns;
 use crate::backends::group::{InRows, Two};
-use crate::backends::kernel::{next_blocks, next_four, next_one, next_tail};
+use crate::backends::kernel::{next_all, next_four, next_one, next_tail};
 use crate::backends::shift::ShiftCda;
 use crate::cipher::{ParBlocksSizeUser, RngBackend, StreamCipherBackend};
 use crate::rounds::{Rounds, Steps};
@@ -57,7 +57,7 @@ impl<R: Rounds, V: Variant> StreamCipherBackend<R, V> for Lanes16 {
 
     fn gen_par_ks_blocks(state: &mut [u32; 16], blocks: &mut [[u8; 64]], steps: &mut Steps) {
         steps.add_par();
-        next_blocks::<R, V, Columns<u32x16>, 16>(state, blocks, steps);
+        next_all::<R, V, Columns<u32x16>, 16>(state, blocks, steps);
     }
 
     fn gen_tail_blocks(state: &mut [u32; 16], blocks: &mut [[u8; 64]], steps: &mut Steps) {

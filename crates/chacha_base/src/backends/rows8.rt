@@ -3,7 +3,7 @@
 ghost use Rattle.std.specs.Prelude.{◌*◌, min};
 
 use crate::backends::group::{InRows, Two};
-use crate::backends::kernel::{next_blocks, next_four, next_one, next_tail};
+use crate::backends::kernel::{next_all, next_four, next_one, next_tail};
 use crate::backends::shift::ShiftBcd;
 use crate::cipher::{ParBlocksSizeUser, RngBackend, StreamCipherBackend};
 use crate::rounds::{Rounds, Steps};
@@ -50,7 +50,7 @@ impl<R: Rounds, V: Variant> StreamCipherBackend<R, V> for Rows8 {
 
     fn gen_par_ks_blocks(state: &mut [u32; 16], blocks: &mut [[u8; 64]], steps: &mut Steps) {
         steps.add_par();
-        next_blocks::<R, V, Eight, 8>(state, blocks, steps);
+        next_all::<R, V, Eight, 8>(state, blocks, steps);
     }
 
     fn gen_tail_blocks(state: &mut [u32; 16], blocks: &mut [[u8; 64]], steps: &mut Steps) {

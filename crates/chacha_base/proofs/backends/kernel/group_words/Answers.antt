@@ -1,9 +1,8 @@
-use Rattle.std.proofs.Common.{◌<◌, arith}
-use Rattle.chacha_base.proofs.RowLemmas.{stored-next}
+use Rattle.std.proofs.Common.{◌<◌, [], ◌∙◌, arith}
+use Rattle.std.proofs.lemmas.Option.{get_or_from_slice_get}
 use Rattle.chacha_base.proofs.backends.kernel.group_words.Goals as goal
 
 pub returns-clause-words : goal.returns-clause-words
 returns-clause-words g c b h =
     let inside : b < g.G.Group.BLOCKS = omega arith in
-    stored-next g.R.Rounds.COUNT _ g.V.Variant.layout b c.args.state.now _ _ _ _ c.told-state c.COUNT.ensures
-    (c.last_rows.ensures b (omega arith)) (c.start.ensures b inside) (c.mixed.ensures.blocks b inside) (c.store.ensures b inside)
+    get_or_from_slice_get _ b _ [] (c.store.ensures b inside) ∙ c.next_group.ensures.blocks b h
