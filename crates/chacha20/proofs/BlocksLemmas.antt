@@ -2,12 +2,12 @@
 use Rattle.std.proofs.Common.{◌≡◌, ℕ, ◌+◌, ◌*◌, ◌/◌, ◌%◌, ◌<◌, ◌≤◌, List, [], ◌++◌, length, take, drop, slice_index, arith, refl, sym, ap, ap₂, ◌∙◌}
 use Rattle.std.specs.Prelude.{slice_get, Some, slice_index_or}
 use Rattle.std.proofs.lemmas.Option.{get_or_from_slice_get}
-use Rattle.chacha_base.specs.Layout.{Layout, ietf, legacy, modulus, row_at}
-use Rattle.chacha_base.specs.State.{state_counter, fixed_words, block_of, counter_after, advanced, next_block, state_at}
+use Rattle.chacha_base.specs.Layout.{Layout, modulus}
+use Rattle.chacha_base.specs.State.{state_counter, fixed_words, block_of, counter_after, advanced, next_block}
 use Rattle.chacha_base.specs.Bytes.{bytes}
 use Rattle.chacha_base.specs.Rounds.{mix}
 use borrow.Rule.Slice.PartMut.{put_mid}
-use Rattle.chacha_base.proofs.ListLemmas.{each, written_more}
+use Rattle.chacha_base.proofs.ListLemmas.{written_more}
 use Rattle.chacha_base.proofs.StateLemmas.{fixed_words-state_at, state_counter-state_at, advanced-advanced}
 use Rattle.chacha_base.specs.Keystream.{keystream, applied}
 use Rattle.chacha_base.proofs.KeystreamLemmas.{applied-same, applied-append, keystream-wrapped}
@@ -87,11 +87,3 @@ pub state-more : (layout : Layout) (s t u : List ℕ) (a k e : ℕ) → length s
     → u ≡ advanced layout e s
 state-more layout s t u a k e h moved more all =
     more ∙ ap (advanced layout k) moved ∙ advanced-advanced layout a k s h ∙ ap (λ i. advanced layout i s) all
-
--- a state whose last row has another counter at its front
-pub state_at-written : (layout : Layout) (c : ℕ) (s row : List ℕ) → length s ≡ 16 → row ≡ row_at layout c (take 4 (drop 12 s))
-    → put_mid 12 4 s row ≡ state_at layout c s
-state_at-written ietf c s row h same =
-    rw same (each 16 (λ t. put_mid 12 4 t (row_at ietf c (take 4 (drop 12 t))) ≡ state_at ietf c t) (λ x0 x1 x2 x3 x4 x5 x6 x7 x8 x9 x10 x11 x12 x13 x14 x15. refl) s h)
-state_at-written legacy c s row h same =
-    rw same (each 16 (λ t. put_mid 12 4 t (row_at legacy c (take 4 (drop 12 t))) ≡ state_at legacy c t) (λ x0 x1 x2 x3 x4 x5 x6 x7 x8 x9 x10 x11 x12 x13 x14 x15. refl) s h)

@@ -1,5 +1,5 @@
 -- Lists of known length.
-use Rattle.std.proofs.Common.{◌≡◌, inl, inr, ℕ, zero, suc, ◌+◌, ◌-◌, ◌<◌, ◌≤◌, List, [], ◌∷◌, ◌++◌, length, drop, slice_index_or, refl, sym, ap, ◌∙◌, arith}
+use Rattle.std.proofs.Common.{◌≡◌, inl, inr, ℕ, zero, suc, ◌+◌, ◌-◌, ◌<◌, ◌≤◌, List, [], ◌∷◌, ◌++◌, length, drop, slice_index_or, refl, sym, ap, ◌∙◌, arith, below_more}
 use Rattle.std.proofs.Math.ListN.{set}
 use Rattle.std.specs.Prelude.{slice_get, Some}
 use Rattle.std.proofs.lemmas.Bool.{cases_lt}
@@ -29,6 +29,14 @@ slice_get-set_below [] i j x h = refl
 slice_get-set_below (y ∷ ys) zero j x h = absurd (omega arith)
 slice_get-set_below (y ∷ ys) (suc i) zero x h = refl
 slice_get-set_below (y ∷ ys) (suc i) (suc j) x h = slice_get-set_below ys i j x (omega arith)
+
+-- a list that is written from its front on, place by place: element j is to be f j
+pub one_more : {X : Type 0} (f : ℕ → X) (i : ℕ) (xs : List X) (x : X) → i < length xs → x ≡ f i
+    → ((j : ℕ) → j < i → slice_get xs j ≡ Some (f j)) → (j : ℕ) → j < i + 1 → slice_get (set xs i x) j ≡ Some (f j)
+one_more f i xs x inside made before =
+    below_more (λ j. slice_get (set xs i x) j ≡ Some (f j)) i
+    (λ j less. slice_get-set_below xs i j x less ∙ before j less)
+    (slice_get-set_same xs i x inside ∙ ap Some made)
 
 -- the elements of a list of which a part is written: those before the part, in it and after it
 slice_get-append : {X : Type 0} (xs ys : List X) (i : ℕ) → i < length xs → slice_get (xs ++ ys) i ≡ slice_get xs i

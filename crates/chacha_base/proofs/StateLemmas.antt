@@ -1,11 +1,11 @@
 -- States of sixteen words: the counter, and the words that stay.
-use Rattle.std.proofs.Common.{◌≡◌, ℕ, ◌+◌, ◌*◌, ◌/◌, ◌%◌, ◌^◌, ◌<◌, ◌≤◌, List, ◌++◌, length, slice_index, arith, refl, ap, ◌∙◌}
+use Rattle.std.proofs.Common.{◌≡◌, ℕ, ◌+◌, ◌*◌, ◌/◌, ◌%◌, ◌^◌, ◌<◌, ◌≤◌, List, ◌++◌, length, take, drop, slice_index, arith, refl, ap, ◌∙◌}
 use Rattle.std.proofs.Math.Nat.{mod-add-mod, mod-eq_of_lt}
 use Rattle.std.proofs.lemmas.List.FromFn.{length-map-range_with_len, get_or-map-range_with_len, fill_by_all}
 use Rattle.std.proofs.lemmas.Option.{slice_get-get_or, get_or_from_slice_get}
 use Rattle.std.specs.Prelude.{slice_get, Some}
 use borrow.Rule.Slice.PartMut.{put_mid}
-use Rattle.chacha_base.specs.Layout.{Layout, ietf, legacy, modulus, counter_words}
+use Rattle.chacha_base.specs.Layout.{Layout, ietf, legacy, modulus, counter_words, row_at}
 use Rattle.chacha_base.specs.Bytes.{words}
 use Rattle.chacha_base.specs.Block.{constants, start}
 use Rattle.chacha_base.specs.Rounds.{rounds, add_states, mix}
@@ -46,6 +46,14 @@ fixed_words-state_at ietf c =
 fixed_words-state_at legacy c =
     each 16 (λ s. fixed_words legacy (state_at legacy c s) ≡ fixed_words legacy s)
     (λ x0 x1 x2 x3 x4 x5 x6 x7 x8 x9 x10 x11 x12 x13 x14 x15. refl)
+
+-- a state whose last row has another counter at its front
+pub state_at-written : (layout : Layout) (c : ℕ) (s row : List ℕ) → length s ≡ 16 → row ≡ row_at layout c (take 4 (drop 12 s))
+    → put_mid 12 4 s row ≡ state_at layout c s
+state_at-written ietf c s row h same =
+    rw same (each 16 (λ t. put_mid 12 4 t (row_at ietf c (take 4 (drop 12 t))) ≡ state_at ietf c t) (λ x0 x1 x2 x3 x4 x5 x6 x7 x8 x9 x10 x11 x12 x13 x14 x15. refl) s h)
+state_at-written legacy c s row h same =
+    rw same (each 16 (λ t. put_mid 12 4 t (row_at legacy c (take 4 (drop 12 t))) ≡ state_at legacy c t) (λ x0 x1 x2 x3 x4 x5 x6 x7 x8 x9 x10 x11 x12 x13 x14 x15. refl) s h)
 
 -- the state at its own counter
 pub state_at-own : (layout : Layout) (s : List ℕ) → length s ≡ 16 → Words s → state_at layout (state_counter layout s) s ≡ s

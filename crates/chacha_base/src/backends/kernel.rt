@@ -83,29 +83,6 @@ pub fn next_all<R: Rounds, V: Variant, G: Group, const W: usize>(
     advance::<V>(state, W);
 }
 
-/// The next blocks, at most as many as a group has. The counter moves on past them, whatever else the group makes.
-#[inline(always)]
-fn next_blocks<R: Rounds, V: Variant, G: Group, const W: usize>(
-    state: &mut [u32; 16],
-    blocks: &mut [[u8; 64]],
-    steps: &mut Steps,
-)
-    requires width { G.BLOCKS ≡ W }
-    requires few { W ≤ 16 }
-    requires within { length blocks.old ≤ W }
-    ensures blocks { (i : ℕ) → i < length blocks.old
-        → slice_get blocks.new i ≡ Some (next_block R.COUNT V.layout state.old i) }
-    ensures state { state.new ≡ advanced V.layout (length blocks.old) state.old }
-    ensures steps { steps.new ≡ record steps.old { rounds = steps.old.rounds + 2 * G.ROUND_STEPS * R.COUNT } }
-{
-    let words = group_words::<R, V, G, W>(state, steps);
-    let made = &words[..];
-    'each: for g in 0..blocks.len() {
-        write_bytes(&made[g], &mut blocks[g]);
-    }
-    advance::<V>(state, blocks.len());
-}
-
 /// Fewer blocks than a group has, none included. Where there are any, the group is made once, and counts as one other
 /// call; where there are none, nothing is made.
 #[inline(always)]
@@ -124,7 +101,12 @@ pub fn next_tail<R: Rounds, V: Variant, G: Group, const W: usize>(
 {
     if !blocks.is_empty() {
         steps.add_other();
-        next_blocks::<R, V, G, W>(state, blocks, steps);
+        let words = group_words::<R, V, G, W>(state, steps);
+        let made = &words[..];
+        'each: for g in 0..blocks.len() {
+            write_bytes(&made[g], &mut blocks[g]);
+        }
+        advance::<V>(state, blocks.len());
     }
 }
 

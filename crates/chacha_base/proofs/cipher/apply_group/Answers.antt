@@ -1,9 +1,9 @@
-use Rattle.std.proofs.Common.{◌≡◌, ◌≢◌, ◌<◌, ◌+◌, [], length, ap, ◌∙◌, arith, below_more, ◌*◌}
-use Rattle.std.specs.Prelude.{Some, slice_index_or}
+use Rattle.std.proofs.Common.{◌≡◌, ◌≢◌, ◌<◌, ◌+◌, [], length, ap, ◌∙◌, arith, ◌*◌}
+use Rattle.std.specs.Prelude.{slice_index_or}
 use Rattle.chacha_base.specs.Keystream.{keystream, applied}
 use Rattle.std.proofs.lemmas.List.{get_or-set_other}
 use Rattle.std.proofs.lemmas.Option.{get_or_from_slice_get}
-use Rattle.chacha_base.proofs.ListLemmas.{slice_get-set_same, slice_get-set_below}
+use Rattle.chacha_base.proofs.ListLemmas.{one_more}
 use Rattle.chacha_base.proofs.KeystreamLemmas.{applied-block}
 use Rattle.chacha_base.proofs.cipher.apply_group.Goals as goal
 
@@ -19,11 +19,12 @@ loop-i-preserved g c =
     let same = c.loop-i.invariant.rest i (omega arith) in
     let long : length (slice_index_or now i []) ≡ 64 = ap length same ∙ c.told-blocks i (omega arith) in
     record {
-      done = below_more _ _ (λ k below. slice_get-set_below now i k c.xor_bytes.new.output below ∙ c.loop-i.invariant.done k below)
-          (slice_get-set_same now i c.xor_bytes.new.output inside
-          ∙ ap Some (applied-block modulus block counter _ (slice_index_or now i []) _ (get_or_from_slice_get _ i _ [] (c.write_keystream_blocks.ensures.blocks i (omega arith)))
+      done = one_more (λ k. applied (keystream modulus block) (64 * (g.C.StreamCipherCore.counter core + k)) (slice_index_or c.args.blocks.now k []))
+          i now c.xor_bytes.new.output inside
+          (applied-block modulus block counter _ (slice_index_or now i []) _ (get_or_from_slice_get _ i _ [] (c.write_keystream_blocks.ensures.blocks i (omega arith)))
           (omega arith) (omega arith) c.xor_bytes.ensures
-          ∙ ap (applied (keystream modulus block) (64 * counter)) same));
+          ∙ ap (applied (keystream modulus block) (64 * counter)) same)
+          c.loop-i.invariant.done;
       rest = λ k above. let apart : k ≢ i = omega arith in get_or-set_other now i k c.xor_bytes.new.output [] apart ∙ c.loop-i.invariant.rest k (omega arith);
     }
 

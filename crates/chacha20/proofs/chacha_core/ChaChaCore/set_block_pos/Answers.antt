@@ -1,7 +1,6 @@
 use Rattle.std.proofs.Common.{◌∙◌, ap}
 use Rattle.chacha_base.specs.State.{state_counter, fixed_words, state_at}
-use Rattle.chacha_base.proofs.StateLemmas.{state_counter-state_at, fixed_words-state_at}
-use Rattle.chacha20.proofs.BlocksLemmas.{state_at-written}
+use Rattle.chacha_base.proofs.StateLemmas.{state_counter-state_at, fixed_words-state_at, state_at-written}
 use Rattle.chacha20.proofs.chacha_core.ChaChaCore.set_block_pos.Goals as goal
 
 pub returns-clause-state : goal.returns-clause-state

@@ -1,15 +1,28 @@
-use Rattle.std.proofs.Common.{◌≡◌, ◌*◌, min, length, sym, ap, ◌∙◌, arith}
+use Rattle.std.proofs.Common.{◌≡◌, ◌*◌, ◌<◌, [], min, length, slice_index_or, sym, ap, ◌∙◌, arith}
 use Rattle.std.proofs.lemmas.Grind.{common_steps}
+use Rattle.std.specs.Prelude.{Some}
+use Rattle.chacha_base.specs.Bytes.{bytes}
 use Rattle.chacha_base.specs.State.{advanced}
 use Rattle.chacha_base.proofs.CountsLemmas.{counted-tail}
+use Rattle.chacha_base.proofs.ListLemmas.{one_more}
 use Rattle.chacha_base.proofs.StateLemmas.{advanced-zero}
 use Rattle.chacha_base.proofs.backends.kernel.next_tail.Goals as goal
 
-pub returns-then-not-is_empty-clause-steps : goal.returns-then-not-is_empty-clause-steps
-returns-then-not-is_empty-clause-steps g c =
+pub each-preserved : goal.each-preserved
+each-preserved g c =
+    one_more (λ h. bytes (slice_index_or c.group_words-words.result h [])) c.each.g c.each.blocks _ (omega arith) c.write_bytes.ensures c.each.invariant
+
+pub returns-after-each-clause-blocks : goal.returns-after-each-clause-blocks
+returns-after-each-clause-blocks g c i h =
+    let done : i < c.each.g = omega arith in
+    let made : i < g.row.W = omega arith in
+    c.each.invariant i done ∙ ap (λ s. Some (bytes s)) (c.group_words-words.ensures.words i made)
+
+pub returns-after-each-clause-steps : goal.returns-after-each-clause-steps
+returns-after-each-clause-steps g c =
     let some : min 1 (length c.args.blocks.now) ≡ 1 = grind (arith, common_steps) in
     counted-tail (2 * g.G.Group.ROUND_STEPS * g.R.Rounds.COUNT) (length c.args.blocks.now) c.args.steps.now c.add_other.new.self
-    c.next_blocks.new.steps some c.add_other.ensures c.next_blocks.ensures.steps
+    c.group_words-words.new.steps some c.add_other.ensures c.group_words-words.ensures.steps
 
 pub returns-else-not-is_empty-clause-state : goal.returns-else-not-is_empty-clause-state
 returns-else-not-is_empty-clause-state g c =
