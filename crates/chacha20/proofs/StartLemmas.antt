@@ -1,8 +1,15 @@
--- A start state that is written part by part.
+-- Start states: written part by part, and the blocks from one on.
 use Rattle.std.proofs.Common.{◌≡◌, ℕ, List, [], ◌∷◌, ◌++◌, length, replicate, refl, ap, ◌∙◌}
+use Rattle.std.proofs.Math.Path.{fun_ext}
 use borrow.Rule.Slice.PartMut.{put_mid}
-use Rattle.chacha_base.specs.Block.{constants}
+use Rattle.chacha_base.specs.Block.{constants, start, block}
+use Rattle.chacha_base.specs.Bytes.{bytes}
+use Rattle.chacha_base.specs.Layout.{Layout}
+use Rattle.chacha_base.specs.Rounds.{mix}
+use Rattle.chacha_base.specs.State.{block_of, fixed_words}
+use Rattle.chacha_base.proofs.BytesLemmas.{length-words}
 use Rattle.chacha_base.proofs.ListLemmas.{each}
+use Rattle.chacha_base.proofs.StateLemmas.{start-joined}
 
 -- sixteen zeros with their first four words written, and then a key of eight and a row of four
 pub written : (first key row : List ℕ) → first ≡ constants → length key ≡ 8 → length row ≡ 4
@@ -21,3 +28,11 @@ row_written = each 3 (λ ns. put_mid 1 3 (replicate 4 0) ns ≡ 0 ∷ ns) (λ y0
 
 pub legacy_row_written : (nonce : List ℕ) → length nonce ≡ 2 → put_mid 2 2 (replicate 4 0) nonce ≡ 0 ∷ 0 ∷ nonce
 legacy_row_written = each 2 (λ ns. put_mid 2 2 (replicate 4 0) ns ≡ 0 ∷ 0 ∷ ns) (λ y0 y1. refl)
+
+-- the blocks of the start state of a key and a nonce
+pub blocks-of-start : (n : ℕ) (layout : Layout) (key nonce s : List ℕ) → length key ≡ 32 → s ≡ start layout key nonce 0
+    → block_of n layout (fixed_words layout s) ≡ block n layout key nonce
+blocks-of-start n layout key nonce s long same =
+    fun_ext (λ counter.
+    ap (λ t. block_of n layout (fixed_words layout t) counter) same
+    ∙ ap (λ t. bytes (mix n t)) (start-joined layout key nonce counter (length-words 8 key long)))

@@ -1,13 +1,9 @@
 use Rattle.std.proofs.Common.{◌≡◌, ◌∙◌, ◌++◌, [], ◌∷◌, length, sym, ap, append_assoc}
-use Rattle.std.proofs.Math.Path.{fun_ext}
-use Rattle.chacha_base.specs.Bytes.{bytes, words}
+use Rattle.chacha_base.specs.Bytes.{words}
 use Rattle.chacha_base.specs.Layout.{ietf}
-use Rattle.chacha_base.specs.Rounds.{mix}
-use Rattle.chacha_base.specs.State.{block_of, fixed_words}
 use Rattle.chacha_base.specs.Block.{constants}
 use Rattle.chacha_base.proofs.BytesLemmas.{length-words}
-use Rattle.chacha_base.proofs.StateLemmas.{start-joined}
-use Rattle.chacha20.proofs.StartLemmas.{row_written}
+use Rattle.chacha20.proofs.StartLemmas.{row_written, blocks-of-start}
 use Rattle.chacha20.proofs.chacha_core.ChaChaCoreIetfKeyIvInit.new.Goals as goal
 
 pub returns-clause-value : goal.returns-clause-value
@@ -19,7 +15,4 @@ returns-clause-value g c =
     ∙ sym (append_assoc (constants ++ key) (0 ∷ []) (words c.args.iv.now))
 
 pub returns-clause-blocks : goal.returns-clause-blocks
-returns-clause-blocks g c =
-    fun_ext (λ counter.
-    ap (λ s. block_of g.R.Rounds.COUNT ietf (fixed_words ietf s) counter) (returns-clause-value g c)
-    ∙ ap (λ s. bytes (mix g.R.Rounds.COUNT s)) (start-joined ietf c.args.key.now c.args.iv.now counter (length-words 8 _ c.told-key)))
+returns-clause-blocks g c = blocks-of-start g.R.Rounds.COUNT ietf c.args.key.now c.args.iv.now _ c.told-key (returns-clause-value g c)

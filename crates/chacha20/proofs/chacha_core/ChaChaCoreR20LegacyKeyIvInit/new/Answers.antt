@@ -1,13 +1,9 @@
 use Rattle.std.proofs.Common.{◌≡◌, ◌∙◌, ◌++◌, [], ◌∷◌, length, sym, ap, append_assoc}
-use Rattle.std.proofs.Math.Path.{fun_ext}
-use Rattle.chacha_base.specs.Bytes.{bytes, words}
+use Rattle.chacha_base.specs.Bytes.{words}
 use Rattle.chacha_base.specs.Layout.{legacy}
-use Rattle.chacha_base.specs.Rounds.{mix}
-use Rattle.chacha_base.specs.State.{block_of, fixed_words}
 use Rattle.chacha_base.specs.Block.{constants}
 use Rattle.chacha_base.proofs.BytesLemmas.{length-words}
-use Rattle.chacha_base.proofs.StateLemmas.{start-joined}
-use Rattle.chacha20.proofs.StartLemmas.{legacy_row_written}
+use Rattle.chacha20.proofs.StartLemmas.{legacy_row_written, blocks-of-start}
 use Rattle.chacha20.proofs.chacha_core.ChaChaCoreR20LegacyKeyIvInit.new.Goals as goal
 
 pub returns-clause-value : goal.returns-clause-value
@@ -19,7 +15,4 @@ returns-clause-value g c =
     ∙ sym (append_assoc (constants ++ key) (0 ∷ 0 ∷ []) (words c.args.iv.now))
 
 pub returns-clause-blocks : goal.returns-clause-blocks
-returns-clause-blocks g c =
-    fun_ext (λ counter.
-    ap (λ s. block_of 10 legacy (fixed_words legacy s) counter) (returns-clause-value g c)
-    ∙ ap (λ s. bytes (mix 10 s)) (start-joined legacy c.args.key.now c.args.iv.now counter (length-words 8 _ c.told-key)))
+returns-clause-blocks g c = blocks-of-start 10 legacy c.args.key.now c.args.iv.now _ c.told-key (returns-clause-value g c)
