@@ -31,10 +31,6 @@ for_call par other rounds = record { par = par; other = other; least = rounds; m
 abbrev pub for_tail : (one k : ℕ) → Bounds
 for_tail one k = record { par = 0; other = k; least = min 1 k * one; most = k * one }
 
--- counts after one kernel made a tail of k blocks in `made` quarter rounds; where there are no blocks nothing is made
-abbrev pub after_tail : (made k : ℕ) → Counts → Counts
-after_tail made k counts = record counts { other = counts.other + min 1 k; rounds = counts.rounds + min 1 k * made }
-
 -- quarter rounds, for each double round, of a tail of k blocks where sixteen are the width: up to four blocks fit in one
 -- vector a row, up to eight in two, and the rest in four
 abbrev pub tail_of_16 : ℕ → ℕ

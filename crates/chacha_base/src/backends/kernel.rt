@@ -1,10 +1,10 @@
 //! The wide kernel: it makes a whole group of blocks from a state on, of which a caller takes what it needs.
 
-ghost use Rattle.std.specs.Prelude.{◌≡◌, ◌≤◌, ◌<◌, ◌≢◌, ℕ, ◌+◌, ◌*◌, [], length, slice_get, slice_index_or, Some};
+ghost use Rattle.std.specs.Prelude.{◌≡◌, ◌≤◌, ◌<◌, ◌≢◌, ℕ, ◌+◌, ◌*◌, min, [], length, slice_get, slice_index_or, Some};
 ghost use Rattle.chacha_base.specs.Layout.{legacy};
 ghost use Rattle.chacha_base.specs.Rounds.{mix};
 ghost use Rattle.chacha_base.specs.State.{advanced, next_block, next_words};
-ghost use Rattle.chacha_base.specs.Counts.{after_tail};
+ghost use Rattle.chacha_base.specs.Counts.{Grows, for_tail};
 
 use crate::backends::counter::{advance, last_rows};
 use crate::backends::group::{Group, mixed};
@@ -97,7 +97,8 @@ pub fn next_tail<R: Rounds, V: Variant, G: Group, const W: usize>(
     ensures blocks { (i : ℕ) → i < length blocks.old
         → slice_get blocks.new i ≡ Some (next_block R.COUNT V.layout state.old i) }
     ensures state { state.new ≡ advanced V.layout (length blocks.old) state.old }
-    ensures steps { steps.new ≡ after_tail (2 * G.ROUND_STEPS * R.COUNT) (length blocks.old) steps.old }
+    ensures steps { Grows (for_tail (2 * G.ROUND_STEPS * R.COUNT) (length blocks.old)) steps.old steps.new }
+    ensures rounds { steps.new.rounds ≡ steps.old.rounds + min 1 (length blocks.old) * (2 * G.ROUND_STEPS) * R.COUNT }
 {
     if !blocks.is_empty() {
         steps.add_other();

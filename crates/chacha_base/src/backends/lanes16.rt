@@ -1,9 +1,11 @@
 //! Sixteen blocks at once, in vectors of sixteen words.
 
-ghost use Rattle.chacha_base.specs.Counts.{tail_of_16};
+ghost use Rattle.std.specs.Prelude.{◌≡◌, ◌≤◌, ◌<◌, ℕ, ◌+◌, ◌*◌, min, length, slice_get, Some};
+ghost use Rattle.chacha_base.specs.Counts.{Grows, for_tail, tail_of_16};
+ghost use Rattle.chacha_base.specs.State.{advanced, next_block};
 
 use crate::backends::columns::Columns;
-use crate::backends::group::{InRows, Two};
+use crate::backends::group::{Group, InRows, Two};
 use crate::backends::kernel::{next_all, next_four, next_one, next_tail};
 use crate::backends::shift::ShiftCda;
 use crate::cipher::{ParBlocksSizeUser, RngBackend, StreamCipherBackend};
@@ -26,6 +28,26 @@ type Four = InRows<u32x16, ShiftCda>;
 type Eight = Two<Four>;
 
 type Sixteen = Two<Eight>;
+
+// A tail by a group that takes no more quarter rounds than a tail of its length may.
+#[inline(always)]
+fn tail_by<R: Rounds, V: Variant, G: Group, const W: usize>(
+    state: &mut [u32; 16],
+    blocks: &mut [[u8; 64]],
+    steps: &mut Steps,
+)
+    requires width { G.BLOCKS ≡ W }
+    requires few { W ≤ 16 }
+    requires within { length blocks.old ≤ W }
+    requires narrowest { min 1 (length blocks.old) * (2 * G.ROUND_STEPS) ≡ tail_of_16 (length blocks.old) }
+    ensures blocks { (i : ℕ) → i < length blocks.old
+        → slice_get blocks.new i ≡ Some (next_block R.COUNT V.layout state.old i) }
+    ensures state { state.new ≡ advanced V.layout (length blocks.old) state.old }
+    ensures steps { Grows (for_tail (2 * R.COUNT) (length blocks.old)) steps.old steps.new }
+    ensures rounds { steps.new.rounds ≡ steps.old.rounds + tail_of_16 (length blocks.old) * R.COUNT }
+{
+    next_tail::<R, V, G, W>(state, blocks, steps);
+}
 
 impl ParBlocksSizeUser for Lanes16 {
     ghost use Rattle.std.proofs.Common.{lit≤};
@@ -62,11 +84,11 @@ impl<R: Rounds, V: Variant> StreamCipherBackend<R, V> for Lanes16 {
 
     fn gen_tail_blocks(state: &mut [u32; 16], blocks: &mut [[u8; 64]], steps: &mut Steps) {
         match blocks.len() {
-            0 | 1 => next_tail::<R, V, One, 1>(state, blocks, steps),
-            2 => next_tail::<R, V, Pair, 2>(state, blocks, steps),
-            3 | 4 => next_tail::<R, V, Four, 4>(state, blocks, steps),
-            5..=8 => next_tail::<R, V, Eight, 8>(state, blocks, steps),
-            _ => next_tail::<R, V, Sixteen, 16>(state, blocks, steps),
+            0 | 1 => tail_by::<R, V, One, 1>(state, blocks, steps),
+            2 => tail_by::<R, V, Pair, 2>(state, blocks, steps),
+            3 | 4 => tail_by::<R, V, Four, 4>(state, blocks, steps),
+            5..=8 => tail_by::<R, V, Eight, 8>(state, blocks, steps),
+            _ => tail_by::<R, V, Sixteen, 16>(state, blocks, steps),
         }
     }
 }
