@@ -23,7 +23,8 @@ use std::test::Fail;
 
 type Ietf20<B> = StreamCipherCoreWrapper<ChaChaCore<R20, Ietf, B>>;
 
-// A message under a key and a nonce, as RFC 8439 has it: two public contracts say so, with no proof of ours.
+// A message under a key and a nonce, as RFC 8439 has it. The proof rewrites by the clauses of two public contracts, and
+// knows nothing else.
 fn encrypt(key: &Key, nonce: &Nonce, message: &mut [u8]) -> Result<(), StreamCipherError>
     ensures accepted { IsOk result ↔ (length message.old ≤ 274877906880) }
     ensures bytes { OnOk result (message.new ≡ applied (keystream (2 ^ 32) (block 10 ietf key.now nonce.now)) 0 message.old) }
