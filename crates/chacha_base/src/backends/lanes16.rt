@@ -29,7 +29,7 @@ type Eight = Two<Four>;
 
 type Sixteen = Two<Eight>;
 
-// A tail by a group that takes no more quarter rounds than a tail of its length may.
+// A tail by the narrowest group that holds it.
 #[inline(always)]
 fn tail_by<R: Rounds, V: Variant, G: Group, const W: usize>(
     state: &mut [u32; 16],
