@@ -1,9 +1,10 @@
 -- Worked answers of generators with ten double rounds, so that a wrong place of stream or counter in a definition, or a
 -- position that doesn't wrap, does not check.
 use Rattle.std.proofs.Common.{◌≡◌, ℕ, ◌-◌, ◌*◌, ◌^◌, List, [], ◌∷◌, ◌++◌, replicate, refl}
+use Rattle.chacha_base.specs.Keystream.{stream_part}
 use Rattle.chacha_base.specs.QuarterRound.{quarter}
 use Rattle.chacha_base.specs.Rounds.{columns, diagonals, rounds, add_states}
-use Rattle.chacha20.specs.Generator.{Generator, next_u32, next_u64, fill, words_from, at}
+use Rattle.chacha20.specs.Generator.{Generator, next_u32, next_u64, fill, word, at_word_pos}
 use Rattle.chacha20.specs.StateBytes.{state_bytes, of_state_bytes}
 
 -- the seed 01 to 20
@@ -24,22 +25,22 @@ pub first_fill : fill 10 of_seed 13
 unfolding quarter columns diagonals rounds add_states
 first_fill = refl
 
-pub second_fill : fill 10 (at of_seed 4) 13
+pub second_fill : fill 10 (at_word_pos of_seed 4) 13
     ≡ (0xa7 ∷ 0xa3 ∷ 0xfc ∷ 0x13 ∷ 0x4f ∷ 0x14 ∷ 0x98 ∷ 0x80 ∷ 0xe8 ∷ 0xbb ∷ 0x2b ∷ 0x5d ∷ 0x23 ∷ [], record of_seed { word_pos = 8 })
 unfolding quarter columns diagonals rounds add_states
 second_fill = refl
 
 -- a stream and a counter whose bytes differ
-pub other_stream : words_from 10 (record {
+pub other_stream : stream_part (word 10 (record {
   seed = 0x00 ∷ 0x01 ∷ 0x02 ∷ 0x03 ∷ 0x04 ∷ 0x05 ∷ 0x06 ∷ 0x07 ∷ 0x08 ∷ 0x09 ∷ 0x0a ∷ 0x0b ∷ 0x0c ∷ 0x0d ∷ 0x0e ∷ 0x0f
       ∷ 0x10 ∷ 0x11 ∷ 0x12 ∷ 0x13 ∷ 0x14 ∷ 0x15 ∷ 0x16 ∷ 0x17 ∷ 0x18 ∷ 0x19 ∷ 0x1a ∷ 0x1b ∷ 0x1c ∷ 0x1d ∷ 0x1e ∷ 0x1f ∷ [];
   stream = 0x4a000000;
   word_pos = 0;
-}) (16 * 0x0900000000000001) 4 ≡ 0xe4e7f110 ∷ 0x15593bd1 ∷ 0x1fdd0f50 ∷ 0xc47120a3 ∷ []
+})) (16 * 0x0900000000000001) 4 ≡ 0xe4e7f110 ∷ 0x15593bd1 ∷ 0x1fdd0f50 ∷ 0xc47120a3 ∷ []
 unfolding quarter columns diagonals rounds add_states
 other_stream = refl
 
-pub fifth : next_u32 10 (at of_zeros 4) ≡ (0xb819d2bd, record of_zeros { word_pos = 5 })
+pub fifth : next_u32 10 (at_word_pos of_zeros 4) ≡ (0xb819d2bd, record of_zeros { word_pos = 5 })
 unfolding quarter columns diagonals rounds add_states
 fifth = refl
 
@@ -48,7 +49,7 @@ unfolding quarter columns diagonals rounds add_states
 high_stream = refl
 
 -- the last word before the position wraps, and the first after it
-pub wraps : next_u64 10 (at of_zeros (2 ^ 68 - 1)) ≡ (0xade0b8768976b107, record of_zeros { word_pos = 1 })
+pub wraps : next_u64 10 (at_word_pos of_zeros (2 ^ 68 - 1)) ≡ (0xade0b8768976b107, record of_zeros { word_pos = 1 })
 unfolding quarter columns diagonals rounds add_states
 wraps = refl
 

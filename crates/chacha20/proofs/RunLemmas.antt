@@ -1,129 +1,107 @@
 -- Lists of calls that apply a keystream, and runs of any calls whose answers are written one after another.
-use Rattle.std.proofs.Common.{inl, inr, ◌≡◌, ℕ, ◌+◌, ◌≤◌, List, [], ◌∷◌, ◌++◌, length, take, drop, arith, refl, sym, ap, ap₂, subst, ◌∙◌, append_assoc, append-nil, length-append, length-drop}
+use Rattle.std.proofs.Common.{inl, inr, ◌≡◌, ℕ, ◌+◌, ◌-◌, ◌≤◌, List, [], ◌∷◌, ◌++◌, length, take, drop, arith, refl, sym, ap, ap₂, subst, ◌∙◌, append_assoc, append-nil, length-drop}
 use Rattle.std.specs.Prelude.{sum, nat_le}
 use Rattle.std.specs.List.{AllByRecursion}
-use Rattle.std.proofs.lemmas.List.{take_at, take_all, drop_at, drop_all, drop-drop, length-take-le, take-append-drop}
+use Rattle.std.proofs.lemmas.List.{take_all, drop_all, drop-drop, length-take-le}
+use Rattle.std.proofs.lemmas.Slice.{take-put_mid, drop-put_mid, between-put_mid}
+use borrow.Rule.Slice.PartMut.{put_same, same_len_mid, take_put}
 use Rattle.std.proofs.lemmas.List.Sums.{sum_by-cons}
 use Rattle.std.proofs.Math.Seq.{take-add}
 use Rattle.std.proofs.lemmas.Bool.{le-leb, leb-true, cases_Bool}
-use Rattle.std.specs.Int.Bits.{bit_xor, xor_assoc, xor_self, xor_zero_r}
 use Rattle.chacha_base.specs.Cipher.{Cipher}
-use Rattle.chacha_base.specs.Keystream.{applied}
-use Rattle.chacha_base.proofs.KeystreamLemmas.{applied-append, length-applied}
+use Rattle.chacha_base.specs.Keystream.{xor_stream}
+use Rattle.chacha_base.proofs.KeystreamLemmas.{xor_stream-append, xor_stream-xor_stream, length-xor_stream}
 use Rattle.chacha20.specs.declared.runs.CipherCall.{CipherCall}
 use Rattle.chacha20.specs.declared.runs.CipherCall.TheVariants.{Apply, Seek}
 use Rattle.chacha20.specs.declared.runs.CipherAnswer.{CipherAnswer}
 use Rattle.chacha20.specs.declared.runs.CipherAnswer.TheVariants.{Done, Refused}
-use Rattle.chacha20.specs.Runs.{Setting, Outcome, part, put, outcome_of, run_of, InSlices, pieces}
+use Rattle.chacha20.specs.Runs.{Setting, CipherOutcome, part, put, cipher_outcome, cipher_run, InSlices, pieces}
 
--- a range that was put in, and what lies before and behind it
-pub part-put : (at len : ℕ) (ys xs : List ℕ) → at ≤ length xs → length ys ≡ len → part at len (put at len ys xs) ≡ ys
+-- a range as its front and what follows
+part-add : (at len more : ℕ) (xs : List ℕ) → part at (len + more) xs ≡ part at len xs ++ part (at + len) more xs
+part-add at len more xs = take-add len more (drop at xs) ∙ ap (λ t. take len (drop at xs) ++ take more t) (drop-drop len at xs)
+
+length-part : (at len : ℕ) (xs : List ℕ) → at + len ≤ length xs → length (part at len xs) ≡ len
+length-part at len xs inside = length-take-le len (drop at xs) (omega (arith, length-drop at xs))
+
+-- a range put in, read again
+part-put : (at len : ℕ) (ys xs : List ℕ) → at ≤ length xs → length ys ≡ len → part at len (put at len ys xs) ≡ ys
 part-put at len ys xs inside size =
-    let front : length (take at xs) ≡ at = length-take-le at xs inside in
-    ap (take len) (drop_at (take at xs) (ys ++ drop len (drop at xs)) at front) ∙ take_at ys (drop len (drop at xs)) len size
+    let width : at + len - at ≡ len = omega arith in rw width at (between-put_mid at len xs ys (at + len) inside (omega arith))
 
-pub drop-put : (at len : ℕ) (ys xs : List ℕ) → at ≤ length xs → length ys ≡ len → drop (at + len) (put at len ys xs) ≡ drop (at + len) xs
-drop-put at len ys xs inside size =
-    let front : length (take at xs) ≡ at = length-take-le at xs inside in
-    sym (drop-drop len at (put at len ys xs))
-    ∙ ap (drop len) (drop_at (take at xs) (ys ++ drop len (drop at xs)) at front)
-    ∙ drop_at ys (drop len (drop at xs)) len size
-    ∙ drop-drop len at xs
-
-pub take-put : (at len : ℕ) (ys xs : List ℕ) → at ≤ length xs → length ys ≡ len → take (at + len) (put at len ys xs) ≡ take at xs ++ ys
-take-put at len ys xs inside size =
-    let front : length (take at xs) ≡ at = length-take-le at xs inside in
-    take-add at len (put at len ys xs)
-    ∙ ap₂ ◌++◌ (take_at (take at xs) (ys ++ drop len (drop at xs)) at front) (part-put at len ys xs inside size)
-
--- the same range put in again
-pub put-put : (at len : ℕ) (ys zs xs : List ℕ) → at ≤ length xs → length ys ≡ len → put at len zs (put at len ys xs) ≡ put at len zs xs
+-- the same range put in again, and one behind it
+put-put : (at len : ℕ) (ys zs xs : List ℕ) → at ≤ length xs → length ys ≡ len → put at len zs (put at len ys xs) ≡ put at len zs xs
 put-put at len ys zs xs inside size =
-    let front : length (take at xs) ≡ at = length-take-le at xs inside in
-    ap₂ (λ a b. a ++ (zs ++ b)) (take_at (take at xs) (ys ++ drop len (drop at xs)) at front)
-    (ap (drop len) (drop_at (take at xs) (ys ++ drop len (drop at xs)) at front) ∙ drop_at ys (drop len (drop at xs)) len size)
+    ap₂ (λ a b. a ++ (zs ++ b)) (take_put at len xs ys inside)
+    (drop-drop len at (put at len ys xs) ∙ drop-put_mid at len xs ys (at + len) (omega arith) inside size ∙ sym (drop-drop len at xs))
 
--- a range put in as it was
-pub put-part : (at len : ℕ) (xs : List ℕ) → put at len (part at len xs) xs ≡ xs
-put-part at len xs = ap (λ t. take at xs ++ t) (take-append-drop len (drop at xs)) ∙ take-append-drop at xs
-
--- a range after another
-pub put-next : (at len more : ℕ) (ys zs xs : List ℕ) → at + len ≤ length xs → length ys ≡ len
+put-next : (at len more : ℕ) (ys zs xs : List ℕ) → at ≤ length xs → length ys ≡ len
     → put (at + len) more zs (put at len ys xs) ≡ put at (len + more) (ys ++ zs) xs
 put-next at len more ys zs xs inside size =
-    ap₂ (λ a b. a ++ (zs ++ drop more b)) (take-put at len ys xs (omega arith) size) (drop-put at len ys xs (omega arith) size ∙ sym (drop-drop len at xs))
+    ap₂ (λ a b. a ++ (zs ++ drop more b)) (take-put_mid at len xs ys (at + len) (omega arith) inside)
+    (drop-put_mid at len xs ys (at + len) (omega arith) inside size ∙ sym (drop-drop len at xs))
     ∙ append_assoc (take at xs) ys (zs ++ drop more (drop len (drop at xs)))
     ∙ ap (λ t. take at xs ++ t) (sym (append_assoc ys zs (drop more (drop len (drop at xs))))
     ∙ ap (λ t. (ys ++ zs) ++ t) (drop-drop more len (drop at xs)))
 
-pub length-put : (at len : ℕ) (ys xs : List ℕ) → at + len ≤ length xs → length ys ≡ len → length (put at len ys xs) ≡ length xs
-length-put at len ys xs inside size =
-    simp (length-append, length-drop) (omega (arith, length-take-le at xs (omega arith)))
-
 -- an application that is accepted
-pub accepted-apply : (s : Setting) (c : Cipher) (bytes : List ℕ) (at len : ℕ) → c.position + len ≤ s.limit
-    → outcome_of s c bytes (Apply at len)
-    ≡ record { answer = Done; cipher = record c { position = c.position + len }; bytes = put at len (applied (s.stream c.fixed) c.position (part at len bytes)) bytes }
+accepted-apply : (s : Setting) (c : Cipher) (bytes : List ℕ) (at len : ℕ) → c.position + len ≤ s.limit
+    → cipher_outcome s c bytes (Apply at len)
+    ≡ record { answer = Done; cipher = record c { position = c.position + len }; bytes = put at len (xor_stream (s.stream c.fixed) c.position (part at len bytes)) bytes }
 accepted-apply s c bytes at len fits = rw (le-leb (c.position + len) s.limit fits) refl
 
 -- pieces that lie in the data lie in it together
-pub pieces-fit : (input n at len : ℕ) (lens : List ℕ) → AllByRecursion (InSlices input n) (pieces at (len ∷ lens)) → at + (len + sum lens) ≤ n
+pieces-fit : (input n at len : ℕ) (lens : List ℕ) → AllByRecursion (InSlices input n) (pieces at (len ∷ lens)) → at + (len + sum lens) ≤ n
 pieces-fit input n at len [] h = let here : at + len ≤ n = h.0 in omega arith
 pieces-fit input n at len (l ∷ ls) h =
     omega (arith, pieces-fit input n (at + len) l ls h.1, sum_by-cons (λ x. x) l ls)
 
 -- a range that is applied piece by piece is applied as a whole
-pub run-pieces : (s : Setting) (input : ℕ) (at : ℕ) (lens : List ℕ) (c : Cipher) (bytes : List ℕ)
+run-pieces : (s : Setting) (input : ℕ) (at : ℕ) (lens : List ℕ) (c : Cipher) (bytes : List ℕ)
     → AllByRecursion (InSlices input (length bytes)) (pieces at lens) → c.position + sum lens ≤ s.limit
-    → ((run_of s c bytes (pieces at lens)).1 ≡ record c { position = c.position + sum lens })
-    × ((run_of s c bytes (pieces at lens)).2 ≡ put at (sum lens) (applied (s.stream c.fixed) c.position (part at (sum lens) bytes)) bytes)
+    → ((cipher_run s c bytes (pieces at lens)).1 ≡ record c { position = c.position + sum lens })
+    × ((cipher_run s c bytes (pieces at lens)).2 ≡ put at (sum lens) (xor_stream (s.stream c.fixed) c.position (part at (sum lens) bytes)) bytes)
 run-pieces s input at [] c bytes ranges fits =
     let still : c.position + 0 ≡ c.position = omega arith in
-    (ap (λ p. record c { position = p }) (sym still), sym (take-append-drop at bytes))
+    (ap (λ p. record c { position = p }) (sym still), sym (put_same at 0 bytes))
 run-pieces s input at (len ∷ lens) c bytes ranges fits =
     let p = c.position in
     let stream = s.stream c.fixed in
     let more = sum lens in
     let all : sum (len ∷ lens) ≡ len + more = sum_by-cons (λ x. x) len lens in
-    let ys = applied stream p (part at len bytes) in
+    let ys = xor_stream stream p (part at len bytes) in
     let c1 : Cipher = record c { position = p + len } in
     let b1 = put at len ys bytes in
     let inside : at + (len + more) ≤ length bytes = pieces-fit input (length bytes) at len lens ranges in
-    let first : length (part at len bytes) ≡ len = length-take-le len (drop at bytes) (omega (arith, length-drop at bytes)) in
-    let size : length ys ≡ len = length-applied stream p (part at len bytes) ∙ first in
-    let long : length b1 ≡ length bytes = length-put at len ys bytes (omega arith) size in
+    let first : length (part at len bytes) ≡ len = length-part at len bytes (omega arith) in
+    let size : length ys ≡ len = length-xor_stream stream p (part at len bytes) ∙ first in
+    let long : length b1 ≡ length bytes = same_len_mid at len bytes ys (length-xor_stream stream p (part at len bytes)) in
     let rest = subst (λ n. AllByRecursion (InSlices input n) (pieces (at + len) lens)) (sym long) ranges.1 in
     let next = run-pieces s input (at + len) lens c1 b1 rest (omega arith) in
-    let behind : part (at + len) more b1 ≡ take more (drop len (drop at bytes)) =
-    ap (take more) (drop-put at len ys bytes (omega arith) size ∙ sym (drop-drop len at bytes)) in
-    let joined : ys ++ applied stream (p + len) (part (at + len) more b1) ≡ applied stream p (part at (len + more) bytes) =
-    ap (λ t. ys ++ applied stream (p + len) t) behind
-    ∙ sym (ap (λ k. ys ++ applied stream (p + k) (take more (drop len (drop at bytes)))) first)
-    ∙ sym (applied-append stream p (part at len bytes) (take more (drop len (drop at bytes))))
-    ∙ ap (applied stream p) (sym (take-add len more (drop at bytes))) in
+    let behind : part (at + len) more b1 ≡ part (at + len) more bytes =
+    ap (take more) (drop-put_mid at len bytes ys (at + len) (omega arith) (omega arith) size) in
+    let joined : ys ++ xor_stream stream (p + len) (part (at + len) more b1) ≡ xor_stream stream p (part at (len + more) bytes) =
+    ap₂ (λ k t. ys ++ xor_stream stream (p + k) t) (sym first) behind
+    ∙ sym (xor_stream-append stream p (part at len bytes) (part (at + len) more bytes))
+    ∙ ap (xor_stream stream p) (sym (part-add at len more bytes)) in
     let place : p + len + more ≡ p + sum (len ∷ lens) = omega (arith, all) in
-    let whole = put at (sum (len ∷ lens)) (applied stream p (part at (sum (len ∷ lens)) bytes)) bytes in
-    let after = λ (a : Outcome). run_of s a.cipher a.bytes (pieces (at + len) lens) in
-    subst (λ (a : Outcome). ((after a).1 ≡ record c { position = p + sum (len ∷ lens) }) × ((after a).2 ≡ whole))
+    let whole = put at (sum (len ∷ lens)) (xor_stream stream p (part at (sum (len ∷ lens)) bytes)) bytes in
+    let after = λ (a : CipherOutcome). cipher_run s a.cipher a.bytes (pieces (at + len) lens) in
+    subst (λ (a : CipherOutcome). ((after a).1 ≡ record c { position = p + sum (len ∷ lens) }) × ((after a).2 ≡ whole))
     (sym (accepted-apply s c bytes at len (omega (arith, all)))) (
       next.0 ∙ ap (λ q. record c { position = q }) place,
       next.1
-          ∙ put-next at len more ys (applied stream (p + len) (part (at + len) more b1)) bytes (omega arith) size
-          ∙ ap₂ (λ n zs. put at n zs bytes) (sym all) (joined ∙ ap (λ n. applied stream p (part at n bytes)) (sym all)),
+          ∙ put-next at len more ys (xor_stream stream (p + len) (part (at + len) more b1)) bytes (omega arith) size
+          ∙ ap₂ (λ n zs. put at n zs bytes) (sym all) (joined ∙ ap (λ n. xor_stream stream p (part at n bytes)) (sym all)),
     )
 
--- to apply a keystream twice is to leave the bytes alone
-pub applied-applied : (stream : ℕ → ℕ) (p : ℕ) (xs : List ℕ) → applied stream p (applied stream p xs) ≡ xs
-applied-applied stream p [] = refl
-applied-applied stream p (x ∷ xs) =
-    ap₂ ◌∷◌ (xor_assoc x (stream p) (stream p) ∙ ap (bit_xor x) (xor_self (stream p)) ∙ xor_zero_r x) (applied-applied stream (p + 1) xs)
-
-pub accepted-seek : (s : Setting) (c : Cipher) (bytes : List ℕ) (p : ℕ) → p ≤ s.limit
-    → outcome_of s c bytes (Seek p) ≡ record { answer = Done; cipher = record c { position = p }; bytes = bytes }
+-- a seek that is accepted
+accepted-seek : (s : Setting) (c : Cipher) (bytes : List ℕ) (p : ℕ) → p ≤ s.limit
+    → cipher_outcome s c bytes (Seek p) ≡ record { answer = Done; cipher = record c { position = p }; bytes = bytes }
 accepted-seek s c bytes p fits = rw (le-leb p s.limit fits) refl
 
 -- an application that was answered by `Done`
-pub done-apply : (s : Setting) (c : Cipher) (bytes : List ℕ) (at len : ℕ) → (outcome_of s c bytes (Apply at len)).answer ≡ Done → c.position + len ≤ s.limit
+done-apply : (s : Setting) (c : Cipher) (bytes : List ℕ) (at len : ℕ) → (cipher_outcome s c bytes (Apply at len)).answer ≡ Done → c.position + len ≤ s.limit
 done-apply s c bytes at len done =
     elim (cases_Bool (nat_le (c.position + len) s.limit)) [
       | inl within ↦ leb-true (c.position + len) s.limit within
@@ -131,30 +109,30 @@ done-apply s c bytes at len done =
     ]
 
 -- a range that is applied, and applied again after a seek back, is as it was
-pub run-seek_back : (s : Setting) (c : Cipher) (bytes : List ℕ) (at len : ℕ) → at + len ≤ length bytes
-    → (run_of s c bytes (Apply at len ∷ Seek c.position ∷ Apply at len ∷ [])).0 ≡ Done ∷ Done ∷ Done ∷ []
-    → ((run_of s c bytes (Apply at len ∷ Seek c.position ∷ Apply at len ∷ [])).1 ≡ record c { position = c.position + len })
-    × ((run_of s c bytes (Apply at len ∷ Seek c.position ∷ Apply at len ∷ [])).2 ≡ bytes)
+run-seek_back : (s : Setting) (c : Cipher) (bytes : List ℕ) (at len : ℕ) → at + len ≤ length bytes
+    → (cipher_run s c bytes (Apply at len ∷ Seek c.position ∷ Apply at len ∷ [])).0 ≡ Done ∷ Done ∷ Done ∷ []
+    → ((cipher_run s c bytes (Apply at len ∷ Seek c.position ∷ Apply at len ∷ [])).1 ≡ record c { position = c.position + len })
+    × ((cipher_run s c bytes (Apply at len ∷ Seek c.position ∷ Apply at len ∷ [])).2 ≡ bytes)
 run-seek_back s c bytes at len inside done =
     let p = c.position in
     let stream = s.stream c.fixed in
     let end : Cipher = record c { position = p + len } in
-    let first : (outcome_of s c bytes (Apply at len)).answer ≡ Done = cc in
+    let first : (cipher_outcome s c bytes (Apply at len)).answer ≡ Done = cc in
     let fits : p + len ≤ s.limit = done-apply s c bytes at len first in
     let old = part at len bytes in
-    let size : length (applied stream p old) ≡ len = length-applied stream p old ∙ length-take-le len (drop at bytes) (omega (arith, length-drop at bytes)) in
-    let b1 = put at len (applied stream p old) bytes in
-    let after = λ (ks : List CipherCall) (a : Outcome). run_of s a.cipher a.bytes ks in
-    let Back : List CipherCall → Outcome → Type 0 = λ ks a. ((after ks a).1 ≡ end) × ((after ks a).2 ≡ bytes) in
-    let again : part at len b1 ≡ applied stream p old = part-put at len (applied stream p old) bytes (omega arith) size in
+    let size : length (xor_stream stream p old) ≡ len = length-xor_stream stream p old ∙ length-part at len bytes inside in
+    let b1 = put at len (xor_stream stream p old) bytes in
+    let after = λ (ks : List CipherCall) (a : CipherOutcome). cipher_run s a.cipher a.bytes ks in
+    let Back : List CipherCall → CipherOutcome → Type 0 = λ ks a. ((after ks a).1 ≡ end) × ((after ks a).2 ≡ bytes) in
+    let again : part at len b1 ≡ xor_stream stream p old = part-put at len (xor_stream stream p old) bytes (omega arith) size in
     subst (Back (Seek p ∷ Apply at len ∷ [])) (sym (accepted-apply s c bytes at len fits))
     (subst (Back (Apply at len ∷ [])) (sym (accepted-seek s end b1 p (omega arith)))
     (subst (Back []) (sym (accepted-apply s c b1 at len fits)) (
       refl,
-      ap (λ t. put at len (applied stream p t) b1) again
-          ∙ ap (λ t. put at len t b1) (applied-applied stream p old)
-          ∙ put-put at len (applied stream p old) old bytes (omega arith) size
-          ∙ put-part at len bytes,
+      ap (λ t. put at len (xor_stream stream p t) b1) again
+          ∙ ap (λ t. put at len t b1) (xor_stream-xor_stream stream p old)
+          ∙ put-put at len (xor_stream stream p old) old bytes (omega arith) size
+          ∙ put_same at len bytes,
     )))
 
 -- the end of a run whose answers have been written one after another; `rest` is the run of what is left, from there on
@@ -168,21 +146,21 @@ run-all whole rest end new calls answers i none ran all same =
 
 -- the two laws, of any run of such calls
 pub law-seek_back : (s : Setting) (input : ℕ) (c d : Cipher) (old new : List ℕ) (calls : List CipherCall) (answers : List CipherAnswer) (at len : ℕ)
-    → (answers, d, new) ≡ run_of s c old calls → AllByRecursion (InSlices input (length old)) calls
+    → (answers, d, new) ≡ cipher_run s c old calls → AllByRecursion (InSlices input (length old)) calls
     → calls ≡ Apply at len ∷ Seek c.position ∷ Apply at len ∷ [] → answers ≡ Done ∷ Done ∷ Done ∷ []
     → (d ≡ record c { position = c.position + len }) × (new ≡ old)
 law-seek_back s input c d old new calls answers at len ran ranges these done =
-    let all = ran ∙ ap (run_of s c old) these in
+    let all = ran ∙ ap (cipher_run s c old) these in
     let inside = subst (AllByRecursion (InSlices input (length old))) these ranges in
     let back = run-seek_back s c old at len inside.0 (sym (ap (λ r. r.0) all) ∙ done) in
     (ap (λ r. r.1) all ∙ back.0, ap (λ r. r.2) all ∙ back.1)
 
 pub law-cut_anywhere : (s : Setting) (input : ℕ) (c d : Cipher) (old new : List ℕ) (calls : List CipherCall) (answers : List CipherAnswer) (at : ℕ) (lens : List ℕ)
-    → (answers, d, new) ≡ run_of s c old calls → AllByRecursion (InSlices input (length old)) calls → calls ≡ pieces at lens
-    → (outcome_of s c old (Apply at (sum lens))).answer ≡ Done
-    → (d ≡ (outcome_of s c old (Apply at (sum lens))).cipher) × (new ≡ (outcome_of s c old (Apply at (sum lens))).bytes)
+    → (answers, d, new) ≡ cipher_run s c old calls → AllByRecursion (InSlices input (length old)) calls → calls ≡ pieces at lens
+    → (cipher_outcome s c old (Apply at (sum lens))).answer ≡ Done
+    → (d ≡ (cipher_outcome s c old (Apply at (sum lens))).cipher) × (new ≡ (cipher_outcome s c old (Apply at (sum lens))).bytes)
 law-cut_anywhere s input c d old new calls answers at lens ran ranges these done =
-    let all = ran ∙ ap (run_of s c old) these in
+    let all = ran ∙ ap (cipher_run s c old) these in
     let fits : c.position + sum lens ≤ s.limit = done-apply s c old at (sum lens) done in
     let cut = run-pieces s input at lens c old (subst (AllByRecursion (InSlices input (length old))) these ranges) fits in
     let whole = sym (accepted-apply s c old at (sum lens) fits) in

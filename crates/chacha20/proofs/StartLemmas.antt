@@ -6,17 +6,15 @@ use Rattle.chacha_base.specs.Block.{constants, start, block}
 use Rattle.chacha_base.specs.Bytes.{bytes}
 use Rattle.chacha_base.specs.Layout.{Layout}
 use Rattle.chacha_base.specs.Rounds.{mix}
-use Rattle.chacha_base.specs.State.{block_of, fixed_words}
+use Rattle.chacha_base.specs.State.{state_block, fixed_words}
 use Rattle.chacha_base.proofs.BytesLemmas.{length-words}
 use Rattle.chacha_base.proofs.ListLemmas.{each}
-use Rattle.chacha_base.proofs.StateLemmas.{start-joined}
+use Rattle.chacha_base.proofs.StateLemmas.{fixed_words-start, state_of-start}
 
--- sixteen zeros with their first four words written, and then a key of eight and a row of four
-pub written : (first key row : List ℕ) → first ≡ constants → length key ≡ 8 → length row ≡ 4
-    → put_mid 12 4 (put_mid 4 8 (first ++ replicate 12 0) key) row ≡ constants ++ key ++ row
-written first key row same eight four =
-    ap (λ f. put_mid 12 4 (put_mid 4 8 (f ++ replicate 12 0) key) row) same
-    ∙ each 8 (λ ks. put_mid 12 4 (put_mid 4 8 (constants ++ replicate 12 0) ks) row ≡ constants ++ ks ++ row)
+-- the constants and twelve zeros, with a key of eight and a row of four written over these
+pub written : (key row : List ℕ) → length key ≡ 8 → length row ≡ 4 → put_mid 12 4 (put_mid 4 8 (constants ++ replicate 12 0) key) row ≡ constants ++ key ++ row
+written key row eight four =
+    each 8 (λ ks. put_mid 12 4 (put_mid 4 8 (constants ++ replicate 12 0) ks) row ≡ constants ++ ks ++ row)
     (λ x0 x1 x2 x3 x4 x5 x6 x7.
     each 4 (λ r. put_mid 12 4 (put_mid 4 8 (constants ++ replicate 12 0) (x0 ∷ x1 ∷ x2 ∷ x3 ∷ x4 ∷ x5 ∷ x6 ∷ x7 ∷ [])) r
     ≡ constants ++ (x0 ∷ x1 ∷ x2 ∷ x3 ∷ x4 ∷ x5 ∷ x6 ∷ x7 ∷ []) ++ r)
@@ -31,8 +29,9 @@ legacy_row_written = each 2 (λ ns. put_mid 2 2 (replicate 4 0) ns ≡ 0 ∷ 0 �
 
 -- the blocks of the start state of a key and a nonce
 pub blocks-of-start : (n : ℕ) (layout : Layout) (key nonce s : List ℕ) → length key ≡ 32 → s ≡ start layout key nonce 0
-    → block_of n layout (fixed_words layout s) ≡ block n layout key nonce
+    → state_block n layout (fixed_words layout s) ≡ block n layout key nonce
 blocks-of-start n layout key nonce s long same =
-    fun_ext (λ counter.
-    ap (λ t. block_of n layout (fixed_words layout t) counter) same
-    ∙ ap (λ t. bytes (mix n t)) (start-joined layout key nonce counter (length-words 8 key long)))
+    let eight = length-words 8 key long in
+    fun_ext (λ c.
+    ap (λ f. state_block n layout f c) (ap (fixed_words layout) same ∙ fixed_words-start layout key nonce 0 eight)
+    ∙ ap (λ t. bytes (mix n t)) (state_of-start layout key nonce c eight))

@@ -1,17 +1,15 @@
 -- Arrays that are written part by part.
-use Rattle.std.proofs.Common.{◌≡◌, ℕ, List, ◌++◌, length, take, drop, replicate, refl, ap, ap₂, ◌∙◌}
+use Rattle.std.proofs.Common.{◌≡◌, ℕ, List, ◌++◌, length, take, drop, replicate, refl, ap, ◌∙◌}
 use borrow.Rule.Slice.PartMut.{put_mid}
 use Rattle.chacha_base.specs.Bytes.{bytes}
 use Rattle.chacha_base.proofs.ListLemmas.{each}
 use Rattle.chacha20.specs.XChaCha.{subnonce}
 
 -- the bytes of a state's first and last row, written to the halves of 32 zeros
-pub rows_written : (front back s : List ℕ) → front ≡ bytes (take 4 s) → back ≡ bytes (take 4 (drop 12 s)) → length s ≡ 16
-    → put_mid 16 16 (front ++ replicate 16 0) back ≡ bytes (take 4 s ++ drop 12 s)
-rows_written front back s first last sixteen =
-    ap₂ (λ f b. put_mid 16 16 (f ++ replicate 16 0) b) first last
-    ∙ each 16 (λ s. put_mid 16 16 (bytes (take 4 s) ++ replicate 16 0) (bytes (take 4 (drop 12 s))) ≡ bytes (take 4 s ++ drop 12 s))
-    (λ x0 x1 x2 x3 x4 x5 x6 x7 x8 x9 x10 x11 x12 x13 x14 x15. refl) s sixteen
+pub rows_written : (s : List ℕ) → length s ≡ 16 → put_mid 16 16 (bytes (take 4 s) ++ replicate 16 0) (bytes (take 4 (drop 12 s))) ≡ bytes (take 4 s ++ drop 12 s)
+rows_written =
+    each 16 (λ s. put_mid 16 16 (bytes (take 4 s) ++ replicate 16 0) (bytes (take 4 (drop 12 s))) ≡ bytes (take 4 s ++ drop 12 s))
+    (λ x0 x1 x2 x3 x4 x5 x6 x7 x8 x9 x10 x11 x12 x13 x14 x15. refl)
 
 -- the last eight bytes of a nonce of 24, written behind four of twelve zeros
 pub subnonce_written : (nonce back : List ℕ) → length nonce ≡ 24 → back ≡ take 8 (drop 16 nonce) → put_mid 4 8 (replicate 12 0) back ≡ subnonce nonce

@@ -1,11 +1,13 @@
 -- Generators of words: a seed, a stream, and a position that counts words and wraps (this crate).
-use Rattle.std.specs.Prelude.{ℕ, zero, suc, ◌+◌, ◌*◌, ◌/◌, ◌%◌, ◌^◌, ◌==◌, Bool, List, [], ◌∷◌, take, slice_index}
+use Rattle.std.specs.Prelude.{ℕ, ◌+◌, ◌*◌, ◌/◌, ◌%◌, ◌^◌, ◌==◌, Bool, List, take, slice_index}
 use Rattle.std.specs.Ordering.{on, eq_of_both}
 use Rattle.std.specs.Cmp.Lexicographic.{pointwise}
+use Rattle.std.specs.Int.{w64, to_le_bytes}
 use Rattle.rand_core.specs.Steps.{Steps}
 use Rattle.chacha_base.specs.Bytes.{bytes}
 use Rattle.chacha_base.specs.Block.{start}
-use Rattle.chacha_base.specs.Layout.{legacy, counter_words}
+use Rattle.chacha_base.specs.Keystream.{stream_part}
+use Rattle.chacha_base.specs.Layout.{legacy}
 use Rattle.chacha_base.specs.Rounds.{mix}
 
 pub record Generator : Type 0 where
@@ -22,39 +24,39 @@ abbrev pub of_seed : List ℕ → Generator
 of_seed seed = record { seed = seed; stream = 0; word_pos = 0 }
 
 -- the generator at a position
-abbrev pub at : Generator → ℕ → Generator
-at g w = record g { word_pos = w % positions }
+abbrev pub at_word_pos : Generator → ℕ → Generator
+at_word_pos g w = record g { word_pos = w % positions }
 
--- the 8 bytes of a number below 2^64, the low byte first
-abbrev pub bytes_of_8 : ℕ → List ℕ
-bytes_of_8 x = bytes (counter_words legacy x)
-
--- the word at a position, after n double rounds: that of the block whose key is the seed and whose nonce is the stream
+-- the word at a position, after n double rounds: that of the block whose key is the seed and whose
+-- nonce is the stream's 8 bytes, the low byte first
 abbrev pub word : ℕ → Generator → ℕ → ℕ
-word n g w = slice_index (mix n (start legacy g.seed (bytes_of_8 g.stream) (w % positions / 16))) (w % 16)
-
--- so many words from a position on
-abbrev pub words_from : ℕ → Generator → ℕ → ℕ → List ℕ
-words_from n g w zero = []
-words_from n g w (suc k) = word n g w ∷ words_from n g (w + 1) k
+word n g w =
+    let nonce = to_le_bytes w64 g.stream in
+    slice_index (mix n (start legacy g.seed nonce (w % positions / 16))) (w % 16)
 
 -- reads: the answer, and the generator after it
 abbrev pub next_u32 : ℕ → Generator → ℕ × Generator
-next_u32 n g = (word n g g.word_pos, at g (g.word_pos + 1))
+next_u32 n g = (word n g g.word_pos, at_word_pos g (g.word_pos + 1))
 
 abbrev pub next_u64 : ℕ → Generator → ℕ × Generator
-next_u64 n g = (word n g g.word_pos + 2 ^ 32 * word n g (g.word_pos + 1), at g (g.word_pos + 2))
+next_u64 n g = (
+  word n g g.word_pos + 2 ^ 32 * word n g (g.word_pos + 1),
+  at_word_pos g (g.word_pos + 2),
+)
 
 -- a read of so many bytes takes whole words, and loses what is left of the last
 abbrev pub fill : ℕ → Generator → ℕ → List ℕ × Generator
-fill n g len = let k = (len + 3) / 4 in (take len (bytes (words_from n g g.word_pos k)), at g (g.word_pos + k))
+fill n g len =
+    let k = (len + 3) / 4 in
+    (take len (bytes (stream_part (word n g) g.word_pos k)), at_word_pos g (g.word_pos + k))
 
 -- the three reads, as rand_core's crate names them
 abbrev pub reads : ℕ → Steps Generator
-reads n = record { next_u32 = next_u32 n; next_u64 = next_u64 n; fill_bytes = λ len g. fill n g len }
+reads n =
+    record { next_u32 = next_u32 n; next_u64 = next_u64 n; fill_bytes = λ len g. fill n g len }
 
 -- the same seed, stream and position
-abbrev pub same : Generator → Generator → Bool
-same =
+abbrev pub same_generator : Generator → Generator → Bool
+same_generator =
     eq_of_both (on (λ g. g.word_pos) ◌==◌)
     (eq_of_both (on (λ g. g.stream) ◌==◌) (on (λ g. g.seed) (pointwise ◌==◌)))

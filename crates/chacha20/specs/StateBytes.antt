@@ -1,20 +1,18 @@
 -- A generator's state in 49 bytes (this crate).
-use Rattle.std.specs.Prelude.{ℕ, ◌+◌, ◌*◌, ◌/◌, ◌%◌, ◌^◌, List, [], ◌∷◌, ◌++◌, take, drop}
-use Rattle.chacha20.specs.Generator.{Generator, positions, bytes_of_8}
+use Rattle.std.specs.Prelude.{ℕ, ◌+◌, ◌*◌, ◌/◌, ◌%◌, ◌^◌, List, [], ◌∷◌, ◌++◌, take, drop, slice_index}
+use Rattle.std.specs.Int.{w64, to_le_bytes, from_le_bytes}
+use Rattle.chacha20.specs.Generator.{Generator, positions}
 
--- the number of a list of bytes, the low byte first
-abbrev pub number : List ℕ → ℕ
-number [] = 0
-number (b ∷ bs) = b + 256 * number bs
-
--- seed, stream and position
+-- seed, stream and position, the low byte of a number first
 abbrev pub state_bytes : Generator → List ℕ
-state_bytes g = g.seed ++ (bytes_of_8 g.stream ++ (bytes_of_8 (g.word_pos % 2 ^ 64) ++ (g.word_pos / 2 ^ 64 ∷ [])))
+state_bytes g =
+    let low = to_le_bytes w64 (g.word_pos % 2 ^ 64) in
+    g.seed ++ (to_le_bytes w64 g.stream ++ (low ++ (g.word_pos / 2 ^ 64 ∷ [])))
 
 -- the generator of 49 bytes; the upper half of the last byte says nothing
 abbrev pub of_state_bytes : List ℕ → Generator
 of_state_bytes bs = record {
   seed = take 32 bs;
-  stream = number (take 8 (drop 32 bs));
-  word_pos = number (drop 40 bs) % positions;
+  stream = from_le_bytes w64 (take 8 (drop 32 bs));
+  word_pos = (from_le_bytes w64 (take 8 (drop 40 bs)) + 2 ^ 64 * slice_index bs 48) % positions;
 }

@@ -4,9 +4,11 @@ use Rattle.chacha_base.specs.Block.{constants}
 use Rattle.chacha_base.specs.Bytes.{bytes, words}
 use Rattle.chacha_base.specs.Rounds.{rounds}
 
--- the 32 bytes of a key and of 16 bytes more: the first and the last row after n double rounds, to which no start state is added
+-- the 32 bytes of a key and of 16 bytes more: the first and the last row after n double rounds, to
+-- which no start state is added
 abbrev pub hchacha : ℕ → List ℕ → List ℕ → List ℕ
-hchacha n key input = let r = rounds n (constants ++ words key ++ words input) in bytes (take 4 r ++ drop 12 r)
+hchacha n key input =
+    let r = rounds n (constants ++ words key ++ words input) in bytes (take 4 r ++ drop 12 r)
 
 -- the key that XChaCha's blocks are made with: HChaCha of bytes 0 to 15 of the nonce
 abbrev pub subkey : ℕ → List ℕ → List ℕ → List ℕ

@@ -4,8 +4,8 @@ ghost use Rattle.std.specs.Prelude.{◌≡◌, ◌≤◌, ◌<◌, ℕ, ◌+◌,
 ghost use Rattle.chacha_base.specs.Layout.{ietf, legacy, modulus};
 ghost use Rattle.chacha_base.specs.Block.{constants, start, block};
 ghost use Rattle.chacha_base.specs.Bytes.{words};
-ghost use Rattle.chacha_base.specs.State.{state_counter, fixed_words, state_at, block_of, advanced, next_block};
-ghost use Rattle.chacha_base.specs.Keystream.{keystream, applied};
+ghost use Rattle.chacha_base.specs.State.{state_counter, fixed_words, state_at, state_block, state_after, next_block};
+ghost use Rattle.chacha_base.specs.Keystream.{keystream, xor_stream};
 ghost use Rattle.chacha_base.specs.Counts.{Grows, for_call, for_tail, for_blocks};
 ghost use Rattle.chacha20.specs.Blocks.{byte_of};
 ghost use Rattle.chacha20.specs.Text.{core_text};
@@ -29,6 +29,9 @@ const CONSTANTS: [u32; 4] = [0x6170_7865, 0x3320_646e, 0x7962_2d32, 0x6b20_6574]
 
 /// The core of a ChaCha cipher: sixteen words, of which the variant says where the counter stands. Clauses see it as
 /// the list of its words. `R` is the number of double rounds, `V` the layout, `B` the backend that makes the blocks.
+///
+/// In the layout of RFC 8439 `new` makes one of a key and a nonce for any number of rounds. In the older layout it does so
+/// for `R20` alone, as in the Rust crate; one with another number of rounds is made by `from_seed`, with a nonce of zeros.
 pub struct ChaChaCore<R: Rounds, V: Variant, B> {
     state: [u32; 16],
     rounds: PhantomData<R>,
@@ -96,7 +99,9 @@ impl<R: Rounds, V: Variant, B> Keystream for ChaChaCore<R, V, B> {
 
     ghost modulus = { modulus V.layout };
 
-    ghost block_at = { block_of R.COUNT V.layout };
+    ghost block_at = { state_block R.COUNT V.layout };
+
+    ghost position = { λ core. 64 * state_counter V.layout core };
 }
 
 impl<R: Rounds, V: Variant, B> BlockSizeUser for ChaChaCore<R, V, B> {
@@ -134,7 +139,7 @@ impl<R: Rounds, B> KeyIvInit for ChaChaCore<R, Ietf, B> {
 
     ghost init = { λ key iv. start ietf key iv 0 };
 
-    ghost block = { block R.COUNT ietf };
+    ghost blocks_of = { block R.COUNT ietf };
 
     fn new(key: &Key, iv: &Nonce) -> Self {
         let mut last_row = [0; 4];
@@ -167,7 +172,7 @@ impl<B> KeyIvInit for ChaChaCore<R20, Legacy, B> {
 
     ghost init = { λ key iv. start legacy key iv 0 };
 
-    ghost block = { block 10 legacy };
+    ghost blocks_of = { block 10 legacy };
 
     fn new(key: &Key, iv: &LegacyNonce) -> Self {
         let mut last_row = [0; 4];
@@ -206,8 +211,9 @@ fn write_block<R: Rounds, V: Variant, B: StreamCipherBackend<R, V>>(
     block: &mut [u8; 64],
     steps: &mut Steps,
 )
-    ensures block { block.new ≡ block_of R.COUNT V.layout (fixed_words V.layout state.old) (state_counter V.layout state.old) }
-    ensures state { state.new ≡ advanced V.layout 1 state.old }
+    ensures block { block.new ≡ state_block R.COUNT V.layout (fixed_words V.layout state.old)
+        (state_counter V.layout state.old) }
+    ensures state { state.new ≡ state_after V.layout 1 state.old }
     ensures steps { Grows (for_call 0 1 (B.ONE_STEPS * R.COUNT)) steps.old steps.new }
 {
     B::gen_ks_block(state, block, steps);
@@ -218,8 +224,9 @@ fn write_blocks<R: Rounds, V: Variant, B: StreamCipherBackend<R, V>>(
     state: &mut [u32; 16],
     blocks: &mut [[u8; 64]],
 )
-    ensures blocks { (i : ℕ) → i < length blocks.old → slice_get blocks.new i ≡ Some (next_block R.COUNT V.layout state.old i) }
-    ensures state { state.new ≡ advanced V.layout (length blocks.old) state.old }
+    ensures blocks { (i : ℕ) → i < length blocks.old
+        → slice_get blocks.new i ≡ Some (next_block R.COUNT V.layout state.old i) }
+    ensures state { state.new ≡ state_after V.layout (length blocks.old) state.old }
 {
     let mut steps = Steps::new();
     let width = B::PAR_BLOCKS;
@@ -235,7 +242,7 @@ fn write_blocks<R: Rounds, V: Variant, B: StreamCipherBackend<R, V>>(
 #[inline(always)]
 fn xor_blocks(data: &mut [u8], blocks: &[[u8; 64]])
     requires { length «data».old ≡ 64 * length blocks.now }
-    ensures { «data».new ≡ applied (byte_of blocks.now) 0 «data».old }
+    ensures { «data».new ≡ xor_stream (byte_of blocks.now) 0 «data».old }
 {
     for i in 0..blocks.len() {
         xor_bytes(&mut data[64 * i..64 * i + 64], &blocks[i]);
@@ -252,15 +259,19 @@ fn apply_groups<R: Rounds, V: Variant, B: StreamCipherBackend<R, V>>(
     steps: &mut Steps,
 )
     requires { length «data».old ≡ 64 * (B.PAR_BLOCKS * groups) }
-    ensures data { «data».new ≡ applied (keystream (modulus V.layout) (block_of R.COUNT V.layout (fixed_words V.layout state.old)))
+    ensures data { «data».new
+        ≡ xor_stream (keystream (modulus V.layout)
+        (state_block R.COUNT V.layout (fixed_words V.layout state.old)))
         (64 * state_counter V.layout state.old) «data».old }
-    ensures state { state.new ≡ advanced V.layout (B.PAR_BLOCKS * groups) state.old }
-    ensures steps { Grows (for_call groups 0 (groups * (B.PAR_STEPS * R.COUNT))) steps.old steps.new }
+    ensures state { state.new ≡ state_after V.layout (B.PAR_BLOCKS * groups) state.old }
+    ensures steps { Grows
+        (for_call groups 0 (groups * (B.PAR_STEPS * R.COUNT))) steps.old steps.new }
 {
-    let made = &mut blocks[..B::PAR_BLOCKS];
+    let width = B::PAR_BLOCKS;
+    let made = &mut blocks[..width];
     'groups: for group in 0..groups {
         B::gen_par_ks_blocks(state, made, steps);
-        let at = 64 * (B::PAR_BLOCKS * group);
+        let at = 64 * (width * group);
         xor_blocks(&mut data[at..at + 64 * made.len()], made);
     }
 }
@@ -275,10 +286,13 @@ fn apply_tail<R: Rounds, V: Variant, B: StreamCipherBackend<R, V>>(
 )
     requires whole { length «data».old % 64 ≡ 0 }
     requires few { length «data».old < 64 * B.PAR_BLOCKS }
-    ensures data { «data».new ≡ applied (keystream (modulus V.layout) (block_of R.COUNT V.layout (fixed_words V.layout state.old)))
+    ensures data { «data».new
+        ≡ xor_stream (keystream (modulus V.layout)
+        (state_block R.COUNT V.layout (fixed_words V.layout state.old)))
         (64 * state_counter V.layout state.old) «data».old }
-    ensures state { state.new ≡ advanced V.layout (length «data».old / 64) state.old }
-    ensures steps { Grows (for_tail (B.ONE_STEPS * R.COUNT) (length «data».old / 64)) steps.old steps.new }
+    ensures state { state.new ≡ state_after V.layout (length «data».old / 64) state.old }
+    ensures steps { Grows
+        (for_tail (B.ONE_STEPS * R.COUNT) (length «data».old / 64)) steps.old steps.new }
 {
     let made = &mut blocks[..data.len() / 64];
     B::gen_tail_blocks(state, made, steps);
@@ -296,6 +310,8 @@ impl<R: Rounds, V: Variant, B: StreamCipherBackend<R, V>> StreamCipherCore for C
 
     ghost block_size = { refl };
 
+    ghost position_is = { λ core. refl };
+
     fn remaining_blocks(&self) -> Option<usize> {
         V::remaining_blocks(counter_of::<V>(&self.state))
     }
@@ -310,8 +326,9 @@ impl<R: Rounds, V: Variant, B: StreamCipherBackend<R, V>> StreamCipherCore for C
 
     fn apply_blocks_counted(&mut self, data: &mut [u8], steps: &mut Steps) {
         let mut blocks = [[0; 64]; 16];
-        let groups = data.len() / 64 / B::PAR_BLOCKS;
-        let (whole, tail) = data.split_at_mut(64 * (B::PAR_BLOCKS * groups));
+        let width = B::PAR_BLOCKS;
+        let groups = data.len() / 64 / width;
+        let (whole, tail) = data.split_at_mut(64 * (width * groups));
         apply_groups::<R, V, B>(&mut self.state, &mut blocks, whole, groups, steps);
         apply_tail::<R, V, B>(&mut self.state, &mut blocks, tail, steps);
     }

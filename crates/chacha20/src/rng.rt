@@ -2,11 +2,13 @@
 //! of 32 bits; the words are those of ChaCha's blocks in the layout with a counter of 64 bits.
 
 ghost use Rattle.std.specs.Prelude.{◌≡◌, ◌↔◌, ◌≤◌, ◌<◌, ◌+◌, ◌-◌, ◌*◌, ◌/◌, ◌%◌, ◌^◌, [], ◌∷◌, ◌++◌, length, take, drop, slice_index, Some, IsTrue, codes};
+ghost use Rattle.std.specs.Int.{w64, from_le_bytes};
 ghost use Rattle.rand_core.specs.Steps.{stream_of};
 ghost use Rattle.rand_core.specs.Pcg32Seed.{pcg32_seed};
 ghost use Rattle.chacha_base.specs.Bytes.{bytes};
-ghost use Rattle.chacha20.specs.Generator.{at, words_from, next_u32, next_u64, fill, reads, of_seed, same};
-ghost use Rattle.chacha20.specs.StateBytes.{number, state_bytes, of_state_bytes};
+ghost use Rattle.chacha_base.specs.Keystream.{stream_part};
+ghost use Rattle.chacha20.specs.Generator.{at_word_pos, word, next_u32, next_u64, fill, reads, of_seed, same_generator};
+ghost use Rattle.chacha20.specs.StateBytes.{state_bytes, of_state_bytes};
 ghost use Rattle.chacha20.specs.Unread.{generator_of, IsUnread};
 
 use crate::chacha_core::{ChaChaCore, Generator};
@@ -42,8 +44,8 @@ const POSITIONS: u128 = 1 << 68;
 ///
 /// Clauses see it as a seed, a stream and a word position (`Generator`). Word w of a stream is word w mod 16 of the
 /// block whose key is the seed, whose nonce is the stream's 8 bytes, the low byte first, and whose counter is w div 16.
-/// Positions wrap at 2^68, so a stream repeats after 2^68 words (1 ZiB). A seed has 2^64 streams. `R` is the number of
-/// double rounds, `B` the backend that makes the words. No call is refused.
+/// Behind the last of a stream's 2^68 words (1 ZiB) comes its first one again. A stream's number has 64 bits. `R` is the
+/// number of double rounds, `B` the backend that makes the words. No call is refused.
 pub struct ChaChaRng<R: Rounds, B> {
     core: ChaChaCore<R, Legacy, B>,
     // The last words that the core made, of which the first `index` are used.
@@ -128,7 +130,7 @@ impl<R: Rounds, B: RngBackend<R>> ChaChaRng<R, B> {
 
     /// Sets the word position, modulo 2^68. It makes one buffer of words.
     pub fn set_word_pos(&mut self, word_pos: u128)
-        ensures value { self.new ≡ at self.old word_pos }
+        ensures value { self.new ≡ at_word_pos self.old word_pos }
         ensures position { self.new.word_pos ≡ word_pos % 2 ^ 68 }
     {
         let place = word_pos % POSITIONS;
@@ -176,15 +178,18 @@ impl<R: Rounds, B: RngBackend<R>> ChaChaRng<R, B> {
     }
 
     /// The state as bytes, which give the generator again.
+    #[tactic(auto, using(crate::proofs::StateBytesLemmas::two_written_length))]
     pub fn serialize_state(&self) -> SerializedRngState
         ensures value { result ≡ state_bytes self.now }
         ensures restored { of_state_bytes result ≡ self.now }
     {
         let word_pos = self.get_word_pos();
+        let stream = self.get_stream().to_le_bytes();
+        let low = ((word_pos & u128::from(u64::MAX)) as u64).to_le_bytes();
         let mut state = [0; 49];
         state[..32].copy_from_slice(&self.get_seed());
-        state[32..40].copy_from_slice(&self.get_stream().to_le_bytes());
-        state[40..48].copy_from_slice(&((word_pos & u128::from(u64::MAX)) as u64).to_le_bytes());
+        state[32..40].copy_from_slice(&stream);
+        state[40..48].copy_from_slice(&low);
         state[48] = (word_pos >> 64) as u8;
         state
     }
@@ -192,7 +197,8 @@ impl<R: Rounds, B: RngBackend<R>> ChaChaRng<R, B> {
     /// The generator of a state. Any bytes are a state: the upper half of the last one is ignored.
     pub fn deserialize_state(state: &SerializedRngState) -> Self
         ensures value { result ≡ of_state_bytes state.now }
-        ensures stored { state_bytes result ≡ take 48 state.now ++ (slice_index state.now 48 % 16 ∷ []) }
+        ensures stored { state_bytes result ≡ take 48 state.now
+            ++ (slice_index state.now 48 % 16 ∷ []) }
     {
         let mut seed = [0; 32];
         seed.copy_from_slice(&state[..32]);
@@ -217,8 +223,9 @@ impl<R: Rounds, B: RngBackend<R>> ChaChaRng<R, B> {
     // Fills a slice with whole words.
     fn fill_words(&mut self, dst: &mut [u8])
         requires { length dst.old % 4 ≡ 0 }
-        ensures dst { dst.new ≡ bytes (words_from R.COUNT self.old self.old.word_pos (length dst.old / 4)) }
-        ensures moved { self.new ≡ at self.old (self.old.word_pos + length dst.old / 4) }
+        ensures dst { dst.new
+            ≡ bytes (stream_part (word R.COUNT self.old) self.old.word_pos (length dst.old / 4)) }
+        ensures moved { self.new ≡ at_word_pos self.old (self.old.word_pos + length dst.old / 4) }
     {
         let mut done = 0;
         'words: while 4 * done < dst.len() {
@@ -263,7 +270,7 @@ fn refill<R: Rounds, B: RngBackend<R>>(
 // The number of 8 bytes, the low byte first.
 fn read_u64(bytes: &[u8]) -> u64
     requires { length bytes.now ≡ 8 }
-    ensures { result ≡ number bytes.now }
+    ensures { result ≡ from_le_bytes w64 bytes.now }
 {
     let mut number = [0; 8];
     number.copy_from_slice(bytes);
@@ -313,12 +320,12 @@ impl<R: Rounds, B: RngBackend<R>> PartialEq for ChaChaRng<R, B> {
     ghost use Rattle.std.proofs.Common.{rules};
     ghost use Rattle.std.specs.Cmp.Rules.{comparing};
 
-    ghost eq = { same };
+    ghost eq = { same_generator };
 
     ghost laws = { Prim.search (comparing, rules) };
 
     fn eq(&self, other: &Self) -> bool
-        ensures value { result ≡ same self.now other.now }
+        ensures value { result ≡ same_generator self.now other.now }
         ensures same { IsTrue result ↔ (self.now ≡ other.now) }
     {
         self.get_word_pos() == other.get_word_pos()

@@ -2,10 +2,11 @@
 //! of any list of calls on a generator.
 
 ghost use Rattle.std.specs.Prelude.{◌≡◌, ◌≤◌, ◌+◌, ℕ, List, [], ◌∷◌, All, length, sum};
-ghost use Rattle.chacha_base.specs.Keystream.{keystream, limit_of};
+ghost use Rattle.chacha_base.specs.Keystream.{keystream};
+ghost use Rattle.chacha_base.specs.Limit.{limit_of};
 ghost use Rattle.chacha20.specs.declared.runs.CipherCall.TheVariants.{Apply, Seek};
 ghost use Rattle.chacha20.specs.declared.runs.CipherAnswer.TheVariants.{Done};
-ghost use Rattle.chacha20.specs.Runs.{setting, outcome_of, run_of, InSlices, pieces};
+ghost use Rattle.chacha20.specs.Runs.{setting, cipher_outcome, cipher_run, InSlices, pieces};
 
 mod rng;
 
@@ -68,7 +69,7 @@ fn call_cipher<C: StreamCipherSeekCore>(
     call: CipherCall,
 ) -> CipherAnswer
     requires { InSlices (length input.now) (length «data».old) call }
-    ensures { outcome_of (setting C.modulus C.block_at input.now) cipher.old «data».old call
+    ensures { cipher_outcome (setting C.modulus C.block_at input.now) cipher.old «data».old call
         ≡ record { answer = result; cipher = cipher.new; bytes = «data».new } }
 {
     match call {
@@ -127,16 +128,19 @@ pub fn run_cipher<C: StreamCipherSeekCore>(
     requires ranges { All (InSlices (length input.now) (length «data».old)) calls.now }
     requires places { length answers.old ≡ length calls.now }
     ensures run { (answers.new, cipher.new, «data».new)
-        ≡ run_of (setting C.modulus C.block_at input.now) cipher.old «data».old calls.now }
+        ≡ cipher_run (setting C.modulus C.block_at input.now) cipher.old «data».old calls.now }
 
     // A range that is applied, and applied again after a seek back, is as it was.
-    ensures seek_back { (at len : ℕ) → calls.now ≡ Apply at len ∷ Seek cipher.old.position ∷ Apply at len ∷ []
+    ensures seek_back { (at len : ℕ)
+        → calls.now ≡ Apply at len ∷ Seek cipher.old.position ∷ Apply at len ∷ []
         → answers.new ≡ Done ∷ Done ∷ Done ∷ []
-        → (cipher.new ≡ record cipher.old { position = cipher.old.position + len }) × («data».new ≡ «data».old) }
+        → (cipher.new ≡ record cipher.old { position = cipher.old.position + len })
+        × («data».new ≡ «data».old) }
 
     // A range that is applied in pieces of any lengths is applied as a whole, where the whole is accepted.
     ensures cut_anywhere { (at : ℕ) (lens : List ℕ) → calls.now ≡ pieces at lens
-        → let whole = outcome_of (setting C.modulus C.block_at input.now) cipher.old «data».old (Apply at (sum lens)) in
+        → let whole = cipher_outcome (setting C.modulus C.block_at input.now) cipher.old «data».old
+        (Apply at (sum lens)) in
         whole.answer ≡ Done → (cipher.new ≡ whole.cipher) × («data».new ≡ whole.bytes) }
 {
     'calls: for i in 0..calls.len() {

@@ -70,13 +70,16 @@ impl<R: Rounds, B> Model for XChaChaCore<R, B> {
 
 impl<R: Rounds, B> Keystream for XChaChaCore<R, B> {
     ghost use Rattle.chacha_base.specs.Layout.{ietf, modulus};
-    ghost use Rattle.chacha_base.specs.State.{fixed_words, block_of};
+    ghost use Rattle.chacha_base.specs.State.{state_counter, fixed_words, state_block};
+    ghost use Rattle.std.specs.Prelude.{◌*◌};
 
     ghost fixed = { fixed_words ietf };
 
     ghost modulus = { modulus ietf };
 
-    ghost block_at = { block_of R.COUNT ietf };
+    ghost block_at = { state_block R.COUNT ietf };
+
+    ghost position = { λ core. 64 * state_counter ietf core };
 }
 
 impl<R: Rounds, B> BlockSizeUser for XChaChaCore<R, B> {
@@ -118,7 +121,7 @@ impl<R: Rounds, B> KeyIvInit for XChaChaCore<R, B> {
 
     ghost init = { λ key iv. start ietf (subkey R.COUNT key iv) (subnonce iv) 0 };
 
-    ghost block = { λ key iv. block R.COUNT ietf (subkey R.COUNT key iv) (subnonce iv) };
+    ghost blocks_of = { λ key iv. block R.COUNT ietf (subkey R.COUNT key iv) (subnonce iv) };
 
     fn new(key: &Key, iv: &XNonce) -> Self {
         let mut input = [0; 16];
@@ -144,6 +147,8 @@ impl<R: Rounds, B: StreamCipherBackend<R, Ietf>> StreamCipherCore for XChaChaCor
     ghost one_cost = { B.ONE_STEPS * R.COUNT };
 
     ghost block_size = { refl };
+
+    ghost position_is = { λ core. refl };
 
     fn remaining_blocks(&self) -> Option<usize> {
         self.core.remaining_blocks()

@@ -2,62 +2,69 @@
 use Rattle.std.proofs.Common.{◌≡◌, ℕ, suc, ◌+◌, ◌*◌, ◌/◌, ◌%◌, ◌<◌, ◌≤◌, List, take, drop, [], ◌∷◌, ◌++◌, length, slice_index, slice_index_or, bit_xor, arith, refl, sym, ap, ap₂, ◌∙◌, append_assoc, append-nil}
 use Rattle.std.proofs.Math.Nat.{mod-add-mod, mod-mod}
 use Rattle.std.proofs.Math.Seq.{take-add}
+use Rattle.std.specs.Int.Bits.{xor_assoc, xor_self, xor_zero_r}
 use Rattle.std.specs.Prelude.{slice_get, Some}
 use Rattle.std.proofs.lemmas.List.{get_or-take, get_or-drop, length-take-le, take_at, take_all, drop_at, drop_all, drop-drop}
 use borrow.Rule.Slice.PartMut.{put_mid}
-use Rattle.chacha_base.specs.Keystream.{keystream, applied}
+use Rattle.chacha_base.specs.Keystream.{keystream, xor_stream}
 use Rattle.chacha_base.proofs.ListLemmas.{written_more}
 
 -- bytes that are combined one by one
-pub applied_is : (stream : ℕ → ℕ) (p : ℕ) (xs ys : List ℕ) → length ys ≡ length xs
-    → ((i : ℕ) → i < length xs → slice_index ys i ≡ bit_xor (slice_index xs i) (stream (p + i))) → ys ≡ applied stream p xs
-applied_is stream p [] [] h each = refl
-applied_is stream p [] (y ∷ ys) h each = absurd (omega arith)
-applied_is stream p (x ∷ xs) [] h each = absurd (omega arith)
-applied_is stream p (x ∷ xs) (y ∷ ys) h each =
+pub xor_stream-is : (stream : ℕ → ℕ) (p : ℕ) (xs ys : List ℕ) → length ys ≡ length xs
+    → ((i : ℕ) → i < length xs → slice_index ys i ≡ bit_xor (slice_index xs i) (stream (p + i))) → ys ≡ xor_stream stream p xs
+xor_stream-is stream p [] [] h each = refl
+xor_stream-is stream p [] (y ∷ ys) h each = absurd (omega arith)
+xor_stream-is stream p (x ∷ xs) [] h each = absurd (omega arith)
+xor_stream-is stream p (x ∷ xs) (y ∷ ys) h each =
     let here : p + 0 ≡ p = omega arith in
     ap₂ ◌∷◌ (each 0 (omega arith) ∙ ap (λ q. bit_xor x (stream q)) here)
-    (applied_is stream (p + 1) xs ys (omega arith)
+    (xor_stream-is stream (p + 1) xs ys (omega arith)
     (λ i less. let next : p + suc i ≡ p + 1 + i = omega arith in each (suc i) (omega arith) ∙ ap (λ q. bit_xor (slice_index xs i) (stream q)) next))
 
 -- a part after another
-pub applied-append : (stream : ℕ → ℕ) (p : ℕ) (xs ys : List ℕ)
-    → applied stream p (xs ++ ys) ≡ applied stream p xs ++ applied stream (p + length xs) ys
-applied-append stream p [] ys = let here : p + 0 ≡ p = omega arith in rw here refl
-applied-append stream p (x ∷ xs) ys =
+pub xor_stream-append : (stream : ℕ → ℕ) (p : ℕ) (xs ys : List ℕ)
+    → xor_stream stream p (xs ++ ys) ≡ xor_stream stream p xs ++ xor_stream stream (p + length xs) ys
+xor_stream-append stream p [] ys = let here : p + 0 ≡ p = omega arith in rw here refl
+xor_stream-append stream p (x ∷ xs) ys =
     let next : p + 1 + length xs ≡ p + suc (length xs) = omega arith in
-    ap (λ t. bit_xor x (stream p) ∷ t) (applied-append stream (p + 1) xs ys ∙ ap (λ q. applied stream (p + 1) xs ++ applied stream q ys) next)
+    ap (λ t. bit_xor x (stream p) ∷ t) (xor_stream-append stream (p + 1) xs ys ∙ ap (λ q. xor_stream stream (p + 1) xs ++ xor_stream stream q ys) next)
 
 -- three parts, one after another
-pub applied-parts : (stream : ℕ → ℕ) (p q r : ℕ) (all front rest blocks last new_front new_blocks new_last : List ℕ)
+pub xor_stream-parts : (stream : ℕ → ℕ) (p q r : ℕ) (all front rest blocks last new_front new_blocks new_last : List ℕ)
     → all ≡ front ++ rest → rest ≡ blocks ++ last → q ≡ p + length front → r ≡ q + length blocks
-    → new_front ≡ applied stream p front → new_blocks ≡ applied stream q blocks → new_last ≡ applied stream r last
-    → new_front ++ (new_blocks ++ new_last) ≡ applied stream p all
-applied-parts stream p q r all front rest blocks last new_front new_blocks new_last parts more at_blocks at_last f b l =
-    rw (parts, more, applied-append stream p front (blocks ++ last), ← at_blocks, applied-append stream q blocks last, ← at_last)
+    → new_front ≡ xor_stream stream p front → new_blocks ≡ xor_stream stream q blocks → new_last ≡ xor_stream stream r last
+    → new_front ++ (new_blocks ++ new_last) ≡ xor_stream stream p all
+xor_stream-parts stream p q r all front rest blocks last new_front new_blocks new_last parts more at_blocks at_last f b l =
+    rw (parts, more, xor_stream-append stream p front (blocks ++ last), ← at_blocks, xor_stream-append stream q blocks last, ← at_last)
     (ap₂ ◌++◌ f (ap₂ ◌++◌ b l))
 
-pub length-applied : (stream : ℕ → ℕ) (p : ℕ) (xs : List ℕ) → length (applied stream p xs) ≡ length xs
-length-applied stream p [] = refl
-length-applied stream p (x ∷ xs) = ap suc (length-applied stream (p + 1) xs)
+pub length-xor_stream : (stream : ℕ → ℕ) (p : ℕ) (xs : List ℕ) → length (xor_stream stream p xs) ≡ length xs
+length-xor_stream stream p [] = refl
+length-xor_stream stream p (x ∷ xs) = ap suc (length-xor_stream stream (p + 1) xs)
+
+-- to apply a keystream twice is to leave the bytes alone
+pub xor_stream-xor_stream : (stream : ℕ → ℕ) (p : ℕ) (xs : List ℕ) → xor_stream stream p (xor_stream stream p xs) ≡ xs
+xor_stream-xor_stream stream p [] = refl
+xor_stream-xor_stream stream p (x ∷ xs) =
+    ap₂ ◌∷◌ (xor_assoc x (stream p) (stream p) ∙ ap (bit_xor x) (xor_self (stream p)) ∙ xor_zero_r x) (xor_stream-xor_stream stream (p + 1) xs)
 
 -- two streams that agree on the bytes that are combined
-pub applied-same : (f g : ℕ → ℕ) (p q : ℕ) (xs : List ℕ) → ((i : ℕ) → i < length xs → f (p + i) ≡ g (q + i)) → applied f p xs ≡ applied g q xs
-applied-same f g p q [] same = refl
-applied-same f g p q (x ∷ xs) same =
+pub xor_stream-same : (f g : ℕ → ℕ) (p q : ℕ) (xs : List ℕ) → ((i : ℕ) → i < length xs → f (p + i) ≡ g (q + i)) → xor_stream f p xs ≡ xor_stream g q xs
+xor_stream-same f g p q [] same = refl
+xor_stream-same f g p q (x ∷ xs) same =
     let p0 : p ≡ p + 0 = omega arith in
     let q0 : q + 0 ≡ q = omega arith in
     ap₂ (λ b t. bit_xor x b ∷ t) (ap f p0 ∙ same 0 (omega arith) ∙ ap g q0)
-    (applied-same f g (p + 1) (q + 1) xs (λ i less.
+    (xor_stream-same f g (p + 1) (q + 1) xs (λ i less.
     let p1 : p + 1 + i ≡ p + suc i = omega arith in
     let q1 : q + suc i ≡ q + 1 + i = omega arith in
     ap f p1 ∙ same (suc i) (omega arith) ∙ ap g q1))
 
 -- a counter that has wrapped gives the same stream
 pub keystream-wrapped : (modulus : ℕ) (block : ℕ → List ℕ) (c p : ℕ) (xs : List ℕ) → p ≡ 64 * c
-    → applied (keystream modulus block) (64 * (c % modulus)) xs ≡ applied (keystream modulus block) p xs
+    → xor_stream (keystream modulus block) (64 * (c % modulus)) xs ≡ xor_stream (keystream modulus block) p xs
 keystream-wrapped modulus block c p xs place =
-    applied-same (keystream modulus block) (keystream modulus block) (64 * (c % modulus)) p xs (λ i less.
+    xor_stream-same (keystream modulus block) (keystream modulus block) (64 * (c % modulus)) p xs (λ i less.
     let k = c % modulus in
     let near : (64 * k + i) / 64 ≡ k + i / 64 = omega arith in
     let far : (p + i) / 64 ≡ c + i / 64 = omega arith in
@@ -66,21 +73,21 @@ keystream-wrapped modulus block c p xs place =
     rw (near, far, near_place, far_place, mod-add-mod c modulus (i / 64)) refl)
 
 -- one more part of bytes that are combined part by part
-pub applied-more : (stream : ℕ → ℕ) (p a k e : ℕ) (old now part : List ℕ) → e ≡ a + k → e ≤ length old → now ≡ applied stream p (take a old) ++ drop a old
-    → part ≡ applied stream (p + a) (take k (drop a now)) → put_mid a k now part ≡ applied stream p (take e old) ++ drop e old
-applied-more stream p a k e old now part ends inside before done =
-    let front : length (applied stream p (take a old)) ≡ a = length-applied stream p (take a old) ∙ length-take-le a old (omega arith) in
-    let kept : take a now ≡ applied stream p (take a old) = ap (take a) before ∙ take_at (applied stream p (take a old)) (drop a old) a front in
-    let rest : drop a now ≡ drop a old = ap (drop a) before ∙ drop_at (applied stream p (take a old)) (drop a old) a front in
-    let made : part ≡ applied stream (p + a) (take k (drop a old)) = done ∙ ap (λ t. applied stream (p + a) (take k t)) rest in
+pub xor_stream-more : (stream : ℕ → ℕ) (p a k e : ℕ) (old now part : List ℕ) → e ≡ a + k → e ≤ length old → now ≡ xor_stream stream p (take a old) ++ drop a old
+    → part ≡ xor_stream stream (p + a) (take k (drop a now)) → put_mid a k now part ≡ xor_stream stream p (take e old) ++ drop e old
+xor_stream-more stream p a k e old now part ends inside before done =
+    let front : length (xor_stream stream p (take a old)) ≡ a = length-xor_stream stream p (take a old) ∙ length-take-le a old (omega arith) in
+    let kept : take a now ≡ xor_stream stream p (take a old) = ap (take a) before ∙ take_at (xor_stream stream p (take a old)) (drop a old) a front in
+    let rest : drop a now ≡ drop a old = ap (drop a) before ∙ drop_at (xor_stream stream p (take a old)) (drop a old) a front in
+    let made : part ≡ xor_stream stream (p + a) (take k (drop a old)) = done ∙ ap (λ t. xor_stream stream (p + a) (take k t)) rest in
     let split : take e old ≡ take a old ++ take k (drop a old) = ap (λ n. take n old) ends ∙ take-add a k old in
     let after : drop k (drop a now) ≡ drop e old = ap (drop k) rest ∙ drop-drop k a old ∙ sym (ap (λ n. drop n old) ends) in
-    rw (split, applied-append stream p (take a old) (take k (drop a old)), length-take-le a old (omega arith), append_assoc)
+    rw (split, xor_stream-append stream p (take a old) (take k (drop a old)), length-take-le a old (omega arith), append_assoc)
     (ap₂ ◌++◌ kept (ap₂ ◌++◌ made after))
 
 -- all of the bytes
-pub applied-whole : (stream : ℕ → ℕ) (p n : ℕ) (xs : List ℕ) → length xs ≤ n → applied stream p (take n xs) ++ drop n xs ≡ applied stream p xs
-applied-whole stream p n xs all = ap₂ (λ front rest. applied stream p front ++ rest) (take_all n xs all) (drop_all n xs all) ∙ append-nil (applied stream p xs)
+pub xor_stream-whole : (stream : ℕ → ℕ) (p n : ℕ) (xs : List ℕ) → length xs ≤ n → xor_stream stream p (take n xs) ++ drop n xs ≡ xor_stream stream p xs
+xor_stream-whole stream p n xs all = ap₂ (λ front rest. xor_stream stream p front ++ rest) (take_all n xs all) (drop_all n xs all) ∙ append-nil (xor_stream stream p xs)
 
 -- byte j of the block of a counter, which wraps
 pub keystream_byte : (modulus : ℕ) (block : ℕ → List ℕ) (c j : ℕ) → j < 64 → slice_index (block (c % modulus)) j ≡ keystream modulus block (64 * c + j)
@@ -90,18 +97,18 @@ keystream_byte modulus block c j inside =
     rw (which, place) refl
 
 -- bytes combined with the block of a counter
-pub applied-block : (modulus : ℕ) (block : ℕ → List ℕ) (c : ℕ) (key xs ys : List ℕ) → key ≡ block (c % modulus) → length xs ≤ 64 → length ys ≡ length xs
-    → ((j : ℕ) → j < length xs → slice_index ys j ≡ bit_xor (slice_index xs j) (slice_index key j)) → ys ≡ applied (keystream modulus block) (64 * c) xs
-applied-block modulus block c key xs ys made fits same each =
-    applied_is (keystream modulus block) (64 * c) xs ys same (λ j less.
+pub xor_stream-block : (modulus : ℕ) (block : ℕ → List ℕ) (c : ℕ) (key xs ys : List ℕ) → key ≡ block (c % modulus) → length xs ≤ 64 → length ys ≡ length xs
+    → ((j : ℕ) → j < length xs → slice_index ys j ≡ bit_xor (slice_index xs j) (slice_index key j)) → ys ≡ xor_stream (keystream modulus block) (64 * c) xs
+xor_stream-block modulus block c key xs ys made fits same each =
+    xor_stream-is (keystream modulus block) (64 * c) xs ys same (λ j less.
     each j less ∙ ap (bit_xor (slice_index xs j)) (ap (λ b. slice_index b j) made ∙ keystream_byte modulus block c j (omega arith)))
 
 -- counters that are the same when they wrap
 pub keystream-same : (modulus : ℕ) (block : ℕ → List ℕ) (c d i : ℕ) (xs : List ℕ) → c % modulus ≡ d % modulus
-    → applied (keystream modulus block) (64 * (c + i)) xs ≡ applied (keystream modulus block) (64 * (d + i)) xs
+    → xor_stream (keystream modulus block) (64 * (c + i)) xs ≡ xor_stream (keystream modulus block) (64 * (d + i)) xs
 keystream-same modulus block c d i xs same =
     sym (keystream-wrapped modulus block (c + i) (64 * (c + i)) xs refl)
-    ∙ ap (λ k. applied (keystream modulus block) (64 * k) xs) (sym (mod-add-mod c modulus i) ∙ ap (λ k. (k + i) % modulus) same ∙ mod-add-mod d modulus i)
+    ∙ ap (λ k. xor_stream (keystream modulus block) (64 * k) xs) (sym (mod-add-mod c modulus i) ∙ ap (λ k. (k + i) % modulus) same ∙ mod-add-mod d modulus i)
     ∙ keystream-wrapped modulus block (d + i) (64 * (d + i)) xs refl
 
 -- k counters on from one that is `a` counters on
@@ -118,17 +125,17 @@ counter-wrapped modulus first c a k n e same moved all =
 -- k blocks of bytes more that are combined, from block a on
 pub blocks-more : (modulus : ℕ) (block other : ℕ → List ℕ) (first c a k : ℕ) (old now part : List (List ℕ)) → other ≡ block
     → c % modulus ≡ (first + a) % modulus → a ≤ length now → length part ≡ k
-    → ((i : ℕ) → i < a → slice_get now i ≡ Some (applied (keystream modulus block) (64 * (first + i)) (slice_index_or old i [])))
+    → ((i : ℕ) → i < a → slice_get now i ≡ Some (xor_stream (keystream modulus block) (64 * (first + i)) (slice_index_or old i [])))
     → ((i : ℕ) → a ≤ i → slice_index_or now i [] ≡ slice_index_or old i [])
-    → ((i : ℕ) → i < k → slice_get part i ≡ Some (applied (keystream modulus other) (64 * (c + i)) (slice_index_or (take k (drop a now)) i [])))
-    → (i : ℕ) → i < a + k → slice_get (put_mid a k now part) i ≡ Some (applied (keystream modulus block) (64 * (first + i)) (slice_index_or old i []))
+    → ((i : ℕ) → i < k → slice_get part i ≡ Some (xor_stream (keystream modulus other) (64 * (c + i)) (slice_index_or (take k (drop a now)) i [])))
+    → (i : ℕ) → i < a + k → slice_get (put_mid a k now part) i ≡ Some (xor_stream (keystream modulus block) (64 * (first + i)) (slice_index_or old i []))
 blocks-more modulus block other first c a k old now part alike same room long before rest made =
-    written_more (λ i. applied (keystream modulus block) (64 * (first + i)) (slice_index_or old i [])) a k now part room long before
+    written_more (λ i. xor_stream (keystream modulus block) (64 * (first + i)) (slice_index_or old i [])) a k now part room long before
     (λ i less.
     let place : first + a + i ≡ first + (a + i) = omega arith in
     let behind : a ≤ a + i = omega arith in
     made i less
-    ∙ ap Some (ap (applied (keystream modulus other) (64 * (c + i))) (get_or-take k (drop a now) i [] less ∙ get_or-drop a now i [] ∙ rest (a + i) behind)
-    ∙ ap (λ b. applied (keystream modulus b) (64 * (c + i)) (slice_index_or old (a + i) [])) alike
+    ∙ ap Some (ap (xor_stream (keystream modulus other) (64 * (c + i))) (get_or-take k (drop a now) i [] less ∙ get_or-drop a now i [] ∙ rest (a + i) behind)
+    ∙ ap (λ b. xor_stream (keystream modulus b) (64 * (c + i)) (slice_index_or old (a + i) [])) alike
     ∙ keystream-same modulus block c (first + a) i (slice_index_or old (a + i) []) same
-    ∙ ap (λ q. applied (keystream modulus block) (64 * q) (slice_index_or old (a + i) [])) place))
+    ∙ ap (λ q. xor_stream (keystream modulus block) (64 * q) (slice_index_or old (a + i) [])) place))

@@ -11,14 +11,14 @@ lane_of : (f : ℕ → ℕ → ℕ) (n : ℕ) (a b : List ℕ) → length a ≡ 
     → slice_index (zip2 f a b) j ≡ f (slice_index a j) (slice_index b j)
 lane_of f n a b la lb j h = get_or-zip2 f a b j 0 0 0 (omega arith) (omega arith)
 
--- two shifts of each lane and an or are a rotation
-pub shifts_rotate : (n k : ℕ) → 0 < k → k < 32 → (a b : List ℕ) → length a ≡ n → length b ≡ n
+-- the words of a lane, combined and shifted both ways, are their exclusive or rotated
+pub xor_shifted-is-rotl : (n k : ℕ) → 0 < k → k < 32 → (a b : List ℕ) → length a ≡ n → length b ≡ n
     → Each1 (λ x. x < 2 ^ 32) a → Each1 (λ x. x < 2 ^ 32) b → (j : ℕ) → j < n
     → slice_index (zip2 bit_or
     (zip2 (λ x s. x * 2 ^ s % 2 ^ 32) (zip2 bit_xor a b) (replicate n k))
     (zip2 (λ x s. x / 2 ^ s) (zip2 bit_xor a b) (replicate n (32 - k)))) j
     ≡ rotl (bit_xor (slice_index a j) (slice_index b j)) k
-shifts_rotate n k some most a b la lb fa fb j h =
+xor_shifted-is-rotl n k some most a b la lb fa fb j h =
     let x = zip2 bit_xor a b in
     let up = zip2 (λ (x s : ℕ). x * 2 ^ s % 2 ^ 32) x (replicate n k) in
     let down = zip2 (λ (x s : ℕ). x / 2 ^ s) x (replicate n (32 - k)) in

@@ -1,7 +1,6 @@
 pub mod BufferedLemmas
 pub mod BytesLemmas
 pub mod CipherLemmas
-pub mod ColumnLemmas
 pub mod CountsLemmas
 pub mod KeystreamLemmas
 pub mod LaneLemmas

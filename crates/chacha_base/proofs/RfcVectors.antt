@@ -4,7 +4,7 @@ use Rattle.chacha_base.specs.QuarterRound.{quarter, quarter_round}
 use Rattle.chacha_base.specs.Rounds.{columns, diagonals, rounds, add_states, mix}
 use Rattle.chacha_base.specs.Layout.{ietf}
 use Rattle.chacha_base.specs.Block.{start, block}
-use Rattle.chacha_base.specs.Keystream.{keystream, applied}
+use Rattle.chacha_base.specs.Keystream.{keystream, xor_stream}
 
 -- the key of RFC 8439, 2.3.2 and 2.4.2
 abbrev pub key : List ℕ
@@ -68,7 +68,7 @@ unfolding quarter columns diagonals rounds add_states
 zero_vector = refl
 
 -- the bytes of the text, from the block with counter 1 on (RFC 8439, 2.4.2)
-pub applied_vector : applied (keystream (2 ^ 32) (block 10 ietf key text_nonce)) 64 text ≡
+pub xor_stream_vector : xor_stream (keystream (2 ^ 32) (block 10 ietf key text_nonce)) 64 text ≡
     0x6e ∷ 0x2e ∷ 0x35 ∷ 0x9a ∷ 0x25 ∷ 0x68 ∷ 0xf9 ∷ 0x80 ∷ 0x41 ∷ 0xba ∷ 0x07 ∷ 0x28 ∷ 0xdd ∷ 0x0d ∷ 0x69 ∷ 0x81
     ∷ 0xe9 ∷ 0x7e ∷ 0x7a ∷ 0xec ∷ 0x1d ∷ 0x43 ∷ 0x60 ∷ 0xc2 ∷ 0x0a ∷ 0x27 ∷ 0xaf ∷ 0xcc ∷ 0xfd ∷ 0x9f ∷ 0xae ∷ 0x0b
     ∷ 0xf9 ∷ 0x1b ∷ 0x65 ∷ 0xc5 ∷ 0x52 ∷ 0x47 ∷ 0x33 ∷ 0xab ∷ 0x8f ∷ 0x59 ∷ 0x3d ∷ 0xab ∷ 0xcd ∷ 0x62 ∷ 0xb3 ∷ 0x57
@@ -78,4 +78,4 @@ pub applied_vector : applied (keystream (2 ^ 32) (block 10 ietf key text_nonce))
     ∷ 0x5a ∷ 0xf9 ∷ 0x0b ∷ 0xbf ∷ 0x74 ∷ 0xa3 ∷ 0x5b ∷ 0xe6 ∷ 0xb4 ∷ 0x0b ∷ 0x8e ∷ 0xed ∷ 0xf2 ∷ 0x78 ∷ 0x5e ∷ 0x42
     ∷ 0x87 ∷ 0x4d ∷ []
 unfolding quarter columns diagonals rounds add_states
-applied_vector = refl
+xor_stream_vector = refl

@@ -1,16 +1,17 @@
 -- States of sixteen words: the counter, and the words that stay.
-use Rattle.std.proofs.Common.{◌≡◌, ℕ, ◌+◌, ◌*◌, ◌/◌, ◌%◌, ◌^◌, ◌<◌, ◌≤◌, List, ◌++◌, length, take, drop, slice_index, arith, refl, ap, ◌∙◌}
+use Rattle.std.proofs.Common.{◌≡◌, ℕ, ◌+◌, ◌*◌, ◌/◌, ◌%◌, ◌^◌, ◌<◌, ◌≤◌, List, ◌++◌, length, take, drop, slice_index, arith, refl, ap, ap₂, ◌∙◌}
 use Rattle.std.proofs.Math.Nat.{mod-add-mod, mod-eq_of_lt}
+use Rattle.std.proofs.lemmas.List.{take_at, drop_at}
 use Rattle.std.proofs.lemmas.List.FromFn.{length-map-range_with_len, get_or-map-range_with_len, fill_by_all}
 use Rattle.std.proofs.lemmas.Option.{slice_get-get_or, get_or_from_slice_get}
 use Rattle.std.specs.Prelude.{slice_get, Some}
 use borrow.Rule.Slice.PartMut.{put_mid}
 use Rattle.chacha_base.specs.Layout.{Layout, ietf, legacy, modulus, counter_words, row_at}
-use Rattle.chacha_base.specs.Bytes.{words}
+use Rattle.chacha_base.specs.Bytes.{bytes, words}
 use Rattle.chacha_base.specs.Block.{constants, start}
 use Rattle.chacha_base.specs.Rounds.{rounds, add_states, mix}
 use Rattle.chacha_base.specs.Words.{add}
-use Rattle.chacha_base.specs.State.{state_counter, fixed_words, state_of, state_at, counter_after, advanced, next_word, next_words}
+use Rattle.chacha_base.specs.State.{state_counter, fixed_words, state_of, state_at, counter_after, state_after, next_block, next_word, next_words}
 use Rattle.chacha_base.proofs.ListLemmas.{each, written_more}
 
 -- each word is below 2 ^ 32
@@ -66,42 +67,67 @@ state_at-own legacy =
     let same_low : (x12 + 2 ^ 32 * x13) % 2 ^ 32 ≡ x12 = omega arith in
     let same_high : (x12 + 2 ^ 32 * x13) / 2 ^ 32 ≡ x13 = omega arith in rw (same_low, same_high) refl)
 
+pub length-state_at : (layout : Layout) (c : ℕ) (s : List ℕ) → length s ≡ 16 → length (state_at layout c s) ≡ 16
+length-state_at ietf c =
+    each 16 (λ s. length (state_at ietf c s) ≡ 16) (λ x0 x1 x2 x3 x4 x5 x6 x7 x8 x9 x10 x11 x12 x13 x14 x15. refl)
+length-state_at legacy c =
+    each 16 (λ s. length (state_at legacy c s) ≡ 16) (λ x0 x1 x2 x3 x4 x5 x6 x7 x8 x9 x10 x11 x12 x13 x14 x15. refl)
+
+-- the state so many blocks on
+pub fixed_words-state_after : (layout : Layout) (i : ℕ) (s t : List ℕ) → length s ≡ 16 → t ≡ state_after layout i s → fixed_words layout t ≡ fixed_words layout s
+fixed_words-state_after layout i s t h moved = ap (fixed_words layout) moved ∙ fixed_words-state_at layout (counter_after layout s i) s h
+
+pub state_counter-state_after : (layout : Layout) (i : ℕ) (s t : List ℕ) → length s ≡ 16 → t ≡ state_after layout i s
+    → state_counter layout t ≡ (state_counter layout s + i) % modulus layout
+state_counter-state_after layout i s t h moved = ap (state_counter layout) moved ∙ state_counter-state_at layout (counter_after layout s i) s h
+
 -- no blocks on
-pub advanced-zero : (layout : Layout) (s : List ℕ) → length s ≡ 16 → Words s → advanced layout 0 s ≡ s
-advanced-zero layout s h fits =
+pub state_after-zero : (layout : Layout) (s : List ℕ) → length s ≡ 16 → Words s → state_after layout 0 s ≡ s
+state_after-zero layout s h fits =
     let none : state_counter layout s + 0 ≡ state_counter layout s = omega arith in
     ap (λ c. state_at layout c s) (ap (λ c. c % modulus layout) none ∙ mod-eq_of_lt (state_counter-below layout s h fits)) ∙ state_at-own layout s h fits
 
 -- i blocks on, and then j
-pub advanced-advanced : (layout : Layout) (i j : ℕ) (s : List ℕ) → length s ≡ 16 → advanced layout j (advanced layout i s) ≡ advanced layout (i + j) s
-advanced-advanced layout i j s h =
+pub state_after-state_after : (layout : Layout) (i j : ℕ) (s : List ℕ) → length s ≡ 16 → state_after layout j (state_after layout i s) ≡ state_after layout (i + j) s
+state_after-state_after layout i j s h =
     let c = state_counter layout s in
     let m = modulus layout in
     let sum : c + i + j ≡ c + (i + j) = omega arith in
-    ap (λ f. state_of layout f ((state_counter layout (advanced layout i s) + j) % m)) (fixed_words-state_at layout (counter_after layout s i) s h)
-    ∙ ap (λ k. state_at layout ((k + j) % m) s) (state_counter-state_at layout (counter_after layout s i) s h)
+    ap₂ (λ f k. state_of layout f ((k + j) % m)) (fixed_words-state_after layout i s _ h refl) (state_counter-state_after layout i s _ h refl)
     ∙ ap (λ k. state_at layout k s) (mod-add-mod (c + i) m j ∙ ap (λ k. k % m) sum)
 
--- the start state at another counter
-start-joined_words : (layout : Layout) (nonce : List ℕ) (c : ℕ) (key : List ℕ) → length key ≡ 8
-    → state_of layout (fixed_words layout (constants ++ key ++ counter_words layout 0 ++ nonce)) c ≡ constants ++ key ++ counter_words layout c ++ nonce
-start-joined_words ietf nonce c =
-    each 8 (λ key. state_of ietf (fixed_words ietf (constants ++ key ++ counter_words ietf 0 ++ nonce)) c ≡ constants ++ key ++ counter_words ietf c ++ nonce)
-    (λ x0 x1 x2 x3 x4 x5 x6 x7. refl)
-start-joined_words legacy nonce c =
-    each 8 (λ key. state_of legacy (fixed_words legacy (constants ++ key ++ counter_words legacy 0 ++ nonce)) c ≡ constants ++ key ++ counter_words legacy c ++ nonce)
-    (λ x0 x1 x2 x3 x4 x5 x6 x7. refl)
+-- the state k blocks on from one that is a blocks on
+pub state_after-more : (layout : Layout) (s t u : List ℕ) (a k e : ℕ) → length s ≡ 16 → t ≡ state_after layout a s → u ≡ state_after layout k t → a + k ≡ e
+    → u ≡ state_after layout e s
+state_after-more layout s t u a k e h moved more all =
+    more ∙ ap (state_after layout k) moved ∙ state_after-state_after layout a k s h ∙ ap (λ i. state_after layout i s) all
 
-pub start-joined : (layout : Layout) (key nonce : List ℕ) (c : ℕ) → length (words key) ≡ 8
-    → state_of layout (fixed_words layout (start layout key nonce 0)) c ≡ start layout key nonce c
-start-joined layout key nonce c = start-joined_words layout (words nonce) c (words key)
+-- the fixed words of a start state, the start state of them, and its counter
+pub fixed_words-start : (layout : Layout) (key nonce : List ℕ) (c : ℕ) → length (words key) ≡ 8
+    → fixed_words layout (start layout key nonce c) ≡ constants ++ words key ++ words nonce
+fixed_words-start ietf key nonce c =
+    each 8 (λ k. fixed_words ietf (constants ++ k ++ counter_words ietf c ++ words nonce) ≡ constants ++ k ++ words nonce) (λ x0 x1 x2 x3 x4 x5 x6 x7. refl) (words key)
+fixed_words-start legacy key nonce c =
+    each 8 (λ k. fixed_words legacy (constants ++ k ++ counter_words legacy c ++ words nonce) ≡ constants ++ k ++ words nonce) (λ x0 x1 x2 x3 x4 x5 x6 x7. refl) (words key)
+
+pub state_of-start : (layout : Layout) (key nonce : List ℕ) (c : ℕ) → length (words key) ≡ 8
+    → state_of layout (constants ++ words key ++ words nonce) c ≡ start layout key nonce c
+state_of-start layout key nonce c long =
+    let front : length (constants ++ words key) ≡ 12 = omega arith in
+    ap₂ (λ a b. a ++ counter_words layout c ++ b) (take_at (constants ++ words key) (words nonce) 12 front) (drop_at (constants ++ words key) (words nonce) 12 front)
+
+pub state_counter-start : (layout : Layout) (key nonce : List ℕ) (c : ℕ) → length (words key) ≡ 8 → state_counter layout (start layout key nonce c) ≡ c
+state_counter-start ietf key nonce c =
+    each 8 (λ k. state_counter ietf (constants ++ k ++ counter_words ietf c ++ words nonce) ≡ c) (λ x0 x1 x2 x3 x4 x5 x6 x7. refl) (words key)
+state_counter-start legacy key nonce c =
+    each 8 (λ k. state_counter legacy (constants ++ k ++ counter_words legacy c ++ words nonce) ≡ c) (λ x0 x1 x2 x3 x4 x5 x6 x7. halves c) (words key)
 
 pub length-mix : (n : ℕ) (s : List ℕ) → length (mix n s) ≡ 16
 unfolding add_states
 length-mix n s = length-map-range_with_len (λ w. add (slice_index (rounds n s) w) (slice_index s w)) 0 16
 
 -- the words of one block more
-pub next_words-more : (n : ℕ) (layout : Layout) (s t : List ℕ) (i : ℕ) (now part : List ℕ) → t ≡ advanced layout i s → part ≡ mix n t
+pub next_words-more : (n : ℕ) (layout : Layout) (s t : List ℕ) (i : ℕ) (now part : List ℕ) → t ≡ state_after layout i s → part ≡ mix n t
     → 16 * i ≤ length now → ((k : ℕ) → k < 16 * i → slice_get now k ≡ Some (next_word n layout s k))
     → (k : ℕ) → k < 16 * i + 16 → slice_get (put_mid (16 * i) 16 now part) k ≡ Some (next_word n layout s k)
 next_words-more n layout s t i now part moved made room before =
@@ -112,6 +138,19 @@ next_words-more n layout s t i now part moved made room before =
     let place : (16 * i + k) % 16 ≡ k = omega arith in
     slice_get-get_or part k 0 (omega (arith, long, less))
     ∙ ap Some (rw (which, place) (ap (λ u. slice_index u k) (made ∙ ap (mix n) moved))))
+
+-- k blocks more of a state that is a blocks on
+pub next_blocks-more : (n : ℕ) (layout : Layout) (s t : List ℕ) (a k : ℕ) (now part : List (List ℕ)) → length s ≡ 16 → t ≡ state_after layout a s
+    → a ≤ length now → length part ≡ k
+    → ((i : ℕ) → i < a → slice_get now i ≡ Some (next_block n layout s i))
+    → ((i : ℕ) → i < k → slice_get part i ≡ Some (next_block n layout t i))
+    → (i : ℕ) → i < a + k → slice_get (put_mid a k now part) i ≡ Some (next_block n layout s i)
+next_blocks-more n layout s t a k now part h moved room long before made =
+    written_more (next_block n layout s) a k now part room long before
+    (λ i less.
+    made i less
+    ∙ ap (λ u. Some (next_block n layout u i)) moved
+    ∙ ap (λ u. Some (bytes (mix n u))) (state_after-state_after layout a i s h))
 
 pub next_words-are : (n : ℕ) (layout : Layout) (s now : List ℕ) → length now ≡ 64
     → ((k : ℕ) → k < 64 → slice_get now k ≡ Some (next_word n layout s k)) → now ≡ next_words n layout s

@@ -10,7 +10,8 @@ abbrev pub left_at : ℕ → ℕ
 left_at p = (64 - p % 64) % 64
 
 -- the buffer holds the block before the core's counter, as far as some of it is left
-pub record IsBuffered (modulus : ℕ) (block : ℕ → List ℕ) (counter : ℕ) (buffer : List ℕ) (left : ℕ) : Type 0 where
+pub record IsBuffered (modulus : ℕ) (block : ℕ → List ℕ) (counter : ℕ) (buffer : List ℕ)
+    (left : ℕ) : Type 0 where
   pub part : left < 64
   pub begun : left ≤ 64 * counter
   pub below : counter < modulus

@@ -1,13 +1,16 @@
 -- Blocks of which sixteen vectors hold the words, a block in each lane (this crate).
 use Rattle.std.specs.Prelude.{ℕ, List, [], ◌∷◌, ◌++◌}
-use Rattle.chacha_base.specs.declared.backends.rows.Rows.{Rows}
+use Rattle.chacha_base.specs.declared.backends.quad.Quad.{Quad}
 use Rattle.chacha_base.specs.declared.backends.columns.Columns.{Columns}
 
 -- lane j of one vector of each column
-abbrev pub four_at : {V : Type 0} → (V → ℕ → ℕ) → Columns V → (Rows V → V) → ℕ → List ℕ
+abbrev pub four_at : {V : Type 0} → (V → ℕ → ℕ) → Columns V → (Quad V → V) → ℕ → List ℕ
 four_at lane x vector j =
-    lane (vector x.first) j ∷ lane (vector x.second) j ∷ lane (vector x.third) j ∷ lane (vector x.fourth) j ∷ []
+    lane (vector x.first) j ∷ lane (vector x.second) j
+    ∷ lane (vector x.third) j ∷ lane (vector x.fourth) j ∷ []
 
--- the sixteen words in lane j
-abbrev pub words_at : {V : Type 0} → (V → ℕ → ℕ) → Columns V → ℕ → List ℕ
-words_at lane x j = four_at lane x (λ r. r.a) j ++ four_at lane x (λ r. r.b) j ++ four_at lane x (λ r. r.c) j ++ four_at lane x (λ r. r.d) j
+-- the sixteen words of the block in lane j
+abbrev pub block_in_columns : {V : Type 0} → (V → ℕ → ℕ) → Columns V → ℕ → List ℕ
+block_in_columns lane x j =
+    four_at lane x (λ q. q.a) j ++ four_at lane x (λ q. q.b) j
+    ++ four_at lane x (λ q. q.c) j ++ four_at lane x (λ q. q.d) j

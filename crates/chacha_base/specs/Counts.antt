@@ -1,5 +1,5 @@
 -- Counts of the steps that calls take (this crate).
-use Rattle.std.specs.Prelude.{ℕ, ◌+◌, ◌-◌, ◌*◌, ◌/◌, ◌%◌, ◌≤◌, min, nat_lt, cond}
+use Rattle.std.specs.Prelude.{ℕ, ◌+◌, ◌-◌, ◌*◌, ◌/◌, ◌%◌, ◌≤◌, min, nat_lt, if◌then◌else◌}
 
 -- parallel calls of a backend, other calls for a block, and quarter rounds
 pub record Counts : Type 0 where
@@ -31,12 +31,14 @@ for_call par other rounds = record { par = par; other = other; least = rounds; m
 abbrev pub for_tail : (one k : ℕ) → Bounds
 for_tail one k = record { par = 0; other = k; least = min 1 k * one; most = k * one }
 
--- quarter rounds, for each double round, of a tail of k blocks where sixteen are the width: up to four blocks fit in one
--- vector a row, up to eight in two, and the rest in four
+-- quarter rounds, for each double round, of a tail of k blocks where sixteen are the width: up to
+-- four blocks fit in one vector a row, up to eight in two, and the rest in four
 abbrev pub tail_of_16 : ℕ → ℕ
-tail_of_16 k = cond (nat_lt k 1) 0 (cond (nat_lt k 5) 2 (cond (nat_lt k 9) 4 8))
+tail_of_16 k =
+    if nat_lt k 1 then 0 else (if nat_lt k 5 then 2 else (if nat_lt k 9 then 4 else 8))
 
--- for m blocks in groups of w, with `par` quarter rounds a group and `one` a single block, and k single blocks after them
+-- for m blocks in groups of w, with `par` quarter rounds a group and `one` a single block, and k
+-- single blocks after them
 abbrev pub for_blocks : (w par one m k : ℕ) → Bounds
 for_blocks w par one m k = record {
   par = m / w;
@@ -45,7 +47,8 @@ for_blocks w par one m k = record {
   most = m / w * par + (m % w + k) * one;
 }
 
--- for so many bytes from position p on: first what is left of a block that has been begun, then whole blocks, then a last part
+-- for so many bytes from position p on: first what is left of a block that has been begun, then
+-- whole blocks, then a last part
 abbrev pub for_bytes : (w par one p len : ℕ) → Bounds
 for_bytes w par one p len =
     let rest = len - (64 - p % 64) % 64 in

@@ -1,9 +1,15 @@
--- Rows of several blocks in one vector, four lanes a block (this crate).
-use Rattle.std.specs.Prelude.{ℕ, ◌+◌, ◌*◌, List, [], ◌∷◌, slice_index}
+-- Rows of four words in the lanes of a vector, and in a state (this crate).
+use Rattle.std.specs.Prelude.{ℕ, ◌+◌, ◌*◌, List, [], ◌∷◌, ◌++◌, slice_index}
 
 -- the four words of row or block g, where `lane` gives the words one after another
 abbrev pub row : (ℕ → ℕ) → ℕ → List ℕ
 row lane g = lane (4 * g) ∷ lane (4 * g + 1) ∷ lane (4 * g + 2) ∷ lane (4 * g + 3) ∷ []
+
+-- a state with another last row
+abbrev pub with_last_words : List ℕ → List ℕ → List ℕ
+with_last_words s last =
+    row (slice_index s) 0 ++ row (slice_index s) 1 ++ row (slice_index s) 2
+    ++ row (slice_index last) 0
 
 -- four words turned to the left by one, two and three places
 abbrev pub turned_1 : List ℕ → List ℕ

@@ -1,6 +1,6 @@
--- The two layouts of a state's last row: a counter of one word and a nonce of three (RFC 8439, 2.3), and, as before the
--- RFC, a counter of two words and a nonce of two.
-use Rattle.std.specs.Prelude.{ℕ, ◌+◌, ◌*◌, ◌-◌, ◌/◌, ◌%◌, ◌^◌, List, [], ◌∷◌, ◌++◌, slice_index, drop, Option, Some}
+-- The two layouts of a state's last row: a counter of one word and a nonce of three (RFC 8439,
+-- 2.3), and, as before the RFC, a counter of two words and a nonce of two.
+use Rattle.std.specs.Prelude.{ℕ, ◌+◌, ◌*◌, ◌/◌, ◌%◌, ◌^◌, List, [], ◌∷◌, ◌++◌, slice_index, drop}
 
 pub data Layout : Type 0 where
   ietf : Layout
@@ -29,7 +29,3 @@ row_counter legacy row = slice_index row 0 + 2 ^ 32 * slice_index row 1
 -- the row with another counter at its front, and the other words as they were
 abbrev pub row_at : Layout → ℕ → List ℕ → List ℕ
 row_at layout c row = counter_words layout c ++ drop (counter_len layout) row
-
--- how many blocks a cipher has left at a counter: it never takes the block with the greatest counter (this crate)
-abbrev pub remaining : ℕ → ℕ → Option ℕ
-remaining modulus c = Some (modulus - 1 - c)

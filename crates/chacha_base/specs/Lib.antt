@@ -9,9 +9,11 @@ pub mod Keystream
 pub mod Counts
 pub mod Number
 pub mod Cipher
+pub mod Limit
 pub mod Buffered
 pub mod SeekNum
 pub mod Lanes
+pub mod Quads
 pub mod RowVectors
 pub mod RowShifts
 pub mod ColumnVectors

@@ -16,9 +16,11 @@ quarter a b c d =
 
 -- the quarter round of the words of a state at four indices
 abbrev pub quarter_of : List ℕ → ℕ → ℕ → ℕ → ℕ → ℕ × ℕ × ℕ × ℕ
-quarter_of s a b c d = quarter (slice_index s a) (slice_index s b) (slice_index s c) (slice_index s d)
+quarter_of s a b c d =
+    quarter (slice_index s a) (slice_index s b) (slice_index s c) (slice_index s d)
 
 -- the state with these four words in their places
 abbrev pub quarter_round : List ℕ → ℕ → ℕ → ℕ → ℕ → List ℕ
 quarter_round s a b c d =
-    let q = quarter_of s a b c d in slice_set (slice_set (slice_set (slice_set s a q.0) b q.1) c q.2) d q.3
+    let q = quarter_of s a b c d in
+    slice_set (slice_set (slice_set (slice_set s a q.0) b q.1) c q.2) d q.3

@@ -11,19 +11,21 @@ entry (suc zero) q = q.1
 entry (suc (suc zero)) q = q.2
 entry (suc (suc (suc r))) q = q.3
 
--- the quarter round of column i
+-- the quarter round of column i, which has place i of each row
 abbrev pub column : List ℕ → ℕ → ℕ × ℕ × ℕ × ℕ
 column s i = quarter_of s i (4 + i) (8 + i) (12 + i)
 
--- the quarter round of diagonal i, which has place (i + r) mod 4 of row r
+-- the quarter round of diagonal i, which has place i of row 0, and in each row below it the next
+-- place to the right, or place 0 after the last: diagonal 1 is words 1, 6, 11 and 12
 abbrev pub diagonal : List ℕ → ℕ → ℕ × ℕ × ℕ × ℕ
 diagonal s i = quarter_of s i (4 + (i + 1) % 4) (8 + (i + 2) % 4) (12 + (i + 3) % 4)
 
--- place i of row r is entry r of column i
+-- place i of row r lies in column i, and is entry r of its quarter round
 unfoldable pub columns : List ℕ → List ℕ
 columns s = map (λ w. entry (w / 4) (column s (w % 4))) (range_with_len 0 16)
 
--- place i of row r is entry r of diagonal (i - r) mod 4
+-- place i of row r lies in diagonal (i - r) mod 4, and is entry r of its quarter round: word
+-- 12, place 0 of row 3, lies in diagonal 1
 unfoldable pub diagonals : List ℕ → List ℕ
 diagonals s = map (λ w. entry (w / 4) (diagonal s ((w % 4 + 4 - w / 4) % 4))) (range_with_len 0 16)
 

@@ -1,4 +1,5 @@
--- A state as a counter and all its other words, and the blocks that it gives one after another (this crate).
+-- A state as a counter and all its other words, and the blocks that it gives one after another
+-- (this crate).
 use Rattle.std.specs.Prelude.{ℕ, ◌+◌, ◌/◌, ◌%◌, List, ◌++◌, map, take, drop, slice_index}
 use Rattle.std.specs.List.{range_with_len}
 use Rattle.chacha_base.specs.Bytes.{bytes}
@@ -18,8 +19,8 @@ abbrev pub state_of : Layout → List ℕ → ℕ → List ℕ
 state_of layout fixed c = take 12 fixed ++ counter_words layout c ++ drop 12 fixed
 
 -- the 64 bytes of a counter and of all other words, after n double rounds
-abbrev pub block_of : ℕ → Layout → List ℕ → ℕ → List ℕ
-block_of n layout fixed c = bytes (mix n (state_of layout fixed c))
+abbrev pub state_block : ℕ → Layout → List ℕ → ℕ → List ℕ
+state_block n layout fixed c = bytes (mix n (state_of layout fixed c))
 
 -- the state with another counter
 abbrev pub state_at : Layout → ℕ → List ℕ → List ℕ
@@ -30,16 +31,16 @@ abbrev pub counter_after : Layout → List ℕ → ℕ → ℕ
 counter_after layout s i = (state_counter layout s + i) % modulus layout
 
 -- the state i blocks on
-abbrev pub advanced : Layout → ℕ → List ℕ → List ℕ
-advanced layout i s = state_at layout (counter_after layout s i) s
+abbrev pub state_after : Layout → ℕ → List ℕ → List ℕ
+state_after layout i s = state_at layout (counter_after layout s i) s
 
 -- block i from a state on
 abbrev pub next_block : ℕ → Layout → List ℕ → ℕ → List ℕ
-next_block n layout s i = bytes (mix n (advanced layout i s))
+next_block n layout s i = bytes (mix n (state_after layout i s))
 
 -- word i from a state on: word i mod 16 of the block that is i div 16 blocks on
 abbrev pub next_word : ℕ → Layout → List ℕ → ℕ → ℕ
-next_word n layout s i = slice_index (mix n (advanced layout (i / 16) s)) (i % 16)
+next_word n layout s i = slice_index (mix n (state_after layout (i / 16) s)) (i % 16)
 
 -- the 64 words of the next four blocks
 unfoldable pub next_words : ℕ → Layout → List ℕ → List ℕ

@@ -8,6 +8,7 @@ mod lanes16;
 mod lanes4;
 mod lanes8;
 mod place;
+mod quad;
 mod rows;
 mod rows8;
 mod shift;

@@ -1,9 +1,10 @@
 //! The traits of backends, cores and ciphers, and their errors.
 
 ghost use Rattle.std.specs.Prelude.{◌≡◌, ◌↔◌, ◌≤◌, ◌<◌, ◌+◌, ◌-◌, ◌*◌, ◌/◌, ◌%◌, ◌^◌, ℕ, List, [], length, slice_get, slice_index_or, Some, IsOk, IfOk, OnOk, OnErr, IsSomeAnd, IfSome};
-ghost use Rattle.chacha_base.specs.Layout.{legacy, remaining};
-ghost use Rattle.chacha_base.specs.State.{advanced, next_block, next_words};
-ghost use Rattle.chacha_base.specs.Keystream.{keystream, applied, streamed};
+ghost use Rattle.chacha_base.specs.Layout.{legacy};
+ghost use Rattle.chacha_base.specs.Limit.{limit_of, remaining};
+ghost use Rattle.chacha_base.specs.State.{state_after, next_block, next_words};
+ghost use Rattle.chacha_base.specs.Keystream.{keystream, xor_stream, stream_part};
 ghost use Rattle.chacha_base.specs.Counts.{Bounds, Grows, for_call, for_tail, for_blocks};
 
 mod seek_num;
@@ -74,6 +75,9 @@ pub trait Keystream {
 
     // The block of a fixed part at a counter.
     ghost block_at: { List ℕ → ℕ → List ℕ };
+
+    // The position of the next byte, in bytes from the first one.
+    ghost position: { Self → ℕ };
 }
 
 /// What is made of a key and a nonce.
@@ -84,15 +88,16 @@ pub trait KeyIvInit: Keystream {
     /// The nonce's type.
     type Iv;
 
-    // The value of a key and a nonce, and the block that they define for a counter.
+    // The value of a key and a nonce, and the block that they define for each counter.
     ghost init: { Self.Key → Self.Iv → Self };
 
-    ghost block: { Self.Key → Self.Iv → ℕ → List ℕ };
+    ghost blocks_of: { Self.Key → Self.Iv → ℕ → List ℕ };
 
     /// The first value of a key and a nonce: no block and no byte is taken yet.
     fn new(key: &Self::Key, iv: &Self::Iv) -> Self
         ensures value { result ≡ init key.now iv.now }
-        ensures blocks { Self.block_at (Self.fixed result) ≡ block key.now iv.now };
+        ensures blocks { Self.block_at (Self.fixed result) ≡ blocks_of key.now iv.now }
+        ensures first { Self.position result ≡ 0 };
 }
 
 /// Makes the blocks of a state one after another. The functions have no receiver, so that a backend is a marker.
@@ -105,9 +110,6 @@ pub trait StreamCipherBackend<R: Rounds, V: Variant>: ParBlocksSizeUser {
 
     ghost ONE_STEPS: { ℕ };
 
-    // Quarter rounds of a tail of so many blocks, for each double round.
-    ghost tail_steps: { ℕ → ℕ };
-
     /// Quarter rounds of a parallel call, for each double round. This crate's own.
     const PAR_STEPS: usize;
 
@@ -117,7 +119,7 @@ pub trait StreamCipherBackend<R: Rounds, V: Variant>: ParBlocksSizeUser {
     /// The next block.
     fn gen_ks_block(state: &mut [u32; 16], block: &mut [u8; 64], steps: &mut Steps)
         ensures block { block.new ≡ next_block R.COUNT V.layout state.old 0 }
-        ensures state { state.new ≡ advanced V.layout 1 state.old }
+        ensures state { state.new ≡ state_after V.layout 1 state.old }
         ensures steps { Grows (for_call 0 1 (ONE_STEPS * R.COUNT)) steps.old steps.new };
 
     /// The next `PAR_BLOCKS` blocks.
@@ -125,7 +127,7 @@ pub trait StreamCipherBackend<R: Rounds, V: Variant>: ParBlocksSizeUser {
         requires { length blocks.old ≡ Self.PAR_BLOCKS }
         ensures blocks { (i : ℕ) → i < length blocks.old
             → slice_get blocks.new i ≡ Some (next_block R.COUNT V.layout state.old i) }
-        ensures state { state.new ≡ advanced V.layout (length blocks.old) state.old }
+        ensures state { state.new ≡ state_after V.layout (length blocks.old) state.old }
         ensures steps { Grows (for_call 1 0 (PAR_STEPS * R.COUNT)) steps.old steps.new };
 
     /// Fewer blocks than `PAR_BLOCKS`, none included.
@@ -133,9 +135,9 @@ pub trait StreamCipherBackend<R: Rounds, V: Variant>: ParBlocksSizeUser {
         requires { length blocks.old < Self.PAR_BLOCKS }
         ensures blocks { (i : ℕ) → i < length blocks.old
             → slice_get blocks.new i ≡ Some (next_block R.COUNT V.layout state.old i) }
-        ensures state { state.new ≡ advanced V.layout (length blocks.old) state.old }
-        ensures steps { Grows (for_tail (ONE_STEPS * R.COUNT) (length blocks.old)) steps.old steps.new }
-        ensures rounds { steps.new.rounds ≡ steps.old.rounds + tail_steps (length blocks.old) * R.COUNT };
+        ensures state { state.new ≡ state_after V.layout (length blocks.old) state.old }
+        ensures steps { Grows
+            (for_tail (ONE_STEPS * R.COUNT) (length blocks.old)) steps.old steps.new };
 }
 
 /// Makes the words of a generator, four blocks at a time, in the layout with a counter of 64 bits.
@@ -152,8 +154,9 @@ pub trait RngBackend<R: Rounds> {
     /// The words of the next four blocks.
     fn gen_ks_blocks(state: &mut [u32; 16], buffer: &mut [u32; 64], steps: &mut Steps)
         ensures words { buffer.new ≡ next_words R.COUNT legacy state.old }
-        ensures state { state.new ≡ advanced legacy 4 state.old }
-        ensures steps { steps.new ≡ record steps.old { rounds = steps.old.rounds + RNG_STEPS * R.COUNT } };
+        ensures state { state.new ≡ state_after legacy 4 state.old }
+        ensures steps { steps.new
+            ≡ record steps.old { rounds = steps.old.rounds + RNG_STEPS * R.COUNT } };
 }
 
 /// Hands out the blocks of a keystream one after another, in order of counter. Counters wrap; nothing is refused, and
@@ -184,7 +187,8 @@ pub trait StreamCipherCore: Keystream + BlockSizeUser + ParBlocksSizeUser {
 
     /// Combines a block of bytes with the next block by exclusive or.
     fn apply_keystream_block(&mut self, block: &mut [u8; 64])
-        ensures block { block.new ≡ applied (keystream Self.modulus (Self.block_at (Self.fixed self.old)))
+        ensures block { block.new
+            ≡ xor_stream (keystream Self.modulus (Self.block_at (Self.fixed self.old)))
             (64 * counter self.old) block.old }
         ensures fixed { Self.fixed self.new ≡ Self.fixed self.old }
         ensures counter { counter self.new ≡ (counter self.old + 1) % Self.modulus }
@@ -196,15 +200,18 @@ pub trait StreamCipherCore: Keystream + BlockSizeUser + ParBlocksSizeUser {
     /// Writes the next blocks, in order.
     fn write_keystream_blocks(&mut self, blocks: &mut [[u8; 64]])
         ensures blocks { (i : ℕ) → i < length blocks.old
-            → slice_get blocks.new i ≡ Some (Self.block_at (Self.fixed self.old) ((counter self.old + i) % Self.modulus)) }
+            → slice_get blocks.new i
+            ≡ Some (Self.block_at (Self.fixed self.old) ((counter self.old + i) % Self.modulus)) }
         ensures fixed { Self.fixed self.new ≡ Self.fixed self.old }
-        ensures counter { counter self.new ≡ (counter self.old + length blocks.old) % Self.modulus };
+        ensures counter { counter self.new
+            ≡ (counter self.old + length blocks.old) % Self.modulus };
 
     /// Combines blocks of bytes with the next blocks by exclusive or, in order. The blocks are made in groups of
     /// `PAR_BLOCKS`, and the rest at the end.
     final fn apply_keystream_blocks(&mut self, blocks: &mut [[u8; 64]])
         ensures blocks { (i : ℕ) → i < length blocks.old
-            → slice_get blocks.new i ≡ Some (applied (keystream Self.modulus (Self.block_at (Self.fixed self.old)))
+            → slice_get blocks.new i
+            ≡ Some (xor_stream (keystream Self.modulus (Self.block_at (Self.fixed self.old)))
             (64 * (counter self.old + i)) (slice_index_or blocks.old i [])) }
         ensures fixed { Self.fixed self.new ≡ Self.fixed self.old }
         ensures counter { counter self.new ≡ (counter self.old + length blocks.old) % Self.modulus }
@@ -230,20 +237,27 @@ pub trait StreamCipherCore: Keystream + BlockSizeUser + ParBlocksSizeUser {
     /// Combines whole blocks of bytes with the next blocks by exclusive or, and counts the steps. This crate's own.
     fn apply_blocks_counted(&mut self, data: &mut [u8], steps: &mut Steps)
         requires { length «data».old % 64 ≡ 0 }
-        ensures data { «data».new ≡ applied (keystream Self.modulus (Self.block_at (Self.fixed self.old)))
+        ensures data { «data».new
+            ≡ xor_stream (keystream Self.modulus (Self.block_at (Self.fixed self.old)))
             (64 * counter self.old) «data».old }
         ensures fixed { Self.fixed self.new ≡ Self.fixed self.old }
-        ensures counter { counter self.new ≡ (counter self.old + length «data».old / 64) % Self.modulus }
-        ensures steps { Grows (for_blocks Self.PAR_BLOCKS par_cost one_cost (length «data».old / 64) 0) steps.old steps.new };
+        ensures counter { counter self.new
+            ≡ (counter self.old + length «data».old / 64) % Self.modulus }
+        ensures steps { Grows
+            (for_blocks Self.PAR_BLOCKS par_cost one_cost
+            (length «data».old / 64) 0) steps.old steps.new };
 
     ghost block_size: { Self.BLOCK_SIZE ≡ 64 };
+
+    ghost position_is: { (c : Self) → Self.position c ≡ 64 * counter c };
 }
 
 // Combines blocks of bytes with as many next blocks, which are made first.
 fn apply_group<C: StreamCipherCore>(core: &mut C, made: &mut [[u8; 64]], blocks: &mut [[u8; 64]])
     requires { length made.old ≡ length blocks.old }
     ensures blocks { (i : ℕ) → i < length blocks.old
-        → slice_get blocks.new i ≡ Some (applied (keystream C.modulus (C.block_at (C.fixed core.old)))
+        → slice_get blocks.new i
+        ≡ Some (xor_stream (keystream C.modulus (C.block_at (C.fixed core.old)))
         (64 * (C.counter core.old + i)) (slice_index_or blocks.old i [])) }
     ensures fixed { C.fixed core.new ≡ C.fixed core.old }
     ensures counter { C.counter core.new ≡ (C.counter core.old + length blocks.old) % C.modulus }
@@ -271,14 +285,13 @@ pub trait StreamCipherSeekCore: StreamCipherCore {
     ghost counters: { Self.modulus ≡ Self.Counter.M };
 }
 
-/// A cipher that combines bytes with a keystream, from a position on that moves with them.
-pub trait StreamCipher {
+/// A cipher that combines bytes with a keystream, from a position on that moves with them. Its stream is the keystream of
+/// its own blocks, which `KeyIvInit` ties to a key and a nonce.
+pub trait StreamCipher: Keystream {
     // The greatest position.
     ghost limit: { ℕ };
 
-    // The position, and the cipher at another position.
-    ghost position: { Self → ℕ };
-
+    // The cipher at another position.
     ghost at: { Self → ℕ → Self };
 
     // Byte p of the cipher's keystream.
@@ -289,8 +302,8 @@ pub trait StreamCipher {
 
     /// Whether so many bytes more can be taken: `Err` exactly where they would pass the limit.
     fn check_remaining(&self, len: usize) -> Result<(), StreamCipherError>
-        ensures accepted { IsOk result ↔ (position self.now + len ≤ limit) }
-        ensures within { position self.now ≤ limit };
+        ensures accepted { IsOk result ↔ (Self.position self.now + len ≤ limit) }
+        ensures within { Self.position self.now ≤ limit };
 
     /// Combines bytes with the keystream by exclusive or, and counts the steps. `Err` exactly where the bytes would
     /// pass the limit; then nothing changes. This crate's own.
@@ -299,18 +312,24 @@ pub trait StreamCipher {
         buf: &mut [u8],
         steps: &mut Steps,
     ) -> Result<(), StreamCipherError>
-        ensures accepted { IsOk result ↔ (position self.old + length buf.old ≤ limit) }
-        ensures bytes { OnOk result (buf.new ≡ applied (stream self.old) (position self.old) buf.old) }
-        ensures moved { OnOk result (self.new ≡ at self.old (position self.old + length buf.old)) }
-        ensures steps { OnOk result (Grows (cost (position self.old) (length buf.old)) steps.old steps.new) }
-        ensures refused { OnErr result ((buf.new ≡ buf.old) × (self.new ≡ self.old) × (steps.new ≡ steps.old)) };
+        ensures accepted { IsOk result ↔ (Self.position self.old + length buf.old ≤ limit) }
+        ensures bytes { OnOk result
+            (buf.new ≡ xor_stream (stream self.old) (Self.position self.old) buf.old) }
+        ensures moved { OnOk result
+            (self.new ≡ at self.old (Self.position self.old + length buf.old)) }
+        ensures steps { OnOk result
+            (Grows (cost (Self.position self.old) (length buf.old)) steps.old steps.new) }
+        ensures refused { OnErr result
+            ((buf.new ≡ buf.old) × (self.new ≡ self.old) × (steps.new ≡ steps.old)) };
 
     /// Combines bytes with the keystream by exclusive or (RFC 8439, section 2.4). `Err` exactly where the bytes would
     /// pass the limit; then nothing changes. To decrypt is the same call.
     fn try_apply_keystream(&mut self, buf: &mut [u8]) -> Result<(), StreamCipherError>
-        ensures accepted { IsOk result ↔ (position self.old + length buf.old ≤ limit) }
-        ensures bytes { OnOk result (buf.new ≡ applied (stream self.old) (position self.old) buf.old) }
-        ensures moved { OnOk result (self.new ≡ at self.old (position self.old + length buf.old)) }
+        ensures accepted { IsOk result ↔ (Self.position self.old + length buf.old ≤ limit) }
+        ensures bytes { OnOk result
+            (buf.new ≡ xor_stream (stream self.old) (Self.position self.old) buf.old) }
+        ensures moved { OnOk result
+            (self.new ≡ at self.old (Self.position self.old + length buf.old)) }
         ensures refused { OnErr result ((buf.new ≡ buf.old) × (self.new ≡ self.old)) }
     {
         let mut steps = Steps::new();
@@ -320,9 +339,11 @@ pub trait StreamCipher {
     /// Writes the keystream: each byte becomes the one at its position, whatever stood there. `Err` exactly where the
     /// bytes would pass the limit; then nothing changes.
     fn try_write_keystream(&mut self, buf: &mut [u8]) -> Result<(), StreamCipherError>
-        ensures accepted { IsOk result ↔ (position self.old + length buf.old ≤ limit) }
-        ensures bytes { OnOk result (buf.new ≡ streamed (stream self.old) (position self.old) (length buf.old)) }
-        ensures moved { OnOk result (self.new ≡ at self.old (position self.old + length buf.old)) }
+        ensures accepted { IsOk result ↔ (Self.position self.old + length buf.old ≤ limit) }
+        ensures bytes { OnOk result
+            (buf.new ≡ stream_part (stream self.old) (Self.position self.old) (length buf.old)) }
+        ensures moved { OnOk result
+            (self.new ≡ at self.old (Self.position self.old + length buf.old)) }
         ensures refused { OnErr result ((buf.new ≡ buf.old) × (self.new ≡ self.old)) }
     {
         self.check_remaining(buf.len())?;
@@ -346,9 +367,11 @@ pub trait StreamCipher {
         output: &mut [u8],
     ) -> Result<(), StreamCipherError>
         ensures accepted { IsOk result ↔ ((length input.now ≡ length output.old)
-            × (position self.old + length input.now ≤ limit)) }
-        ensures bytes { OnOk result (output.new ≡ applied (stream self.old) (position self.old) input.now) }
-        ensures moved { OnOk result (self.new ≡ at self.old (position self.old + length input.now)) }
+            × (Self.position self.old + length input.now ≤ limit)) }
+        ensures bytes { OnOk result
+            (output.new ≡ xor_stream (stream self.old) (Self.position self.old) input.now) }
+        ensures moved { OnOk result
+            (self.new ≡ at self.old (Self.position self.old + length input.now)) }
         ensures refused { OnErr result ((output.new ≡ output.old) × (self.new ≡ self.old)) }
     {
         if input.len() != output.len() {
@@ -368,18 +391,19 @@ pub trait StreamCipher {
 
     /// Combines bytes with the keystream by exclusive or (RFC 8439, section 2.4). The caller keeps within the limit.
     fn apply_keystream(&mut self, buf: &mut [u8])
-        requires { position self.old + length buf.old ≤ limit }
-        ensures bytes { buf.new ≡ applied (stream self.old) (position self.old) buf.old }
-        ensures moved { self.new ≡ at self.old (position self.old + length buf.old) }
+        requires { Self.position self.old + length buf.old ≤ limit }
+        ensures bytes { buf.new ≡ xor_stream (stream self.old) (Self.position self.old) buf.old }
+        ensures moved { self.new ≡ at self.old (Self.position self.old + length buf.old) }
     {
         self.try_apply_keystream(buf).unwrap()
     }
 
     /// Writes the keystream, whatever stood there. The caller keeps within the limit.
     fn write_keystream(&mut self, buf: &mut [u8])
-        requires { position self.old + length buf.old ≤ limit }
-        ensures bytes { buf.new ≡ streamed (stream self.old) (position self.old) (length buf.old) }
-        ensures moved { self.new ≡ at self.old (position self.old + length buf.old) }
+        requires { Self.position self.old + length buf.old ≤ limit }
+        ensures bytes { buf.new
+            ≡ stream_part (stream self.old) (Self.position self.old) (length buf.old) }
+        ensures moved { self.new ≡ at self.old (Self.position self.old + length buf.old) }
     {
         self.try_write_keystream(buf).unwrap()
     }
@@ -388,16 +412,22 @@ pub trait StreamCipher {
     /// slices of one length and keeps within the limit.
     fn apply_keystream_b2b(&mut self, input: &[u8], output: &mut [u8])
         requires same { length input.now ≡ length output.old }
-        requires fits { position self.old + length input.now ≤ limit }
-        ensures bytes { output.new ≡ applied (stream self.old) (position self.old) input.now }
-        ensures moved { self.new ≡ at self.old (position self.old + length input.now) }
+        requires fits { Self.position self.old + length input.now ≤ limit }
+        ensures bytes { output.new
+            ≡ xor_stream (stream self.old) (Self.position self.old) input.now }
+        ensures moved { self.new ≡ at self.old (Self.position self.old + length input.now) }
     {
         self.try_apply_keystream_b2b(input, output).unwrap()
     }
 
-    ghost at_position: { (c : Self) → at c (position c) ≡ c };
+    ghost limit_is: { limit ≡ limit_of Self.modulus };
 
-    ghost position_at: { (c : Self) (p : ℕ) → position (at c p) ≡ p };
+    ghost stream_is: { (c : Self)
+        → stream c ≡ keystream Self.modulus (Self.block_at (Self.fixed c)) };
+
+    ghost at_position: { (c : Self) → at c (Self.position c) ≡ c };
+
+    ghost position_at: { (c : Self) (p : ℕ) → Self.position (at c p) ≡ p };
 
     ghost stream_at: { (c : Self) (p : ℕ) → stream (at c p) ≡ stream c };
 

@@ -10,7 +10,8 @@ mod steps;
 pub use steps::Steps;
 
 /// How many double rounds a cipher makes. A double round is a round of the columns and one of the diagonals, so
-/// `COUNT` is half the number in a cipher's name. Anyone may implement it, for any `usize`, 0 included.
+/// `COUNT` is half the number in a cipher's name. Anyone may implement it, for any `usize`, 0 included: beside the constant
+/// stands the same number for clauses, as in `ghost COUNT = { 3 };` and `const COUNT: usize = 3;`.
 pub trait Rounds: Copy {
     ghost COUNT: { ℕ };
 
@@ -47,6 +48,13 @@ impl Rounds for R20 {
 
     const COUNT: usize = 10;
 }
+
+// The numbers of double rounds that the names stand for: facts that hold by computation.
+fn named_counts()
+    ensures r8 { ⟦<R8 as Rounds>⟧.COUNT ≡ 4 }
+    ensures r12 { ⟦<R12 as Rounds>⟧.COUNT ≡ 6 }
+    ensures r20 { ⟦<R20 as Rounds>⟧.COUNT ≡ 10 }
+{}
 
 // A word's rotation to the left.
 #[inline(always)]
@@ -89,9 +97,15 @@ pub fn quarter_round(
 )
     requires within { (a < 16) × (b < 16) × (c < 16) × (d < 16) }
     requires apart { (a ≢ b) × (a ≢ c) × (a ≢ d) × (b ≢ c) × (b ≢ d) × (c ≢ d) }
-    ensures words { (slice_index state.new a, slice_index state.new b, slice_index state.new c, slice_index state.new d)
+    ensures words { (
+      slice_index state.new a,
+      slice_index state.new b,
+      slice_index state.new c,
+      slice_index state.new d,
+    )
         ≡ quarter_of state.old a b c d }
-    ensures others { (i : ℕ) → i ≢ a → i ≢ b → i ≢ c → i ≢ d → slice_index state.new i ≡ slice_index state.old i }
+    ensures others { (i : ℕ) → i ≢ a → i ≢ b → i ≢ c → i ≢ d
+        → slice_index state.new i ≡ slice_index state.old i }
     ensures state { state.new ≡ quarter_round state.old a b c d }
     ensures steps { steps.new ≡ record steps.old { rounds = steps.old.rounds + 1 } }
 {

@@ -1,4 +1,3 @@
-mod lanes;
 mod toy;
 mod words;
 

@@ -1,7 +1,8 @@
 //! The layouts of a state's last row: where the counter stands, and how many counters there are.
 
 ghost use Rattle.std.specs.Prelude.{◌≡◌, ◌≤◌, ◌<◌, ◌+◌, ◌-◌, ◌*◌, ◌%◌, ◌^◌, ◌⊎◌, ℕ, length, Some};
-ghost use Rattle.chacha_base.specs.Layout.{Layout, ietf, legacy, modulus, counter_len, row_counter, row_at, remaining};
+ghost use Rattle.chacha_base.specs.Layout.{Layout, ietf, legacy, modulus, counter_len, row_counter, row_at};
+ghost use Rattle.chacha_base.specs.Limit.{remaining};
 
 mod sealed {
     pub trait Sealed {}

@@ -1,7 +1,8 @@
 //! A byte stream over a core of blocks.
 
 ghost use Rattle.std.specs.Prelude.{◌≡◌, ℕ, ◌+◌, ◌-◌, ◌*◌, ◌/◌, ◌%◌, ◌≤◌, ◌<◌, length, min};
-ghost use Rattle.chacha_base.specs.Keystream.{keystream, applied, limit_of};
+ghost use Rattle.chacha_base.specs.Keystream.{keystream, xor_stream};
+ghost use Rattle.chacha_base.specs.Limit.{limit_of};
 ghost use Rattle.chacha_base.specs.Buffered.{left_at};
 ghost use Rattle.chacha_base.specs.Counts.{Grows, for_bytes, for_blocks, for_call};
 
@@ -32,9 +33,13 @@ impl<C: StreamCipherSeekCore> Model for StreamCipherCoreWrapper<C> {
 
     ghost Value = { Cipher };
 
-    ghost view = { λ w. record { fixed = C.fixed w.core; position = position_of (C.counter w.core) w.left } };
+    ghost view = { λ w. record {
+      fixed = C.fixed w.core;
+      position = position_of (C.counter w.core) w.left;
+    } };
 
-    ghost invariant = { λ w. IsBuffered C.modulus (C.block_at (C.fixed w.core)) (C.counter w.core) w.buffer w.left };
+    ghost invariant = { λ w. IsBuffered C.modulus (C.block_at (C.fixed w.core))
+        (C.counter w.core) w.buffer w.left };
 }
 
 impl<C: StreamCipherSeekCore> Keystream for StreamCipherCoreWrapper<C> {
@@ -43,6 +48,8 @@ impl<C: StreamCipherSeekCore> Keystream for StreamCipherCoreWrapper<C> {
     ghost modulus = { C.modulus };
 
     ghost block_at = { C.block_at };
+
+    ghost position = { λ w. w.position };
 }
 
 impl<C: StreamCipherSeekCore + KeySizeUser> KeySizeUser for StreamCipherCoreWrapper<C> {
@@ -64,7 +71,7 @@ impl<C: StreamCipherSeekCore + KeyIvInit> KeyIvInit for StreamCipherCoreWrapper<
 
     ghost init = { λ key iv. record { fixed = C.fixed (C.init key iv); position = 0 } };
 
-    ghost block = { C.block };
+    ghost blocks_of = { C.blocks_of };
 
     fn new(key: &C::Key, iv: &C::Iv) -> Self {
         let mut core = C::new(key, iv);
@@ -82,13 +89,15 @@ impl<C: StreamCipherSeekCore> StreamCipher for StreamCipherCoreWrapper<C> {
 
     ghost limit = { limit_of C.modulus };
 
-    ghost position = { λ w. w.position };
-
     ghost at = { λ w p. record w { position = p } };
 
     ghost stream = { λ w p. keystream C.modulus (C.block_at w.fixed) p };
 
     ghost cost = { for_bytes C.PAR_BLOCKS C.par_cost C.one_cost };
+
+    ghost limit_is = { refl };
+
+    ghost stream_is = { λ c. refl };
 
     ghost at_position = { λ c. refl };
 
@@ -152,8 +161,10 @@ impl<C: StreamCipherSeekCore> StreamCipherCoreWrapper<C> {
     // Combines bytes with what is left of the block that has been begun.
     fn apply_begun(&mut self, bytes: &mut [u8])
         requires { length bytes.old ≤ left_at self.old.position }
-        ensures bytes { bytes.new ≡ applied (keystream C.modulus (C.block_at self.old.fixed)) self.old.position bytes.old }
-        ensures moved { self.new ≡ record self.old { position = self.old.position + length bytes.old } }
+        ensures bytes { bytes.new ≡ xor_stream
+            (keystream C.modulus (C.block_at self.old.fixed)) self.old.position bytes.old }
+        ensures moved { self.new
+            ≡ record self.old { position = self.old.position + length bytes.old } }
     {
         let from = 64 - self.left;
         xor_bytes(bytes, &self.buffer[from..from + bytes.len()]);
@@ -165,9 +176,13 @@ impl<C: StreamCipherSeekCore> StreamCipherCoreWrapper<C> {
         requires whole { length blocks.old % 64 ≡ 0 }
         requires front { 0 < length blocks.old → self.old.position % 64 ≡ 0 }
         requires fits { self.old.position + length blocks.old ≤ limit_of C.modulus }
-        ensures bytes { blocks.new ≡ applied (keystream C.modulus (C.block_at self.old.fixed)) self.old.position blocks.old }
-        ensures moved { self.new ≡ record self.old { position = self.old.position + length blocks.old } }
-        ensures steps { Grows (for_blocks C.PAR_BLOCKS C.par_cost C.one_cost (length blocks.old / 64) 0) steps.old steps.new }
+        ensures bytes { blocks.new ≡ xor_stream
+            (keystream C.modulus (C.block_at self.old.fixed)) self.old.position blocks.old }
+        ensures moved { self.new
+            ≡ record self.old { position = self.old.position + length blocks.old } }
+        ensures steps { Grows
+            (for_blocks C.PAR_BLOCKS C.par_cost C.one_cost
+            (length blocks.old / 64) 0) steps.old steps.new }
     {
         if !blocks.is_empty() {
             self.core.apply_blocks_counted(blocks, steps);
@@ -179,9 +194,13 @@ impl<C: StreamCipherSeekCore> StreamCipherCoreWrapper<C> {
         requires part { length bytes.old < 64 }
         requires front { 0 < length bytes.old → self.old.position % 64 ≡ 0 }
         requires fits { self.old.position + length bytes.old ≤ limit_of C.modulus }
-        ensures bytes { bytes.new ≡ applied (keystream C.modulus (C.block_at self.old.fixed)) self.old.position bytes.old }
-        ensures moved { self.new ≡ record self.old { position = self.old.position + length bytes.old } }
-        ensures steps { Grows (for_call 0 (min 1 (length bytes.old)) (min 1 (length bytes.old) * C.one_cost)) steps.old steps.new }
+        ensures bytes { bytes.new ≡ xor_stream
+            (keystream C.modulus (C.block_at self.old.fixed)) self.old.position bytes.old }
+        ensures moved { self.new
+            ≡ record self.old { position = self.old.position + length bytes.old } }
+        ensures steps { Grows
+            (for_call 0 (min 1 (length bytes.old))
+            (min 1 (length bytes.old) * C.one_cost)) steps.old steps.new }
     {
         if !bytes.is_empty() {
             self.core.write_block_counted(&mut self.buffer, steps);
@@ -194,7 +213,9 @@ impl<C: StreamCipherSeekCore> StreamCipherCoreWrapper<C> {
     fn move_to(&mut self, place: u128, steps: &mut Steps)
         requires { place ≤ limit_of C.modulus }
         ensures moved { self.new ≡ record self.old { position = place } }
-        ensures steps { Grows (for_call 0 (min 1 (place % 64)) (min 1 (place % 64) * C.one_cost)) steps.old steps.new }
+        ensures steps { Grows
+            (for_call 0 (min 1 (place % 64))
+            (min 1 (place % 64) * C.one_cost)) steps.old steps.new }
     {
         let used = (place % 64) as usize;
         let counter = (place / 64) as u64;

@@ -18,7 +18,8 @@ fn print_rows(rt: &impl Print) -> io::Result<bool> {
     println!(rt; "")?;
     let mut all_right = true;
     for (number, verdict) in rows::verdicts().iter().enumerate() {
-        if let Some(right) = *verdict {
+        if let Some(failed) = *verdict {
+            let right = failed.is_none();
             let word = if right { "ok" } else { "bad" };
             println!(rt; "row {number} {word}")?;
             all_right &= right;

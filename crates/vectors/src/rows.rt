@@ -7,7 +7,7 @@ pub mod generators;
 
 use chacha20::backends::{Lanes8, Lanes16};
 use chacha20::variants::{Ietf, Legacy};
-use chacha20::{ChaCha20Legacy, ChaChaCore, LegacyNonce, R20, Rounds, XChaCha20};
+use chacha20::{ChaCha20LegacyCore, ChaChaCore, LegacyNonce, R20, Rounds, XChaCha20};
 
 /// The key or seed 00 to 1f.
 pub const COUNTING: [u8; 32] = [
@@ -34,26 +34,39 @@ impl Rounds for R0 {
     const COUNT: usize = 0;
 }
 
-/// Whether each row is right, at the place of its number, for the named ciphers and generators. Other places are empty.
-pub fn verdicts() -> [Option<bool>; 24] {
+/// What fails in a row: the place of the first check that does, and nothing where the row is right.
+pub type Verdict = Option<usize>;
+
+/// The place of the first check that fails.
+pub fn failed(checks: &[bool]) -> Verdict {
+    for (place, right) in checks.iter().enumerate() {
+        if !*right {
+            return Some(place);
+        }
+    }
+    None
+}
+
+/// Each row's verdict, at the place of its number, for the named ciphers and generators. Other places are empty.
+pub fn verdicts() -> [Option<Verdict>; 24] {
     let mut verdicts = [None; 24];
     enter(
         &mut verdicts,
-        &ciphers::verdicts::<ChaChaCore<R20, Ietf, Lanes16>, ChaCha20Legacy, XChaCha20>(),
+        &ciphers::verdicts::<ChaChaCore<R20, Ietf, Lanes16>, ChaCha20LegacyCore, XChaCha20>(),
     );
     enter(&mut verdicts, &[(13, no_rounds())]);
     enter(&mut verdicts, &generators::verdicts::<Lanes8>());
     verdicts
 }
 
-fn no_rounds() -> bool {
+fn no_rounds() -> Verdict {
     cores::row_13::<ChaChaCore<R0, Ietf, Lanes16>, ChaChaCore<R0, Legacy, Lanes16>>()
 }
 
-fn enter(verdicts: &mut [Option<bool>; 24], rows: &[(usize, bool)]) {
-    for (number, right) in rows {
+fn enter(verdicts: &mut [Option<Verdict>; 24], rows: &[(usize, Verdict)]) {
+    for (number, failed) in rows {
         if let Some(verdict) = verdicts.get_mut(*number) {
-            *verdict = Some(*right);
+            *verdict = Some(*failed);
         }
     }
 }

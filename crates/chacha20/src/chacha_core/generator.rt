@@ -1,10 +1,12 @@
 //! Cores with a counter of 64 bits as makers of words, four blocks at a time.
 
-ghost use Rattle.std.specs.Prelude.{◌≡◌, ◌<◌, ◌^◌, ℕ, List, ◌++◌, replicate, take};
+ghost use Rattle.std.specs.Prelude.{◌≡◌, ℕ, List, ◌++◌, replicate, take};
+ghost use Rattle.std.specs.Int.{w64, to_le_bytes};
 ghost use Rattle.rand_core.specs.Pcg32Seed.{pcg32_seed};
-ghost use Rattle.chacha_base.specs.Layout.{legacy, counter_words};
+ghost use Rattle.chacha_base.specs.Bytes.{words};
+ghost use Rattle.chacha_base.specs.Layout.{legacy};
 ghost use Rattle.chacha_base.specs.Block.{start};
-ghost use Rattle.chacha_base.specs.State.{advanced, next_words};
+ghost use Rattle.chacha_base.specs.State.{fixed_words, state_after, next_words};
 ghost use Rattle.chacha20.specs.Unread.{seed_of, stream_of};
 
 use super::{ChaChaCore, start_state};
@@ -12,7 +14,7 @@ use crate::rng::Seed;
 use chacha_base::bytes::write_bytes;
 use chacha_base::cipher::RngBackend;
 use chacha_base::rounds::{Rounds, Steps};
-use chacha_base::variants::{Legacy, Variant};
+use chacha_base::variants::Legacy;
 use rand_core::SeedableRng;
 use std::marker::PhantomData;
 
@@ -39,7 +41,7 @@ impl<R: Rounds, B: RngBackend<R>> Generator for ChaChaCore<R, Legacy, B> {
 
     ghost generated = { next_words R.COUNT legacy };
 
-    ghost after = { advanced legacy 4 };
+    ghost after = { state_after legacy 4 };
 
     fn generate(&mut self, output: &mut [u32; 64]) {
         B::gen_ks_blocks(&mut self.state, output, &mut Steps::new());
@@ -71,7 +73,7 @@ impl<R: Rounds, B: RngBackend<R>> SeedableRng for ChaChaCore<R, Legacy, B> {
 impl<R: Rounds, B> ChaChaCore<R, Legacy, B> {
     // The key.
     pub(crate) fn seed(&self) -> Seed
-        ensures { result ≡ seed_of self.now }
+        ensures { result ≡ seed_of (fixed_words legacy self.now) }
     {
         let mut seed = [0; 32];
         write_bytes(&self.state[4..12], &mut seed);
@@ -80,16 +82,17 @@ impl<R: Rounds, B> ChaChaCore<R, Legacy, B> {
 
     // The nonce, as a number.
     pub(crate) fn stream(&self) -> u64
-        ensures value { result ≡ stream_of self.now }
-        ensures below { result < 2 ^ 64 }
+        ensures { result ≡ stream_of (fixed_words legacy self.now) }
     {
-        Legacy::get_block_pos(&self.state[14..])
+        (u64::from(self.state[15]) << 32) | u64::from(self.state[14])
     }
 
     // Sets the nonce. The other words stay.
+    #[tactic(auto, using(crate::proofs::GeneratorLemmas::nonce_written))]
     pub(crate) fn set_stream(&mut self, stream: u64)
-        ensures { self.new ≡ take 14 self.old ++ counter_words legacy stream }
+        ensures { self.new ≡ take 14 self.old ++ words (to_le_bytes w64 stream) }
     {
-        Legacy::set_block_pos(&mut self.state[14..], stream);
+        self.state[14] = (stream & 0xffff_ffff) as u32;
+        self.state[15] = (stream >> 32) as u32;
     }
 }

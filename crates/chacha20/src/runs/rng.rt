@@ -1,8 +1,8 @@
 //! Lists of calls on a generator.
 
 ghost use Rattle.std.specs.Prelude.{◌≡◌, IsTrue, All, length};
-ghost use Rattle.chacha20.specs.Generator.{Generator, same};
-ghost use Rattle.chacha20.specs.GeneratorRuns.{outcome_of, run_of, InData};
+ghost use Rattle.chacha20.specs.Generator.{Generator, same_generator};
+ghost use Rattle.chacha20.specs.GeneratorRuns.{rng_outcome, rng_run, InData};
 
 use crate::rng::{ChaChaRng, Seed, SerializedRngState};
 use chacha_base::cipher::RngBackend;
@@ -61,7 +61,8 @@ fn call_rng<R: Rounds, B: RngBackend<R>>(
     call: RngCall,
 ) -> RngAnswer
     requires { InData (length «data».old) call }
-    ensures { outcome_of R.COUNT rng.old «data».old call ≡ record { answer = result; rng = rng.new; bytes = «data».new } }
+    ensures { rng_outcome R.COUNT rng.old «data».old call
+        ≡ record { answer = result; rng = rng.new; bytes = «data».new } }
 {
     match call {
         RngCall::NextU32 => RngAnswer::U32(rng.next_u32()),
@@ -104,11 +105,12 @@ pub fn run_rng<R: Rounds, B: RngBackend<R>>(
 )
     requires ranges { All (InData (length «data».old)) calls.now }
     requires places { length answers.old ≡ length calls.now }
-    ensures run { (answers.new, rng.new, «data».new) ≡ run_of R.COUNT rng.old «data».old calls.now }
+    ensures run { (answers.new, rng.new, «data».new)
+        ≡ rng_run R.COUNT rng.old «data».old calls.now }
 
     // A generator that is equal answers alike, whatever its buffer holds.
-    ensures equality { (other : Generator) → IsTrue (same rng.old other)
-        → (answers.new, rng.new, «data».new) ≡ run_of R.COUNT other «data».old calls.now }
+    ensures equality { (other : Generator) → IsTrue (same_generator rng.old other)
+        → (answers.new, rng.new, «data».new) ≡ rng_run R.COUNT other «data».old calls.now }
 {
     'calls: for i in 0..calls.len() {
         answers[i] = call_rng(rng, data, calls[i]);

@@ -3,11 +3,11 @@
 ghost use Rattle.std.specs.Prelude.{◌≡◌, ◌≤◌, ◌<◌, ◌≢◌, ℕ, ◌+◌, ◌*◌, min, [], length, slice_get, slice_index_or, Some};
 ghost use Rattle.chacha_base.specs.Layout.{legacy};
 ghost use Rattle.chacha_base.specs.Rounds.{mix};
-ghost use Rattle.chacha_base.specs.State.{advanced, next_block, next_words};
+ghost use Rattle.chacha_base.specs.State.{state_after, next_block, next_words};
 ghost use Rattle.chacha_base.specs.Counts.{Grows, for_tail};
 
-use crate::backends::counter::{advance, last_rows};
-use crate::backends::group::{Group, mixed};
+use crate::backends::counter::{advance, last_words};
+use crate::backends::group::Group;
 use crate::bytes::write_bytes;
 use crate::rounds::{Rounds, Steps};
 use crate::variants::{Legacy, Variant};
@@ -20,12 +20,14 @@ fn next_group<R: Rounds, V: Variant, G: Group, const W: usize>(
 ) -> G
     requires width { G.BLOCKS ≡ W }
     requires few { W ≤ 16 }
-    ensures blocks { (g : ℕ) → g < W → G.block result g ≡ mix R.COUNT (advanced V.layout g state.now) }
-    ensures steps { steps.new ≡ record steps.old { rounds = steps.old.rounds + 2 * G.ROUND_STEPS * R.COUNT } }
+    ensures blocks { (g : ℕ) → g < W
+        → G.words_of result g ≡ mix R.COUNT (state_after V.layout g state.now) }
+    ensures steps { steps.new
+        ≡ record steps.old { rounds = steps.old.rounds + 2 * G.ROUND_STEPS * R.COUNT } }
 {
-    let mut rows = [[0; 4]; W];
-    last_rows::<V>(state, &mut rows);
-    mixed(G::start(state, &rows), R::COUNT, steps)
+    let mut words = [[0; 4]; W];
+    last_words::<V>(state, &mut words);
+    G::start(state, &words).mixed(R::COUNT, steps)
 }
 
 /// The words of the next blocks, as many as a group has. The state stays.
@@ -36,8 +38,10 @@ fn group_words<R: Rounds, V: Variant, G: Group, const W: usize>(
 ) -> [[u32; 16]; W]
     requires width { G.BLOCKS ≡ W }
     requires few { W ≤ 16 }
-    ensures words { (g : ℕ) → g < W → slice_index_or result g [] ≡ mix R.COUNT (advanced V.layout g state.now) }
-    ensures steps { steps.new ≡ record steps.old { rounds = steps.old.rounds + 2 * G.ROUND_STEPS * R.COUNT } }
+    ensures words { (g : ℕ) → g < W
+        → slice_index_or result g [] ≡ mix R.COUNT (state_after V.layout g state.now) }
+    ensures steps { steps.new
+        ≡ record steps.old { rounds = steps.old.rounds + 2 * G.ROUND_STEPS * R.COUNT } }
 {
     let mut words = [[0; 16]; W];
     next_group::<R, V, G, W>(state, steps).store(&mut words);
@@ -55,8 +59,9 @@ pub fn next_one<R: Rounds, V: Variant, G: Group, const W: usize>(
     requires few { W ≤ 16 }
     requires some { W ≢ 0 }
     ensures block { block.new ≡ next_block R.COUNT V.layout state.old 0 }
-    ensures state { state.new ≡ advanced V.layout 1 state.old }
-    ensures steps { steps.new ≡ record steps.old { rounds = steps.old.rounds + 2 * G.ROUND_STEPS * R.COUNT } }
+    ensures state { state.new ≡ state_after V.layout 1 state.old }
+    ensures steps { steps.new
+        ≡ record steps.old { rounds = steps.old.rounds + 2 * G.ROUND_STEPS * R.COUNT } }
 {
     let words = group_words::<R, V, G, W>(state, steps);
     let made = &words[..];
@@ -76,8 +81,9 @@ pub fn next_all<R: Rounds, V: Variant, G: Group, const W: usize>(
     requires all { length blocks.old ≡ W }
     ensures blocks { (i : ℕ) → i < length blocks.old
         → slice_get blocks.new i ≡ Some (next_block R.COUNT V.layout state.old i) }
-    ensures state { state.new ≡ advanced V.layout (length blocks.old) state.old }
-    ensures steps { steps.new ≡ record steps.old { rounds = steps.old.rounds + 2 * G.ROUND_STEPS * R.COUNT } }
+    ensures state { state.new ≡ state_after V.layout (length blocks.old) state.old }
+    ensures steps { steps.new
+        ≡ record steps.old { rounds = steps.old.rounds + 2 * G.ROUND_STEPS * R.COUNT } }
 {
     next_group::<R, V, G, W>(state, steps).store(blocks);
     advance::<V>(state, W);
@@ -96,9 +102,11 @@ pub fn next_tail<R: Rounds, V: Variant, G: Group, const W: usize>(
     requires within { length blocks.old ≤ W }
     ensures blocks { (i : ℕ) → i < length blocks.old
         → slice_get blocks.new i ≡ Some (next_block R.COUNT V.layout state.old i) }
-    ensures state { state.new ≡ advanced V.layout (length blocks.old) state.old }
-    ensures steps { Grows (for_tail (2 * G.ROUND_STEPS * R.COUNT) (length blocks.old)) steps.old steps.new }
-    ensures rounds { steps.new.rounds ≡ steps.old.rounds + min 1 (length blocks.old) * (2 * G.ROUND_STEPS) * R.COUNT }
+    ensures state { state.new ≡ state_after V.layout (length blocks.old) state.old }
+    ensures steps { Grows
+        (for_tail (2 * G.ROUND_STEPS * R.COUNT) (length blocks.old)) steps.old steps.new }
+    ensures rounds { steps.new.rounds
+        ≡ steps.old.rounds + min 1 (length blocks.old) * (2 * G.ROUND_STEPS) * R.COUNT }
 {
     if !blocks.is_empty() {
         steps.add_other();
@@ -120,8 +128,9 @@ pub fn next_four<R: Rounds, G: Group>(
 )
     requires { G.BLOCKS ≡ 4 }
     ensures words { buffer.new ≡ next_words R.COUNT legacy state.old }
-    ensures state { state.new ≡ advanced legacy 4 state.old }
-    ensures steps { steps.new ≡ record steps.old { rounds = steps.old.rounds + 2 * G.ROUND_STEPS * R.COUNT } }
+    ensures state { state.new ≡ state_after legacy 4 state.old }
+    ensures steps { steps.new
+        ≡ record steps.old { rounds = steps.old.rounds + 2 * G.ROUND_STEPS * R.COUNT } }
 {
     let words = group_words::<R, Legacy, G, 4>(state, steps);
     'four: for i in 0..4usize {

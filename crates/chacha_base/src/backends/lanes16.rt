@@ -2,11 +2,12 @@
 
 ghost use Rattle.std.specs.Prelude.{◌≡◌, ◌≤◌, ◌<◌, ℕ, ◌+◌, ◌*◌, min, length, slice_get, Some};
 ghost use Rattle.chacha_base.specs.Counts.{Grows, for_tail, tail_of_16};
-ghost use Rattle.chacha_base.specs.State.{advanced, next_block};
+ghost use Rattle.chacha_base.specs.State.{state_after, next_block};
 
 use crate::backends::columns::Columns;
-use crate::backends::group::{Group, InRows, Two};
+use crate::backends::group::{Group, Two};
 use crate::backends::kernel::{next_all, next_four, next_one, next_tail};
+use crate::backends::rows::Rows;
 use crate::backends::shift::ShiftCda;
 use crate::cipher::{ParBlocksSizeUser, RngBackend, StreamCipherBackend};
 use crate::rounds::{Rounds, Steps};
@@ -19,11 +20,11 @@ use std::simd::prelude::*;
 pub struct Lanes16;
 
 // One block in vectors of four words, two in vectors of eight, and four, eight and sixteen in vectors of sixteen.
-type One = InRows<u32x4, ShiftCda>;
+type One = Rows<u32x4, ShiftCda>;
 
-type Pair = InRows<u32x8, ShiftCda>;
+type Pair = Rows<u32x8, ShiftCda>;
 
-type Four = InRows<u32x16, ShiftCda>;
+type Four = Rows<u32x16, ShiftCda>;
 
 type Eight = Two<Four>;
 
@@ -39,12 +40,14 @@ fn tail_by<R: Rounds, V: Variant, G: Group, const W: usize>(
     requires width { G.BLOCKS ≡ W }
     requires few { W ≤ 16 }
     requires within { length blocks.old ≤ W }
-    requires narrowest { min 1 (length blocks.old) * (2 * G.ROUND_STEPS) ≡ tail_of_16 (length blocks.old) }
+    requires narrowest { min 1 (length blocks.old) * (2 * G.ROUND_STEPS)
+        ≡ tail_of_16 (length blocks.old) }
     ensures blocks { (i : ℕ) → i < length blocks.old
         → slice_get blocks.new i ≡ Some (next_block R.COUNT V.layout state.old i) }
-    ensures state { state.new ≡ advanced V.layout (length blocks.old) state.old }
+    ensures state { state.new ≡ state_after V.layout (length blocks.old) state.old }
     ensures steps { Grows (for_tail (2 * R.COUNT) (length blocks.old)) steps.old steps.new }
-    ensures rounds { steps.new.rounds ≡ steps.old.rounds + tail_of_16 (length blocks.old) * R.COUNT }
+    ensures rounds { steps.new.rounds
+        ≡ steps.old.rounds + tail_of_16 (length blocks.old) * R.COUNT }
 {
     next_tail::<R, V, G, W>(state, blocks, steps);
 }
@@ -66,8 +69,6 @@ impl<R: Rounds, V: Variant> StreamCipherBackend<R, V> for Lanes16 {
 
     ghost ONE_STEPS = { 2 };
 
-    ghost tail_steps = { tail_of_16 };
-
     const PAR_STEPS: usize = 8;
 
     const ONE_STEPS: usize = 2;
@@ -82,7 +83,15 @@ impl<R: Rounds, V: Variant> StreamCipherBackend<R, V> for Lanes16 {
         next_all::<R, V, Columns<u32x16>, 16>(state, blocks, steps);
     }
 
-    fn gen_tail_blocks(state: &mut [u32; 16], blocks: &mut [[u8; 64]], steps: &mut Steps) {
+    fn gen_tail_blocks(state: &mut [u32; 16], blocks: &mut [[u8; 64]], steps: &mut Steps)
+        requires { length blocks.old < 16 }
+        ensures blocks { (i : ℕ) → i < length blocks.old
+            → slice_get blocks.new i ≡ Some (next_block R.COUNT V.layout state.old i) }
+        ensures state { state.new ≡ state_after V.layout (length blocks.old) state.old }
+        ensures steps { Grows (for_tail (2 * R.COUNT) (length blocks.old)) steps.old steps.new }
+        ensures rounds { steps.new.rounds
+            ≡ steps.old.rounds + tail_of_16 (length blocks.old) * R.COUNT }
+    {
         match blocks.len() {
             0 | 1 => tail_by::<R, V, One, 1>(state, blocks, steps),
             2 => tail_by::<R, V, Pair, 2>(state, blocks, steps),

@@ -1,10 +1,13 @@
 //! Four blocks at once, in vectors of four words.
 
-ghost use Rattle.std.specs.Prelude.{◌*◌, min};
+ghost use Rattle.std.specs.Prelude.{◌≡◌, ◌<◌, ℕ, ◌+◌, ◌*◌, min, length, slice_get, Some};
+ghost use Rattle.chacha_base.specs.Counts.{Grows, for_tail};
+ghost use Rattle.chacha_base.specs.State.{state_after, next_block};
 
 use crate::backends::columns::Columns;
-use crate::backends::group::{InRows, Two};
+use crate::backends::group::Two;
 use crate::backends::kernel::{next_all, next_four, next_one, next_tail};
+use crate::backends::rows::Rows;
 use crate::backends::shift::ShiftCda;
 use crate::cipher::{ParBlocksSizeUser, RngBackend, StreamCipherBackend};
 use crate::rounds::{Rounds, Steps};
@@ -17,7 +20,7 @@ use std::simd::prelude::*;
 pub struct Lanes4;
 
 // Four blocks, with a vector for each row of each.
-type Four = Two<Two<InRows<u32x4, ShiftCda>>>;
+type Four = Two<Two<Rows<u32x4, ShiftCda>>>;
 
 impl ParBlocksSizeUser for Lanes4 {
     ghost use Rattle.std.proofs.Common.{lit≤};
@@ -36,8 +39,6 @@ impl<R: Rounds, V: Variant> StreamCipherBackend<R, V> for Lanes4 {
 
     ghost ONE_STEPS = { 8 };
 
-    ghost tail_steps = { λ k. min 1 k * 8 };
-
     const PAR_STEPS: usize = 8;
 
     const ONE_STEPS: usize = 8;
@@ -52,7 +53,15 @@ impl<R: Rounds, V: Variant> StreamCipherBackend<R, V> for Lanes4 {
         next_all::<R, V, Columns<u32x4>, 4>(state, blocks, steps);
     }
 
-    fn gen_tail_blocks(state: &mut [u32; 16], blocks: &mut [[u8; 64]], steps: &mut Steps) {
+    fn gen_tail_blocks(state: &mut [u32; 16], blocks: &mut [[u8; 64]], steps: &mut Steps)
+        requires { length blocks.old < 4 }
+        ensures blocks { (i : ℕ) → i < length blocks.old
+            → slice_get blocks.new i ≡ Some (next_block R.COUNT V.layout state.old i) }
+        ensures state { state.new ≡ state_after V.layout (length blocks.old) state.old }
+        ensures steps { Grows (for_tail (8 * R.COUNT) (length blocks.old)) steps.old steps.new }
+        ensures rounds { steps.new.rounds
+            ≡ steps.old.rounds + min 1 (length blocks.old) * 8 * R.COUNT }
+    {
         next_tail::<R, V, Four, 4>(state, blocks, steps);
     }
 }

@@ -1,9 +1,12 @@
 //! Four blocks at once, two to a vector of eight words.
 
-ghost use Rattle.std.specs.Prelude.{◌*◌, min};
+ghost use Rattle.std.specs.Prelude.{◌≡◌, ◌<◌, ℕ, ◌+◌, ◌*◌, min, length, slice_get, Some};
+ghost use Rattle.chacha_base.specs.Counts.{Grows, for_tail};
+ghost use Rattle.chacha_base.specs.State.{state_after, next_block};
 
-use crate::backends::group::{InRows, Two};
+use crate::backends::group::Two;
 use crate::backends::kernel::{next_all, next_four, next_one, next_tail};
+use crate::backends::rows::Rows;
 use crate::backends::shift::ShiftCda;
 use crate::cipher::{ParBlocksSizeUser, RngBackend, StreamCipherBackend};
 use crate::rounds::{Rounds, Steps};
@@ -16,7 +19,7 @@ use std::simd::prelude::*;
 pub struct Lanes8;
 
 // Four blocks, a vector for each row of two.
-type Four = Two<InRows<u32x8, ShiftCda>>;
+type Four = Two<Rows<u32x8, ShiftCda>>;
 
 impl ParBlocksSizeUser for Lanes8 {
     ghost use Rattle.std.proofs.Common.{lit≤};
@@ -35,8 +38,6 @@ impl<R: Rounds, V: Variant> StreamCipherBackend<R, V> for Lanes8 {
 
     ghost ONE_STEPS = { 4 };
 
-    ghost tail_steps = { λ k. min 1 k * 4 };
-
     const PAR_STEPS: usize = 4;
 
     const ONE_STEPS: usize = 4;
@@ -51,7 +52,15 @@ impl<R: Rounds, V: Variant> StreamCipherBackend<R, V> for Lanes8 {
         next_all::<R, V, Four, 4>(state, blocks, steps);
     }
 
-    fn gen_tail_blocks(state: &mut [u32; 16], blocks: &mut [[u8; 64]], steps: &mut Steps) {
+    fn gen_tail_blocks(state: &mut [u32; 16], blocks: &mut [[u8; 64]], steps: &mut Steps)
+        requires { length blocks.old < 4 }
+        ensures blocks { (i : ℕ) → i < length blocks.old
+            → slice_get blocks.new i ≡ Some (next_block R.COUNT V.layout state.old i) }
+        ensures state { state.new ≡ state_after V.layout (length blocks.old) state.old }
+        ensures steps { Grows (for_tail (4 * R.COUNT) (length blocks.old)) steps.old steps.new }
+        ensures rounds { steps.new.rounds
+            ≡ steps.old.rounds + min 1 (length blocks.old) * 4 * R.COUNT }
+    {
         next_tail::<R, V, Four, 4>(state, blocks, steps);
     }
 }

@@ -1,63 +1,27 @@
-//! The four rows of some blocks, and the quarter round of all their columns at once.
+//! Groups of blocks with a vector for each row of a state, as many states as a vector holds rows.
 
-ghost use Rattle.std.specs.Prelude.{◌≡◌, ◌<◌, ℕ, ◌+◌, ◌*◌, [], ◌∷◌, slice_index};
-ghost use Rattle.chacha_base.specs.QuarterRound.{quarter};
+ghost use Rattle.std.specs.Prelude.{◌≡◌, ◌<◌, ℕ, ◌*◌, [], ◌∷◌, slice_index};
 ghost use Rattle.chacha_base.specs.Lanes.{row};
-ghost use Rattle.chacha_base.specs.RowVectors.{lanes_at, sums_at};
+ghost use Rattle.chacha_base.specs.RowVectors.{block_in_rows};
 
-use crate::backends::vector::Vector;
+use crate::backends::group::{Group, States, round_by_round};
+use crate::backends::place::Place;
+use crate::backends::quad::{Quad, quarter_round, sums};
+use crate::backends::shift::RowShift;
+use crate::backends::vector::RowVector;
 use crate::rounds::Steps;
+use std::marker::PhantomData;
 
-/// Four vectors that a quarter round takes lane by lane: rows a, b, c and d of as many blocks as a vector holds, or, where
-/// a vector has one word of each block (`columns`), the four words of a column or of a diagonal.
+/// The states of as many blocks as a vector holds rows, and how their rows move.
 #[derive(Clone, Copy)]
-pub struct Rows<V> {
-    pub a: V,
-    pub b: V,
-    pub c: V,
-    pub d: V,
+pub struct Rows<V, S> {
+    rows: Quad<V>,
+    shift: PhantomData<S>,
 }
 
-/// The quarter round of each lane of the four rows (RFC 8439, section 2.1). It counts as one.
+// A row of four words, the same for each block.
 #[inline(always)]
-pub fn quarter_round<V: Vector>(rows: Rows<V>, steps: &mut Steps) -> Rows<V>
-    ensures lanes { (j : ℕ) → j < 4 * V.BLOCKS → lanes_at V.lane result j
-        ≡ quarter (V.lane rows.a j) (V.lane rows.b j) (V.lane rows.c j) (V.lane rows.d j) }
-    ensures steps { steps.new ≡ record steps.old { rounds = steps.old.rounds + 1 } }
-{
-    let a1 = rows.a.plus(rows.b);
-    let d1 = rows.d.xor_rotated(a1, 16);
-    let c1 = rows.c.plus(d1);
-    let b1 = rows.b.xor_rotated(c1, 12);
-    let a2 = a1.plus(b1);
-    let d2 = d1.xor_rotated(a2, 8);
-    let c2 = c1.plus(d2);
-    let b2 = b1.xor_rotated(c2, 7);
-    steps.add_round();
-    Rows {
-        a: a2,
-        b: b2,
-        c: c2,
-        d: d2,
-    }
-}
-
-/// The sums of the words of two groups of rows.
-#[inline(always)]
-pub fn sums<V: Vector>(one: Rows<V>, other: Rows<V>) -> Rows<V>
-    ensures { (j : ℕ) → j < 4 * V.BLOCKS → lanes_at V.lane result j ≡ sums_at V.lane one other j }
-{
-    Rows {
-        a: one.a.plus(other.a),
-        b: one.b.plus(other.b),
-        c: one.c.plus(other.c),
-        d: one.d.plus(other.d),
-    }
-}
-
-/// A row of four words, the same for each block.
-#[inline(always)]
-pub fn repeated<V: Vector>(w0: u32, w1: u32, w2: u32, w3: u32) -> V
+fn repeated<V: RowVector>(w0: u32, w1: u32, w2: u32, w3: u32) -> V
     ensures { (g : ℕ) → g < V.BLOCKS → row (V.lane result) g ≡ w0 ∷ w1 ∷ w2 ∷ w3 ∷ [] }
 {
     V::from_words(&[
@@ -65,9 +29,9 @@ pub fn repeated<V: Vector>(w0: u32, w1: u32, w2: u32, w3: u32) -> V
     ])
 }
 
-/// Writes the row of one block.
+// Writes the row of one block.
 #[inline(always)]
-pub fn set_row(words: &mut [u32; 16], g: usize, values: &[u32; 4])
+fn set_row(words: &mut [u32; 16], g: usize, values: &[u32; 4])
     requires { g < 4 }
     ensures here { row (slice_index words.new) g ≡ row (slice_index values.now) 0 }
     ensures elsewhere { (h : ℕ) → h < 4 → ¬ (h ≡ g)
@@ -77,4 +41,90 @@ pub fn set_row(words: &mut [u32; 16], g: usize, values: &[u32; 4])
     words[4 * g + 1] = values[1];
     words[4 * g + 2] = values[2];
     words[4 * g + 3] = values[3];
+}
+
+impl<V: RowVector, S: RowShift> States for Rows<V, S> {
+    ghost BLOCKS = { V.BLOCKS };
+
+    ghost ROUND_STEPS = { 1 };
+
+    ghost words_of = { λ x g. block_in_rows V.lane x.rows g };
+
+    #[inline(always)]
+    fn column_round(self, steps: &mut Steps) -> Rows<V, S> {
+        Rows {
+            rows: quarter_round(self.rows, steps),
+            shift: PhantomData,
+        }
+    }
+
+    #[inline(always)]
+    fn diagonal_round(self, steps: &mut Steps) -> Rows<V, S> {
+        Rows {
+            rows: S::shift_back(quarter_round(S::shift(self.rows), steps)),
+            shift: PhantomData,
+        }
+    }
+}
+
+impl<V: RowVector, S: RowShift> Group for Rows<V, S> {
+    #[inline(always)]
+    fn start(state: &[u32; 16], last_words: &[[u32; 4]]) -> Rows<V, S> {
+        let [w0, w1, w2, w3, w4, w5, w6, w7, w8, w9, w10, w11, _, _, _, _] = *state;
+        let mut d = [0; 16];
+        'each: for g in 0..V::BLOCKS {
+            set_row(&mut d, g, &last_words[g]);
+        }
+        Rows {
+            rows: Quad {
+                a: repeated(w0, w1, w2, w3),
+                b: repeated(w4, w5, w6, w7),
+                c: repeated(w8, w9, w10, w11),
+                d: V::from_words(&d),
+            },
+            shift: PhantomData,
+        }
+    }
+
+    #[inline(always)]
+    fn double_rounds(self, count: usize, steps: &mut Steps) -> Rows<V, S> {
+        round_by_round(self, count, steps)
+    }
+
+    #[inline(always)]
+    fn sums(self, other: Rows<V, S>) -> Rows<V, S> {
+        Rows {
+            rows: sums(self.rows, other.rows),
+            shift: PhantomData,
+        }
+    }
+
+    #[inline(always)]
+    fn store<P: Place>(self, places: &mut [P]) {
+        let a = self.rows.a.to_words();
+        let b = self.rows.b.to_words();
+        let c = self.rows.c.to_words();
+        let d = self.rows.d.to_words();
+        'each: for g in 0..V::BLOCKS {
+            let k = 4 * g;
+            places[g].put(&[
+                a[k],
+                a[k + 1],
+                a[k + 2],
+                a[k + 3],
+                b[k],
+                b[k + 1],
+                b[k + 2],
+                b[k + 3],
+                c[k],
+                c[k + 1],
+                c[k + 2],
+                c[k + 3],
+                d[k],
+                d[k + 1],
+                d[k + 2],
+                d[k + 3],
+            ]);
+        }
+    }
 }

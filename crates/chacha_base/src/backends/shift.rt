@@ -2,11 +2,11 @@
 
 ghost use Rattle.std.specs.Prelude.{◌≡◌, ◌<◌, ℕ, List};
 ghost use Rattle.chacha_base.specs.Rounds.{columns, diagonals};
-ghost use Rattle.chacha_base.specs.RowVectors.{block_at};
+ghost use Rattle.chacha_base.specs.RowVectors.{block_in_rows};
 ghost use Rattle.chacha_base.specs.RowShifts.{bcd_shifted, bcd_back, bcd_diagonals, cda_shifted, cda_back, cda_diagonals};
 
-use crate::backends::rows::Rows;
-use crate::backends::vector::Vector;
+use crate::backends::quad::Quad;
+use crate::backends::vector::RowVector;
 
 /// Which rows move before the diagonal step of a double round, and back after it.
 pub trait RowShift: Copy {
@@ -16,12 +16,14 @@ pub trait RowShift: Copy {
     ghost back: { List ℕ → List ℕ };
 
     /// Moves the rows of each block, so that a diagonal is a column.
-    fn shift<V: Vector>(rows: Rows<V>) -> Rows<V>
-        ensures { (g : ℕ) → g < V.BLOCKS → block_at V.lane result g ≡ shifted (block_at V.lane rows g) };
+    fn shift<V: RowVector>(rows: Quad<V>) -> Quad<V>
+        ensures { (g : ℕ) → g < V.BLOCKS
+            → block_in_rows V.lane result g ≡ shifted (block_in_rows V.lane rows g) };
 
     /// Moves the rows of each block back.
-    fn shift_back<V: Vector>(rows: Rows<V>) -> Rows<V>
-        ensures { (g : ℕ) → g < V.BLOCKS → block_at V.lane result g ≡ back (block_at V.lane rows g) };
+    fn shift_back<V: RowVector>(rows: Quad<V>) -> Quad<V>
+        ensures { (g : ℕ) → g < V.BLOCKS
+            → block_in_rows V.lane result g ≡ back (block_in_rows V.lane rows g) };
 
     ghost gives_diagonals: { (s : List ℕ) → back (columns (shifted s)) ≡ diagonals s };
 }
@@ -38,8 +40,8 @@ impl RowShift for ShiftBcd {
     ghost gives_diagonals = { bcd_diagonals };
 
     #[inline(always)]
-    fn shift<V: Vector>(rows: Rows<V>) -> Rows<V> {
-        Rows {
+    fn shift<V: RowVector>(rows: Quad<V>) -> Quad<V> {
+        Quad {
             a: rows.a,
             b: rows.b.turned_1(),
             c: rows.c.turned_2(),
@@ -48,8 +50,8 @@ impl RowShift for ShiftBcd {
     }
 
     #[inline(always)]
-    fn shift_back<V: Vector>(rows: Rows<V>) -> Rows<V> {
-        Rows {
+    fn shift_back<V: RowVector>(rows: Quad<V>) -> Quad<V> {
+        Quad {
             a: rows.a,
             b: rows.b.turned_3(),
             c: rows.c.turned_2(),
@@ -71,8 +73,8 @@ impl RowShift for ShiftCda {
     ghost gives_diagonals = { cda_diagonals };
 
     #[inline(always)]
-    fn shift<V: Vector>(rows: Rows<V>) -> Rows<V> {
-        Rows {
+    fn shift<V: RowVector>(rows: Quad<V>) -> Quad<V> {
+        Quad {
             a: rows.a.turned_3(),
             b: rows.b,
             c: rows.c.turned_1(),
@@ -81,8 +83,8 @@ impl RowShift for ShiftCda {
     }
 
     #[inline(always)]
-    fn shift_back<V: Vector>(rows: Rows<V>) -> Rows<V> {
-        Rows {
+    fn shift_back<V: RowVector>(rows: Quad<V>) -> Quad<V> {
+        Quad {
             a: rows.a.turned_1(),
             b: rows.b,
             c: rows.c.turned_3(),

@@ -1,4 +1,4 @@
-//! Vectors of words that hold the same row of several blocks, four lanes a block.
+//! Vectors of words: what every engine needs of them, and what rows of states need besides.
 
 ghost use Rattle.std.specs.Prelude.{◌≡◌, ◌≤◌, ◌<◌, ℕ, ◌*◌, bit_xor, slice_index};
 ghost use Rattle.chacha_base.specs.Words.{add, rotl};
@@ -6,47 +6,61 @@ ghost use Rattle.chacha_base.specs.Lanes.{row, turned_1, turned_2, turned_3};
 
 use std::simd::prelude::*;
 
-/// A vector with a row of each of its blocks, in order of counter.
+/// A vector of words, one in each lane. The operations work lane by lane.
 pub trait Vector: Copy {
     // The word in a lane.
     ghost lane: { Self → ℕ → ℕ };
 
-    ghost BLOCKS: { ℕ };
+    ghost LANES: { ℕ };
 
-    /// Blocks in a vector.
-    const BLOCKS: usize;
+    /// Words in a vector.
+    const LANES: usize;
 
     /// The vector of the first of these words.
     fn from_words(words: &[u32; 16]) -> Self
-        ensures { (j : ℕ) → j < 4 * BLOCKS → lane result j ≡ slice_index words.now j };
+        ensures { (j : ℕ) → j < LANES → lane result j ≡ slice_index words.now j };
 
     /// Its words, and any others behind them.
     fn to_words(self) -> [u32; 16]
-        ensures { (j : ℕ) → j < 4 * BLOCKS → slice_index result j ≡ lane self j };
+        ensures { (j : ℕ) → j < LANES → slice_index result j ≡ lane self j };
 
-    /// The sums of the lanes.
+    /// The sums of the words in each lane.
     fn plus(self, other: Self) -> Self
-        ensures { (j : ℕ) → j < 4 * BLOCKS → lane result j ≡ add (lane self j) (lane other j) };
+        ensures { (j : ℕ) → j < LANES → lane result j ≡ add (lane self j) (lane other j) };
 
-    /// The lanes combined by exclusive or and rotated to the left.
+    /// The words in each lane combined by exclusive or and rotated to the left.
     fn xor_rotated(self, other: Self, by: u32) -> Self
         requires some { 0 < by }
         requires most { by < 32 }
-        ensures { (j : ℕ) → j < 4 * BLOCKS → lane result j ≡ rotl (bit_xor (lane self j) (lane other j)) by };
+        ensures { (j : ℕ) → j < LANES
+            → lane result j ≡ rotl (bit_xor (lane self j) (lane other j)) by };
 
-    /// The row of each block turned to the left by one place.
+    ghost lanes_to: { LANES ≤ 16 };
+}
+
+/// A vector that holds the same row of some states, four lanes a state, in order of counter.
+pub trait RowVector: Vector {
+    ghost BLOCKS: { ℕ };
+
+    /// States of which a vector holds a row.
+    const BLOCKS: usize;
+
+    /// The row of each state turned to the left by one place.
     fn turned_1(self) -> Self
-        ensures { (g : ℕ) → g < BLOCKS → row (lane result) g ≡ turned_1 (row (lane self) g) };
+        ensures { (g : ℕ) → g < BLOCKS
+            → row (Self.lane result) g ≡ turned_1 (row (Self.lane self) g) };
 
-    /// The row of each block turned to the left by two places.
+    /// The row of each state turned to the left by two places.
     fn turned_2(self) -> Self
-        ensures { (g : ℕ) → g < BLOCKS → row (lane result) g ≡ turned_2 (row (lane self) g) };
+        ensures { (g : ℕ) → g < BLOCKS
+            → row (Self.lane result) g ≡ turned_2 (row (Self.lane self) g) };
 
-    /// The row of each block turned to the left by three places.
+    /// The row of each state turned to the left by three places.
     fn turned_3(self) -> Self
-        ensures { (g : ℕ) → g < BLOCKS → row (lane result) g ≡ turned_3 (row (lane self) g) };
+        ensures { (g : ℕ) → g < BLOCKS
+            → row (Self.lane result) g ≡ turned_3 (row (Self.lane self) g) };
 
-    ghost blocks_to: { 4 * BLOCKS ≤ 16 };
+    ghost lanes: { Self.LANES ≡ 4 * BLOCKS };
 }
 
 // The vector of the first of these words, at any width.
@@ -72,7 +86,8 @@ fn lanes_to<const N: usize>(vector: Simd<u32, N>) -> [u32; 16]
 // The sums of the lanes of two vectors of any width.
 #[inline(always)]
 fn lanes_plus<const N: usize>(one: Simd<u32, N>, other: Simd<u32, N>) -> Simd<u32, N>
-    ensures { (j : ℕ) → j < N → slice_index result j ≡ add (slice_index one.entry j) (slice_index other.entry j) }
+    ensures { (j : ℕ) → j < N
+        → slice_index result j ≡ add (slice_index one.entry j) (slice_index other.entry j) }
 {
     one + other
 }
@@ -87,7 +102,8 @@ fn lanes_xor_rotated<const N: usize>(
     requires some { 0 < by }
     requires most { by < 32 }
     ensures { (j : ℕ) → j < N
-        → slice_index result j ≡ rotl (bit_xor (slice_index one.entry j) (slice_index other.entry j)) by }
+        → slice_index result j
+        ≡ rotl (bit_xor (slice_index one.entry j) (slice_index other.entry j)) by }
 {
     let mixed = one ^ other;
     (mixed << Simd::splat(by)) | (mixed >> Simd::splat(32 - by))
@@ -98,11 +114,11 @@ impl Vector for u32x4 {
 
     ghost lane = { λ vector j. slice_index vector j };
 
-    ghost BLOCKS = { 1 };
+    ghost LANES = { 4 };
 
-    const BLOCKS: usize = 1;
+    const LANES: usize = 4;
 
-    ghost blocks_to = { lit≤ tt };
+    ghost lanes_to = { lit≤ tt };
 
     #[inline(always)]
     fn from_words(words: &[u32; 16]) -> u32x4 {
@@ -123,6 +139,16 @@ impl Vector for u32x4 {
     fn xor_rotated(self, other: u32x4, by: u32) -> u32x4 {
         lanes_xor_rotated(self, other, by)
     }
+}
+
+impl RowVector for u32x4 {
+    ghost use Rattle.std.specs.Prelude.{refl};
+
+    ghost BLOCKS = { 1 };
+
+    const BLOCKS: usize = 1;
+
+    ghost lanes = { refl };
 
     #[inline(always)]
     fn turned_1(self) -> u32x4 {
@@ -145,11 +171,11 @@ impl Vector for u32x8 {
 
     ghost lane = { λ vector j. slice_index vector j };
 
-    ghost BLOCKS = { 2 };
+    ghost LANES = { 8 };
 
-    const BLOCKS: usize = 2;
+    const LANES: usize = 8;
 
-    ghost blocks_to = { lit≤ tt };
+    ghost lanes_to = { lit≤ tt };
 
     #[inline(always)]
     fn from_words(words: &[u32; 16]) -> u32x8 {
@@ -170,6 +196,16 @@ impl Vector for u32x8 {
     fn xor_rotated(self, other: u32x8, by: u32) -> u32x8 {
         lanes_xor_rotated(self, other, by)
     }
+}
+
+impl RowVector for u32x8 {
+    ghost use Rattle.std.specs.Prelude.{refl};
+
+    ghost BLOCKS = { 2 };
+
+    const BLOCKS: usize = 2;
+
+    ghost lanes = { refl };
 
     #[inline(always)]
     fn turned_1(self) -> u32x8 {
@@ -192,11 +228,11 @@ impl Vector for u32x16 {
 
     ghost lane = { λ vector j. slice_index vector j };
 
-    ghost BLOCKS = { 4 };
+    ghost LANES = { 16 };
 
-    const BLOCKS: usize = 4;
+    const LANES: usize = 16;
 
-    ghost blocks_to = { lit≤ tt };
+    ghost lanes_to = { lit≤ tt };
 
     #[inline(always)]
     fn from_words(words: &[u32; 16]) -> u32x16 {
@@ -217,6 +253,16 @@ impl Vector for u32x16 {
     fn xor_rotated(self, other: u32x16, by: u32) -> u32x16 {
         lanes_xor_rotated(self, other, by)
     }
+}
+
+impl RowVector for u32x16 {
+    ghost use Rattle.std.specs.Prelude.{refl};
+
+    ghost BLOCKS = { 4 };
+
+    const BLOCKS: usize = 4;
+
+    ghost lanes = { refl };
 
     #[inline(always)]
     fn turned_1(self) -> u32x16 {

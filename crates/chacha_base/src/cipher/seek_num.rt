@@ -1,6 +1,6 @@
 //! Numbers that can be positions.
 
-ghost use Rattle.std.specs.Prelude.{◌≡◌, ◌↔◌, ◌≤◌, ◌-◌, ◌^◌, ℕ, Option, Some, IsOk, IfOk};
+ghost use Rattle.std.specs.Prelude.{◌≡◌, ◌↔◌, ◌≤◌, ◌-◌, ◌^◌, ℕ, Option, Some, IsOk, IfOk, IfSome};
 
 use crate::cipher::OverflowError;
 
@@ -20,7 +20,8 @@ pub trait SeekNum: Sealed + Copy {
 
     /// The number, where it is not negative. This crate's own.
     fn to_position(self) -> Option<u128>
-        ensures { result ≡ position self };
+        ensures value { result ≡ position self }
+        ensures below { IfSome result (λ p. p ≤ greatest) };
 
     /// A position as a number of this type: `Err` exactly where the type has none so great. This crate's own.
     fn from_position(place: u128) -> Result<Self, OverflowError>

@@ -30,7 +30,10 @@ impl Keystream for Toy {
 
     ghost modulus = { 2 ^ 32 };
 
-    ghost block_at = { λ f c. map (λ i. (slice_index f 0 + 100 * c + i) % 256) (range_with_len 0 64) };
+    ghost block_at = { λ f c. map (λ i. (slice_index f 0 + 100 * c + i) % 256)
+        (range_with_len 0 64) };
+
+    ghost position = { λ t. 64 * t.counter };
 }
 
 impl BlockSizeUser for Toy {
@@ -73,7 +76,7 @@ impl KeyIvInit for Toy {
 
     ghost init = { λ key iv. record { seed = key; counter = 0 } };
 
-    ghost block = { λ key iv c. map (λ i. (key + 100 * c + i) % 256) (range_with_len 0 64) };
+    ghost blocks_of = { λ key iv c. map (λ i. (key + 100 * c + i) % 256) (range_with_len 0 64) };
 
     fn new(key: &u8, _iv: &()) -> Toy {
         Toy {
@@ -93,6 +96,8 @@ impl StreamCipherCore for Toy {
     ghost one_cost = { 0 };
 
     ghost block_size = { refl };
+
+    ghost position_is = { λ c. refl };
 
     fn remaining_blocks(&self) -> Option<usize> {
         Some((u32::MAX - self.counter) as usize)

@@ -1,5 +1,6 @@
 //! Rows of cores alone.
 
+use super::{Verdict, failed};
 use chacha20::cipher::{KeyIvInit, StreamCipherCore, StreamCipherSeekCore};
 use chacha20::rand_core::SeedableRng;
 use chacha20::{Key, Nonce, Seed};
@@ -18,32 +19,29 @@ fn is_first_block(block: &[u8; 64]) -> bool {
 }
 
 /// A counter that wraps: without a carry where it has 32 bits, and with one where it has 64. Both cores make no rounds.
-pub fn row_13<I, L>() -> bool
+pub fn row_13<I, L>() -> Verdict
 where
     I: KeyIvInit<Key = Key, Iv = Nonce> + StreamCipherSeekCore<Counter = u32> + Drop,
     L: SeedableRng<Seed = Seed> + StreamCipherSeekCore<Counter = u64> + Drop,
 {
-    wraps_in_32_bits(I::new(&[0; 32], &[0; 12])) && carries_in_64_bits(L::from_seed([0; 32]))
-}
-
-fn wraps_in_32_bits<C: StreamCipherSeekCore<Counter = u32> + Drop>(mut core: C) -> bool {
-    let first = next_block(&mut core);
-    core.set_block_pos(u32::MAX);
-    let last = next_block(&mut core);
-    let after = next_block(&mut core);
-    is_first_block(&first)
-        && last.ends_with(b"\xfe\xff\xff\xff\0\0\0\0\0\0\0\0\0\0\0\0")
-        && after.ends_with(&[0; 16])
-        && core.get_block_pos() == 1
-}
-
-fn carries_in_64_bits<C: StreamCipherSeekCore<Counter = u64> + Drop>(mut core: C) -> bool {
+    let mut core = I::new(&[0; 32], &[0; 12]);
     let first = next_block(&mut core);
     core.set_block_pos(0xffff_ffff);
     let last = next_block(&mut core);
     let after = next_block(&mut core);
-    is_first_block(&first)
-        && last.ends_with(b"\xfe\xff\xff\xff\0\0\0\0\0\0\0\0\0\0\0\0")
-        && after.ends_with(b"\0\0\0\0\x02\0\0\0\0\0\0\0\0\0\0\0")
-        && core.get_block_pos() == 0x1_0000_0001
+    let mut legacy = L::from_seed([0; 32]);
+    let legacy_first = next_block(&mut legacy);
+    legacy.set_block_pos(0xffff_ffff);
+    let legacy_last = next_block(&mut legacy);
+    let legacy_after = next_block(&mut legacy);
+    failed(&[
+        is_first_block(&first),
+        last.ends_with(b"\xfe\xff\xff\xff\0\0\0\0\0\0\0\0\0\0\0\0"),
+        after.ends_with(&[0; 16]),
+        core.get_block_pos() == 1,
+        is_first_block(&legacy_first),
+        legacy_last.ends_with(b"\xfe\xff\xff\xff\0\0\0\0\0\0\0\0\0\0\0\0"),
+        legacy_after.ends_with(b"\0\0\0\0\x02\0\0\0\0\0\0\0\0\0\0\0"),
+        legacy.get_block_pos() == 0x1_0000_0001,
+    ])
 }

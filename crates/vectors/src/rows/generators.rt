@@ -1,12 +1,11 @@
 //! Rows of generators.
 
-use super::{COUNTING, FROM_1};
+use super::{COUNTING, FROM_1, Verdict, failed};
 use chacha20::cipher::RngBackend;
-use chacha20::runs::{RngAnswer, RngCall, run_rng};
 use chacha20::{ChaChaRng, R8, R12, R20, Rounds, SerializedRngState};
 
-/// Each row's number, and whether the row is right, for generators over a backend.
-pub fn verdicts<B: RngBackend<R8> + RngBackend<R12> + RngBackend<R20>>() -> [(usize, bool); 11] {
+/// Each row's number and what fails in it, for generators over a backend.
+pub fn verdicts<B: RngBackend<R8> + RngBackend<R12> + RngBackend<R20>>() -> [(usize, Verdict); 11] {
     [
         (7, row_7::<B>()),
         (8, row_8::<B>()),
@@ -26,21 +25,23 @@ pub fn verdicts<B: RngBackend<R8> + RngBackend<R12> + RngBackend<R20>>() -> [(us
 const POSITIONS: u128 = 1 << 68;
 
 // Bytes in pieces: what is left of a word is lost.
-fn row_7<B: RngBackend<R20>>() -> bool {
+fn row_7<B: RngBackend<R20>>() -> Verdict {
     let mut rng = ChaChaRng::<R20, B>::from_seed(FROM_1);
     let mut first = [0; 13];
     let mut second = [0; 13];
     rng.fill_bytes(&mut first);
     let after_first = rng.get_word_pos();
     rng.fill_bytes(&mut second);
-    first == *b"\xb1\x69\x7e\x9f\xc6\x46\x1e\x19\x83\xd1\x31\xcf\x69"
-        && second == *b"\xa7\xa3\xfc\x13\x4f\x14\x98\x80\xe8\xbb\x2b\x5d\x23"
-        && after_first == 4
-        && rng.get_word_pos() == 8
+    failed(&[
+        first == *b"\xb1\x69\x7e\x9f\xc6\x46\x1e\x19\x83\xd1\x31\xcf\x69",
+        second == *b"\xa7\xa3\xfc\x13\x4f\x14\x98\x80\xe8\xbb\x2b\x5d\x23",
+        after_first == 4,
+        rng.get_word_pos() == 8,
+    ])
 }
 
 // How far each kind of read moves.
-fn row_8<B: RngBackend<R20>>() -> bool {
+fn row_8<B: RngBackend<R20>>() -> Verdict {
     let mut seed = [0; 32];
     seed[1] = 0xff;
     let mut rng = ChaChaRng::<R20, B>::from_seed(seed);
@@ -60,9 +61,15 @@ fn row_8<B: RngBackend<R20>>() -> bool {
     let _ = rng.next_u64();
     let after_both = rng.get_word_pos();
     rng.fill_bytes(&mut [0]);
-    first == [0xfb4d_d572, 0x4bc4_2ef1, 0xdf92_2636, 0x327f_1394]
-        && [after_words, after_32_bytes, after_25_bytes] == [48, 56, 63]
-        && [after_u64, after_both, rng.get_word_pos()] == [65, 68, 69]
+    failed(&[
+        first == [0xfb4d_d572, 0x4bc4_2ef1, 0xdf92_2636, 0x327f_1394],
+        after_words == 48,
+        after_32_bytes == 56,
+        after_25_bytes == 63,
+        after_u64 == 65,
+        after_both == 68,
+        rng.get_word_pos() == 69,
+    ])
 }
 
 fn next_words<B: RngBackend<R20>>(rng: &mut ChaChaRng<R20, B>) -> [u32; 4] {
@@ -74,7 +81,7 @@ fn next_words<B: RngBackend<R20>>(rng: &mut ChaChaRng<R20, B>) -> [u32; 4] {
 }
 
 // The last block, and then the first.
-fn row_9<B: RngBackend<R20>>() -> bool {
+fn row_9<B: RngBackend<R20>>() -> Verdict {
     let mut rng = ChaChaRng::<R20, B>::from_seed([0; 32]);
     rng.set_block_pos(u64::MAX);
     let mut last = [0; 64];
@@ -82,26 +89,32 @@ fn row_9<B: RngBackend<R20>>() -> bool {
     rng.fill_bytes(&mut last);
     let after_last = rng.get_block_pos();
     rng.fill_bytes(&mut first);
-    last.starts_with(b"\xd7\x91\x8c\xd8\x62\x0c\xf8\x32\x53\x26\x52\xc0\x4c\x01\xa5\x53")
-        && after_last == 0
-        && first == *b"\x76\xb8\xe0\xad\xa0\xf1\x3d\x90"
+    failed(&[
+        last.starts_with(b"\xd7\x91\x8c\xd8\x62\x0c\xf8\x32\x53\x26\x52\xc0\x4c\x01\xa5\x53"),
+        after_last == 0,
+        first == *b"\x76\xb8\xe0\xad\xa0\xf1\x3d\x90",
+    ])
 }
 
 // A carry into the upper 32 bits of the block's number.
-fn row_10<B: RngBackend<R20>>() -> bool {
+fn row_10<B: RngBackend<R20>>() -> Verdict {
     let mut rng = ChaChaRng::<R20, B>::from_seed([0; 32]);
     rng.set_block_pos(0xffff_ffff);
     let mut bytes = [0; 80];
     rng.fill_bytes(&mut bytes);
-    bytes.starts_with(b"\xac\xe4\xcd\x09\xe2\x94\xd1\x91\x2d\x4a\xd2\x05\xd0\x6f\x95\xd9")
-        && bytes.ends_with(b"\x3d\xb4\x1d\x3a\xa0\xd3\x29\x28\x5d\xe6\xf2\x25\xe6\xe2\x4b\xd5")
+    failed(&[
+        bytes.starts_with(b"\xac\xe4\xcd\x09\xe2\x94\xd1\x91\x2d\x4a\xd2\x05\xd0\x6f\x95\xd9"),
+        bytes.ends_with(b"\x3d\xb4\x1d\x3a\xa0\xd3\x29\x28\x5d\xe6\xf2\x25\xe6\xe2\x4b\xd5"),
+    ])
 }
 
 // The state after 100 words, whatever the number of rounds.
-fn row_14<B: RngBackend<R8> + RngBackend<R12> + RngBackend<R20>>() -> bool {
-    is_stored(&mut ChaChaRng::<R8, B>::from_seed(FROM_1))
-        && is_stored(&mut ChaChaRng::<R12, B>::from_seed(FROM_1))
-        && is_stored(&mut ChaChaRng::<R20, B>::from_seed(FROM_1))
+fn row_14<B: RngBackend<R8> + RngBackend<R12> + RngBackend<R20>>() -> Verdict {
+    failed(&[
+        is_stored(&mut ChaChaRng::<R8, B>::from_seed(FROM_1)),
+        is_stored(&mut ChaChaRng::<R12, B>::from_seed(FROM_1)),
+        is_stored(&mut ChaChaRng::<R20, B>::from_seed(FROM_1)),
+    ])
 }
 
 fn is_stored<R: Rounds, B: RngBackend<R>>(rng: &mut ChaChaRng<R, B>) -> bool {
@@ -117,7 +130,7 @@ fn is_stored<R: Rounds, B: RngBackend<R>>(rng: &mut ChaChaRng<R, B>) -> bool {
 }
 
 // The last position, and positions past it.
-fn row_15<B: RngBackend<R20>>() -> bool {
+fn row_15<B: RngBackend<R20>>() -> Verdict {
     let mut rng = ChaChaRng::<R20, B>::deserialize_state(&[0xff; 49]);
     let last = rng.get_word_pos();
     let state = rng.serialize_state();
@@ -126,14 +139,16 @@ fn row_15<B: RngBackend<R20>>() -> bool {
     rng.set_word_pos(POSITIONS - 16);
     let mut expected: SerializedRngState = [0xff; 49];
     expected[48] = 0x0f;
-    last == POSITIONS - 1
-        && state == expected
-        && wrapped == 5
-        && rng.get_word_pos() == POSITIONS - 16
+    failed(&[
+        last == POSITIONS - 1,
+        state == expected,
+        wrapped == 5,
+        rng.get_word_pos() == POSITIONS - 16,
+    ])
 }
 
 // A generator that another one seeds.
-fn row_17<B: RngBackend<R20>>() -> bool {
+fn row_17<B: RngBackend<R20>>() -> Verdict {
     let mut seed = [0; 32];
     seed[8] = 1;
     seed[16] = 2;
@@ -142,67 +157,52 @@ fn row_17<B: RngBackend<R20>>() -> bool {
     let word = first.next_u32();
     let mut second_seed = [0; 32];
     first.fill_bytes(&mut second_seed);
-    word == 137206642
-        && ChaChaRng::<R20, B>::from_seed(second_seed).next_u32() == 1325750369
-        && first.get_word_pos() == 9
+    failed(&[
+        word == 137206642,
+        ChaChaRng::<R20, B>::from_seed(second_seed).next_u32() == 1325750369,
+        first.get_word_pos() == 9,
+    ])
 }
 
 // A stream and a block whose start state is that of RFC 8439's example (section 2.3.2).
-fn row_19<B: RngBackend<R20>>() -> bool {
+fn row_19<B: RngBackend<R20>>() -> Verdict {
     let mut rng = ChaChaRng::<R20, B>::from_seed(COUNTING);
     rng.set_stream(0x0000_0000_4a00_0000);
     rng.set_block_pos(0x0900_0000_0000_0000);
     rng.fill_bytes(&mut [0; 64]);
-    next_words(&mut rng) == [0xe4e7_f110, 0x1559_3bd1, 0x1fdd_0f50, 0xc471_20a3]
-        && rng.get_block_pos() == 0x0900_0000_0000_0001
+    failed(&[
+        next_words(&mut rng) == [0xe4e7_f110, 0x1559_3bd1, 0x1fdd_0f50, 0xc471_20a3],
+        rng.get_block_pos() == 0x0900_0000_0000_0001,
+    ])
 }
 
-// Two words around the wrap, as a list of calls.
-fn row_20<B: RngBackend<R20>>() -> bool {
-    let calls = [
-        RngCall::SetWordPos(POSITIONS - 64),
-        RngCall::Fill { at: 0, len: 252 },
-        RngCall::NextU64,
-        RngCall::GetWordPos,
-    ];
-    let mut answers = [RngAnswer::Done; 4];
+// Two words around the wrap: the last of a buffer, and the first after it.
+fn row_20<B: RngBackend<R20>>() -> Verdict {
     let mut rng = ChaChaRng::<R20, B>::from_seed([0; 32]);
-    run_rng(&mut rng, &mut [0; 252], &calls, &mut answers);
-    answers
-        == [
-            RngAnswer::Done,
-            RngAnswer::Done,
-            RngAnswer::U64(0xade0_b876_8976_b107),
-            RngAnswer::U128(1),
-        ]
+    rng.set_word_pos(POSITIONS - 64);
+    rng.fill_bytes(&mut [0; 252]);
+    failed(&[
+        rng.next_u64() == 0xade0_b876_8976_b107,
+        rng.get_word_pos() == 1,
+    ])
 }
 
-// Another stream of the same seed, as a list of calls.
-fn row_21<B: RngBackend<R20>>() -> bool {
-    let calls = [
-        RngCall::Fill { at: 0, len: 16 },
-        RngCall::NextU32,
-        RngCall::SetStream(0x0200_0000_0000_0000),
-        RngCall::GetWordPos,
-        RngCall::GetSeed,
-        RngCall::NextU32,
-    ];
-    let mut answers = [RngAnswer::Done; 6];
+// Another stream of the same seed.
+fn row_21<B: RngBackend<R20>>() -> Verdict {
     let mut rng = ChaChaRng::<R20, B>::from_seed([0; 32]);
-    run_rng(&mut rng, &mut [0; 16], &calls, &mut answers);
-    answers
-        == [
-            RngAnswer::Done,
-            RngAnswer::U32(0xb819_d2bd),
-            RngAnswer::Done,
-            RngAnswer::U128(0),
-            RngAnswer::Seed([0; 32]),
-            RngAnswer::U32(0x374d_c6c2),
-        ]
+    let _ = next_words(&mut rng);
+    let fifth = rng.next_u32();
+    rng.set_stream(0x0200_0000_0000_0000);
+    failed(&[
+        fifth == 0xb819_d2bd,
+        rng.get_word_pos() == 0,
+        rng.get_seed() == [0; 32],
+        rng.next_u32() == 0x374d_c6c2,
+    ])
 }
 
 // Generators are equal where seed, stream and position are, however they came there.
-fn row_23<B: RngBackend<R20>>() -> bool {
+fn row_23<B: RngBackend<R20>>() -> Verdict {
     let mut first = ChaChaRng::<R20, B>::from_seed(FROM_1);
     let mut second = ChaChaRng::<R20, B>::from_seed(FROM_1);
     for _ in 0..7 {
@@ -214,5 +214,5 @@ fn row_23<B: RngBackend<R20>>() -> bool {
     second.set_word_pos(1);
     let at_1 = first == second;
     second.set_stream(1);
-    at_0 && at_1 && first != second
+    failed(&[at_0, at_1, first != second])
 }

@@ -3,37 +3,41 @@
 ghost use Rattle.std.specs.Prelude.{◌≤◌};
 
 use super::streams;
-use crate::rows::{COUNTING, R0, ciphers, cores, generators};
+use crate::rows::{COUNTING, R0, Verdict, ciphers, cores, generators};
 use chacha20::backends::{Lanes4, Lanes8, Lanes16, Rows8, Soft};
 use chacha20::cipher::{
     KeyIvInit, RngBackend, StreamCipherBackend, StreamCipherCounter, StreamCipherSeekCore,
 };
 use chacha20::rand_core::SeedableRng;
-use chacha20::variants::{Ietf, Legacy};
-use chacha20::{ChaChaCore, R20, Rounds, StreamCipherCoreWrapper, XChaChaCore};
+use chacha20::variants::{Ietf, Legacy, Variant};
+use chacha20::{ChaChaCore, R20, Rounds, Steps, StreamCipherCoreWrapper, XChaChaCore};
+use std::process::Abort;
 
 type IetfCore<B> = ChaChaCore<R20, Ietf, B>;
 
 type IetfCipher<B> = StreamCipherCoreWrapper<IetfCore<B>>;
 
-type LegacyCipher<B> = StreamCipherCoreWrapper<ChaChaCore<R20, Legacy, B>>;
+type LegacyCore<B> = ChaChaCore<R20, Legacy, B>;
+
+type LegacyCipher<B> = StreamCipherCoreWrapper<LegacyCore<B>>;
 
 type XChaChaCipher<B> = StreamCipherCoreWrapper<XChaChaCore<R20, B>>;
 
-// The number of a row that isn't right.
-fn wrong(rows: &[(usize, bool)]) -> Option<usize> {
-    for (number, right) in rows {
-        if !*right {
-            return Some(*number);
+// The number of the first row that isn't right, and the place of the check that fails in it.
+fn wrong(rows: &[(usize, Verdict)]) -> Option<(usize, usize)> {
+    for (number, verdict) in rows {
+        if let Some(check) = *verdict {
+            return Some((*number, check));
         }
     }
     None
 }
 
-fn wrong_cipher_row<
+fn wrong_cipher_row<B>() -> Option<(usize, usize)>
+where
     B: StreamCipherBackend<R20, Ietf> + StreamCipherBackend<R20, Legacy>,
->() -> Option<usize> {
-    wrong(&ciphers::verdicts::<IetfCore<B>, LegacyCipher<B>, XChaChaCipher<B>>())
+{
+    wrong(&ciphers::verdicts::<IetfCore<B>, LegacyCore<B>, XChaChaCipher<B>>())
 }
 
 #[test]
@@ -47,17 +51,17 @@ fn rows_of_ciphers(rt: HostRuntime) {
 
 fn row_13<
     B: StreamCipherBackend<R0, Ietf> + StreamCipherBackend<R0, Legacy> + RngBackend<R0>,
->() -> bool {
+>() -> Verdict {
     cores::row_13::<ChaChaCore<R0, Ietf, B>, ChaChaCore<R0, Legacy, B>>()
 }
 
 #[test]
 fn rows_of_cores(rt: HostRuntime) {
-    assert!(rt; row_13::<Soft>());
-    assert!(rt; row_13::<Lanes4>());
-    assert!(rt; row_13::<Lanes8>());
-    assert!(rt; row_13::<Rows8>());
-    assert!(rt; row_13::<Lanes16>());
+    assert_eq!(rt; row_13::<Soft>(), None);
+    assert_eq!(rt; row_13::<Lanes4>(), None);
+    assert_eq!(rt; row_13::<Lanes8>(), None);
+    assert_eq!(rt; row_13::<Rows8>(), None);
+    assert_eq!(rt; row_13::<Lanes16>(), None);
 }
 
 #[test]
@@ -70,37 +74,38 @@ fn rows_of_generators(rt: HostRuntime) {
 }
 
 // The streams of ciphers; the legacy one between all places that are multiples of so many bytes.
-fn streams_of_ciphers<B: StreamCipherBackend<R20, Ietf> + StreamCipherBackend<R20, Legacy>>(
-    step: usize,
-) -> bool {
-    streams::ietf_stream::<IetfCipher<B>>()
-        && streams::xchacha_stream::<XChaChaCipher<B>>()
-        && streams::legacy_stream::<LegacyCipher<B>>(step)
+fn streams_of_ciphers<B>(rt: &impl Abort, step: usize)
+where
+    B: StreamCipherBackend<R20, Ietf> + StreamCipherBackend<R20, Legacy>,
+{
+    assert!(rt; streams::ietf_stream::<IetfCipher<B>>());
+    assert!(rt; streams::xchacha_stream::<XChaChaCipher<B>>());
+    assert_eq!(rt; streams::legacy_stream::<LegacyCipher<B>>(step), None);
 }
 
 #[test]
 fn cipher_streams(rt: HostRuntime) {
-    assert!(rt; streams_of_ciphers::<Soft>(1));
-    assert!(rt; streams_of_ciphers::<Lanes4>(17));
-    assert!(rt; streams_of_ciphers::<Lanes8>(17));
-    assert!(rt; streams_of_ciphers::<Rows8>(17));
-    assert!(rt; streams_of_ciphers::<Lanes16>(17));
+    streams_of_ciphers::<Soft>(&rt, 1);
+    streams_of_ciphers::<Lanes4>(&rt, 17);
+    streams_of_ciphers::<Lanes8>(&rt, 17);
+    streams_of_ciphers::<Rows8>(&rt, 17);
+    streams_of_ciphers::<Lanes16>(&rt, 17);
 }
 
-fn streams_of_generators<B: RngBackend<R20>>() -> bool {
-    streams::zero_seed_words::<B>()
-        && streams::every_17th_word::<B>()
-        && streams::carry_blocks::<B>()
-        && streams::wrap_to_start::<B>()
+fn streams_of_generators<B: RngBackend<R20>>(rt: &impl Abort) {
+    assert_eq!(rt; streams::zero_seed_words::<B>(), None);
+    assert_eq!(rt; streams::every_17th_word::<B>(), None);
+    assert!(rt; streams::carry_blocks::<B>());
+    assert!(rt; streams::wrap_to_start::<B>());
 }
 
 #[test]
 fn generator_streams(rt: HostRuntime) {
-    assert!(rt; streams_of_generators::<Soft>());
-    assert!(rt; streams_of_generators::<Lanes4>());
-    assert!(rt; streams_of_generators::<Lanes8>());
-    assert!(rt; streams_of_generators::<Rows8>());
-    assert!(rt; streams_of_generators::<Lanes16>());
+    streams_of_generators::<Soft>(&rt);
+    streams_of_generators::<Lanes4>(&rt);
+    streams_of_generators::<Lanes8>(&rt);
+    streams_of_generators::<Rows8>(&rt);
+    streams_of_generators::<Lanes16>(&rt);
 }
 
 // Whether so many blocks from a counter on, and the core after them, are those of another core.
@@ -124,32 +129,119 @@ where
     same && blocks[..count] == others[..count] && next == other_next
 }
 
-// Five blocks before a counter of 32 bits wraps.
+// The first number of blocks, from none to 33, for which two cores differ.
+fn wrong_count<A, B>(core: &mut A, other: &mut B, start: A::Counter) -> Option<usize>
+where
+    A: StreamCipherSeekCore,
+    B: StreamCipherSeekCore<Counter = A::Counter>,
+{
+    for count in 0..34usize {
+        if !same_blocks(core, other, start, count) {
+            return Some(count);
+        }
+    }
+    None
+}
+
+// Five blocks before a counter of 32 bits wraps: the counter alone, and in a state.
 const START: u32 = 0xffff_fffb;
 
-// Whether no block to 33 blocks over the wrap of 32 bits are those of the plain backend, in both layouts.
-fn as_soft<R, B>() -> bool
+const START_STATE: [u32; 16] = [
+    0x61707865, 0x3320646e, 0x79622d32, 0x6b206574, 1, 2, 3, 4, 5, 6, 7, 8, START, 9, 10, 11,
+];
+
+// The first of nine single blocks that isn't the plain backend's, or after which the state isn't.
+fn wrong_single_block<R: Rounds, V: Variant, B: StreamCipherBackend<R, V>>() -> Option<usize> {
+    let mut steps = Steps::new();
+    let mut plain_state = START_STATE;
+    let mut state = START_STATE;
+    for place in 0..9usize {
+        let mut plain = [0; 64];
+        let mut block = [1; 64];
+        <Soft as StreamCipherBackend<R, V>>::gen_ks_block(&mut plain_state, &mut plain, &mut steps);
+        B::gen_ks_block(&mut state, &mut block, &mut steps);
+        if block != plain || state != plain_state {
+            return Some(place);
+        }
+    }
+    None
+}
+
+// The shortest tail whose blocks aren't the plain backend's, or after which the state isn't.
+fn wrong_tail<R: Rounds, V: Variant, B: StreamCipherBackend<R, V>>() -> Option<usize> {
+    let mut steps = Steps::new();
+    let mut plain_state = START_STATE;
+    let mut plain = [[0; 64]; 16];
+    for count in 0..B::PAR_BLOCKS {
+        let mut state = START_STATE;
+        let mut blocks = [[0; 64]; 16];
+        B::gen_tail_blocks(&mut state, &mut blocks[..count], &mut steps);
+        if blocks != plain || state != plain_state {
+            return Some(count);
+        }
+        <Soft as StreamCipherBackend<R, V>>::gen_ks_block(
+            &mut plain_state,
+            &mut plain[count],
+            &mut steps,
+        );
+    }
+    None
+}
+
+// The first of two calls for a generator's words whose words aren't the plain backend's, or after which the state isn't.
+fn wrong_words<R: Rounds, B: RngBackend<R>>() -> Option<usize> {
+    let mut steps = Steps::new();
+    let mut plain_state = START_STATE;
+    let mut state = START_STATE;
+    for call in 0..2usize {
+        let mut plain = [0; 64];
+        let mut words = [1; 64];
+        <Soft as RngBackend<R>>::gen_ks_blocks(&mut plain_state, &mut plain, &mut steps);
+        B::gen_ks_blocks(&mut state, &mut words, &mut steps);
+        if words != plain || state != plain_state {
+            return Some(call);
+        }
+    }
+    None
+}
+
+fn beside_soft<R: Rounds, B>(rt: &impl Abort)
 where
-    R: Rounds,
     B: StreamCipherBackend<R, Ietf> + StreamCipherBackend<R, Legacy> + RngBackend<R>,
 {
     let mut plain = ChaChaCore::<R, Ietf, Soft>::new(&COUNTING, &[7; 12]);
     let mut wide = ChaChaCore::<R, Ietf, B>::new(&COUNTING, &[7; 12]);
-    let mut legacy_plain = ChaChaCore::<R, Legacy, Soft>::from_seed(COUNTING);
-    let mut legacy_wide = ChaChaCore::<R, Legacy, B>::from_seed(COUNTING);
-    let mut same = true;
-    for count in 0..34usize {
-        same = same
-            && same_blocks(&mut plain, &mut wide, START, count)
-            && same_blocks(&mut legacy_plain, &mut legacy_wide, u64::from(START), count);
-    }
-    same
+    assert_eq!(rt; wrong_count(&mut wide, &mut plain, START), None);
+    let mut plain = ChaChaCore::<R, Legacy, Soft>::from_seed(COUNTING);
+    let mut wide = ChaChaCore::<R, Legacy, B>::from_seed(COUNTING);
+    assert_eq!(rt; wrong_count(&mut wide, &mut plain, u64::from(START)), None);
+    assert_eq!(rt; wrong_single_block::<R, Ietf, B>(), None);
+    assert_eq!(rt; wrong_single_block::<R, Legacy, B>(), None);
+    assert_eq!(rt; wrong_tail::<R, Ietf, B>(), None);
+    assert_eq!(rt; wrong_tail::<R, Legacy, B>(), None);
+    assert_eq!(rt; wrong_words::<R, B>(), None);
 }
 
 #[test]
-fn beside_soft(rt: HostRuntime) {
-    assert!(rt; as_soft::<R0, Lanes4>() && as_soft::<R20, Lanes4>());
-    assert!(rt; as_soft::<R0, Lanes8>() && as_soft::<R20, Lanes8>());
-    assert!(rt; as_soft::<R0, Rows8>() && as_soft::<R20, Rows8>());
-    assert!(rt; as_soft::<R0, Lanes16>() && as_soft::<R20, Lanes16>());
+fn lanes4_beside_soft(rt: HostRuntime) {
+    beside_soft::<R0, Lanes4>(&rt);
+    beside_soft::<R20, Lanes4>(&rt);
+}
+
+#[test]
+fn lanes8_beside_soft(rt: HostRuntime) {
+    beside_soft::<R0, Lanes8>(&rt);
+    beside_soft::<R20, Lanes8>(&rt);
+}
+
+#[test]
+fn rows8_beside_soft(rt: HostRuntime) {
+    beside_soft::<R0, Rows8>(&rt);
+    beside_soft::<R20, Rows8>(&rt);
+}
+
+#[test]
+fn lanes16_beside_soft(rt: HostRuntime) {
+    beside_soft::<R0, Lanes16>(&rt);
+    beside_soft::<R20, Lanes16>(&rt);
 }

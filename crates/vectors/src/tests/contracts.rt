@@ -4,7 +4,8 @@ ghost use Rattle.std.specs.Prelude.{◌≡◌, ◌+◌, ◌≤◌, ◌<◌, ◌^
 ghost use Rattle.chacha20.specs.Layout.{ietf, legacy};
 ghost use Rattle.chacha20.specs.Block.{block};
 ghost use Rattle.chacha20.specs.State.{fixed_words, state_counter};
-ghost use Rattle.chacha20.specs.Keystream.{keystream, applied};
+ghost use Rattle.chacha20.specs.Keystream.{keystream, xor_stream};
+ghost use Rattle.chacha20.specs.Limit.{limit_of};
 ghost use Rattle.chacha20.specs.XChaCha.{subkey, subnonce};
 
 use super::streams::{IETF_FROM_64, LEGACY, NONCE, X_KEY, X_NONCE, XCHACHA_FROM_64};
@@ -23,14 +24,29 @@ use std::test::Fail;
 
 type Ietf20<B> = StreamCipherCoreWrapper<ChaChaCore<R20, Ietf, B>>;
 
-// A message under a key and a nonce, as RFC 8439 has it. The proof rewrites by the clauses of two public contracts, and
-// knows nothing else.
-fn encrypt(key: &Key, nonce: &Nonce, message: &mut [u8]) -> Result<(), StreamCipherError>
-    ensures accepted { IsOk result ↔ (length message.old ≤ 274877906880) }
-    ensures bytes { OnOk result (message.new ≡ applied (keystream (2 ^ 32) (block 10 ietf key.now nonce.now)) 0 message.old) }
+// A message under a key and a nonce, by any cipher. The proof rewrites by the clauses of two public contracts and by the
+// laws of ciphers, and knows nothing else.
+pub fn encrypt<C: KeyIvInit + StreamCipher + Drop>(
+    key: &C::Key,
+    nonce: &C::Iv,
+    message: &mut [u8],
+) -> Result<(), StreamCipherError>
+    ensures accepted { IsOk result ↔ (length message.old ≤ limit_of C.modulus) }
+    ensures bytes { OnOk result (message.new
+        ≡ xor_stream (keystream C.modulus (C.blocks_of key.now nonce.now)) 0 message.old) }
     ensures refused { OnErr result (message.new ≡ message.old) }
 {
-    ChaCha20::new(key, nonce).try_apply_keystream(message)
+    C::new(key, nonce).try_apply_keystream(message)
+}
+
+// A message under a key and a nonce, as RFC 8439 has it.
+fn encrypt_ietf(key: &Key, nonce: &Nonce, message: &mut [u8]) -> Result<(), StreamCipherError>
+    ensures accepted { IsOk result ↔ (length message.old ≤ 274877906880) }
+    ensures bytes { OnOk result (message.new
+        ≡ xor_stream (keystream (2 ^ 32) (block 10 ietf key.now nonce.now)) 0 message.old) }
+    ensures refused { OnErr result (message.new ≡ message.old) }
+{
+    encrypt::<ChaCha20>(key, nonce, message)
 }
 
 // A message under a key and a nonce. No message is too long for a new cipher.
@@ -40,29 +56,27 @@ fn encrypt_legacy(
     message: &mut [u8],
 ) -> Result<(), StreamCipherError>
     ensures accepted { IsOk result }
-    ensures bytes { OnOk result (message.new ≡ applied (keystream (2 ^ 64) (block 10 legacy key.now nonce.now)) 0 message.old) }
+    ensures bytes { OnOk result (message.new
+        ≡ xor_stream (keystream (2 ^ 64) (block 10 legacy key.now nonce.now)) 0 message.old) }
 {
-    ChaCha20Legacy::new(key, nonce).try_apply_keystream(message)
+    encrypt::<ChaCha20Legacy>(key, nonce, message)
 }
 
 // A message under a key and a nonce: the cipher is that of RFC 8439 under the key and the nonce that are derived.
-pub fn encrypt_xchacha(
-    key: &Key,
-    nonce: &XNonce,
-    message: &mut [u8],
-) -> Result<(), StreamCipherError>
+fn encrypt_xchacha(key: &Key, nonce: &XNonce, message: &mut [u8]) -> Result<(), StreamCipherError>
     ensures accepted { IsOk result ↔ (length message.old ≤ 274877906880) }
     ensures bytes { OnOk result (message.new
-        ≡ applied (keystream (2 ^ 32) (block 10 ietf (subkey 10 key.now nonce.now) (subnonce nonce.now))) 0 message.old) }
+        ≡ xor_stream (keystream (2 ^ 32)
+        (block 10 ietf (subkey 10 key.now nonce.now) (subnonce nonce.now))) 0 message.old) }
     ensures refused { OnErr result (message.new ≡ message.old) }
 {
-    XChaCha20::new(key, nonce).try_apply_keystream(message)
+    encrypt::<XChaCha20>(key, nonce, message)
 }
 
 #[test]
 fn encrypted(rt: HostRuntime) -> Result<(), Fail> {
     let mut stream = [0; 178];
-    encrypt(&COUNTING, &NONCE, &mut stream)?;
+    encrypt_ietf(&COUNTING, &NONCE, &mut stream)?;
     assert!(rt; stream.ends_with(IETF_FROM_64));
     let mut stream = [0; 256];
     encrypt_legacy(&FROM_1, &LEGACY_NONCE, &mut stream)?;
@@ -71,6 +85,15 @@ fn encrypted(rt: HostRuntime) -> Result<(), Fail> {
     encrypt_xchacha(&X_KEY, &X_NONCE, &mut stream)?;
     assert!(rt; stream.ends_with(XCHACHA_FROM_64));
     Ok(())
+}
+
+// Four zero bytes, and the last eight of a nonce of 24.
+fn derived_nonce(nonce: &XNonce) -> Nonce
+    ensures { result ≡ subnonce nonce.now }
+{
+    let mut derived = [0; 12];
+    derived[4..].copy_from_slice(&nonce[16..]);
+    derived
 }
 
 // An XChaCha cipher, and the cipher of RFC 8439's layout under the key and the nonce that are derived: the same fixed
@@ -88,13 +111,11 @@ pub fn both<R: Rounds>(
 {
     let mut input = [0; 16];
     input.copy_from_slice(&nonce[..16]);
-    let mut derived = [0; 12];
-    derived[4..].copy_from_slice(&nonce[16..]);
     let subkey = hchacha::<R>(key, &input);
-    (
-        StreamCipherCoreWrapper::new(key, nonce),
-        StreamCipherCoreWrapper::new(&subkey, &derived),
-    )
+    let derived = derived_nonce(nonce);
+    let by_nonce = StreamCipherCoreWrapper::new(key, nonce);
+    let by_subkey = StreamCipherCoreWrapper::new(&subkey, &derived);
+    (by_nonce, by_subkey)
 }
 
 // Two backends: the same block, and the same state after it.
@@ -122,7 +143,8 @@ fn same_blocks<R: Rounds, V: Variant, A: StreamCipherBackend<R, V>, B: StreamCip
 )
     requires cores { core.old ≡ other_core.old }
     requires lengths { length blocks.old ≡ length other_blocks.old }
-    ensures blocks { (i : ℕ) → i < length blocks.old → slice_get blocks.new i ≡ slice_get other_blocks.new i }
+    ensures blocks { (i : ℕ) → i < length blocks.old
+        → slice_get blocks.new i ≡ slice_get other_blocks.new i }
     ensures fixed { fixed_words V.layout core.new ≡ fixed_words V.layout other_core.new }
     ensures counter { state_counter V.layout core.new ≡ state_counter V.layout other_core.new }
 {
@@ -146,26 +168,23 @@ fn same_words<R: Rounds, A: RngBackend<R>, B: RngBackend<R>>(
     B::gen_ks_blocks(other_state, other_words, steps);
 }
 
-// Whether two backends agree on a block, on nine blocks of a core, and on a generator's words.
+// Calls the functions above once, and answers whether what they made is the same.
 fn agree<A, B>() -> bool
 where
-    A: StreamCipherBackend<R20, Ietf> + StreamCipherBackend<R20, Legacy> + RngBackend<R20>,
-    B: StreamCipherBackend<R20, Ietf> + StreamCipherBackend<R20, Legacy> + RngBackend<R20>,
+    A: StreamCipherBackend<R20, Ietf> + RngBackend<R20>,
+    B: StreamCipherBackend<R20, Ietf> + RngBackend<R20>,
 {
     let mut steps = Steps::new();
-    let mut state = [u32::MAX; 16];
-    let mut other_state = [u32::MAX; 16];
-    let mut block = [0; 64];
-    let mut other_block = [1; 64];
-    same_block::<R20, Legacy, A, B>(
+    let (mut state, mut other_state) = ([7; 16], [7; 16]);
+    let (mut block, mut other_block) = ([0; 64], [1; 64]);
+    same_block::<R20, Ietf, A, B>(
         &mut state,
         &mut block,
         &mut other_state,
         &mut other_block,
         &mut steps,
     );
-    let mut words = [0; 64];
-    let mut other_words = [1; 64];
+    let (mut words, mut other_words) = ([0; 64], [1; 64]);
     same_words::<R20, A, B>(
         &mut state,
         &mut words,
@@ -175,10 +194,9 @@ where
     );
     let mut core = ChaChaCore::<R20, Ietf, A>::new(&COUNTING, &NONCE);
     let mut other_core = ChaChaCore::<R20, Ietf, B>::new(&COUNTING, &NONCE);
-    let mut blocks = [[0; 64]; 9];
-    let mut other_blocks = [[1; 64]; 9];
+    let (mut blocks, mut other_blocks) = ([[0; 64]], [[1; 64]]);
     same_blocks(&mut core, &mut blocks, &mut other_core, &mut other_blocks);
-    block == other_block && words == other_words && state == other_state && blocks == other_blocks
+    block == other_block && words == other_words && blocks == other_blocks
 }
 
 #[test]

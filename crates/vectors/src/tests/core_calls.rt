@@ -1,18 +1,14 @@
 //! Calls on a core alone.
 
 use crate::rows::{COUNTING, R0};
-use chacha20::backends::{Lanes16, Soft};
-use chacha20::cipher::{KeyIvInit, StreamCipherCore, StreamCipherSeekCore};
+use chacha20::backends::{Lanes4, Lanes8, Lanes16, Rows8, Soft};
+use chacha20::cipher::{KeyIvInit, StreamCipherBackend, StreamCipherCore, StreamCipherSeekCore};
 use chacha20::variants::{Ietf, Legacy, Variant};
-use chacha20::{ChaCha20LegacyCore, ChaChaCore, R8, R20, Steps, XChaChaCore};
-use std::test::Fail;
+use chacha20::{ChaCha20LegacyCore, ChaChaCore, R20, Steps, XChaChaCore};
+use std::process::Abort;
 
-type NoRounds = ChaChaCore<R0, Ietf, Soft>;
-
-#[test]
-fn zeroized(rt: HostRuntime) {
-    let mut core = NoRounds::new(&COUNTING, &[7; 12]);
-    core.set_block_pos(9);
+fn two_blocks_of_zeros<B: StreamCipherBackend<R0, Ietf>>(rt: &impl Abort) {
+    let mut core = ChaChaCore::<R0, Ietf, B>::new(&[0; 32], &[0; 12]);
     core.zeroize();
     let mut blocks = [[1; 64]; 2];
     core.write_keystream_blocks(&mut blocks);
@@ -24,23 +20,12 @@ fn zeroized(rt: HostRuntime) {
 }
 
 #[test]
-fn debug(rt: HostRuntime) -> Result<(), Fail> {
-    let legacy = ChaCha20LegacyCore::new(&[0; 32], &[0; 8]);
-    assert_eq!(rt;
-        format!(in rt.alloc(); "{legacy:?}")?.as_str(),
-        "ChaChaCore<R: 10, V: 64-bit)> { ... }"
-    );
-    let few = ChaChaCore::<R8, Ietf, Soft>::new(&[0; 32], &[0; 12]);
-    assert_eq!(rt;
-        format!(in rt.alloc(); "{few:?}")?.as_str(),
-        "ChaChaCore<R: 4, V: 32-bit)> { ... }"
-    );
-    let many = ChaChaCore::<R20, Ietf, Soft>::new(&[0; 32], &[0; 12]);
-    assert_eq!(rt;
-        format!(in rt.alloc(); "{many:?}")?.as_str(),
-        "ChaChaCore<R: 10, V: 32-bit)> { ... }"
-    );
-    Ok(())
+fn zeroized(rt: HostRuntime) {
+    two_blocks_of_zeros::<Soft>(&rt);
+    two_blocks_of_zeros::<Lanes4>(&rt);
+    two_blocks_of_zeros::<Lanes8>(&rt);
+    two_blocks_of_zeros::<Rows8>(&rt);
+    two_blocks_of_zeros::<Lanes16>(&rt);
 }
 
 #[test]

@@ -1,17 +1,40 @@
-//! Generators as a user of the crate `rand` draws from them. What a draw must be is asked, and not which it is.
+//! Generators as generic code draws from them, by the trait `Rng` alone. What a draw must be is asked, and not which it is.
+
+ghost use Rattle.std.specs.Prelude.{◌<◌};
 
 use chacha20::ChaCha20Rng;
 use chacha20::rand_core::Rng;
-use rand::RngExt;
-use rand::seq::SliceRandom;
+
+// A number below a bound. A word that would favour small numbers is drawn again; after a hundred such words it is 0.
+fn draw_below<R: Rng>(rng: &mut R, bound: u32) -> u32
+    requires { 0 < bound }
+    ensures { result < bound }
+{
+    let favours = u32::MAX - u32::MAX % bound;
+    for _try in 0..100u32 {
+        let word = rng.next_u32();
+        if word < favours {
+            return word % bound;
+        }
+    }
+    0
+}
 
 // A hundred rolls of a die.
-fn rolls<R: Rng>(rng: &mut R) -> [u8; 100] {
+fn rolls<R: Rng>(rng: &mut R) -> [u32; 100] {
     let mut rolls = [0; 100];
     for roll in &mut rolls {
-        *roll = rng.random_range(1..=6);
+        *roll = 1 + draw_below(rng, 6);
     }
     rolls
+}
+
+// Shuffles from the back: each place takes one of those before it, or keeps its own (Fisher and Yates).
+fn shuffle<R: Rng>(rng: &mut R, cards: &mut [u8; 52]) {
+    for last in (1..52u32).rev() {
+        let place = draw_below(rng, last + 1);
+        cards.swap(place as usize, last as usize);
+    }
 }
 
 // The numbers 0 to 51 in a new order.
@@ -20,7 +43,7 @@ fn shuffled_deck<R: Rng>(rng: &mut R) -> [u8; 52] {
     for i in 0..52u8 {
         deck[usize::from(i)] = i;
     }
-    deck.shuffle(rng);
+    shuffle(rng, &mut deck);
     deck
 }
 

@@ -1,20 +1,21 @@
-//! A run on the generator without rounds, directly and as a list of calls.
+//! A run on the generator without rounds, and rows of generators as lists of calls, over each backend.
 
 use crate::rows::R0;
-use chacha20::backends::Soft;
+use chacha20::backends::{Lanes4, Lanes8, Lanes16, Rows8, Soft};
+use chacha20::cipher::RngBackend;
 use chacha20::runs::{RngAnswer, RngCall, run_rng};
-use chacha20::{ChaChaRng, SerializedRngState};
+use chacha20::{ChaChaRng, R20, SerializedRngState};
+use std::process::Abort;
 
-type ZeroGenerator = ChaChaRng<R0, Soft>;
+type ZeroGenerator<B> = ChaChaRng<R0, B>;
 
 const STREAM: u64 = 0x8000_0001_0000_0003;
 
 // 2^68 + 14, which is position 14.
 const PAST_THE_LAST: u128 = 295147905179352825870;
 
-#[test]
-fn direct(rt: HostRuntime) {
-    let mut rng = ZeroGenerator::from_seed([0; 32]);
+fn run_directly<B: RngBackend<R0>>(rt: &impl Abort) {
+    let mut rng = ZeroGenerator::<B>::from_seed([0; 32]);
     rng.set_stream(STREAM);
     rng.set_word_pos(PAST_THE_LAST);
     assert_eq!(rt; rng.next_u64(), 0x0000_0002_0000_0006);
@@ -23,15 +24,23 @@ fn direct(rt: HostRuntime) {
     let mut data = [0; 5];
     rng.fill_bytes(&mut data);
     assert_eq!(rt; data, *b"\xca\xf0\xe0\xc2\xdc");
-    let mut rng = ZeroGenerator::deserialize_state(&rng.serialize_state());
+    let rng = ZeroGenerator::<B>::deserialize_state(&rng.serialize_state());
     assert_eq!(rt; rng.get_word_pos(), 18);
     assert_eq!(rt; rng.get_block_pos(), 1);
     assert_eq!(rt; rng.get_stream(), STREAM);
 }
 
 #[test]
-fn as_a_list(rt: HostRuntime) {
-    let mut rng = ZeroGenerator::from_seed([0; 32]);
+fn directly(rt: HostRuntime) {
+    run_directly::<Soft>(&rt);
+    run_directly::<Lanes4>(&rt);
+    run_directly::<Lanes8>(&rt);
+    run_directly::<Rows8>(&rt);
+    run_directly::<Lanes16>(&rt);
+}
+
+fn run_as_a_list<B: RngBackend<R0>>(rt: &impl Abort) {
+    let mut rng = ZeroGenerator::<B>::from_seed([0; 32]);
     let mut data = [0; 5];
     let calls = [
         RngCall::SetStream(STREAM),
@@ -63,10 +72,69 @@ fn as_a_list(rt: HostRuntime) {
     assert_eq!(rt; answers, expected);
 }
 
+// Row 20: two words around the wrap.
+fn row_20_as_a_list<B: RngBackend<R20>>(rt: &impl Abort) {
+    let calls = [
+        RngCall::SetWordPos((1 << 68) - 64),
+        RngCall::Fill { at: 0, len: 252 },
+        RngCall::NextU64,
+        RngCall::GetWordPos,
+    ];
+    let mut answers = [RngAnswer::Done; 4];
+    let mut rng = ChaChaRng::<R20, B>::from_seed([0; 32]);
+    run_rng(&mut rng, &mut [0; 252], &calls, &mut answers);
+    let expected = [
+        RngAnswer::Done,
+        RngAnswer::Done,
+        RngAnswer::U64(0xade0_b876_8976_b107),
+        RngAnswer::U128(1),
+    ];
+    assert_eq!(rt; answers, expected);
+}
+
+// Row 21: another stream of the same seed.
+fn row_21_as_a_list<B: RngBackend<R20>>(rt: &impl Abort) {
+    let calls = [
+        RngCall::Fill { at: 0, len: 16 },
+        RngCall::NextU32,
+        RngCall::SetStream(0x0200_0000_0000_0000),
+        RngCall::GetWordPos,
+        RngCall::GetSeed,
+        RngCall::NextU32,
+    ];
+    let mut answers = [RngAnswer::Done; 6];
+    let mut rng = ChaChaRng::<R20, B>::from_seed([0; 32]);
+    run_rng(&mut rng, &mut [0; 16], &calls, &mut answers);
+    let expected = [
+        RngAnswer::Done,
+        RngAnswer::U32(0xb819_d2bd),
+        RngAnswer::Done,
+        RngAnswer::U128(0),
+        RngAnswer::Seed([0; 32]),
+        RngAnswer::U32(0x374d_c6c2),
+    ];
+    assert_eq!(rt; answers, expected);
+}
+
+fn all_as_lists<B: RngBackend<R0> + RngBackend<R20>>(rt: &impl Abort) {
+    run_as_a_list::<B>(rt);
+    row_20_as_a_list::<B>(rt);
+    row_21_as_a_list::<B>(rt);
+}
+
+#[test]
+fn as_lists(rt: HostRuntime) {
+    all_as_lists::<Soft>(&rt);
+    all_as_lists::<Lanes4>(&rt);
+    all_as_lists::<Lanes8>(&rt);
+    all_as_lists::<Rows8>(&rt);
+    all_as_lists::<Lanes16>(&rt);
+}
+
 // The calls that the run above doesn't make.
 #[test]
 fn other_calls(rt: HostRuntime) {
-    let mut rng = ZeroGenerator::from_seed([0; 32]);
+    let mut rng = ZeroGenerator::<Soft>::from_seed([0; 32]);
     let calls = [
         RngCall::NextU32,
         RngCall::GetSeed,
@@ -89,7 +157,7 @@ fn other_calls(rt: HostRuntime) {
 
 #[test]
 fn no_calls(rt: HostRuntime) {
-    let mut rng = ZeroGenerator::from_seed([0; 32]);
+    let mut rng = ZeroGenerator::<Soft>::from_seed([0; 32]);
     let mut data = [5];
     run_rng(&mut rng, &mut data, &[], &mut []);
     assert_eq!(rt; data, [5]);

@@ -18,10 +18,10 @@ fn restored_anywhere(rt: HostRuntime) {
     let mut rng = ChaCha20Rng::from_seed(FROM_1);
     rng.set_stream(0xf0f1_f2f3_f4f5_f6f7);
     rng.set_block_pos(u64::MAX - 1);
-    for _ in 0..130 {
+    for words in 0..130u32 {
         let mut restored = ChaCha20Rng::deserialize_state(&rng.serialize_state());
         assert_eq!(rt; restored, rng);
-        assert_eq!(rt; restored.next_u32(), rng.next_u32());
+        assert_eq!(rt; restored.next_u32(), rng.next_u32(), "after {words} words");
         assert_eq!(rt; restored, rng);
     }
 }

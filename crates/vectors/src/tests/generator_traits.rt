@@ -1,10 +1,11 @@
 //! Generators through the traits of `rand_core`, as generic code uses them.
 
 use crate::rows::{FROM_1, R0};
-use chacha20::backends::Soft;
-use chacha20::cipher::StreamCipherCore;
+use chacha20::backends::{Lanes4, Lanes8, Lanes16, Rows8, Soft};
+use chacha20::cipher::{RngBackend, StreamCipherCore};
 use chacha20::rand_core::{self, CryptoRng, Rng, SeedableRng, TryRng};
-use chacha20::{ChaCha8Rng, ChaCha12Rng, ChaCha20LegacyCore, ChaCha20Rng, ChaChaRng, Seed};
+use chacha20::{ChaCha8Rng, ChaCha12Rng, ChaCha20LegacyCore, ChaCha20Rng, ChaChaRng, R20, Seed};
+use std::process::Abort;
 use std::test::Fail;
 
 // What a list of reads answers: a word, two words, 5 bytes, no bytes, a word.
@@ -54,13 +55,21 @@ fn try_reads<G: TryRng>(rng: &mut G) -> Result<Answers, G::Error> {
     })
 }
 
-#[test]
-fn without_rounds(rt: HostRuntime) -> Result<(), Fail> {
-    let mut rng = ChaChaRng::<R0, Soft>::from_seed([0; 32]);
+fn reads_without_rounds<B: RngBackend<R0>>(rt: &impl Abort) -> Result<(), Fail> {
+    let mut rng = ChaChaRng::<R0, B>::from_seed([0; 32]);
     assert_eq!(rt; reads(&mut rng), WORKED);
-    let mut rng = ChaChaRng::<R0, Soft>::from_seed([0; 32]);
+    let mut rng = ChaChaRng::<R0, B>::from_seed([0; 32]);
     assert_eq!(rt; try_reads(&mut rng)?, WORKED);
     Ok(())
+}
+
+#[test]
+fn without_rounds(rt: HostRuntime) -> Result<(), Fail> {
+    reads_without_rounds::<Soft>(&rt)?;
+    reads_without_rounds::<Lanes4>(&rt)?;
+    reads_without_rounds::<Lanes8>(&rt)?;
+    reads_without_rounds::<Rows8>(&rt)?;
+    reads_without_rounds::<Lanes16>(&rt)
 }
 
 // Two reads of 13 bytes.
@@ -78,19 +87,27 @@ fn try_fills<G: TryRng>(rng: &mut G) -> Result<[[u8; 13]; 2], G::Error> {
     Ok(bytes)
 }
 
-#[test]
-fn row_7(rt: HostRuntime) -> Result<(), Fail> {
+fn reads_of_row_7<B: RngBackend<R20>>(rt: &impl Abort) -> Result<(), Fail> {
     let expected = [
         *b"\xb1\x69\x7e\x9f\xc6\x46\x1e\x19\x83\xd1\x31\xcf\x69",
         *b"\xa7\xa3\xfc\x13\x4f\x14\x98\x80\xe8\xbb\x2b\x5d\x23",
     ];
-    let mut rng = ChaCha20Rng::from_seed(FROM_1);
+    let mut rng = ChaChaRng::<R20, B>::from_seed(FROM_1);
     assert_eq!(rt; fills(&mut rng), expected);
     assert_eq!(rt; rng.get_word_pos(), 8);
-    let mut rng = ChaCha20Rng::from_seed(FROM_1);
+    let mut rng = ChaChaRng::<R20, B>::from_seed(FROM_1);
     assert_eq!(rt; try_fills(&mut rng)?, expected);
     assert_eq!(rt; rng.get_word_pos(), 8);
     Ok(())
+}
+
+#[test]
+fn row_7(rt: HostRuntime) -> Result<(), Fail> {
+    reads_of_row_7::<Soft>(&rt)?;
+    reads_of_row_7::<Lanes4>(&rt)?;
+    reads_of_row_7::<Lanes8>(&rt)?;
+    reads_of_row_7::<Rows8>(&rt)?;
+    reads_of_row_7::<Lanes16>(&rt)
 }
 
 // A generator that another one seeds.

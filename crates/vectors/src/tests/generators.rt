@@ -1,14 +1,14 @@
-//! Words, bytes and texts of generators.
+//! Words and bytes of generators.
 
-use crate::rows::{FROM_1, R0};
-use chacha20::backends::Soft;
+use crate::rows::R0;
+use chacha20::backends::{Lanes4, Lanes8, Lanes16, Rows8, Soft};
+use chacha20::cipher::RngBackend;
 use chacha20::{ChaCha8Rng, ChaCha12Rng, ChaCha20Rng, ChaChaRng};
-use std::test::Fail;
+use std::process::Abort;
 
 // The worked reads of a generator without rounds, whose words are those of its start state, doubled.
-#[test]
-fn without_rounds(rt: HostRuntime) {
-    let mut rng = ChaChaRng::<R0, Soft>::from_seed([0; 32]);
+fn reads_without_rounds<B: RngBackend<R0>>(rt: &impl Abort) {
+    let mut rng = ChaChaRng::<R0, B>::from_seed([0; 32]);
     assert_eq!(rt; rng.next_u32(), 0xc2e0_f0ca);
     assert_eq!(rt; rng.next_u64(), 0xf2c4_5a64_6640_c8dc);
     let mut bytes = [0; 5];
@@ -16,6 +16,15 @@ fn without_rounds(rt: HostRuntime) {
     assert_eq!(rt; bytes, *b"\xe8\xca\x40\xd6\x00");
     rng.fill_bytes(&mut []);
     assert_eq!(rt; rng.next_u32(), 0);
+}
+
+#[test]
+fn without_rounds(rt: HostRuntime) {
+    reads_without_rounds::<Soft>(&rt);
+    reads_without_rounds::<Lanes4>(&rt);
+    reads_without_rounds::<Lanes8>(&rt);
+    reads_without_rounds::<Rows8>(&rt);
+    reads_without_rounds::<Lanes16>(&rt);
 }
 
 // The first bytes of a zero seed are those of the cipher with a zero key (draft-strombergson-chacha-test-vectors, TC1,
@@ -40,25 +49,4 @@ fn rounds(rt: HostRuntime) {
         of_20,
         *b"\x76\xb8\xe0\xad\xa0\xf1\x3d\x90\x40\x5d\x6a\xe5\x53\x86\xbd\x28"
     );
-}
-
-// The generator's part of row 16.
-#[test]
-fn debug(rt: HostRuntime) -> Result<(), Fail> {
-    let of_8 = ChaCha8Rng::from_seed(FROM_1);
-    let of_12 = ChaCha12Rng::from_seed(FROM_1);
-    let of_20 = ChaCha20Rng::from_seed(FROM_1);
-    assert_eq!(rt;
-        format!(in rt.alloc(); "{of_8:?}")?.as_str(),
-        "ChaCha8Rng { ... }"
-    );
-    assert_eq!(rt;
-        format!(in rt.alloc(); "{of_12:?}")?.as_str(),
-        "ChaCha12Rng { ... }"
-    );
-    assert_eq!(rt;
-        format!(in rt.alloc(); "{of_20:?}")?.as_str(),
-        "ChaCha20Rng { ... }"
-    );
-    Ok(())
 }

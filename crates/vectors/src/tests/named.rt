@@ -1,7 +1,8 @@
 //! What the names of ciphers stand for: numbers of rounds, and sizes in bytes.
 
+use super::contracts::encrypt;
 use chacha20::backends::Soft;
-use chacha20::cipher::{BlockSizeUser, IvSizeUser, KeyIvInit, KeySizeUser, StreamCipher};
+use chacha20::cipher::{BlockSizeUser, IvSizeUser, KeySizeUser};
 use chacha20::{
     ChaCha8, ChaCha12, ChaCha20, ChaCha20Legacy, ChaCha20LegacyCore, R20, XChaCha8, XChaCha12,
     XChaCha20, XChaChaCore,
@@ -16,10 +17,10 @@ fn rounds(rt: HostRuntime) -> Result<(), Fail> {
     let mut of_12 = [0; 32];
     let mut of_20 = [0; 32];
     let mut of_legacy = [0; 32];
-    ChaCha8::new(&[0; 32], &[0; 12]).try_apply_keystream(&mut of_8)?;
-    ChaCha12::new(&[0; 32], &[0; 12]).try_apply_keystream(&mut of_12)?;
-    ChaCha20::new(&[0; 32], &[0; 12]).try_apply_keystream(&mut of_20)?;
-    ChaCha20Legacy::new(&[0; 32], &[0; 8]).try_apply_keystream(&mut of_legacy)?;
+    encrypt::<ChaCha8>(&[0; 32], &[0; 12], &mut of_8)?;
+    encrypt::<ChaCha12>(&[0; 32], &[0; 12], &mut of_12)?;
+    encrypt::<ChaCha20>(&[0; 32], &[0; 12], &mut of_20)?;
+    encrypt::<ChaCha20Legacy>(&[0; 32], &[0; 8], &mut of_legacy)?;
     assert_eq!(rt;
         of_8,
         *b"\x3e\x00\xef\x2f\x89\x5f\x40\xd6\x7f\x5b\xb8\xe8\x1f\x09\xa5\xa1\

@@ -1,7 +1,7 @@
 //! Code as a user writes it, over any cipher whose position can be set.
 
 ghost use Rattle.std.specs.Prelude.{◌≡◌, ◌↔◌, ◌≤◌, ◌+◌, ◌*◌, length, IsOk, OnOk, OnErr};
-ghost use Rattle.chacha20.specs.Keystream.{applied};
+ghost use Rattle.chacha20.specs.Keystream.{xor_stream};
 
 use crate::rows::COUNTING;
 use chacha20::ChaCha20;
@@ -16,8 +16,10 @@ fn encrypt_record<S: StreamCipherSeek>(
     record: &mut [u8],
 ) -> Result<(), StreamCipherError>
     ensures accepted { IsOk result ↔ (k * length «record».old + length «record».old ≤ S.limit) }
-    ensures bytes { OnOk result («record».new ≡ applied (S.stream cipher.old) (k * length «record».old) «record».old) }
-    ensures moved { OnOk result (cipher.new ≡ S.at cipher.old (k * length «record».old + length «record».old)) }
+    ensures bytes { OnOk result («record».new
+        ≡ xor_stream (S.stream cipher.old) (k * length «record».old) «record».old) }
+    ensures moved { OnOk result (cipher.new
+        ≡ S.at cipher.old (k * length «record».old + length «record».old)) }
     ensures refused { OnErr result ((«record».new ≡ «record».old) × (cipher.new ≡ cipher.old)) }
 {
     let len = record.len() as u128;

@@ -25,42 +25,43 @@ pub fn xchacha_stream<C: SeekCipher<XNonce>>() -> bool {
         && stream.ends_with(XCHACHA_FROM_64)
 }
 
-/// Four blocks with a nonce of 8 bytes: between any three places that are multiples of so many bytes, in two parts.
-pub fn legacy_stream<C: SeekCipher<LegacyNonce>>(step: usize) -> bool {
+/// Four blocks with a nonce of 8 bytes, between any three places that are multiples of so many bytes, in two parts.
+/// It answers the first places between which the stream is wrong.
+pub fn legacy_stream<C: SeekCipher<LegacyNonce>>(step: usize) -> Option<[usize; 3]> {
     let mut cipher = C::new(&FROM_1, &LEGACY_NONCE);
-    let mut right = true;
     for from in 0..256usize {
         if is_place(from, step) {
             for middle in from..256 {
                 if is_place(middle, step) {
-                    right = right && parts_of_legacy(&mut cipher, from, middle, step);
+                    if let Some(last) = wrong_last(&mut cipher, from, middle, step) {
+                        return Some([from, middle, last]);
+                    }
                 }
             }
         }
     }
-    right
+    None
 }
 
 fn is_place(byte: usize, step: usize) -> bool {
     step != 0 && byte % step == 0
 }
 
-// To each place from the middle on.
-fn parts_of_legacy<C: SeekCipher<LegacyNonce>>(
+// The first place, from the middle on, to which the stream is wrong.
+fn wrong_last<C: SeekCipher<LegacyNonce>>(
     cipher: &mut C,
     from: usize,
     middle: usize,
     step: usize,
-) -> bool
+) -> Option<usize>
     requires { from ≤ middle }
 {
-    let mut right = true;
     for last in middle..256 {
-        if is_place(last, step) {
-            right = right && is_part_of_legacy(cipher, from, middle, last);
+        if is_place(last, step) && !is_part_of_legacy(cipher, from, middle, last) {
+            return Some(last);
         }
     }
-    right
+    None
 }
 
 fn is_part_of_legacy<C: SeekCipher<LegacyNonce>>(
@@ -99,25 +100,27 @@ fn apply_from<C: SeekCipher<LegacyNonce>>(
     cipher.try_apply_keystream(back)
 }
 
-/// The first words of a zero seed.
-pub fn zero_seed_words<B: RngBackend<R20>>() -> bool {
+/// The first words of a zero seed. It answers the number of the first one that is wrong.
+pub fn zero_seed_words<B: RngBackend<R20>>() -> Option<usize> {
     let mut rng = ChaChaRng::<R20, B>::from_seed([0; 32]);
-    let mut right = true;
-    for word in ZERO_SEED_WORDS {
-        right &= rng.next_u32() == word;
+    for (i, word) in ZERO_SEED_WORDS.iter().enumerate() {
+        if rng.next_u32() != *word {
+            return Some(i);
+        }
     }
-    right
+    None
 }
 
-/// Words from many blocks of another seed.
-pub fn every_17th_word<B: RngBackend<R20>>() -> bool {
+/// Words from many blocks of another seed. It answers the place in the table of the first one that is wrong.
+pub fn every_17th_word<B: RngBackend<R20>>() -> Option<usize> {
     let mut rng = ChaChaRng::<R20, B>::from_seed(WORDS_0_TO_7);
-    let mut right = true;
-    for word in EVERY_17TH_WORD {
-        right &= rng.next_u32() == word;
+    for (i, word) in EVERY_17TH_WORD.iter().enumerate() {
+        if rng.next_u32() != *word {
+            return Some(i);
+        }
         rng.fill_bytes(&mut [0; 64]);
     }
-    right
+    None
 }
 
 /// Blocks on both sides of 2^32.

@@ -1,9 +1,9 @@
 //! HChaCha without rounds, and XChaCha ciphers beside those that they are made of.
 
-use super::contracts::both;
+use super::contracts::{both, encrypt};
 use super::streams::{X_KEY, X_NONCE};
 use crate::rows::R0;
-use chacha20::cipher::{KeyIvInit, StreamCipher, StreamCipherError};
+use chacha20::cipher::{StreamCipher, StreamCipherError};
 use chacha20::{R8, R12, R20, XChaCha8, XChaCha12, XChaCha20, hchacha};
 use std::test::Fail;
 
@@ -29,9 +29,12 @@ fn keystream_of(mut cipher: impl StreamCipher + Drop) -> Result<[u8; 130], Strea
 // Each cipher has its own number of rounds.
 #[test]
 fn as_the_derived_ciphers(rt: HostRuntime) -> Result<(), Fail> {
-    let of_8 = keystream_of(XChaCha8::new(&X_KEY, &X_NONCE))?;
-    let of_12 = keystream_of(XChaCha12::new(&X_KEY, &X_NONCE))?;
-    let of_20 = keystream_of(XChaCha20::new(&X_KEY, &X_NONCE))?;
+    let mut of_8 = [0; 130];
+    let mut of_12 = [0; 130];
+    let mut of_20 = [0; 130];
+    encrypt::<XChaCha8>(&X_KEY, &X_NONCE, &mut of_8)?;
+    encrypt::<XChaCha12>(&X_KEY, &X_NONCE, &mut of_12)?;
+    encrypt::<XChaCha20>(&X_KEY, &X_NONCE, &mut of_20)?;
     assert_eq!(rt; of_8, keystream_of(both::<R8>(&X_KEY, &X_NONCE).1)?);
     assert_eq!(rt; of_12, keystream_of(both::<R12>(&X_KEY, &X_NONCE).1)?);
     assert_eq!(rt; of_20, keystream_of(both::<R20>(&X_KEY, &X_NONCE).1)?);

@@ -1,12 +1,12 @@
 use Rattle.std.proofs.Common.{◌∙◌, arith, sym}
-use Rattle.chacha_base.proofs.StateLemmas.{advanced-zero}
-use Rattle.chacha20.proofs.BlocksLemmas.{applied-next}
+use Rattle.chacha_base.proofs.StateLemmas.{state_after-zero}
+use Rattle.chacha20.proofs.BlocksLemmas.{xor_stream-next}
 use Rattle.chacha20.proofs.chacha_core.apply_tail.Goals as goal
 
 pub returns-clause-data : goal.returns-clause-data
 returns-clause-data g c =
     let layout = g.V.Variant.layout in
     c.xor_blocks.ensures
-    ∙ applied-next g.R.Rounds.COUNT layout c.args.state.now _ 0 _ c.gen_tail_blocks.new.blocks _ c.told-state
-    (sym (advanced-zero layout _ c.told-state c.fits-state)) (omega arith) (omega arith)
+    ∙ xor_stream-next g.R.Rounds.COUNT layout c.args.state.now _ 0 _ c.gen_tail_blocks.new.blocks _ c.told-state
+    (sym (state_after-zero layout _ c.told-state c.fits-state)) (omega arith) (omega arith)
     (λ j less. c.gen_tail_blocks.ensures.blocks j (omega arith))

@@ -1,6 +1,6 @@
 use Rattle.std.proofs.Common.{◌≡◌, ℕ, ◌<◌, ◌≤◌, ◌-◌, length}
 use Rattle.std.specs.Prelude.{slice_get, Some}
-use Rattle.chacha_base.specs.State.{advanced, next_block}
+use Rattle.chacha_base.specs.State.{state_after, next_block}
 use Rattle.chacha20.proofs.chacha_core.write_blocks.Given as goal
 
 abbrev pub invariant-groups : goal.invariant-groups
@@ -8,7 +8,7 @@ invariant-groups g l =
     let layout = g.V.Variant.layout in
     record {
       within : l.done ≤ length l.blocks;
-      state : l.state ≡ advanced layout l.done l.fn.state;
+      state : l.state ≡ state_after layout l.done l.fn.state;
       done : (i : ℕ) → i < l.done → slice_get l.blocks i ≡ Some (next_block g.R.Rounds.COUNT layout l.fn.state i);
     }
 

@@ -1,6 +1,6 @@
 use Rattle.std.proofs.Common.{length, refl, arith}
 use Rattle.std.proofs.lemmas.List.Elements.{recursion_from_All}
-use Rattle.chacha20.specs.Runs.{setting, run_of}
+use Rattle.chacha20.specs.Runs.{setting, cipher_run}
 use Rattle.chacha20.proofs.RunLemmas.{run-all, law-seek_back, law-cut_anywhere}
 use Rattle.chacha20.proofs.runs.run_cipher.Goals as goal
 
@@ -8,12 +8,12 @@ pub returns-clause-seek_back : goal.returns-clause-seek_back
 returns-clause-seek_back g c at len these done =
     let s = setting g.C.Keystream.modulus g.C.Keystream.block_at c.args.input.now in
     law-seek_back s (length c.args.input.now) c.args.cipher.now c.calls.cipher c.args.data.now c.calls.data c.args.calls.now c.calls.answers at len
-    (run-all _ (run_of s c.calls.cipher c.calls.data) _ _ c.args.calls.now c.calls.answers c.calls.i refl c.calls.invariant (omega arith) (omega arith))
+    (run-all _ (cipher_run s c.calls.cipher c.calls.data) _ _ c.args.calls.now c.calls.answers c.calls.i refl c.calls.invariant (omega arith) (omega arith))
     (recursion_from_All _ c.args.calls.now c.requires.ranges) these done
 
 pub returns-clause-cut_anywhere : goal.returns-clause-cut_anywhere
 returns-clause-cut_anywhere g c at lens these done =
     let s = setting g.C.Keystream.modulus g.C.Keystream.block_at c.args.input.now in
     law-cut_anywhere s (length c.args.input.now) c.args.cipher.now c.calls.cipher c.args.data.now c.calls.data c.args.calls.now c.calls.answers at lens
-    (run-all _ (run_of s c.calls.cipher c.calls.data) _ _ c.args.calls.now c.calls.answers c.calls.i refl c.calls.invariant (omega arith) (omega arith))
+    (run-all _ (cipher_run s c.calls.cipher c.calls.data) _ _ c.args.calls.now c.calls.answers c.calls.i refl c.calls.invariant (omega arith) (omega arith))
     (recursion_from_All _ c.args.calls.now c.requires.ranges) these done

@@ -1,10 +1,10 @@
 use Rattle.std.proofs.Common.{◌≡◌, ◌≢◌, ◌<◌, ◌+◌, [], length, ap, ◌∙◌, arith, ◌*◌}
 use Rattle.std.specs.Prelude.{slice_index_or}
-use Rattle.chacha_base.specs.Keystream.{keystream, applied}
+use Rattle.chacha_base.specs.Keystream.{keystream, xor_stream}
 use Rattle.std.proofs.lemmas.List.{get_or-set_other}
 use Rattle.std.proofs.lemmas.Option.{get_or_from_slice_get}
 use Rattle.chacha_base.proofs.ListLemmas.{one_more}
-use Rattle.chacha_base.proofs.KeystreamLemmas.{applied-block}
+use Rattle.chacha_base.proofs.KeystreamLemmas.{xor_stream-block}
 use Rattle.chacha_base.proofs.cipher.apply_group.Goals as goal
 
 pub loop-i-preserved : goal.loop-i-preserved
@@ -19,11 +19,11 @@ loop-i-preserved g c =
     let same = c.loop-i.invariant.rest i (omega arith) in
     let long : length (slice_index_or now i []) ≡ 64 = ap length same ∙ c.told-blocks i (omega arith) in
     record {
-      done = one_more (λ k. applied (keystream modulus block) (64 * (g.C.StreamCipherCore.counter core + k)) (slice_index_or c.args.blocks.now k []))
+      done = one_more (λ k. xor_stream (keystream modulus block) (64 * (g.C.StreamCipherCore.counter core + k)) (slice_index_or c.args.blocks.now k []))
           i now c.xor_bytes.new.output inside
-          (applied-block modulus block counter _ (slice_index_or now i []) _ (get_or_from_slice_get _ i _ [] (c.write_keystream_blocks.ensures.blocks i (omega arith)))
+          (xor_stream-block modulus block counter _ (slice_index_or now i []) _ (get_or_from_slice_get _ i _ [] (c.write_keystream_blocks.ensures.blocks i (omega arith)))
           (omega arith) (omega arith) c.xor_bytes.ensures
-          ∙ ap (applied (keystream modulus block) (64 * counter)) same)
+          ∙ ap (xor_stream (keystream modulus block) (64 * counter)) same)
           c.loop-i.invariant.done;
       rest = λ k above. let apart : k ≢ i = omega arith in get_or-set_other now i k c.xor_bytes.new.output [] apart ∙ c.loop-i.invariant.rest k (omega arith);
     }

@@ -1,5 +1,6 @@
 use Rattle.std.proofs.Common.{◌∙◌, ap}
-use Rattle.chacha_base.specs.Layout.{modulus, remaining}
+use Rattle.chacha_base.specs.Layout.{modulus}
+use Rattle.chacha_base.specs.Limit.{remaining}
 use Rattle.chacha20.proofs.chacha_core.ChaChaCoreStreamCipherCore.remaining_blocks.Goals as goal
 
 pub returns-clause-remaining : goal.returns-clause-remaining

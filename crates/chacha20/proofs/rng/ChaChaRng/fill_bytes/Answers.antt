@@ -1,6 +1,7 @@
 use Rattle.std.proofs.Common.{◌≡◌, ◌<◌, ◌/◌, ◌++◌, ◌∙◌, length, take, ap, arith}
 use Rattle.std.proofs.lemmas.Grind.{common_steps}
-use Rattle.chacha20.proofs.ReadLemmas.{filled-whole, filled-over, nothing-behind}
+use Rattle.std.proofs.lemmas.List.{append-nil, nil_from_length}
+use Rattle.chacha20.proofs.ReadLemmas.{filled-whole, filled-over}
 use Rattle.chacha20.proofs.rng.ChaChaRng.fill_bytes.Goals as goal
 
 pub returns-then-not-is_empty-clause-value : goal.returns-then-not-is_empty-clause-value
@@ -19,7 +20,8 @@ returns-else-not-is_empty-clause-value g c =
     let q = length c.split_at_mut-words.result.0.now / 4 in
     let last = c.split_at_mut-words.result.1.now in
     let none : length last ≡ 0 = grind (arith, common_steps) in
-    let all : c.fill_words.new.dst ++ last ≡ c.fill_words.new.dst = nothing-behind c.fill_words.new.dst last none in
+    let all : c.fill_words.new.dst ++ last ≡ c.fill_words.new.dst =
+    ap (λ l. c.fill_words.new.dst ++ l) (nil_from_length last none) ∙ append-nil c.fill_words.new.dst in
     filled-whole g.R.Rounds.COUNT c.args.self.now _ q (length c.args.dst.now) _
     (omega (arith, none, c.split_at_mut-words.ensures.front_len, c.split_at_mut-words.ensures.back_len)) (all ∙ c.fill_words.ensures.dst)
     c.fill_words.ensures.moved

@@ -2,7 +2,8 @@ use Rattle.std.proofs.Common.{◌≡◌, ◌≤◌, ◌+◌, ◌-◌, ◌*◌, �
 use Rattle.std.proofs.lemmas.List.{take_all}
 use borrow.Rule.Slice.PartMut.{mid_of}
 use Rattle.chacha_base.specs.Bytes.{bytes}
-use Rattle.chacha20.specs.Generator.{Generator, at, words_from}
+use Rattle.chacha_base.specs.Keystream.{stream_part}
+use Rattle.chacha20.specs.Generator.{Generator, at_word_pos, word}
 use Rattle.chacha20.proofs.ReadLemmas.{taken, generator_of-taken, at-same, words-written}
 use Rattle.chacha20.proofs.rng.ChaChaRng.fill_words.Goals as goal
 
@@ -11,7 +12,7 @@ words-init g c = record {
   unread = c.self.invariant;
   long = c.self.told;
   moved =
-      generator_of-taken c.self.inside.core c.self.inside.index 0 _ (omega arith) ∙ ap (λ (h : Generator). at h (h.word_pos + 0)) c.self.view_is;
+      generator_of-taken c.self.inside.core c.self.inside.index 0 _ (omega arith) ∙ ap (λ (h : Generator). at_word_pos h (h.word_pos + 0)) c.self.view_is;
   within = omega arith;
   dst = refl;
 }
@@ -25,13 +26,13 @@ words-preserved g c =
     let k = c.min-count.result in
     let room : i + k ≤ 64 = omega arith in
     let whole : i + k - i ≡ k = omega arith in
-    let moved : _ ≡ at rng (rng.word_pos + c.words.done) = c.refill.ensures.same ∙ kept.moved in
+    let moved : _ ≡ at_word_pos rng (rng.word_pos + c.words.done) = c.refill.ensures.same ∙ kept.moved in
     record {
       unread = taken n _ _ i k _ c.refill.ensures.unread refl room;
       long = c.refill.ensures.long;
       moved =
           generator_of-taken c.refill.new.core i k _ refl
-          ∙ ap (λ (h : Generator). at h (h.word_pos + k)) moved
+          ∙ ap (λ (h : Generator). at_word_pos h (h.word_pos + k)) moved
           ∙ at-same rng _ _ (omega arith);
       within = omega arith;
       dst = words-written n rng c.refill.new.core c.refill.new.buffer i k c.words.done c.words.dst _ c.refill.ensures.unread room c.refill.ensures.long moved
@@ -43,9 +44,9 @@ returns-clause-dst g c =
     let all : c.words.done ≡ length c.args.dst.now / 4 = omega arith in
     sym (take_all (4 * c.words.done) c.words.dst (omega arith))
     ∙ c.words.invariant.dst
-    ∙ ap (λ k. bytes (words_from g.R.Rounds.COUNT c.args.self.now c.args.self.now.word_pos k)) all
+    ∙ ap (λ k. bytes (stream_part (word g.R.Rounds.COUNT c.args.self.now) c.args.self.now.word_pos k)) all
 
 pub returns-clause-moved : goal.returns-clause-moved
 returns-clause-moved g c =
     let all : c.words.done ≡ length c.args.dst.now / 4 = omega arith in
-    c.words.invariant.moved ∙ ap (λ k. at c.args.self.now (c.args.self.now.word_pos + k)) all
+    c.words.invariant.moved ∙ ap (λ k. at_word_pos c.args.self.now (c.args.self.now.word_pos + k)) all

@@ -1,10 +1,22 @@
-use Rattle.std.proofs.Common.{arith}
-use Rattle.chacha20.proofs.GeneratorLemmas.{unread-start, generator_of-unread}
+use Rattle.std.proofs.Common.{length, replicate, refl, ap, arith, ◌∙◌}
+use Rattle.chacha_base.specs.Layout.{legacy}
+use Rattle.chacha_base.specs.State.{state_counter, fixed_words}
+use Rattle.chacha_base.proofs.BytesLemmas.{length-words}
+use Rattle.chacha_base.proofs.StateLemmas.{fixed_words-start, state_counter-start}
+use Rattle.chacha20.proofs.GeneratorLemmas.{length-start, unread-start, generator_of-start}
 use Rattle.chacha20.proofs.rng.ChaChaRng.new.Goals as goal
 
 pub invariant_of-result : goal.invariant_of-result
 invariant_of-result g c =
-    unread-start g.R.Rounds.COUNT c.args.seed.now 0 0 _ _ c.told-seed c.fits-seed (omega arith) c.from_seed.ensures
+    let seed = c.args.seed.now in
+    let eight = length-words 8 seed c.told-seed in
+    unread-start g.R.Rounds.COUNT _ _ seed 0 (ap length c.from_seed.ensures ∙ length-start seed (replicate 8 0) 0 eight refl) c.told-seed c.fits-seed (omega arith)
+    (ap (fixed_words legacy) c.from_seed.ensures ∙ fixed_words-start legacy seed (replicate 8 0) 0 eight)
 
 pub returns : goal.returns
-returns g c = generator_of-unread c.args.seed.now 0 0 _ c.told-seed c.fits-seed (omega arith) (omega arith) c.from_seed.ensures
+returns g c =
+    let seed = c.args.seed.now in
+    let eight = length-words 8 seed c.told-seed in
+    generator_of-start _ seed 0 c.told-seed c.fits-seed (omega arith)
+    (ap (fixed_words legacy) c.from_seed.ensures ∙ fixed_words-start legacy seed (replicate 8 0) 0 eight)
+    (ap (state_counter legacy) c.from_seed.ensures ∙ state_counter-start legacy seed (replicate 8 0) 0 eight)

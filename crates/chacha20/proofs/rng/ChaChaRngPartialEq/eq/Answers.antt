@@ -1,4 +1,4 @@
-use Rattle.std.proofs.Common.{◌≡◌, ap, ap₂, sym, ◌∙◌}
+use Rattle.std.proofs.Common.{◌≡◌, ap, ap₂, sym, arith, ◌∙◌}
 use Rattle.std.specs.Prelude.{◌==◌}
 use Rattle.std.specs.Cmp.Lexicographic.{pointwise}
 use Rattle.std.proofs.lemmas.Bool.{eqb-true, eq-eqb, false≢true}
@@ -12,8 +12,7 @@ returns-then-get_stream-clause-value g c =
       | then-get_word_pos w ↦
           let read = eqb-true _ _ (sym w.value-is ∙ c.if-get_stream.true) in
           let streams : c.args.self.now.stream ≡ c.args.other.now.stream = sym w.get_stream.ensures ∙ read ∙ w.get_stream-then-get_word_pos.ensures in
-          let positions : c.args.self.now.word_pos ≡ c.args.other.now.word_pos =
-          sym c.get_word_pos.ensures.value ∙ w.if-get_word_pos.true ∙ c.get_word_pos-2.ensures.value in
+          let positions : c.args.self.now.word_pos ≡ c.args.other.now.word_pos = omega (arith, w.if-get_word_pos.true) in
           c.eq.ensures
           ∙ ap₂ (pointwise ◌==◌) c.get_seed.ensures c.get_seed-then-get_stream.ensures
           ∙ sym (same-rest c.args.self.now c.args.other.now positions streams)
@@ -29,7 +28,7 @@ returns-else-get_stream-clause-value g c =
           let streams = w.get_stream.ensures ∙ ap (λ v. v.stream) one ∙ sym w.get_stream-then-get_word_pos.ensures in
           false≢true (sym c.if-get_stream.false ∙ w.value-is ∙ eq-eqb _ _ streams)
       | else-get_word_pos w ↦
-          w.if-get_word_pos.false (c.get_word_pos.ensures.value ∙ ap (λ v. v.word_pos) one ∙ sym c.get_word_pos-2.ensures.value)
+          let positions = ap (λ v. v.word_pos) one in w.if-get_word_pos.false (omega (arith, positions))
     ]))
 
 pub returns-then-get_stream-clause-same : goal.returns-then-get_stream-clause-same

@@ -1,7 +1,7 @@
 use Rattle.std.proofs.Common.{◌≡◌, ◌+◌, ◌*◌, ◌-◌, ◌<◌, refl, ◌∙◌, arith, rules}
 use Rattle.std.proofs.lemmas.Slice.{overwrites}
 use Rattle.chacha_base.specs.Layout.{legacy}
-use Rattle.chacha_base.specs.State.{advanced}
+use Rattle.chacha_base.specs.State.{state_after}
 use Rattle.chacha_base.proofs.StateLemmas.{next_words-more, next_words-are}
 use Rattle.chacha_base.proofs.backends.kernel.next_four.Goals as goal
 
@@ -13,7 +13,7 @@ four-preserved g c =
     let here : 16 * i + 16 - 16 * i ≡ 16 = omega arith in
     record {
       long = search (rules, overwrites);
-      done = rw here (λ k less. next_words-more g.R.Rounds.COUNT legacy s (advanced legacy i s) i c.four.buffer c.copy_from_slice.new.self refl
+      done = rw here (λ k less. next_words-more g.R.Rounds.COUNT legacy s (state_after legacy i s) i c.four.buffer c.copy_from_slice.new.self refl
           (c.copy_from_slice.ensures.after ∙ c.group_words-words.ensures.words i four) (omega (arith, c.four.invariant.long)) c.four.invariant.done k (omega arith));
     }
 

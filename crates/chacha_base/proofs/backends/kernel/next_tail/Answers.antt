@@ -2,10 +2,10 @@ use Rattle.std.proofs.Common.{◌≡◌, ◌*◌, ◌<◌, [], min, length, slic
 use Rattle.std.proofs.lemmas.Grind.{common_steps}
 use Rattle.std.specs.Prelude.{Some}
 use Rattle.chacha_base.specs.Bytes.{bytes}
-use Rattle.chacha_base.specs.State.{advanced}
+use Rattle.chacha_base.specs.State.{state_after}
 use Rattle.chacha_base.proofs.CountsLemmas.{grows-tail}
 use Rattle.chacha_base.proofs.ListLemmas.{one_more}
-use Rattle.chacha_base.proofs.StateLemmas.{advanced-zero}
+use Rattle.chacha_base.proofs.StateLemmas.{state_after-zero}
 use Rattle.chacha_base.proofs.backends.kernel.next_tail.Goals as goal
 
 pub each-preserved : goal.each-preserved
@@ -21,11 +21,11 @@ returns-after-each-clause-blocks g c i h =
 pub returns-after-each-clause-steps : goal.returns-after-each-clause-steps
 returns-after-each-clause-steps g c =
     let some : min 1 (length c.args.blocks.now) ≡ 1 = grind (arith, common_steps) in
-    grows-tail (2 * g.G.Group.ROUND_STEPS * g.R.Rounds.COUNT) (length c.args.blocks.now) c.args.steps.now c.add_other.new.self c.group_words-words.new.steps some
+    grows-tail (2 * g.G.States.ROUND_STEPS * g.R.Rounds.COUNT) (length c.args.blocks.now) c.args.steps.now c.add_other.new.self c.group_words-words.new.steps some
     c.add_other.ensures c.group_words-words.ensures.steps
 
 pub returns-else-not-is_empty-clause-state : goal.returns-else-not-is_empty-clause-state
 returns-else-not-is_empty-clause-state g c =
     let s = c.args.state.now in
     let none : 0 ≡ length c.args.blocks.now = grind (arith, common_steps) in
-    sym (advanced-zero g.V.Variant.layout s c.told-state c.fits-state) ∙ ap (λ k. advanced g.V.Variant.layout k s) none
+    sym (state_after-zero g.V.Variant.layout s c.told-state c.fits-state) ∙ ap (λ k. state_after g.V.Variant.layout k s) none

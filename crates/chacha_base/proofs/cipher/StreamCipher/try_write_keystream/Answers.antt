@@ -2,7 +2,7 @@ use Rattle.std.proofs.Common.{◌≡◌, ◌+◌, ◌-◌, length, take, drop, r
 use Rattle.std.proofs.Math.Seq.{take-length}
 use Rattle.std.proofs.lemmas.Grind.{common_steps}
 use Rattle.chacha_base.proofs.CipherLemmas.{position_is, moved_on}
-use Rattle.chacha_base.proofs.PieceLemmas.{applied-zeros, streamed-written}
+use Rattle.chacha_base.proofs.PieceLemmas.{xor_stream-zeros, stream_part-written}
 use Rattle.chacha_base.proofs.cipher.StreamCipher.try_write_keystream.Goals as goal
 
 pub pieces-init : goal.pieces-init
@@ -11,29 +11,31 @@ pieces-init g c = record { within = omega arith; moved = rw add-zero (sym (g.met
 pub apply_keystream-requires : goal.apply_keystream-requires
 apply_keystream-requires g c =
     let cipher = g.Self.StreamCipher in
-    let place : cipher.position c.pieces.self ≡ cipher.position c.args.self.now + c.pieces.done =
-    position_is cipher.at cipher.position _ _ _ g.met.Self.StreamCipher.position_at c.pieces.invariant.moved in
+    let position = g.Self.Keystream.position in
+    let place : position c.pieces.self ≡ position c.args.self.now + c.pieces.done =
+    position_is cipher.at position _ _ _ g.met.Self.StreamCipher.position_at c.pieces.invariant.moved in
     grind (arith, place, common_steps)
 
 pub pieces-preserved : goal.pieces-preserved
 pieces-preserved g c =
     let cipher = g.Self.StreamCipher in
+    let position = g.Self.Keystream.position in
     let laws = g.met.Self.StreamCipher in
     let old = c.args.self.now in
-    let p = cipher.position old in
+    let p = position old in
     let done = c.pieces.done in
     let n = c.min.result in
     let before = c.pieces.invariant.moved in
-    let place : cipher.position c.pieces.self ≡ p + done = position_is cipher.at cipher.position _ _ _ laws.position_at before in
+    let place : position c.pieces.self ≡ p + done = position_is cipher.at position _ _ _ laws.position_at before in
     let same : cipher.stream c.pieces.self ≡ cipher.stream old = ap cipher.stream before ∙ laws.stream_at old (p + done) in
     let size : length c.fill.new.self ≡ n = grind (arith, common_steps) in
     let filled : c.fill.new.self ≡ replicate (length (take (done + n - done) (drop done c.pieces.buf))) 0 = c.fill.ensures.after (λ y h. search rules) in
     let zeros : c.fill.new.self ≡ replicate n 0 = filled ∙ ap (λ m. replicate m 0) (grind (arith, common_steps)) in
     record {
       within = grind (arith, common_steps);
-      moved = moved_on cipher.at cipher.position old c.pieces.self _ p done n laws.position_at laws.at_at before (rw (← size) c.apply_keystream.ensures.moved);
-      bytes = streamed-written (cipher.stream old) p done n _ c.pieces.buf _ (omega arith) (omega (arith, size)) c.pieces.invariant.bytes
-          ((rw (same, place, zeros) at c.apply_keystream.ensures.bytes) ∙ applied-zeros (cipher.stream old) (p + done) n);
+      moved = moved_on cipher.at position old c.pieces.self _ p done n laws.position_at laws.at_at before (rw (← size) c.apply_keystream.ensures.moved);
+      bytes = stream_part-written (cipher.stream old) p done n _ c.pieces.buf _ (omega arith) (omega (arith, size)) c.pieces.invariant.bytes
+          ((rw (same, place, zeros) at c.apply_keystream.ensures.bytes) ∙ xor_stream-zeros (cipher.stream old) (p + done) n);
     }
 
 pub returns-clause-bytes : goal.returns-clause-bytes

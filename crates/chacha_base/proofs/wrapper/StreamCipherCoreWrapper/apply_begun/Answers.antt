@@ -1,5 +1,5 @@
 use Rattle.std.proofs.Common.{◌≡◌, ◌≤◌, List, ℕ, length, ap, subst, arith}
-use Rattle.chacha_base.proofs.BufferedLemmas.{applied_begun}
+use Rattle.chacha_base.proofs.BufferedLemmas.{xor_stream-begun}
 use Rattle.chacha_base.specs.Buffered.{IsBuffered, position_of}
 use Rattle.chacha_base.proofs.wrapper.StreamCipherCoreWrapper.apply_begun.Goals as goal
 
@@ -12,4 +12,4 @@ returns-clause-bytes g c =
     let kept = subst (λ (f : List ℕ). IsBuffered modulus (block f) counter c.self.inside.buffer left) (ap (λ v. v.fixed) c.self.view_is) c.self.invariant in
     let place : position_of counter left ≡ c.args.self.now.position = ap (λ v. v.position) c.self.view_is in
     let fits : length c.args.bytes.now ≤ left = omega (arith, c.self.invariant.part, c.self.invariant.begun) in
-    applied_begun modulus (block c.args.self.now.fixed) counter left _ c.self.inside.buffer _ _ kept place fits (omega arith) c.xor_bytes.ensures
+    xor_stream-begun modulus (block c.args.self.now.fixed) counter left _ c.self.inside.buffer _ _ kept place fits (omega arith) c.xor_bytes.ensures

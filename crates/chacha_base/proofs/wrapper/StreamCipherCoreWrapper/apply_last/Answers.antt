@@ -1,5 +1,5 @@
 use Rattle.std.proofs.Common.{◌≡◌, ◌<◌, ◌%◌, length, ap, ◌∙◌, arith}
-use Rattle.chacha_base.proofs.BufferedLemmas.{applied_front}
+use Rattle.chacha_base.proofs.BufferedLemmas.{xor_stream-front}
 use Rattle.chacha_base.specs.Buffered.{position_of}
 use Rattle.chacha_base.proofs.wrapper.StreamCipherCoreWrapper.apply_last.Goals as goal
 
@@ -12,5 +12,5 @@ returns-then-not-is_empty-clause-bytes g c =
     let place : position_of counter c.self.inside.left ≡ c.args.self.now.position = ap (λ v. v.position) c.self.view_is in
     let some : 0 < length c.args.bytes.now = grind arith in
     let front : c.args.self.now.position % 64 ≡ 0 = c.requires.front some in
-    applied_front modulus (block c.args.self.now.fixed) counter _ _ _ _ c.self.invariant.below made
+    xor_stream-front modulus (block c.args.self.now.fixed) counter _ _ _ _ c.self.invariant.below made
     (omega (arith, c.self.invariant.part, c.self.invariant.begun)) (omega arith) (omega arith) c.xor_bytes.ensures

@@ -1,6 +1,6 @@
 use Rattle.std.proofs.Common.{length, arith, refl}
 use Rattle.chacha_base.specs.Keystream.{keystream}
-use Rattle.chacha_base.proofs.KeystreamLemmas.{applied-parts}
+use Rattle.chacha_base.proofs.KeystreamLemmas.{xor_stream-parts}
 use Rattle.chacha_base.proofs.CountsLemmas.{grows-bytes}
 use Rattle.chacha_base.proofs.wrapper.StreamCipherCoreWrapperStreamCipher.try_apply_keystream_counted.Goals as goal
 
@@ -9,7 +9,7 @@ returns-clause-bytes g c =
     let stream = keystream g.C.Keystream.modulus (g.C.Keystream.block_at c.args.self.now.fixed) in
     let blocks = rw c.apply_begun.ensures.moved at c.apply_whole.ensures.bytes in
     let last = rw (c.apply_whole.ensures.moved, c.apply_begun.ensures.moved) at c.apply_last.ensures.bytes in
-    applied-parts stream c.args.self.now.position _ _ c.args.buf.now _ _ _ _ _ _ _ c.split_at_mut-front.ensures.value c.split_at_mut-blocks.ensures.value refl refl
+    xor_stream-parts stream c.args.self.now.position _ _ c.args.buf.now _ _ _ _ _ _ _ c.split_at_mut-front.ensures.value c.split_at_mut-blocks.ensures.value refl refl
     c.apply_begun.ensures.bytes blocks last
 
 pub returns-clause-steps : goal.returns-clause-steps

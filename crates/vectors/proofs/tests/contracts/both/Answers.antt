@@ -4,13 +4,11 @@ use Rattle.chacha20.specs.Block.{start}
 use Rattle.chacha20.specs.Cipher.{Cipher}
 use Rattle.chacha20.specs.State.{fixed_words}
 use Rattle.chacha20.specs.XChaCha.{hchacha, subkey}
-use Rattle.chacha20.proofs.XChaChaLemmas.{subnonce_written}
 use Rattle.vectors.proofs.tests.contracts.both.Goals as goal
 
 pub returns-clause-value : goal.returns-clause-value
 returns-clause-value g c =
     let key : c.hchacha-subkey.result ≡ subkey g.R.Rounds.COUNT c.args.key.now c.args.nonce.now =
     c.hchacha-subkey.ensures ∙ ap (hchacha g.R.Rounds.COUNT c.args.key.now) c.copy_from_slice.ensures.after in
-    let nonce = subnonce_written c.args.nonce.now c.copy_from_slice-2.new.self c.told-nonce c.copy_from_slice-2.ensures.after in
     let made : List ℕ → List ℕ → Cipher = λ k v. record { fixed = fixed_words ietf (start ietf k v 0); position = 0 } in
-    c.new.ensures.value ∙ sym (c.new-2.ensures.value ∙ ap₂ made key nonce)
+    c.new-by_nonce.ensures.value ∙ sym (c.new-by_subkey.ensures.value ∙ ap₂ made key c.derived_nonce-derived.ensures)

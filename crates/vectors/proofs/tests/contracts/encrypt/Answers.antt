@@ -1,7 +1,9 @@
-use Rattle.std.proofs.Common.{◌≡◌, ap}
+use Rattle.std.proofs.Common.{zero-add}
 use Rattle.vectors.proofs.tests.contracts.encrypt.Goals as goal
 
+pub returns-clause-accepted : goal.returns-clause-accepted
+returns-clause-accepted g c = rw (c.new.ensures.first, zero-add, g.met.C.StreamCipher.limit_is) at c.try_apply_keystream.ensures.accepted
+
 pub returns-clause-bytes : goal.returns-clause-bytes
-returns-clause-bytes c =
-    let position : c.new.result.position ≡ 0 = ap (λ w. w.position) c.new.ensures.value in
-    rw (← c.new.ensures.blocks, ← position) c.try_apply_keystream.ensures.bytes
+returns-clause-bytes g c =
+    rw (g.met.C.StreamCipher.stream_is c.new.result, c.new.ensures.blocks, c.new.ensures.first) at c.try_apply_keystream.ensures.bytes

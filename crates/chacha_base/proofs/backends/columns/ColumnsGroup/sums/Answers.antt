@@ -1,6 +1,8 @@
-use Rattle.chacha_base.proofs.ColumnLemmas.{sums-of-columns}
+use Rattle.chacha_base.specs.Rounds.{add_states}
+use Rattle.chacha_base.proofs.RowLemmas.{of_columns-same}
 use Rattle.chacha_base.proofs.backends.columns.ColumnsGroup.sums.Goals as goal
 
 pub returns : goal.returns
+unfolding add_states
 returns g c j h =
-    sums-of-columns g.V.Vector.lane _ _ _ j (c.sums.ensures j h) (c.sums-2.ensures j h) (c.sums-3.ensures j h) (c.sums-4.ensures j h)
+    of_columns-same (c.sums-first.ensures j h) (c.sums-second.ensures j h) (c.sums-third.ensures j h) (c.sums-fourth.ensures j h)

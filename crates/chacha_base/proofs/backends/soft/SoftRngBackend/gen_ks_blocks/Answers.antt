@@ -1,15 +1,15 @@
 use Rattle.std.proofs.Common.{◌≡◌, ◌+◌, ◌*◌, ◌-◌, refl, sym, ap, ◌∙◌, arith, rules}
 use Rattle.std.proofs.lemmas.Slice.{overwrites}
 use Rattle.chacha_base.specs.Layout.{legacy}
-use Rattle.chacha_base.specs.State.{advanced}
-use Rattle.chacha_base.proofs.StateLemmas.{advanced-zero, advanced-advanced, next_words-more, next_words-are}
+use Rattle.chacha_base.specs.State.{state_after}
+use Rattle.chacha_base.proofs.StateLemmas.{state_after-zero, state_after-state_after, next_words-more, next_words-are}
 use Rattle.chacha_base.proofs.backends.soft.SoftRngBackend.gen_ks_blocks.Goals as goal
 
 pub four-init : goal.four-init
 four-init g c = record {
   long = c.told-buffer;
   done = λ k less. absurd (omega arith);
-  state = sym (advanced-zero legacy _ c.told-state c.fits-state);
+  state = sym (state_after-zero legacy _ c.told-state c.fits-state);
   par = refl;
   other = refl;
   rounds = omega arith;
@@ -26,7 +26,7 @@ four-preserved g c =
       long = search (rules, overwrites);
       done = rw here (λ k less. next_words-more n legacy c.args.state.now c.four.state i c.four.buffer c.copy_from_slice.new.self c.four.invariant.state
           (c.copy_from_slice.ensures.after ∙ c.block_words.ensures.words) (omega (arith, c.four.invariant.long)) c.four.invariant.done k (omega arith));
-      state = c.advance.ensures ∙ ap (advanced legacy 1) c.four.invariant.state ∙ advanced-advanced legacy i 1 c.args.state.now c.told-state;
+      state = c.advance.ensures ∙ ap (state_after legacy 1) c.four.invariant.state ∙ state_after-state_after legacy i 1 c.args.state.now c.told-state;
       par = ap (λ s. s.par) c.block_words.ensures.steps ∙ c.four.invariant.par;
       other = ap (λ s. s.other) c.block_words.ensures.steps ∙ c.four.invariant.other;
       rounds = omega (arith, rounds, more, c.four.invariant.rounds);

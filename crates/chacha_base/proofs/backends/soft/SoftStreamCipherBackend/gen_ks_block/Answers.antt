@@ -1,10 +1,10 @@
 use Rattle.std.proofs.Common.{sym, ap, ◌∙◌}
 use Rattle.chacha_base.specs.Bytes.{bytes}
 use Rattle.chacha_base.specs.Rounds.{mix}
-use Rattle.chacha_base.proofs.StateLemmas.{advanced-zero}
+use Rattle.chacha_base.proofs.StateLemmas.{state_after-zero}
 use Rattle.chacha_base.proofs.backends.soft.SoftStreamCipherBackend.gen_ks_block.Goals as goal
 
 pub returns-clause-block : goal.returns-clause-block
 returns-clause-block g c =
     c.block_bytes.ensures.block
-    ∙ ap (λ s. bytes (mix g.R.Rounds.COUNT s)) (sym (advanced-zero g.V.Variant.layout _ c.told-state c.fits-state))
+    ∙ ap (λ s. bytes (mix g.R.Rounds.COUNT s)) (sym (state_after-zero g.V.Variant.layout _ c.told-state c.fits-state))

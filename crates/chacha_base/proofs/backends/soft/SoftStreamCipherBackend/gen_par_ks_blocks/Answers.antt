@@ -3,7 +3,7 @@ use Rattle.std.specs.Prelude.{Some}
 use Rattle.chacha_base.specs.Bytes.{bytes}
 use Rattle.chacha_base.specs.Rounds.{mix}
 use Rattle.chacha_base.proofs.ListLemmas.{slice_get-set_same}
-use Rattle.chacha_base.proofs.StateLemmas.{advanced-zero}
+use Rattle.chacha_base.proofs.StateLemmas.{state_after-zero}
 use Rattle.chacha_base.proofs.backends.soft.SoftStreamCipherBackend.gen_par_ks_blocks.Goals as goal
 
 pub returns-clause-blocks : goal.returns-clause-blocks
@@ -12,4 +12,4 @@ returns-clause-blocks g c i h =
     rw first
     (slice_get-set_same c.args.blocks.now 0 _ (omega arith)
     ∙ ap Some (c.block_bytes.ensures.block
-    ∙ ap (λ s. bytes (mix g.R.Rounds.COUNT s)) (sym (advanced-zero g.V.Variant.layout _ c.told-state c.fits-state))))
+    ∙ ap (λ s. bytes (mix g.R.Rounds.COUNT s)) (sym (state_after-zero g.V.Variant.layout _ c.told-state c.fits-state))))

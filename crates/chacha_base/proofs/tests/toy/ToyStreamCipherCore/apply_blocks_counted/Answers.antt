@@ -2,7 +2,7 @@ use Rattle.std.proofs.Common.{◌≡◌, ℕ, ◌+◌, ◌*◌, ◌/◌, ◌%◌
 use Rattle.std.specs.List.{range_with_len}
 use Rattle.std.proofs.lemmas.List.FromFn.{get_or-map-range_with_len}
 use Rattle.chacha_base.specs.Keystream.{keystream}
-use Rattle.chacha_base.proofs.KeystreamLemmas.{applied_is}
+use Rattle.chacha_base.proofs.KeystreamLemmas.{xor_stream-is}
 use Rattle.chacha_base.proofs.tests.toy.ToyStreamCipherCore.apply_blocks_counted.Goals as goal
 
 -- byte i from the front of a block on
@@ -18,5 +18,5 @@ stream_byte seed counter i =
 pub returns-clause-data : goal.returns-clause-data
 returns-clause-data c =
     let toy = c.args.self.now in
-    applied_is _ _ c.args.data.now c.loop-i.data c.loop-i.auto.data (λ i h.
+    xor_stream-is _ _ c.args.data.now c.loop-i.data c.loop-i.auto.data (λ i h.
     c.loop-i.invariant.done i (omega arith) ∙ ap (bit_xor (slice_index c.args.data.now i)) (sym (stream_byte toy.seed toy.counter i)))

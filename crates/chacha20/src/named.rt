@@ -1,0 +1,54 @@
+//! What the names of ciphers and generators stand for: facts that hold by computation, each of which a wrong number of
+//! rounds, layout or size of a named type would break.
+
+ghost use Rattle.std.specs.Prelude.{◌≡◌, length};
+ghost use Rattle.rand_core.specs.Steps.{stream_of};
+ghost use Rattle.chacha_base.specs.Block.{block};
+ghost use Rattle.chacha_base.specs.Layout.{ietf, legacy};
+ghost use Rattle.chacha20.specs.Generator.{reads};
+ghost use Rattle.chacha20.specs.XChaCha.{subkey, subnonce};
+
+use crate::chacha::{ChaCha8, ChaCha12, ChaCha20};
+use crate::legacy::ChaCha20Legacy;
+use crate::rng::{ChaCha8Rng, ChaCha12Rng, ChaCha20Rng};
+use crate::xchacha::{XChaCha8, XChaCha12, XChaCha20};
+use chacha_base::cipher::{IvSizeUser, KeyIvInit, KeySizeUser};
+use rand_core::Rng;
+
+// The blocks that a key and a nonce define.
+fn ciphers()
+    ensures chacha8 { ⟦<ChaCha8 as KeyIvInit>⟧.blocks_of ≡ block 4 ietf }
+    ensures chacha12 { ⟦<ChaCha12 as KeyIvInit>⟧.blocks_of ≡ block 6 ietf }
+    ensures chacha20 { ⟦<ChaCha20 as KeyIvInit>⟧.blocks_of ≡ block 10 ietf }
+    ensures chacha20_legacy { ⟦<ChaCha20Legacy as KeyIvInit>⟧.blocks_of ≡ block 10 legacy }
+    ensures xchacha8 { ⟦<XChaCha8 as KeyIvInit>⟧.blocks_of
+        ≡ (λ key nonce. block 4 ietf (subkey 4 key nonce) (subnonce nonce)) }
+    ensures xchacha12 { ⟦<XChaCha12 as KeyIvInit>⟧.blocks_of
+        ≡ (λ key nonce. block 6 ietf (subkey 6 key nonce) (subnonce nonce)) }
+    ensures xchacha20 { ⟦<XChaCha20 as KeyIvInit>⟧.blocks_of
+        ≡ (λ key nonce. block 10 ietf (subkey 10 key nonce) (subnonce nonce)) }
+{}
+
+// The words that a seed, a stream and a word position define, as all reads take them.
+fn generators()
+    ensures chacha8_rng { ⟦<ChaCha8Rng as Rng>⟧.stream ≡ stream_of (reads 4) }
+    ensures chacha12_rng { ⟦<ChaCha12Rng as Rng>⟧.stream ≡ stream_of (reads 6) }
+    ensures chacha20_rng { ⟦<ChaCha20Rng as Rng>⟧.stream ≡ stream_of (reads 10) }
+{}
+
+// The sizes that the types name, and the types of keys and nonces.
+fn sizes(
+    key: &<ChaCha20 as KeyIvInit>::Key,
+    nonce: &<ChaCha20 as KeyIvInit>::Iv,
+    legacy_key: &<ChaCha20Legacy as KeyIvInit>::Key,
+    legacy_nonce: &<ChaCha20Legacy as KeyIvInit>::Iv,
+    extended_key: &<XChaCha20 as KeyIvInit>::Key,
+    extended_nonce: &<XChaCha20 as KeyIvInit>::Iv,
+)
+    ensures key { length key.now ≡ ⟦<ChaCha20 as KeySizeUser>⟧.KEY_SIZE }
+    ensures nonce { length nonce.now ≡ ⟦<ChaCha20 as IvSizeUser>⟧.IV_SIZE }
+    ensures legacy_key { length legacy_key.now ≡ ⟦<ChaCha20Legacy as KeySizeUser>⟧.KEY_SIZE }
+    ensures legacy_nonce { length legacy_nonce.now ≡ ⟦<ChaCha20Legacy as IvSizeUser>⟧.IV_SIZE }
+    ensures extended_key { length extended_key.now ≡ ⟦<XChaCha20 as KeySizeUser>⟧.KEY_SIZE }
+    ensures extended_nonce { length extended_nonce.now ≡ ⟦<XChaCha20 as IvSizeUser>⟧.IV_SIZE }
+{}

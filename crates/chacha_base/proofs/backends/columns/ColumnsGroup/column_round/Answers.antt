@@ -1,8 +1,0 @@
-use Rattle.std.proofs.Common.{refl}
-use Rattle.chacha_base.specs.Rounds.{columns}
-use Rattle.chacha_base.proofs.backends.columns.ColumnsGroup.column_round.Goals as goal
-
-pub returns-clause-blocks : goal.returns-clause-blocks
-unfolding columns
-returns-clause-blocks g c j h =
-    rw (← c.quarter_round.ensures.lanes j h, ← c.quarter_round-2.ensures.lanes j h, ← c.quarter_round-3.ensures.lanes j h, ← c.quarter_round-4.ensures.lanes j h) refl

@@ -1,9 +1,0 @@
-use Rattle.std.proofs.Common.{◌∙◌, ap, arith, rules}
-use Rattle.chacha_base.specs.RowVectors.{block_at}
-use Rattle.chacha_base.proofs.ListLemmas.{one_more}
-use Rattle.chacha_base.proofs.backends.group.InRowsGroup.store.Goals as goal
-
-pub each-preserved : goal.each-preserved
-each-preserved g c =
-    one_more (λ h. g.P.Place.holding (block_at g.V.Vector.lane c.args.self.rows h)) c.each.g c.each.places _ (omega arith)
-    (c.put.ensures ∙ ap g.P.Place.holding (search rules)) c.each.invariant

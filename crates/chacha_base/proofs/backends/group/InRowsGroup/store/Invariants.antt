@@ -1,7 +1,0 @@
-use Rattle.std.proofs.Common.{◌≡◌, ℕ, ◌<◌}
-use Rattle.std.specs.Prelude.{slice_get, Some}
-use Rattle.chacha_base.specs.RowVectors.{block_at}
-use Rattle.chacha_base.proofs.backends.group.InRowsGroup.store.Given as goal
-
-abbrev pub invariant-each : goal.invariant-each
-invariant-each g l = (h : ℕ) → h < l.g → slice_get l.places h ≡ Some (g.P.Place.holding (block_at g.V.Vector.lane l.fn.self.rows h))

@@ -1,0 +1,8 @@
+use Rattle.chacha_base.proofs.backends.lanes4.Lanes4StreamCipherBackend.gen_par_ks_blocks.Goals as goal
+
+-- the search finds these too, but not soon that a wrong body has none
+pub returns-clause-blocks : goal.returns-clause-blocks
+returns-clause-blocks g c = c.next_all.ensures.blocks
+
+pub returns-clause-state : goal.returns-clause-state
+returns-clause-state g c = c.next_all.ensures.state

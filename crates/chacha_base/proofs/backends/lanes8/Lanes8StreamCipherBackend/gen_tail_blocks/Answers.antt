@@ -1,0 +1,11 @@
+use Rattle.chacha_base.proofs.backends.lanes8.Lanes8StreamCipherBackend.gen_tail_blocks.Goals as goal
+
+-- the search finds these too, but not soon that a wrong body has none
+pub returns-clause-blocks : goal.returns-clause-blocks
+returns-clause-blocks g c = c.next_tail.ensures.blocks
+
+pub returns-clause-state : goal.returns-clause-state
+returns-clause-state g c = c.next_tail.ensures.state
+
+pub returns-clause-steps : goal.returns-clause-steps
+returns-clause-steps g c = c.next_tail.ensures.steps

@@ -1,0 +1,6 @@
+use Rattle.chacha_base.proofs.RowLemmas.{columns-of-lanes}
+use Rattle.chacha_base.proofs.backends.rows.RowsStates.column_round.Goals as goal
+
+pub returns-clause-blocks : goal.returns-clause-blocks
+returns-clause-blocks g c b h =
+    columns-of-lanes g.V.RowVector.BLOCKS g.V.Vector.LANES g.V.Vector.lane _ _ g.met.V.RowVector.lanes c.quarter_round.ensures.lanes b h

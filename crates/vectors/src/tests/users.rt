@@ -1,0 +1,107 @@
+//! What users write over the contracts: rounds of their own, and code that is generic in a cipher or a backend.
+
+ghost use Rattle.std.specs.Prelude.{◌≡◌, ◌↔◌, ◌≤◌, ◌^◌, length, IsOk, OnOk, OnErr};
+ghost use Rattle.chacha20.specs.Layout.{ietf};
+ghost use Rattle.chacha20.specs.Block.{block};
+ghost use Rattle.chacha20.specs.Keystream.{keystream, xor_stream};
+
+use crate::rows::ciphers::apply_in_pieces;
+use chacha20::backends::{Lanes8, Lanes16, Soft};
+use chacha20::cipher::{
+    KeyIvInit, RngBackend, StreamCipher, StreamCipherBackend, StreamCipherError,
+};
+use chacha20::variants::Ietf;
+use chacha20::{
+    ChaCha8, ChaCha20, ChaCha20Legacy, ChaChaCore, ChaChaRng, Key, Nonce, R20, Rounds,
+    StreamCipherCoreWrapper,
+};
+use std::test::Fail;
+
+// Three double rounds. Clauses see the number that stands behind `ghost`; the code has the constant.
+#[derive(Clone, Copy)]
+struct R6;
+
+impl Rounds for R6 {
+    ghost COUNT = { 3 };
+
+    const COUNT: usize = 3;
+}
+
+type ChaCha6 = StreamCipherCoreWrapper<ChaChaCore<R6, Ietf, Lanes16>>;
+
+// A message under a key and a nonce, with three double rounds.
+fn encrypt_6(key: &Key, nonce: &Nonce, message: &mut [u8]) -> Result<(), StreamCipherError>
+    ensures accepted { IsOk result ↔ (length message.old ≤ 274877906880) }
+    ensures bytes { OnOk result (message.new
+        ≡ xor_stream (keystream (2 ^ 32) (block 3 ietf key.now nonce.now)) 0 message.old) }
+    ensures refused { OnErr result (message.new ≡ message.old) }
+{
+    ChaCha6::new(key, nonce).try_apply_keystream(message)
+}
+
+#[test]
+fn own_rounds(rt: HostRuntime) -> Result<(), Fail> {
+    let mut of_6 = [0; 64];
+    let mut of_8 = [0; 64];
+    encrypt_6(&[1; 32], &[2; 12], &mut of_6)?;
+    ChaCha8::new(&[1; 32], &[2; 12]).try_apply_keystream(&mut of_8)?;
+    assert_ne!(rt; of_6, of_8);
+    encrypt_6(&[1; 32], &[2; 12], &mut of_6)?;
+    assert_eq!(rt; of_6, [0; 64]);
+    Ok(())
+}
+
+// The first bytes of a cipher of any kind. It is let go at the end, which a type parameter allows by `Drop` alone.
+fn first_bytes<C: KeyIvInit + StreamCipher + Drop>(
+    key: &C::Key,
+    nonce: &C::Iv,
+) -> Result<[u8; 8], StreamCipherError> {
+    let mut bytes = [0; 8];
+    C::new(key, nonce).try_write_keystream(&mut bytes)?;
+    Ok(bytes)
+}
+
+#[test]
+fn any_cipher(rt: HostRuntime) {
+    let expected = Ok(*b"\x76\xb8\xe0\xad\xa0\xf1\x3d\x90");
+    assert_eq!(rt; first_bytes::<ChaCha20>(&[0; 32], &[0; 12]), expected);
+    assert_eq!(rt; first_bytes::<ChaCha20Legacy>(&[0; 32], &[0; 8]), expected);
+}
+
+// A message under a key that a generator draws. One backend serves both: a bound for each kind.
+fn encrypt_drawn<B: StreamCipherBackend<R20, Ietf> + RngBackend<R20>>(
+    rng: &mut ChaChaRng<R20, B>,
+    message: &mut [u8],
+) -> Result<Key, StreamCipherError> {
+    let mut key = [0; 32];
+    rng.fill_bytes(&mut key);
+    let mut cipher = StreamCipherCoreWrapper::<ChaChaCore<R20, Ietf, B>>::new(&key, &[0; 12]);
+    cipher.try_apply_keystream(message)?;
+    Ok(key)
+}
+
+#[test]
+fn one_backend(rt: HostRuntime) -> Result<(), Fail> {
+    let mut message = *b"attack at dawn";
+    let mut other_message = message;
+    let mut rng = ChaChaRng::<R20, Lanes8>::from_seed([1; 32]);
+    let mut other_rng = ChaChaRng::<R20, Soft>::from_seed([1; 32]);
+    let key = encrypt_drawn(&mut rng, &mut message)?;
+    let other_key = encrypt_drawn(&mut other_rng, &mut other_message)?;
+    assert_eq!(rt; key, other_key);
+    assert_eq!(rt; message, other_message);
+    ChaCha20::new(&key, &[0; 12]).try_apply_keystream(&mut message)?;
+    assert_eq!(rt; message, *b"attack at dawn");
+    Ok(())
+}
+
+// A loop over pieces whose every application is known to be accepted, with the invariant that says so.
+#[test]
+fn in_pieces(rt: HostRuntime) -> Result<(), Fail> {
+    let mut whole = [7; 1000];
+    let mut pieces = whole;
+    ChaCha20::new(&[1; 32], &[2; 12]).try_apply_keystream(&mut whole)?;
+    apply_in_pieces(&mut ChaCha20::new(&[1; 32], &[2; 12]), &mut pieces, 300);
+    assert_eq!(rt; whole.as_slice(), pieces.as_slice());
+    Ok(())
+}
