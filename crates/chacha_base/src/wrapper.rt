@@ -74,10 +74,8 @@ impl<C: StreamCipherSeekCore + KeyIvInit> KeyIvInit for StreamCipherCoreWrapper<
     ghost blocks_of = { C.blocks_of };
 
     fn new(key: &C::Key, iv: &C::Iv) -> Self {
-        let mut core = C::new(key, iv);
-        core.set_block_pos(C::Counter::from_u64(0));
         StreamCipherCoreWrapper {
-            core,
+            core: C::new(key, iv),
             buffer: [0; 64],
             left: 0,
         }
