@@ -1,3 +1,4 @@
+pub use Rattle.chacha_base.proofs.BackendLaws
 pub mod BlocksLemmas
 pub mod StartLemmas
 pub mod RunLemmas

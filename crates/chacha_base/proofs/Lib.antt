@@ -1,3 +1,4 @@
+pub mod BackendLaws
 pub mod BufferedLemmas
 pub mod BytesLemmas
 pub mod CipherLemmas

@@ -1,5 +1,6 @@
 -- States of sixteen words: the counter, and the words that stay.
 use Rattle.std.proofs.Common.{◌≡◌, ℕ, ◌+◌, ◌*◌, ◌/◌, ◌%◌, ◌^◌, ◌<◌, ◌≤◌, List, ◌++◌, length, take, drop, slice_index, arith, refl, ap, ap₂, ◌∙◌}
+use Rattle.std.proofs.Math.ListN.{set}
 use Rattle.std.proofs.Math.Nat.{mod-add-mod, mod-eq_of_lt}
 use Rattle.std.proofs.lemmas.List.{take_at, drop_at}
 use Rattle.std.proofs.lemmas.List.FromFn.{length-map-range_with_len, get_or-map-range_with_len, fill_by_all}
@@ -12,7 +13,7 @@ use Rattle.chacha_base.specs.Block.{constants, start}
 use Rattle.chacha_base.specs.Rounds.{rounds, add_states, mix}
 use Rattle.chacha_base.specs.Words.{add}
 use Rattle.chacha_base.specs.State.{state_counter, fixed_words, state_of, state_at, counter_after, state_after, next_block, next_word, next_words}
-use Rattle.chacha_base.proofs.ListLemmas.{each, written_more}
+use Rattle.chacha_base.proofs.ListLemmas.{each, one_more, written_more}
 
 -- each word is below 2 ^ 32
 abbrev pub Words : List ℕ → Type 0
@@ -102,6 +103,11 @@ pub state_after-more : (layout : Layout) (s t u : List ℕ) (a k e : ℕ) → le
 state_after-more layout s t u a k e h moved more all =
     more ∙ ap (state_after layout k) moved ∙ state_after-state_after layout a k s h ∙ ap (λ i. state_after layout i s) all
 
+-- block i from the state k blocks on is block k + i from the state
+pub next_block-state_after : (n : ℕ) (layout : Layout) (s : List ℕ) (k i : ℕ) → length s ≡ 16
+    → next_block n layout (state_after layout k s) i ≡ next_block n layout s (k + i)
+next_block-state_after n layout s k i h = ap (λ u. bytes (mix n u)) (state_after-state_after layout k i s h)
+
 -- the fixed words of a start state, the start state of them, and its counter
 pub fixed_words-start : (layout : Layout) (key nonce : List ℕ) (c : ℕ) → length (words key) ≡ 8
     → fixed_words layout (start layout key nonce c) ≡ constants ++ words key ++ words nonce
@@ -150,7 +156,20 @@ next_blocks-more n layout s t a k now part h moved room long before made =
     (λ i less.
     made i less
     ∙ ap (λ u. Some (next_block n layout u i)) moved
-    ∙ ap (λ u. Some (bytes (mix n u))) (state_after-state_after layout a i s h))
+    ∙ ap Some (next_block-state_after n layout s a i h))
+
+-- one block more of a state that is i blocks on
+pub next_block-more : (n : ℕ) (layout : Layout) (s t : List ℕ) (i : ℕ) (now : List (List ℕ)) (block : List ℕ) → length s ≡ 16 → t ≡ state_after layout i s
+    → i < length now → block ≡ next_block n layout t 0
+    → ((j : ℕ) → j < i → slice_get now j ≡ Some (next_block n layout s j))
+    → (j : ℕ) → j < i + 1 → slice_get (set now i block) j ≡ Some (next_block n layout s j)
+next_block-more n layout s t i now block h moved room made before =
+    let here : i + 0 ≡ i = omega arith in
+    one_more (next_block n layout s) i now block room
+    (made
+    ∙ ap (λ u. next_block n layout u 0) moved
+    ∙ next_block-state_after n layout s i 0 h
+    ∙ ap (next_block n layout s) here) before
 
 pub next_words-are : (n : ℕ) (layout : Layout) (s now : List ℕ) → length now ≡ 64
     → ((k : ℕ) → k < 64 → slice_get now k ≡ Some (next_word n layout s k)) → now ≡ next_words n layout s

@@ -1,0 +1,11 @@
+-- Laws of states and of their blocks, which proofs of backends may cite: `s` is the first state, of
+-- sixteen words that fit (`Words`), and `t` the one some blocks on.
+
+-- no blocks on; i blocks on, and then j; k blocks more than a
+pub use Rattle.chacha_base.proofs.StateLemmas.{Words, state_after-zero, state_after-state_after, state_after-more}
+-- block i of the state k blocks on
+pub use Rattle.chacha_base.proofs.StateLemmas.{next_block-state_after}
+-- a list of blocks, written from its front on: one block more, and k blocks more
+pub use Rattle.chacha_base.proofs.StateLemmas.{next_block-more, next_blocks-more}
+-- the words of a generator, written likewise: one block more, and all of them
+pub use Rattle.chacha_base.proofs.StateLemmas.{next_words-more, next_words-are}
