@@ -57,6 +57,14 @@ first_unread n core buffer i held less =
     let place : (generator_of core i).word_pos + 0 ≡ (generator_of core i).word_pos = omega arith in
     ap (slice_index buffer) (sym here) ∙ held.next 0 (omega arith) ∙ ap (word n (generator_of core i)) place
 
+-- the first two of them
+pub two_unread : (n : ℕ) (core buffer : List ℕ) (i : ℕ) → IsUnread n core buffer i → i + 1 < 64
+    → (slice_index buffer i + 2 ^ 32 * slice_index buffer (i + 1), generator_of core (i + 2)) ≡ next_u64 n (generator_of core i)
+two_unread n core buffer i held room =
+    ap₂ (λ x h. (x, h))
+    (ap₂ (λ x y. x + 2 ^ 32 * y) (first_unread n core buffer i held (omega (arith, room))) (held.next 1 room))
+    (generator_of-taken core i 2 _ refl)
+
 -- the next k words
 next_unread : (n : ℕ) (core buffer : List ℕ) (i k : ℕ) → IsUnread n core buffer i → i + k ≤ 64 → length buffer ≡ 64
     → take k (drop i buffer) ≡ stream_part (word n (generator_of core i)) (generator_of core i).word_pos k
@@ -102,8 +110,8 @@ pub at-same : (g : Generator) (v w : ℕ) → v % positions ≡ w % positions �
 at-same g v w same = ap (λ p. record g { word_pos = p }) same
 
 -- two words as the halves of a number, and read one after the other
-pub joined : (low high : ℕ) → low < 2 ^ 32 → high < 2 ^ 32 → bit_or (high * 2 ^ 32 % 2 ^ 64) low ≡ low + 2 ^ 32 * high
-joined low high low_fits high_fits = or_after_shift high (2 ^ 32) (2 ^ 64) low refl low_fits (omega arith) ∙ omega arith
+pub halves_joined : (low high : ℕ) → low < 2 ^ 32 → high < 2 ^ 32 → bit_or (high * 2 ^ 32 % 2 ^ 64) low ≡ low + 2 ^ 32 * high
+halves_joined low high low_fits high_fits = or_after_shift high (2 ^ 32) (2 ^ 64) low refl low_fits (omega arith) ∙ omega arith
 
 pub two_reads : (n : ℕ) (g h i : Generator) (low high : ℕ) → (low, h) ≡ next_u32 n g → (high, i) ≡ next_u32 n h
     → (low + 2 ^ 32 * high, i) ≡ next_u64 n g

@@ -7,6 +7,8 @@ ghost use Rattle.rand_core.specs.Steps.{stream_of};
 ghost use Rattle.rand_core.specs.Pcg32Seed.{pcg32_seed};
 ghost use Rattle.chacha_base.specs.Bytes.{bytes};
 ghost use Rattle.chacha_base.specs.Keystream.{stream_part};
+ghost use Rattle.chacha_base.specs.Layout.{legacy};
+ghost use Rattle.chacha_base.specs.State.{state_after, next_words};
 ghost use Rattle.chacha20.specs.Generator.{at_word_pos, word, next_u32, next_u64, fill, reads, of_seed, same_generator};
 ghost use Rattle.chacha20.specs.StateBytes.{state_bytes, of_state_bytes};
 ghost use Rattle.chacha20.specs.Unread.{generator_of, IsUnread};
@@ -100,9 +102,14 @@ impl<R: Rounds, B: RngBackend<R>> ChaChaRng<R, B> {
         ensures value { (result, self.new) ≡ next_u64 R.COUNT self.old }
         ensures kept { (self.new.seed ≡ self.old.seed) × (self.new.stream ≡ self.old.stream) }
     {
-        let low = self.next_u32();
-        let high = self.next_u32();
-        (u64::from(high) << 32) | u64::from(low)
+        if self.index < 63 {
+            let low = self.buffer[self.index];
+            let high = self.buffer[self.index + 1];
+            self.index += 2;
+            joined(low, high)
+        } else {
+            self.next_u64_across()
+        }
     }
 
     /// Fills a slice with the bytes of the next words, the low byte of each first. The bytes of the last word that the
@@ -220,6 +227,17 @@ impl<R: Rounds, B: RngBackend<R>> ChaChaRng<R, B> {
         }
     }
 
+    // Takes the next two words one after the other, where they need not stand in one buffer.
+    #[inline(never)]
+    fn next_u64_across(&mut self) -> u64
+        ensures value { (result, self.new) ≡ next_u64 R.COUNT self.old }
+        ensures kept { (self.new.seed ≡ self.old.seed) × (self.new.stream ≡ self.old.stream) }
+    {
+        let low = self.next_u32();
+        let high = self.next_u32();
+        joined(low, high)
+    }
+
     // Fills a slice with whole words.
     fn fill_words(&mut self, dst: &mut [u8])
         requires { length dst.old % 4 ≡ 0 }
@@ -248,8 +266,16 @@ fn first_block(next: u64) -> u64
     next.wrapping_sub(4)
 }
 
-// Makes words where none are left in the buffer.
-#[inline]
+// The number whose halves are two words.
+#[inline(always)]
+fn joined(low: u32, high: u32) -> u64
+    ensures { result ≡ low + 2 ^ 32 * high }
+{
+    (u64::from(high) << 32) | u64::from(low)
+}
+
+// Makes words where none are left in the buffer. Only the test stands in the reads that call it.
+#[inline(always)]
 fn refill<R: Rounds, B: RngBackend<R>>(
     core: &mut ChaChaCore<R, Legacy, B>,
     buffer: &mut [u32; 64],
@@ -262,9 +288,21 @@ fn refill<R: Rounds, B: RngBackend<R>>(
     ensures same { generator_of core.new index.new ≡ generator_of core.old index.old }
 {
     if *index == 64 {
-        core.generate(buffer);
+        make_words(core, buffer);
         *index = 0;
     }
+}
+
+// Makes the words of a whole buffer.
+#[inline(never)]
+fn make_words<R: Rounds, B: RngBackend<R>>(
+    core: &mut ChaChaCore<R, Legacy, B>,
+    buffer: &mut [u32; 64],
+)
+    ensures words { buffer.new ≡ next_words R.COUNT legacy core.old }
+    ensures moved { core.new ≡ state_after legacy 4 core.old }
+{
+    core.generate(buffer);
 }
 
 // The number of 8 bytes, the low byte first.

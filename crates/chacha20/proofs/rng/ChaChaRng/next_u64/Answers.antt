@@ -1,10 +1,17 @@
-use Rattle.std.proofs.Common.{arith}
-use Rattle.chacha20.proofs.ReadLemmas.{joined, two_reads}
+use Rattle.std.proofs.Common.{◌+◌, ◌∙◌, ap, arith, refl}
+use Rattle.chacha20.specs.Generator.{next_u64}
+use Rattle.chacha20.specs.Unread.{generator_of}
+use Rattle.chacha20.proofs.ReadLemmas.{taken, two_unread}
 use Rattle.chacha20.proofs.rng.ChaChaRng.next_u64.Goals as goal
 
-pub returns-clause-value : goal.returns-clause-value
-returns-clause-value g c =
-    let low = c.next_u32-low.result in
-    let high = c.next_u32-high.result in
-    let answer = joined low high (omega arith) (omega arith) in
-    let reads = two_reads g.R.Rounds.COUNT c.args.self.now _ _ low high c.next_u32-low.ensures.value c.next_u32-high.ensures.value in cc
+pub invariant_of-self : goal.invariant_of-self
+invariant_of-self g c =
+    taken g.R.Rounds.COUNT _ _ c.self.inside.index 2 _ c.self.invariant refl (omega (arith, c.if-self-lt63.true))
+
+pub returns-then-self-lt63-clause-value : goal.returns-then-self-lt63-clause-value
+returns-then-self-lt63-clause-value g c =
+    let n = g.R.Rounds.COUNT in
+    let i = c.self.inside.index in
+    ap (λ x. (x, generator_of c.self.inside.core (i + 2))) c.joined.ensures
+    ∙ two_unread n c.self.inside.core c.self.inside.buffer i c.self.invariant (omega arith)
+    ∙ ap (next_u64 n) c.self.view_is
