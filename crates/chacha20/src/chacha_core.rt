@@ -24,6 +24,7 @@ use chacha_base::variants::{Ietf, Legacy, StreamCipherCounter, Variant};
 pub use generator::Generator;
 use std::fmt;
 use std::marker::{Model, PhantomData};
+use std::simd::prelude::*;
 
 const CONSTANTS: [u32; 4] = [0x6170_7865, 0x3320_646e, 0x7962_2d32, 0x6b20_6574];
 
@@ -193,8 +194,17 @@ pub(crate) fn start_state(key: &Key, last_row: &[u32; 4]) -> [u32; 16]
     let mut state = [0; 16];
     state[..4].copy_from_slice(&CONSTANTS);
     read_words(key, &mut state[4..12]);
-    state[12..].copy_from_slice(last_row);
+    write_row(last_row, &mut state[12..]);
     state
+}
+
+// Writes a row as one vector. A backend that reads the row as a vector would have to wait for words written one by one.
+#[inline(always)]
+fn write_row(row: &[u32; 4], output: &mut [u32])
+    requires { length output.old ≡ 4 }
+    ensures { output.new ≡ row.now }
+{
+    u32x4::from_slice(row).copy_to_slice(output);
 }
 
 // The counter of a state.
