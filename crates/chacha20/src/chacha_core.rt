@@ -309,6 +309,78 @@ fn apply_tail<R: Rounds, V: Variant, B: StreamCipherBackend<R, V>>(
     xor_blocks(data, made);
 }
 
+// Combines bytes with one block, where a parallel call makes more.
+#[inline(always)]
+fn apply_one<R: Rounds, V: Variant, B: StreamCipherBackend<R, V>>(
+    state: &mut [u32; 16],
+    data: &mut [u8],
+    steps: &mut Steps,
+)
+    requires block { length «data».old ≡ 64 }
+    requires wide { 1 < B.PAR_BLOCKS }
+    ensures data { «data».new
+        ≡ xor_stream (keystream (modulus V.layout)
+        (state_block R.COUNT V.layout (fixed_words V.layout state.old)))
+        (64 * state_counter V.layout state.old) «data».old }
+    ensures state { state.new ≡ state_after V.layout 1 state.old }
+    ensures steps { Grows
+        (for_blocks B.PAR_BLOCKS (B.PAR_STEPS * R.COUNT) (B.ONE_STEPS * R.COUNT)
+        1 0) steps.old steps.new }
+{
+    let mut block = [0; 64];
+    write_block::<R, V, B>(state, &mut block, steps);
+    xor_bytes(data, &block);
+}
+
+// Combines bytes with any number of blocks. It is kept out of its caller, so that a single block needs no room for it.
+#[inline(never)]
+fn apply_many<R: Rounds, V: Variant, B: StreamCipherBackend<R, V>>(
+    state: &mut [u32; 16],
+    data: &mut [u8],
+    steps: &mut Steps,
+)
+    requires { length «data».old % 64 ≡ 0 }
+    ensures data { «data».new
+        ≡ xor_stream (keystream (modulus V.layout)
+        (state_block R.COUNT V.layout (fixed_words V.layout state.old)))
+        (64 * state_counter V.layout state.old) «data».old }
+    ensures state { state.new ≡ state_after V.layout (length «data».old / 64) state.old }
+    ensures steps { Grows
+        (for_blocks B.PAR_BLOCKS (B.PAR_STEPS * R.COUNT) (B.ONE_STEPS * R.COUNT)
+        (length «data».old / 64) 0) steps.old steps.new }
+{
+    let mut blocks = [[0; 64]; 16];
+    let width = B::PAR_BLOCKS;
+    let groups = data.len() / 64 / width;
+    let (whole, tail) = data.split_at_mut(64 * (width * groups));
+    apply_groups::<R, V, B>(state, &mut blocks, whole, groups, steps);
+    apply_tail::<R, V, B>(state, &mut blocks, tail, steps);
+}
+
+// Combines bytes with whole blocks. A single one goes through a buffer of its own, where a parallel call makes more.
+#[inline(always)]
+fn apply_blocks<R: Rounds, V: Variant, B: StreamCipherBackend<R, V>>(
+    state: &mut [u32; 16],
+    data: &mut [u8],
+    steps: &mut Steps,
+)
+    requires { length «data».old % 64 ≡ 0 }
+    ensures data { «data».new
+        ≡ xor_stream (keystream (modulus V.layout)
+        (state_block R.COUNT V.layout (fixed_words V.layout state.old)))
+        (64 * state_counter V.layout state.old) «data».old }
+    ensures state { state.new ≡ state_after V.layout (length «data».old / 64) state.old }
+    ensures steps { Grows
+        (for_blocks B.PAR_BLOCKS (B.PAR_STEPS * R.COUNT) (B.ONE_STEPS * R.COUNT)
+        (length «data».old / 64) 0) steps.old steps.new }
+{
+    if data.len() == 64 && B::PAR_BLOCKS > 1 {
+        apply_one::<R, V, B>(state, data, steps);
+    } else {
+        apply_many::<R, V, B>(state, data, steps);
+    }
+}
+
 impl<R: Rounds, V: Variant, B: StreamCipherBackend<R, V>> StreamCipherCore for ChaChaCore<R, V, B> {
     ghost use Rattle.std.specs.Prelude.{refl};
 
@@ -335,12 +407,7 @@ impl<R: Rounds, V: Variant, B: StreamCipherBackend<R, V>> StreamCipherCore for C
     }
 
     fn apply_blocks_counted(&mut self, data: &mut [u8], steps: &mut Steps) {
-        let mut blocks = [[0; 64]; 16];
-        let width = B::PAR_BLOCKS;
-        let groups = data.len() / 64 / width;
-        let (whole, tail) = data.split_at_mut(64 * (width * groups));
-        apply_groups::<R, V, B>(&mut self.state, &mut blocks, whole, groups, steps);
-        apply_tail::<R, V, B>(&mut self.state, &mut blocks, tail, steps);
+        apply_blocks::<R, V, B>(&mut self.state, data, steps);
     }
 }
 

@@ -13,3 +13,9 @@ returns-clause-block g c =
     c.gen_ks_block.ensures.block
     ∙ ap (state_block g.R.Rounds.COUNT layout (fixed_words layout s))
     (ap (λ k. k % modulus layout) none ∙ mod-eq_of_lt (state_counter-below layout s c.told-state c.fits-state))
+
+pub returns-clause-state : goal.returns-clause-state
+returns-clause-state g c = c.gen_ks_block.ensures.state
+
+pub returns-clause-steps : goal.returns-clause-steps
+returns-clause-steps g c = c.gen_ks_block.ensures.steps

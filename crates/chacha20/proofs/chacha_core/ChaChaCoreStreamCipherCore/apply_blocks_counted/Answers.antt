@@ -1,30 +1,22 @@
-use Rattle.std.proofs.Common.{◌≡◌, ◌*◌, ◌+◌, ◌/◌, ◌%◌, ◌∙◌, length, ap, arith}
+use Rattle.std.proofs.Common.{◌*◌, ◌+◌, ◌/◌, ◌%◌, ◌∙◌, length, ap}
 use Rattle.chacha_base.specs.Layout.{modulus}
 use Rattle.chacha_base.specs.State.{state_counter, fixed_words, state_block}
 use Rattle.chacha_base.specs.Keystream.{keystream, xor_stream}
-use Rattle.chacha_base.proofs.StateLemmas.{state_counter-state_after, state_after-more}
-use Rattle.chacha20.proofs.BlocksLemmas.{xor_stream-after}
+use Rattle.chacha_base.proofs.StateLemmas.{fixed_words-state_after, state_counter-state_after}
 use Rattle.chacha20.proofs.chacha_core.ChaChaCoreStreamCipherCore.apply_blocks_counted.Goals as goal
 
 pub returns-clause-data : goal.returns-clause-data
 returns-clause-data g c =
     let layout = g.V.Variant.layout in
-    let front = c.split_at_mut-whole.ensures.front_len ∙ ap (λ w. 64 * (w * (length c.args.data.now / 64 / c.PAR_BLOCKS-width.result))) c.PAR_BLOCKS-width.ensures in
-    xor_stream-after g.R.Rounds.COUNT layout c.self.inside.state c.apply_groups.new.state _ c.args.data.now c.split_at_mut-whole.result.0.now c.split_at_mut-whole.result.1.now
-    _ _ c.self.told c.apply_groups.ensures.state c.split_at_mut-whole.ensures.value front c.apply_groups.ensures.data c.apply_tail.ensures.data
+    c.apply_blocks.ensures.data
     ∙ ap (λ s. xor_stream (keystream (modulus layout) (state_block g.R.Rounds.COUNT layout (fixed_words layout s))) (64 * state_counter layout s) c.args.data.now) c.self.view_is
+
+pub returns-clause-fixed : goal.returns-clause-fixed
+returns-clause-fixed g c =
+    fixed_words-state_after g.V.Variant.layout _ _ _ c.self.told c.apply_blocks.ensures.state ∙ ap (fixed_words g.V.Variant.layout) c.self.view_is
 
 pub returns-clause-counter : goal.returns-clause-counter
 returns-clause-counter g c =
     let layout = g.V.Variant.layout in
-    let s = c.self.inside.state in
-    let i = g.B.ParBlocksSizeUser.PAR_BLOCKS * (length c.args.data.now / 64 / c.PAR_BLOCKS-width.result) in
-    let j = length c.split_at_mut-whole.result.1.now / 64 in
-    let front : length c.split_at_mut-whole.result.0.now ≡ 64 * i =
-    c.split_at_mut-whole.ensures.front_len ∙ ap (λ w. 64 * (w * (length c.args.data.now / 64 / c.PAR_BLOCKS-width.result))) c.PAR_BLOCKS-width.ensures in
-    let parts = c.split_at_mut-whole.ensures.back_len in
-    let parts_front = c.split_at_mut-whole.ensures.front_len in
-    let all : i + j ≡ length c.args.data.now / 64 = omega arith in
-    state_counter-state_after layout (length c.args.data.now / 64) s _ c.self.told
-    (state_after-more layout s c.apply_groups.new.state _ i j _ c.self.told c.apply_groups.ensures.state c.apply_tail.ensures.state all)
-    ∙ ap (λ t. (state_counter layout t + length c.args.data.now / 64) % modulus layout) c.self.view_is
+    state_counter-state_after layout (length c.args.data.now / 64) _ _ c.self.told c.apply_blocks.ensures.state
+    ∙ ap (λ s. (state_counter layout s + length c.args.data.now / 64) % modulus layout) c.self.view_is
