@@ -11,6 +11,7 @@ mod generator_traits;
 mod generators;
 mod named;
 mod names;
+mod own_backend;
 mod positions;
 mod readme;
 mod records;

@@ -1,0 +1,151 @@
+//! A backend of a user's own: every worked row over it, and its bytes beside the plain backend's.
+
+ghost use Rattle.std.specs.Prelude.{◌≤◌, length};
+
+use crate::own_backend::Width3;
+use crate::rows::{COUNTING, LEGACY_NONCE, R0, Verdict, ciphers, cores, generators};
+use chacha20::backends::Soft;
+use chacha20::cipher::{KeyIvInit, StreamCipher, StreamCipherError};
+use chacha20::rand_core::{Rng, SeedableRng};
+use chacha20::variants::{Ietf, Legacy};
+use chacha20::{ChaChaCore, ChaChaRng, Key, R20, Seed, StreamCipherCoreWrapper, XChaChaCore};
+
+type IetfCore<B> = ChaChaCore<R20, Ietf, B>;
+
+type IetfCipher<B> = StreamCipherCoreWrapper<IetfCore<B>>;
+
+type LegacyCore<B> = ChaChaCore<R20, Legacy, B>;
+
+type LegacyCipher<B> = StreamCipherCoreWrapper<LegacyCore<B>>;
+
+type XChaChaCipher<B> = StreamCipherCoreWrapper<XChaChaCore<R20, B>>;
+
+// The number of the first row that isn't right.
+fn wrong_row(rows: &[(usize, Verdict)]) -> Option<usize> {
+    for (number, verdict) in rows {
+        if verdict.is_some() {
+            return Some(*number);
+        }
+    }
+    None
+}
+
+#[test]
+fn rows(rt: HostRuntime) {
+    let of_ciphers = ciphers::verdicts::<
+        IetfCore<Width3>,
+        LegacyCore<Width3>,
+        XChaChaCipher<Width3>,
+    >();
+    let of_cores = cores::row_13::<ChaChaCore<R0, Ietf, Width3>, ChaChaCore<R0, Legacy, Width3>>();
+    assert_eq!(rt; wrong_row(&of_ciphers), None);
+    assert_eq!(rt; of_cores, None);
+    assert_eq!(rt; wrong_row(&generators::verdicts::<Width3>()), None);
+}
+
+// Applies a cipher to so many bytes, and then to the rest.
+fn apply_in_two<C: StreamCipher>(
+    cipher: &mut C,
+    bytes: &mut [u8],
+    first: usize,
+) -> Result<(), StreamCipherError>
+    requires { first ≤ length bytes.old }
+{
+    let (front, rest) = bytes.split_at_mut(first);
+    cipher.try_apply_keystream(front)?;
+    cipher.try_apply_keystream(rest)
+}
+
+// Whether one cipher takes back what the other gives, over ten blocks and a last part of 63 bytes, of which both take so
+// many bytes at first.
+fn takes_back<N, A, B>(nonce: &N, first: usize) -> bool
+where
+    A: KeyIvInit<Key = Key, Iv = N> + StreamCipher + Drop,
+    B: KeyIvInit<Key = Key, Iv = N> + StreamCipher + Drop,
+    requires { first ≤ 703 }
+{
+    let mut bytes = [0; 703];
+    apply_in_two(&mut A::new(&COUNTING, nonce), &mut bytes, first).is_ok()
+        && apply_in_two(&mut B::new(&COUNTING, nonce), &mut bytes, first).is_ok()
+        && bytes == [0; 703]
+}
+
+// The first number of blocks, from 1 to 10, after which two ciphers differ with a last part of 0, 1 or 63 bytes.
+fn wrong_length<N, A, B>(nonce: &N) -> Option<usize>
+where
+    A: KeyIvInit<Key = Key, Iv = N> + StreamCipher + Drop,
+    B: KeyIvInit<Key = Key, Iv = N> + StreamCipher + Drop,
+{
+    for blocks in 1..11usize {
+        let whole = 64 * blocks;
+        if !(takes_back::<N, A, B>(nonce, whole)
+            && takes_back::<N, A, B>(nonce, whole + 1)
+            && takes_back::<N, A, B>(nonce, whole + 63))
+        {
+            return Some(blocks);
+        }
+    }
+    None
+}
+
+#[test]
+fn ietf_beside_soft(rt: HostRuntime) {
+    assert_eq!(rt;
+        wrong_length::<_, IetfCipher<Width3>, IetfCipher<Soft>>(&[7; 12]),
+        None
+    );
+}
+
+#[test]
+fn legacy_beside_soft(rt: HostRuntime) {
+    let wrong = wrong_length::<_, LegacyCipher<Width3>, LegacyCipher<Soft>>(&LEGACY_NONCE);
+    assert_eq!(rt; wrong, None);
+}
+
+#[test]
+fn xchacha_beside_soft(rt: HostRuntime) {
+    let wrong = wrong_length::<_, XChaChaCipher<Width3>, XChaChaCipher<Soft>>(&[7; 24]);
+    assert_eq!(rt; wrong, None);
+}
+
+// Whether two generators fill so many bytes alike, and then give the same words.
+fn same_fill<A, B>(count: usize) -> bool
+where
+    A: SeedableRng<Seed = Seed> + Rng + Drop,
+    B: SeedableRng<Seed = Seed> + Rng + Drop,
+    requires { count ≤ 703 }
+{
+    let mut rng = A::from_seed(COUNTING);
+    let mut other = B::from_seed(COUNTING);
+    let mut bytes = [0; 703];
+    let mut others = [0; 703];
+    rng.fill_bytes(&mut bytes[..count]);
+    other.fill_bytes(&mut others[..count]);
+    bytes == others && rng.next_u64() == other.next_u64()
+}
+
+// The first number of blocks, from 1 to 10, for which two generators differ with 0, 1 or 63 bytes more.
+fn wrong_fill<A, B>() -> Option<usize>
+where
+    A: SeedableRng<Seed = Seed> + Rng + Drop,
+    B: SeedableRng<Seed = Seed> + Rng + Drop,
+{
+    for blocks in 1..11usize {
+        let whole = 64 * blocks;
+        if !(same_fill::<A, B>(whole)
+            && same_fill::<A, B>(whole + 1)
+            && same_fill::<A, B>(whole + 63))
+        {
+            return Some(blocks);
+        }
+    }
+    None
+}
+
+#[test]
+fn generators_beside_soft(rt: HostRuntime) {
+    assert_eq!(rt;
+        wrong_fill::<ChaChaRng<R20, Width3>, ChaChaRng<R20, Soft>>(),
+        None
+    );
+}
