@@ -1,0 +1,152 @@
+//! Odd cuts, ends of streams and greatest values, over each backend: called directly, and as lists of calls.
+
+ghost use Rattle.std.specs.Prelude.{◌≤◌, ◌+◌, length};
+
+use crate::rows::COUNTING;
+use chacha20::backends::{Lanes4, Lanes8, Lanes16, Rows8, Soft};
+use chacha20::cipher::{
+    KeyIvInit, StreamCipher, StreamCipherBackend, StreamCipherSeek, StreamCipherSeekCore,
+};
+use chacha20::runs::{CipherAnswer, CipherCall, run_cipher};
+use chacha20::variants::{Ietf, Legacy};
+use chacha20::{ChaChaCore, R8, R12, R20, StreamCipherCoreWrapper, XChaChaCore};
+use std::process::Abort;
+
+// A message of some blocks and one byte more than a group of any backend.
+const LENGTH: usize = 2049;
+
+// One more and one fewer than blocks and groups have bytes, and less than a block.
+const SIZES: [usize; 9] = [1, 3, 63, 64, 65, 255, 257, 1023, 1025];
+
+// Whether pieces of a size, with an empty piece after each, come out as the whole.
+fn same_in_pieces<C: StreamCipherSeek>(cipher: &mut C, whole: &[u8], size: usize) -> bool {
+    let mut bytes = [0; LENGTH];
+    let mut all_accepted = cipher.try_seek(0u32).is_ok();
+    for piece in bytes.chunks_mut(size.max(1)) {
+        all_accepted &= cipher.try_apply_keystream(piece).is_ok();
+        all_accepted &= cipher.try_apply_keystream(&mut []).is_ok();
+    }
+    all_accepted && bytes.as_slice() == whole
+}
+
+// Whether the rest from a byte on, after a seek to it, comes out as the whole does from there on.
+fn same_from<C: StreamCipherSeek>(cipher: &mut C, whole: &[u8; LENGTH], from: usize) -> bool
+    requires { from ≤ 2049 }
+{
+    let mut bytes = [0; LENGTH];
+    cipher.try_seek(from).is_ok()
+        && cipher.try_apply_keystream(&mut bytes[from..]).is_ok()
+        && bytes[from..] == whole[from..]
+}
+
+// The first size of pieces, or the first place of a seek, for which the bytes differ from those of one application.
+fn wrong_cut<C: StreamCipherSeek>(cipher: &mut C) -> Option<usize> {
+    let mut whole = [0; LENGTH];
+    if cipher.try_apply_keystream(&mut whole).is_err() {
+        return Some(LENGTH);
+    }
+    for size in SIZES {
+        if !same_in_pieces(cipher, &whole, size) {
+            return Some(size);
+        }
+    }
+    for place in 0..34usize {
+        if !same_from(cipher, &whole, 61 * place) {
+            return Some(61 * place);
+        }
+    }
+    None
+}
+
+// A seek and an application as a list of calls, and whether both were done.
+fn listed<C: StreamCipherSeekCore>(
+    cipher: &mut StreamCipherCoreWrapper<C>,
+    data: &mut [u8],
+    seek: usize,
+    at: usize,
+    len: usize,
+) -> bool
+    requires { at + len ≤ length «data».old }
+{
+    let calls = [
+        CipherCall::Seek(seek as u128),
+        CipherCall::Apply { at, len },
+        CipherCall::Apply { at, len: 0 },
+    ];
+    let mut answers = [CipherAnswer::Refused; 3];
+    run_cipher(cipher, &[], data, &calls, &mut answers);
+    answers == [CipherAnswer::Done; 3]
+}
+
+// The same as `wrong_cut`, by lists of calls.
+fn wrong_list<C: StreamCipherSeekCore>(cipher: &mut StreamCipherCoreWrapper<C>) -> Option<usize> {
+    let mut whole = [0; LENGTH];
+    if !listed(cipher, &mut whole, 0, 0, LENGTH) {
+        return Some(LENGTH);
+    }
+    for size in SIZES {
+        let mut data = [0; LENGTH];
+        for at in 0..LENGTH {
+            if at % size.max(1) == 0 && !listed(cipher, &mut data, at, at, size.min(LENGTH - at)) {
+                return Some(at);
+            }
+        }
+        if data != whole {
+            return Some(size);
+        }
+    }
+    for place in 0..34usize {
+        let from = 61 * place;
+        let mut data = [0; LENGTH];
+        if !listed(cipher, &mut data, from, from, LENGTH - from) || data[from..] != whole[from..] {
+            return Some(from);
+        }
+    }
+    None
+}
+
+// A cipher of each kind over a backend.
+fn cuts_over<B>(rt: &impl Abort)
+where
+    B: StreamCipherBackend<R8, Ietf>
+        + StreamCipherBackend<R12, Ietf>
+        + StreamCipherBackend<R20, Ietf>
+        + StreamCipherBackend<R20, Legacy>,
+{
+    assert_eq!(rt;
+        wrong_of::<ChaChaCore<R8, Ietf, B>>(&COUNTING, &[7; 12]),
+        None
+    );
+    assert_eq!(rt;
+        wrong_of::<ChaChaCore<R12, Ietf, B>>(&COUNTING, &[7; 12]),
+        None
+    );
+    assert_eq!(rt;
+        wrong_of::<ChaChaCore<R20, Ietf, B>>(&COUNTING, &[7; 12]),
+        None
+    );
+    assert_eq!(rt;
+        wrong_of::<ChaChaCore<R20, Legacy, B>>(&COUNTING, &[7; 8]),
+        None
+    );
+    assert_eq!(rt; wrong_of::<XChaChaCore<R8, B>>(&COUNTING, &[7; 24]), None);
+    assert_eq!(rt; wrong_of::<XChaChaCore<R12, B>>(&COUNTING, &[7; 24]), None);
+    assert_eq!(rt; wrong_of::<XChaChaCore<R20, B>>(&COUNTING, &[7; 24]), None);
+}
+
+fn wrong_of<C: KeyIvInit + StreamCipherSeekCore + Drop>(
+    key: &C::Key,
+    nonce: &C::Iv,
+) -> Option<usize> {
+    let mut cipher = StreamCipherCoreWrapper::<C>::new(key, nonce);
+    wrong_cut(&mut cipher).or(wrong_list(&mut cipher))
+}
+
+#[test]
+fn cuts(rt: HostRuntime) {
+    cuts_over::<Soft>(&rt);
+    cuts_over::<Lanes4>(&rt);
+    cuts_over::<Lanes8>(&rt);
+    cuts_over::<Rows8>(&rt);
+    cuts_over::<Lanes16>(&rt);
+}

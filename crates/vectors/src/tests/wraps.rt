@@ -1,0 +1,175 @@
+//! Counters and positions that wrap, and states of any bytes, over each backend. Nothing here makes rounds, so that words
+//! can be computed by hand.
+
+use crate::rows::R0;
+use chacha20::backends::{Lanes4, Lanes8, Lanes16, Rows8, Soft};
+use chacha20::cipher::{
+    KeyIvInit, RngBackend, StreamCipherBackend, StreamCipherCounter, StreamCipherSeekCore,
+};
+use chacha20::rand_core::SeedableRng;
+use chacha20::variants::{Ietf, Legacy};
+use chacha20::{ChaChaCore, ChaChaRng};
+use std::process::Abort;
+
+// Bytes 48 to 55 of blocks 0, 2, 3 and 19 of twenty, and the position after them.
+type Ends = ([[u8; 8]; 4], u64);
+
+// Of twenty blocks at once from a counter on; nothing where any of bytes 56 to 63 isn't zero.
+fn ends<C: StreamCipherSeekCore>(core: &mut C, start: C::Counter) -> Option<Ends> {
+    let mut blocks = [[1; 64]; 20];
+    core.set_block_pos(start);
+    core.write_keystream_blocks(&mut blocks);
+    let mut ends = [[0; 8]; 4];
+    let mut rest = [0; 8];
+    for (place, number) in [0, 2, 3, 19usize].iter().enumerate() {
+        if let (Some(end), Some(block)) = (ends.get_mut(place), blocks.get(*number)) {
+            end.copy_from_slice(&block[48..56]);
+            for i in 0..8usize {
+                rest[i] |= block[56 + i];
+            }
+        }
+    }
+    if rest == [0; 8] {
+        Some((ends, core.get_block_pos().to_u64()))
+    } else {
+        None
+    }
+}
+
+// A counter of 32 bits wraps to 0, and the nonce behind it stays.
+fn ietf_wrap<C>(rt: &impl Abort, core: &mut C)
+where
+    C: StreamCipherSeekCore<Counter = u32>,
+{
+    let expected = [
+        *b"\xfa\xff\xff\xff\0\0\0\0",
+        *b"\xfe\xff\xff\xff\0\0\0\0",
+        *b"\0\0\0\0\0\0\0\0",
+        *b"\x20\0\0\0\0\0\0\0",
+    ];
+    assert_eq!(rt; ends(core, u32::MAX - 2), Some((expected, 17)));
+}
+
+// A counter of 64 bits carries into its high word.
+fn legacy_carry<C>(rt: &impl Abort, core: &mut C)
+where
+    C: StreamCipherSeekCore<Counter = u64>,
+{
+    let expected = [
+        *b"\xfa\xff\xff\xff\0\0\0\0",
+        *b"\xfe\xff\xff\xff\0\0\0\0",
+        *b"\0\0\0\0\x02\0\0\0",
+        *b"\x20\0\0\0\x02\0\0\0",
+    ];
+    assert_eq!(rt; ends(core, 0xffff_fffd), Some((expected, 4294967313)));
+}
+
+// And wraps to 0 as well.
+fn legacy_wrap<C>(rt: &impl Abort, core: &mut C)
+where
+    C: StreamCipherSeekCore<Counter = u64>,
+{
+    let expected = [
+        *b"\xfa\xff\xff\xff\xfe\xff\xff\xff",
+        *b"\xfe\xff\xff\xff\xfe\xff\xff\xff",
+        *b"\0\0\0\0\0\0\0\0",
+        *b"\x20\0\0\0\0\0\0\0",
+    ];
+    assert_eq!(rt; ends(core, u64::MAX - 2), Some((expected, 17)));
+}
+
+fn cores_over<B>(rt: &impl Abort)
+where
+    B: StreamCipherBackend<R0, Ietf> + StreamCipherBackend<R0, Legacy> + RngBackend<R0>,
+{
+    ietf_wrap(rt, &mut ChaChaCore::<R0, Ietf, B>::new(&[0; 32], &[0; 12]));
+    let mut legacy = ChaChaCore::<R0, Legacy, B>::from_seed([0; 32]);
+    legacy_carry(rt, &mut legacy);
+    legacy_wrap(rt, &mut legacy);
+}
+
+#[test]
+fn cores(rt: HostRuntime) {
+    cores_over::<Soft>(&rt);
+    cores_over::<Lanes4>(&rt);
+    cores_over::<Lanes8>(&rt);
+    cores_over::<Rows8>(&rt);
+    cores_over::<Lanes16>(&rt);
+}
+
+// How many word positions there are.
+const POSITIONS: u128 = 1 << 68;
+
+const STREAM: u64 = 0x8000_0001_0000_0003;
+
+// The last four words of a stream, and the first again.
+fn words_over_the_end<B: RngBackend<R0>>(rt: &impl Abort) {
+    let mut rng = ChaChaRng::<R0, B>::from_seed([0; 32]);
+    rng.set_stream(STREAM);
+    rng.set_word_pos(POSITIONS - 4);
+    assert_eq!(rt; rng.next_u64(), 0xffff_fffe_ffff_fffe);
+    assert_eq!(rt; rng.next_u64(), 0x0000_0002_0000_0006);
+    assert_eq!(rt; rng.get_word_pos(), 0);
+    assert_eq!(rt; rng.next_u32(), 0xc2e0_f0ca);
+}
+
+// Five bytes from the last word on: all of it, and one byte of the first.
+fn bytes_over_the_end<B: RngBackend<R0>>(rt: &impl Abort) {
+    let mut rng = ChaChaRng::<R0, B>::from_seed([0; 32]);
+    rng.set_stream(STREAM);
+    rng.set_word_pos(POSITIONS - 1);
+    let mut bytes = [0; 5];
+    rng.fill_bytes(&mut bytes);
+    assert_eq!(rt; bytes, *b"\x02\0\0\0\xca");
+    assert_eq!(rt; rng.get_word_pos(), 1);
+}
+
+// The first of 131 numbers of words around the wrap after which a position is wrong, or asking for it changes a word.
+fn wrong_position<B: RngBackend<R0>>() -> Option<u64> {
+    let mut asked = ChaChaRng::<R0, B>::from_seed([0; 32]);
+    let mut unasked = ChaChaRng::<R0, B>::from_seed([0; 32]);
+    asked.set_stream(STREAM);
+    unasked.set_stream(STREAM);
+    asked.set_block_pos(u64::MAX - 1);
+    unasked.set_block_pos(u64::MAX - 1);
+    for words in 0..131u64 {
+        let expected = (POSITIONS - 32 + u128::from(words)) % POSITIONS;
+        let right = asked.get_word_pos() == expected
+            && u128::from(asked.get_block_pos()) == expected / 16
+            && asked.next_u32() == unasked.next_u32();
+        if !right {
+            return Some(words);
+        }
+    }
+    None
+}
+
+// The first value of a state's last byte that isn't taken modulo 16.
+fn wrong_last_byte<B: RngBackend<R0>>() -> Option<u8> {
+    for last in 0..=255u8 {
+        let mut state = [0; 49];
+        state[48] = last;
+        let rng = ChaChaRng::<R0, B>::deserialize_state(&state);
+        state[48] = last % 16;
+        if rng.get_word_pos() != u128::from(last % 16) << 64 || rng.serialize_state() != state {
+            return Some(last);
+        }
+    }
+    None
+}
+
+fn generators_over<B: RngBackend<R0>>(rt: &impl Abort) {
+    words_over_the_end::<B>(rt);
+    bytes_over_the_end::<B>(rt);
+    assert_eq!(rt; wrong_position::<B>(), None);
+    assert_eq!(rt; wrong_last_byte::<B>(), None);
+}
+
+#[test]
+fn generators(rt: HostRuntime) {
+    generators_over::<Soft>(&rt);
+    generators_over::<Lanes4>(&rt);
+    generators_over::<Lanes8>(&rt);
+    generators_over::<Rows8>(&rt);
+    generators_over::<Lanes16>(&rt);
+}
