@@ -1,8 +1,9 @@
 -- Words as bytes, one word more.
-use Rattle.std.proofs.Common.{◌≡◌, ℕ, zero, suc, ◌+◌, ◌*◌, ◌-◌, ◌^◌, ◌≤◌, ◌<◌, List, [], ◌∷◌, ◌++◌, length, take, slice_index, arith, refl, sym, ap, ap₂, ◌∙◌, append_assoc}
+use Rattle.std.proofs.Common.{◌≡◌, ℕ, zero, suc, ◌+◌, ◌*◌, ◌-◌, ◌/◌, ◌%◌, ◌^◌, ◌≤◌, ◌<◌, List, [], ◌∷◌, ◌++◌, length, take, slice_index, arith, refl, sym, ap, ap₂, ◌∙◌, append_assoc}
 use Rattle.std.proofs.lemmas.List.{take_more}
 use Rattle.std.proofs.lemmas.Slice.{take-put_mid}
 use borrow.Rule.Slice.PartMut.{put_mid}
+use Rattle.std.specs.Simd.Lanes.{Each1, number_l, digits_l}
 use Rattle.std.specs.Int.{w32, to_le_bytes, from_le_bytes}
 use Rattle.chacha_base.specs.Bytes.{word_bytes, bytes, words}
 
@@ -53,3 +54,20 @@ length-words (suc n) (a ∷ []) h = absurd (omega arith)
 length-words (suc n) (a ∷ b ∷ []) h = absurd (omega arith)
 length-words (suc n) (a ∷ b ∷ c ∷ []) h = absurd (omega arith)
 length-words (suc n) (a ∷ b ∷ c ∷ d ∷ bs) h = ap suc (length-words n bs (omega arith))
+
+-- the bytes of a number that words make, word by word
+digits-word : (n x y : ℕ) → x < 2 ^ 32 → digits_l 256 (4 + n) (x + 2 ^ 32 * y) ≡ word_bytes x ++ digits_l 256 n y
+digits-word n x y word =
+    let more : 4 + n ≡ suc (suc (suc (suc n))) = omega arith in
+    let b0 : (x + 2 ^ 32 * y) % 256 ≡ x % 256 = omega arith in
+    let b1 : (x + 2 ^ 32 * y) / 256 % 256 ≡ x / 256 % 256 = omega arith in
+    let b2 : (x + 2 ^ 32 * y) / 256 / 256 % 256 ≡ x / 256 ^ 2 % 256 = omega arith in
+    let b3 : (x + 2 ^ 32 * y) / 256 / 256 / 256 % 256 ≡ x / 256 ^ 3 % 256 = omega arith in
+    let rest : (x + 2 ^ 32 * y) / 256 / 256 / 256 / 256 ≡ y = omega arith in
+    rw (more, b0, b1, b2, b3, rest) refl
+
+pub digits-bytes : (xs : List ℕ) → Each1 (λ x. x < 2 ^ 32) xs → digits_l 256 (4 * length xs) (number_l (2 ^ 32) xs) ≡ bytes xs
+digits-bytes [] words = refl
+digits-bytes (x ∷ xs) words =
+    let more : 4 * length (x ∷ xs) ≡ 4 + 4 * length xs = omega arith in
+    rw more (digits-word (4 * length xs) x (number_l (2 ^ 32) xs) words.0 ∙ ap (λ t. word_bytes x ++ t) (digits-bytes xs words.1))

@@ -1,9 +1,9 @@
 -- Lists of known length.
-use Rattle.std.proofs.Common.{◌≡◌, inl, inr, ℕ, zero, suc, ◌+◌, ◌-◌, ◌<◌, ◌≤◌, List, [], ◌∷◌, ◌++◌, length, drop, slice_index_or, refl, sym, ap, ◌∙◌, arith, below_more}
+use Rattle.std.proofs.Common.{◌≡◌, inl, inr, ℕ, zero, suc, ◌+◌, ◌-◌, ◌*◌, ◌<◌, ◌≤◌, List, [], ◌∷◌, ◌++◌, length, drop, slice_index_or, refl, sym, ap, ap₂, ◌∙◌, append_assoc, length-append, arith, below_more}
 use Rattle.std.proofs.Math.ListN.{set}
 use Rattle.std.specs.Prelude.{slice_get, Some}
 use Rattle.std.proofs.lemmas.Bool.{cases_lt}
-use Rattle.std.proofs.lemmas.List.{get_or-drop}
+use Rattle.std.proofs.lemmas.List.{length-set, get_or-drop, take_at, drop_at, drop_all, drop-drop, append-nil}
 use Rattle.std.proofs.lemmas.Slice.{drop-put_mid}
 use borrow.Rule.Slice.PartMut.{put_mid}
 
@@ -37,6 +37,22 @@ one_more f i xs x inside made before =
     below_more (λ j. slice_get (set xs i x) j ≡ Some (f j)) i
     (λ j less. slice_get-set_below xs i j x less ∙ before j less)
     (slice_get-set_same xs i x inside ∙ ap Some made)
+
+-- the same, four places at a time
+pub four_more : {X : Type 0} (f : ℕ → X) (i : ℕ) (xs : List X) (w x y z : X) → i + 3 < length xs
+    → w ≡ f i → x ≡ f (i + 1) → y ≡ f (i + 2) → z ≡ f (i + 3) → ((j : ℕ) → j < i → slice_get xs j ≡ Some (f j))
+    → (j : ℕ) → j < i + 4 → slice_get (set (set (set (set xs i w) (i + 1) x) (i + 2) y) (i + 3) z) j ≡ Some (f j)
+four_more f i xs w x y z room ew ex ey ez before j less =
+    let s = set xs i w in
+    let t = set s (i + 1) x in
+    let u = set t (i + 2) y in
+    let ls : length s ≡ length xs = length-set xs i w in
+    let lt : length t ≡ length s = length-set s (i + 1) x in
+    let lu : length u ≡ length t = length-set t (i + 2) y in
+    let one = one_more f i xs w (omega arith) ew before in
+    let two = one_more f (i + 1) s x (omega arith) ex one in
+    let three = one_more f (i + 2) t y (omega arith) ey (λ k below. two k (omega arith)) in
+    one_more f (i + 3) u z (omega arith) ez (λ k below. three k (omega arith)) j (omega arith)
 
 -- the elements of a list of which a part is written: those before the part, in it and after it
 slice_get-append : {X : Type 0} (xs ys : List X) (i : ℕ) → i < length xs → slice_get (xs ++ ys) i ≡ slice_get xs i
@@ -80,3 +96,29 @@ written_more f a k xs ys room same before part i inside =
           let less : i - a < k = omega arith in
           rw (← place) (slice_get-put_mid_inside a k (i - a) xs ys here room ∙ part (i - a) less)
     ]
+
+-- four lists in a row, piece by piece
+pub four_joined : {X : Type 0} {a b c d p q r s : List X} → a ≡ p → b ≡ q → c ≡ r → d ≡ s → a ++ b ++ c ++ d ≡ p ++ q ++ r ++ s
+four_joined {X} {a} {b} {c} {d} {p} {q} {r} {s} ea eb ec ed =
+    ap (λ x. x ++ b ++ c ++ d) ea ∙ ap (λ x. p ++ x ++ c ++ d) eb ∙ ap (λ x. p ++ q ++ x ++ d) ec ∙ ap (λ x. p ++ q ++ r ++ x) ed
+
+-- a write of k elements behind a part that is written
+put_mid-behind : {X : Type 0} (a k : ℕ) (p q ys : List X) → length p ≡ a → put_mid a k (p ++ q) ys ≡ (p ++ ys) ++ drop k q
+put_mid-behind a k p q ys h =
+    ap₂ (λ u v. u ++ (ys ++ drop k v)) (take_at p q a h) (drop_at p q a h) ∙ sym (append_assoc p ys (drop k q))
+
+-- a list that is written in four parts of n elements
+pub four_written : {X : Type 0} (n : ℕ) (s a b c d : List X) → length s ≡ 4 * n → length a ≡ n → length b ≡ n → length c ≡ n
+    → put_mid (3 * n) n (put_mid (2 * n) n (put_mid n n (put_mid 0 n s a) b) c) d ≡ a ++ b ++ c ++ d
+four_written {X} n s a b c d long la lb lc =
+    let r1 = drop n s in
+    let r2 = drop n r1 in
+    let r3 = drop n r2 in
+    let ab : length (a ++ b) ≡ 2 * n = omega (arith, length-append a b) in
+    let abc : length ((a ++ b) ++ c) ≡ 3 * n = omega (arith, length-append (a ++ b) c) in
+    let none : drop n r3 ≡ [] = drop-drop n n r2 ∙ drop-drop (n + n) n r1 ∙ drop-drop (n + (n + n)) n s ∙ drop_all _ s (omega arith) in
+    ap (λ t. put_mid (3 * n) n (put_mid (2 * n) n t c) d) (put_mid-behind n n a r1 b la)
+    ∙ ap (λ t. put_mid (3 * n) n t d) (put_mid-behind (2 * n) n (a ++ b) r2 c ab)
+    ∙ put_mid-behind (3 * n) n ((a ++ b) ++ c) r3 d abc
+    ∙ ap (λ t. (((a ++ b) ++ c) ++ d) ++ t) none
+    ∙ append-nil _

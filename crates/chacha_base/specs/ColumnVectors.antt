@@ -1,13 +1,13 @@
 -- Blocks of which sixteen vectors hold the words, a block in each lane (this crate).
-use Rattle.std.specs.Prelude.{ℕ, List, [], ◌∷◌, ◌++◌}
+use Rattle.std.specs.Prelude.{ℕ, List, ◌++◌}
 use Rattle.chacha_base.specs.declared.backends.quad.Quad.{Quad}
 use Rattle.chacha_base.specs.declared.backends.columns.Columns.{Columns}
+use Rattle.chacha_base.specs.Lanes.{words_at}
 
 -- lane j of one vector of each column
 abbrev pub four_at : {V : Type 0} → (V → ℕ → ℕ) → Columns V → (Quad V → V) → ℕ → List ℕ
-four_at lane x vector j =
-    lane (vector x.first) j ∷ lane (vector x.second) j
-    ∷ lane (vector x.third) j ∷ lane (vector x.fourth) j ∷ []
+four_at lane x vector =
+    words_at lane (vector x.first) (vector x.second) (vector x.third) (vector x.fourth)
 
 -- the sixteen words of the block in lane j
 abbrev pub block_in_columns : {V : Type 0} → (V → ℕ → ℕ) → Columns V → ℕ → List ℕ

@@ -3,11 +3,13 @@
 ghost use Rattle.std.specs.Prelude.{◌≡◌, ◌≤◌, ◌<◌, ℕ, ◌+◌, ◌*◌, [], length, slice_index, slice_index_or};
 ghost use Rattle.chacha_base.specs.Rounds.{columns, diagonals, rounds};
 ghost use Rattle.chacha_base.specs.ColumnVectors.{block_in_columns};
+ghost use Rattle.chacha_base.specs.Lanes.{row, words_at};
+ghost use Rattle.chacha_base.specs.RowVectors.{block_in_rows};
 
 use crate::backends::group::{Group, States, round_by_round};
-use crate::backends::place::Place;
+use crate::backends::place::{Place, put_block};
 use crate::backends::quad::{Quad, quarter_round, sums};
-use crate::backends::vector::Vector;
+use crate::backends::vector::{Vector, WordVector};
 use crate::rounds::Steps;
 
 /// Sixteen vectors, in the four columns of a state: vector a of column k is word k of each block, b word 4 + k, c word
@@ -57,6 +59,82 @@ fn column<V: Vector>(a: u32, b: u32, c: u32, d: V) -> Quad<V>
         c: splat(c),
         d,
     }
+}
+
+// Four words of each state brought together: of four states side by side, the first result has the words of the first
+// state, the second those of the second, and so on.
+#[inline(always)]
+fn by_states<V: WordVector>(w0: V, w1: V, w2: V, w3: V) -> Quad<V>
+    ensures a { (g : ℕ) → g < V.FOURS
+        → row (V.lane result.a) g ≡ words_at V.lane w0 w1 w2 w3 (4 * g) }
+    ensures b { (g : ℕ) → g < V.FOURS
+        → row (V.lane result.b) g ≡ words_at V.lane w0 w1 w2 w3 (4 * g + 1) }
+    ensures c { (g : ℕ) → g < V.FOURS
+        → row (V.lane result.c) g ≡ words_at V.lane w0 w1 w2 w3 (4 * g + 2) }
+    ensures d { (g : ℕ) → g < V.FOURS
+        → row (V.lane result.d) g ≡ words_at V.lane w0 w1 w2 w3 (4 * g + 3) }
+{
+    let low_01 = w0.low_words(w1);
+    let low_23 = w2.low_words(w3);
+    let high_01 = w0.high_words(w1);
+    let high_23 = w2.high_words(w3);
+    Quad {
+        a: low_01.low_pairs(low_23),
+        b: low_01.high_pairs(low_23),
+        c: high_01.low_pairs(high_23),
+        d: high_01.high_pairs(high_23),
+    }
+}
+
+// The same states in rows: of four states side by side, the first result has the rows of the first state, the second
+// those of the second, and so on.
+#[inline(always)]
+fn in_rows<V: WordVector>(words: Columns<V>) -> (Quad<V>, Quad<V>, Quad<V>, Quad<V>)
+    ensures first { (g : ℕ) → g < V.FOURS
+        → block_in_rows V.lane result.0 g ≡ block_in_columns V.lane words (4 * g) }
+    ensures second { (g : ℕ) → g < V.FOURS
+        → block_in_rows V.lane result.1 g ≡ block_in_columns V.lane words (4 * g + 1) }
+    ensures third { (g : ℕ) → g < V.FOURS
+        → block_in_rows V.lane result.2 g ≡ block_in_columns V.lane words (4 * g + 2) }
+    ensures fourth { (g : ℕ) → g < V.FOURS
+        → block_in_rows V.lane result.3 g ≡ block_in_columns V.lane words (4 * g + 3) }
+{
+    let Columns {
+        first,
+        second,
+        third,
+        fourth,
+    } = words;
+    let a = by_states(first.a, second.a, third.a, fourth.a);
+    let b = by_states(first.b, second.b, third.b, fourth.b);
+    let c = by_states(first.c, second.c, third.c, fourth.c);
+    let d = by_states(first.d, second.d, third.d, fourth.d);
+    (
+        Quad {
+            a: a.a,
+            b: b.a,
+            c: c.a,
+            d: d.a,
+        },
+        Quad {
+            a: a.b,
+            b: b.b,
+            c: c.b,
+            d: d.b,
+        },
+        Quad {
+            a: a.c,
+            b: b.c,
+            c: c.c,
+            d: d.c,
+        },
+        Quad {
+            a: a.d,
+            b: b.d,
+            c: c.d,
+            d: d.d,
+        },
+    )
 }
 
 impl<V: Vector> States for Columns<V> {
@@ -163,7 +241,7 @@ pub fn double_rounds<V: Vector>(start: Columns<V>, count: usize, steps: &mut Ste
     round_by_round(start, count, steps)
 }
 
-impl<V: Vector> Group for Columns<V> {
+impl<V: WordVector> Group for Columns<V> {
     #[inline(always)]
     fn start(state: &[u32; 16], last_words: &[[u32; 4]]) -> Columns<V> {
         let [w0, w1, w2, w3, w4, w5, w6, w7, w8, w9, w10, w11, _, _, _, _] = *state;
@@ -196,33 +274,12 @@ impl<V: Vector> Group for Columns<V> {
 
     #[inline(always)]
     fn store<P: Place>(self, places: &mut [P]) {
-        let Columns {
-            first,
-            second,
-            third,
-            fourth,
-        } = self;
-        let w0 = first.a.to_words();
-        let w1 = second.a.to_words();
-        let w2 = third.a.to_words();
-        let w3 = fourth.a.to_words();
-        let w4 = first.b.to_words();
-        let w5 = second.b.to_words();
-        let w6 = third.b.to_words();
-        let w7 = fourth.b.to_words();
-        let w8 = first.c.to_words();
-        let w9 = second.c.to_words();
-        let w10 = third.c.to_words();
-        let w11 = fourth.c.to_words();
-        let w12 = first.d.to_words();
-        let w13 = second.d.to_words();
-        let w14 = third.d.to_words();
-        let w15 = fourth.d.to_words();
-        'each: for g in 0..V::LANES {
-            places[g].put(&[
-                w0[g], w1[g], w2[g], w3[g], w4[g], w5[g], w6[g], w7[g], w8[g], w9[g], w10[g],
-                w11[g], w12[g], w13[g], w14[g], w15[g],
-            ]);
+        let (p, q, r, s) = in_rows(self);
+        'each: for g in 0..V::FOURS {
+            put_block(p, g, &mut places[4 * g]);
+            put_block(q, g, &mut places[4 * g + 1]);
+            put_block(r, g, &mut places[4 * g + 2]);
+            put_block(s, g, &mut places[4 * g + 3]);
         }
     }
 }

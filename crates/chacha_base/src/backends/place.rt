@@ -1,26 +1,51 @@
 //! Where the words of a state are put.
 
-ghost use Rattle.std.specs.Prelude.{◌≡◌, ℕ, List};
+ghost use Rattle.std.specs.Prelude.{◌≡◌, ◌<◌, ℕ, List, length, slice_index};
 ghost use Rattle.chacha_base.specs.Bytes.{bytes};
+ghost use Rattle.chacha_base.specs.Lanes.{row};
+ghost use Rattle.chacha_base.specs.RowVectors.{block_in_rows};
 
-use crate::bytes::write_bytes;
+use crate::backends::quad::Quad;
+use crate::backends::vector::Fours;
+use std::simd::prelude::*;
 
 /// What takes the words of a state, as words or as bytes.
 pub trait Place {
     // A place that holds these words.
     ghost holding: { List ℕ → Self };
 
-    /// Puts the words of a state.
-    fn put(&mut self, words: &[u32; 16])
-        ensures { self.new ≡ holding words.now };
+    /// Puts the words of a state, a row in each vector.
+    fn put(&mut self, rows: Quad<u32x4>)
+        ensures { self.new ≡ holding (block_in_rows slice_index rows 0) };
+}
+
+// Writes a row of words.
+#[inline(always)]
+fn put_row(words: u32x4, output: &mut [u32])
+    requires { length output.old ≡ 4 }
+    ensures { output.new ≡ row (slice_index words) 0 }
+{
+    words.copy_to_slice(output);
+}
+
+// Writes a row of words as bytes.
+#[inline(always)]
+fn put_row_bytes(words: u32x4, output: &mut [u8])
+    requires { length output.old ≡ 16 }
+    ensures { output.new ≡ bytes (row (slice_index words) 0) }
+{
+    words.to_le_bytes().copy_to_slice(output);
 }
 
 impl Place for [u32; 16] {
     ghost holding = { λ words. words };
 
     #[inline(always)]
-    fn put(&mut self, words: &[u32; 16]) {
-        *self = *words;
+    fn put(&mut self, rows: Quad<u32x4>) {
+        put_row(rows.a, &mut self[0..4]);
+        put_row(rows.b, &mut self[4..8]);
+        put_row(rows.c, &mut self[8..12]);
+        put_row(rows.d, &mut self[12..16]);
     }
 }
 
@@ -28,7 +53,24 @@ impl Place for [u8; 64] {
     ghost holding = { bytes };
 
     #[inline(always)]
-    fn put(&mut self, words: &[u32; 16]) {
-        write_bytes(words, self);
+    fn put(&mut self, rows: Quad<u32x4>) {
+        put_row_bytes(rows.a, &mut self[0..16]);
+        put_row_bytes(rows.b, &mut self[16..32]);
+        put_row_bytes(rows.c, &mut self[32..48]);
+        put_row_bytes(rows.d, &mut self[48..64]);
     }
+}
+
+/// Puts one of the states of which four vectors hold the rows.
+#[inline(always)]
+pub fn put_block<V: Fours, P: Place>(rows: Quad<V>, g: usize, place: &mut P)
+    requires { g < V.FOURS }
+    ensures { place.new ≡ P.holding (block_in_rows V.lane rows g) }
+{
+    place.put(Quad {
+        a: rows.a.four(g),
+        b: rows.b.four(g),
+        c: rows.c.four(g),
+        d: rows.d.four(g),
+    });
 }

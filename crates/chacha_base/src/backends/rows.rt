@@ -5,7 +5,7 @@ ghost use Rattle.chacha_base.specs.Lanes.{row};
 ghost use Rattle.chacha_base.specs.RowVectors.{block_in_rows};
 
 use crate::backends::group::{Group, States, round_by_round};
-use crate::backends::place::Place;
+use crate::backends::place::{Place, put_block};
 use crate::backends::quad::{Quad, quarter_round, sums};
 use crate::backends::shift::RowShift;
 use crate::backends::vector::RowVector;
@@ -22,7 +22,7 @@ pub struct Rows<V, S> {
 // A row of four words, the same for each block.
 #[inline(always)]
 fn repeated<V: RowVector>(w0: u32, w1: u32, w2: u32, w3: u32) -> V
-    ensures { (g : ℕ) → g < V.BLOCKS → row (V.lane result) g ≡ w0 ∷ w1 ∷ w2 ∷ w3 ∷ [] }
+    ensures { (g : ℕ) → g < V.FOURS → row (V.lane result) g ≡ w0 ∷ w1 ∷ w2 ∷ w3 ∷ [] }
 {
     V::from_words(&[
         w0, w1, w2, w3, w0, w1, w2, w3, w0, w1, w2, w3, w0, w1, w2, w3,
@@ -44,7 +44,7 @@ fn set_row(words: &mut [u32; 16], g: usize, values: &[u32; 4])
 }
 
 impl<V: RowVector, S: RowShift> States for Rows<V, S> {
-    ghost BLOCKS = { V.BLOCKS };
+    ghost BLOCKS = { V.FOURS };
 
     ghost ROUND_STEPS = { 1 };
 
@@ -72,7 +72,7 @@ impl<V: RowVector, S: RowShift> Group for Rows<V, S> {
     fn start(state: &[u32; 16], last_words: &[[u32; 4]]) -> Rows<V, S> {
         let [w0, w1, w2, w3, w4, w5, w6, w7, w8, w9, w10, w11, _, _, _, _] = *state;
         let mut d = [0; 16];
-        'each: for g in 0..V::BLOCKS {
+        'each: for g in 0..V::FOURS {
             set_row(&mut d, g, &last_words[g]);
         }
         Rows {
@@ -101,30 +101,8 @@ impl<V: RowVector, S: RowShift> Group for Rows<V, S> {
 
     #[inline(always)]
     fn store<P: Place>(self, places: &mut [P]) {
-        let a = self.rows.a.to_words();
-        let b = self.rows.b.to_words();
-        let c = self.rows.c.to_words();
-        let d = self.rows.d.to_words();
-        'each: for g in 0..V::BLOCKS {
-            let k = 4 * g;
-            places[g].put(&[
-                a[k],
-                a[k + 1],
-                a[k + 2],
-                a[k + 3],
-                b[k],
-                b[k + 1],
-                b[k + 2],
-                b[k + 3],
-                c[k],
-                c[k + 1],
-                c[k + 2],
-                c[k + 3],
-                d[k],
-                d[k + 1],
-                d[k + 2],
-                d[k + 3],
-            ]);
+        'each: for g in 0..V::FOURS {
+            put_block(self.rows, g, &mut places[g]);
         }
     }
 }

@@ -17,12 +17,12 @@ pub trait RowShift: Copy {
 
     /// Moves the rows of each block, so that a diagonal is a column.
     fn shift<V: RowVector>(rows: Quad<V>) -> Quad<V>
-        ensures { (g : ℕ) → g < V.BLOCKS
+        ensures { (g : ℕ) → g < V.FOURS
             → block_in_rows V.lane result g ≡ shifted (block_in_rows V.lane rows g) };
 
     /// Moves the rows of each block back.
     fn shift_back<V: RowVector>(rows: Quad<V>) -> Quad<V>
-        ensures { (g : ℕ) → g < V.BLOCKS
+        ensures { (g : ℕ) → g < V.FOURS
             → block_in_rows V.lane result g ≡ back (block_in_rows V.lane rows g) };
 
     ghost gives_diagonals: { (s : List ℕ) → back (columns (shifted s)) ≡ diagonals s };

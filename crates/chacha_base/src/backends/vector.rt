@@ -1,8 +1,9 @@
-//! Vectors of words: what every engine needs of them, and what rows of states need besides.
+//! Vectors of words: what every engine needs of them, what leads from vectors to blocks, and what rows of states need
+//! besides.
 
 ghost use Rattle.std.specs.Prelude.{◌≡◌, ◌≤◌, ◌<◌, ℕ, ◌*◌, bit_xor, slice_index};
 ghost use Rattle.chacha_base.specs.Words.{add, rotl};
-ghost use Rattle.chacha_base.specs.Lanes.{row, turned_1, turned_2, turned_3};
+ghost use Rattle.chacha_base.specs.Lanes.{row, low_words, high_words, low_pairs, high_pairs, turned_1, turned_2, turned_3};
 
 use std::simd::prelude::*;
 
@@ -38,29 +39,61 @@ pub trait Vector: Copy {
     ghost lanes_to: { LANES ≤ 16 };
 }
 
+/// A vector whose lanes lie in fours.
+pub trait Fours: Vector {
+    ghost FOURS: { ℕ };
+
+    /// Fours in a vector.
+    const FOURS: usize;
+
+    /// The words of one four.
+    fn four(self, g: usize) -> u32x4
+        requires { g < FOURS }
+        ensures { row (slice_index result) 0 ≡ row (Self.lane self) g };
+
+    ghost lanes: { Self.LANES ≡ 4 * FOURS };
+}
+
+/// A vector that holds the same word of some states, a state in each lane, and what brings four words of one state
+/// together.
+pub trait WordVector: Fours {
+    /// The first two words of each four, by turns with those of another vector.
+    fn low_words(self, other: Self) -> Self
+        ensures { (g : ℕ) → g < Self.FOURS → row (Self.lane result) g
+            ≡ low_words (row (Self.lane self) g) (row (Self.lane other) g) };
+
+    /// The last two words of each four, by turns with those of another vector.
+    fn high_words(self, other: Self) -> Self
+        ensures { (g : ℕ) → g < Self.FOURS → row (Self.lane result) g
+            ≡ high_words (row (Self.lane self) g) (row (Self.lane other) g) };
+
+    /// The first two words of each four, and then those of another vector.
+    fn low_pairs(self, other: Self) -> Self
+        ensures { (g : ℕ) → g < Self.FOURS → row (Self.lane result) g
+            ≡ low_pairs (row (Self.lane self) g) (row (Self.lane other) g) };
+
+    /// The last two words of each four, and then those of another vector.
+    fn high_pairs(self, other: Self) -> Self
+        ensures { (g : ℕ) → g < Self.FOURS → row (Self.lane result) g
+            ≡ high_pairs (row (Self.lane self) g) (row (Self.lane other) g) };
+}
+
 /// A vector that holds the same row of some states, four lanes a state, in order of counter.
-pub trait RowVector: Vector {
-    ghost BLOCKS: { ℕ };
-
-    /// States of which a vector holds a row.
-    const BLOCKS: usize;
-
+pub trait RowVector: Fours {
     /// The row of each state turned to the left by one place.
     fn turned_1(self) -> Self
-        ensures { (g : ℕ) → g < BLOCKS
+        ensures { (g : ℕ) → g < Self.FOURS
             → row (Self.lane result) g ≡ turned_1 (row (Self.lane self) g) };
 
     /// The row of each state turned to the left by two places.
     fn turned_2(self) -> Self
-        ensures { (g : ℕ) → g < BLOCKS
+        ensures { (g : ℕ) → g < Self.FOURS
             → row (Self.lane result) g ≡ turned_2 (row (Self.lane self) g) };
 
     /// The row of each state turned to the left by three places.
     fn turned_3(self) -> Self
-        ensures { (g : ℕ) → g < BLOCKS
+        ensures { (g : ℕ) → g < Self.FOURS
             → row (Self.lane result) g ≡ turned_3 (row (Self.lane self) g) };
-
-    ghost lanes: { Self.LANES ≡ 4 * BLOCKS };
 }
 
 // The vector of the first of these words, at any width.
@@ -141,15 +174,44 @@ impl Vector for u32x4 {
     }
 }
 
-impl RowVector for u32x4 {
+impl Fours for u32x4 {
     ghost use Rattle.std.specs.Prelude.{refl};
 
-    ghost BLOCKS = { 1 };
+    ghost FOURS = { 1 };
 
-    const BLOCKS: usize = 1;
+    const FOURS: usize = 1;
 
     ghost lanes = { refl };
 
+    #[inline(always)]
+    fn four(self, _g: usize) -> u32x4 {
+        self
+    }
+}
+
+impl WordVector for u32x4 {
+    #[inline(always)]
+    fn low_words(self, other: u32x4) -> u32x4 {
+        self.shuffle(other, [0, 4, 1, 5])
+    }
+
+    #[inline(always)]
+    fn high_words(self, other: u32x4) -> u32x4 {
+        self.shuffle(other, [2, 6, 3, 7])
+    }
+
+    #[inline(always)]
+    fn low_pairs(self, other: u32x4) -> u32x4 {
+        self.shuffle(other, [0, 1, 4, 5])
+    }
+
+    #[inline(always)]
+    fn high_pairs(self, other: u32x4) -> u32x4 {
+        self.shuffle(other, [2, 3, 6, 7])
+    }
+}
+
+impl RowVector for u32x4 {
     #[inline(always)]
     fn turned_1(self) -> u32x4 {
         self.swizzle([1, 2, 3, 0])
@@ -198,15 +260,25 @@ impl Vector for u32x8 {
     }
 }
 
-impl RowVector for u32x8 {
+impl Fours for u32x8 {
     ghost use Rattle.std.specs.Prelude.{refl};
 
-    ghost BLOCKS = { 2 };
+    ghost FOURS = { 2 };
 
-    const BLOCKS: usize = 2;
+    const FOURS: usize = 2;
 
     ghost lanes = { refl };
 
+    #[inline(always)]
+    fn four(self, g: usize) -> u32x4 {
+        match g {
+            0 => self.swizzle([0, 1, 2, 3]),
+            _ => self.swizzle([4, 5, 6, 7]),
+        }
+    }
+}
+
+impl RowVector for u32x8 {
     #[inline(always)]
     fn turned_1(self) -> u32x8 {
         self.swizzle([1, 2, 3, 0, 5, 6, 7, 4])
@@ -255,15 +327,61 @@ impl Vector for u32x16 {
     }
 }
 
-impl RowVector for u32x16 {
+impl Fours for u32x16 {
     ghost use Rattle.std.specs.Prelude.{refl};
 
-    ghost BLOCKS = { 4 };
+    ghost FOURS = { 4 };
 
-    const BLOCKS: usize = 4;
+    const FOURS: usize = 4;
 
     ghost lanes = { refl };
 
+    #[inline(always)]
+    fn four(self, g: usize) -> u32x4 {
+        match g {
+            0 => self.swizzle([0, 1, 2, 3]),
+            1 => self.swizzle([4, 5, 6, 7]),
+            2 => self.swizzle([8, 9, 10, 11]),
+            _ => self.swizzle([12, 13, 14, 15]),
+        }
+    }
+}
+
+impl WordVector for u32x16 {
+    #[inline(always)]
+    fn low_words(self, other: u32x16) -> u32x16 {
+        self.shuffle(
+            other,
+            [0, 16, 1, 17, 4, 20, 5, 21, 8, 24, 9, 25, 12, 28, 13, 29],
+        )
+    }
+
+    #[inline(always)]
+    fn high_words(self, other: u32x16) -> u32x16 {
+        self.shuffle(
+            other,
+            [2, 18, 3, 19, 6, 22, 7, 23, 10, 26, 11, 27, 14, 30, 15, 31],
+        )
+    }
+
+    #[inline(always)]
+    fn low_pairs(self, other: u32x16) -> u32x16 {
+        self.shuffle(
+            other,
+            [0, 1, 16, 17, 4, 5, 20, 21, 8, 9, 24, 25, 12, 13, 28, 29],
+        )
+    }
+
+    #[inline(always)]
+    fn high_pairs(self, other: u32x16) -> u32x16 {
+        self.shuffle(
+            other,
+            [2, 3, 18, 19, 6, 7, 22, 23, 10, 11, 26, 27, 14, 15, 30, 31],
+        )
+    }
+}
+
+impl RowVector for u32x16 {
     #[inline(always)]
     fn turned_1(self) -> u32x16 {
         self.swizzle([1, 2, 3, 0, 5, 6, 7, 4, 9, 10, 11, 8, 13, 14, 15, 12])

@@ -1,4 +1,4 @@
-use Rattle.std.proofs.Common.{◌∙◌, ap, arith, rules}
+use Rattle.std.proofs.Common.{arith}
 use Rattle.chacha_base.specs.RowVectors.{block_in_rows}
 use Rattle.chacha_base.proofs.ListLemmas.{one_more}
 use Rattle.chacha_base.proofs.backends.rows.RowsGroup.store.Goals as goal
@@ -6,4 +6,4 @@ use Rattle.chacha_base.proofs.backends.rows.RowsGroup.store.Goals as goal
 pub each-preserved : goal.each-preserved
 each-preserved g c =
     one_more (λ h. g.P.Place.holding (block_in_rows g.V.Vector.lane c.args.self.rows h)) c.each.g c.each.places _ (omega arith)
-    (c.put.ensures ∙ ap g.P.Place.holding (search rules)) c.each.invariant
+    c.put_block.ensures c.each.invariant

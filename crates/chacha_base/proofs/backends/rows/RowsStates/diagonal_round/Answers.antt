@@ -7,5 +7,5 @@ pub returns-clause-blocks : goal.returns-clause-blocks
 returns-clause-blocks g c b h =
     c.shift_back.ensures b h
     ∙ ap g.S.RowShift.back
-    (columns-of-lanes g.V.RowVector.BLOCKS g.V.Vector.LANES g.V.Vector.lane _ _ g.met.V.RowVector.lanes c.quarter_round.ensures.lanes b h ∙ ap columns (c.shift.ensures b h))
+    (columns-of-lanes g.V.Fours.FOURS g.V.Vector.LANES g.V.Vector.lane _ _ g.met.V.Fours.lanes c.quarter_round.ensures.lanes b h ∙ ap columns (c.shift.ensures b h))
     ∙ g.met.S.RowShift.gives_diagonals _
