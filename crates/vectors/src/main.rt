@@ -7,23 +7,32 @@ mod rows;
 #[cfg(test)]
 mod tests;
 
-use chacha20::ChaCha20;
+use rows::Verdict;
 use std::io;
 use std::process::ExitCode;
 
-// Prints all lines, and answers whether all rows are right.
-fn print_rows(rt: &impl Print) -> io::Result<bool> {
-    for byte in rows::ciphers::first_ciphertext::<ChaCha20>() {
+fn print_bytes(rt: &impl Print, bytes: &[u8]) -> io::Result<()> {
+    for byte in bytes {
         print!(rt; "{byte:02x}")?;
     }
-    println!(rt; "")?;
+    println!(rt; "")
+}
+
+// Prints a row's line, and answers whether it is right.
+fn print_row(rt: &impl Print, number: usize, failed: Verdict) -> io::Result<bool> {
+    let right = failed.is_none();
+    let word = if right { "ok" } else { "bad" };
+    println!(rt; "row {number} {word}")?;
+    Ok(right)
+}
+
+// Prints all lines, and answers whether all rows are right.
+fn print_rows(rt: &impl Print) -> io::Result<bool> {
+    print_bytes(rt, &rows::ciphers::first_ciphertext())?;
     let mut all_right = true;
     for (number, verdict) in rows::verdicts().iter().enumerate() {
         if let Some(failed) = *verdict {
-            let right = failed.is_none();
-            let word = if right { "ok" } else { "bad" };
-            println!(rt; "row {number} {word}")?;
-            all_right &= right;
+            all_right &= print_row(rt, number, failed)?;
         }
     }
     Ok(all_right)

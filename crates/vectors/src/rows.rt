@@ -7,7 +7,7 @@ pub mod generators;
 
 use chacha20::backends::{Lanes8, Lanes16};
 use chacha20::variants::{Ietf, Legacy};
-use chacha20::{ChaCha20LegacyCore, ChaChaCore, LegacyNonce, R20, Rounds, XChaCha20};
+use chacha20::{ChaCha20LegacyCore, ChaChaCore, LegacyNonce, R20, Rounds, XChaChaCore};
 
 /// The key or seed 00 to 1f.
 pub const COUNTING: [u8; 32] = [
@@ -52,7 +52,11 @@ pub fn verdicts() -> [Option<Verdict>; 24] {
     let mut verdicts = [None; 24];
     enter(
         &mut verdicts,
-        &ciphers::verdicts::<ChaChaCore<R20, Ietf, Lanes16>, ChaCha20LegacyCore, XChaCha20>(),
+        &ciphers::verdicts::<
+            ChaChaCore<R20, Ietf, Lanes16>,
+            ChaCha20LegacyCore,
+            XChaChaCore<R20, Lanes16>,
+        >(),
     );
     enter(&mut verdicts, &[(13, no_rounds())]);
     enter(&mut verdicts, &generators::verdicts::<Lanes8>());

@@ -5,56 +5,55 @@ ghost use Rattle.chacha20.specs.Keystream.{xor_stream};
 
 use super::{COUNTING, FROM_1, LEGACY_NONCE, Verdict, failed};
 use chacha20::cipher::{
-    KeyIvInit, OverflowError, StreamCipher, StreamCipherError, StreamCipherSeek,
-    StreamCipherSeekCore,
+    KeyIvInit, OverflowError, StreamCipher, StreamCipherCounter, StreamCipherError,
+    StreamCipherSeek, StreamCipherSeekCore,
 };
-use chacha20::{Key, LegacyNonce, Nonce, R20, StreamCipherCoreWrapper, XNonce, hchacha};
+use chacha20::{ChaCha20, Key, LegacyNonce, Nonce, R20, StreamCipherCoreWrapper, XNonce, hchacha};
 
-/// A cipher with nonces of one type, at positions that can be set.
-pub trait SeekCipher<N>: KeyIvInit<Key = Key, Iv = N> + StreamCipherSeek + Drop {}
+/// A core with nonces of one type and counters of another, of which the wrapper makes a cipher.
+pub trait SeekCore<N, T: StreamCipherCounter>: KeyIvInit<Key = Key, Iv = N>
+    + StreamCipherSeekCore<Counter = T>
+    + Drop {}
 
-impl<N, C: KeyIvInit<Key = Key, Iv = N> + StreamCipherSeek + Drop> SeekCipher<N> for C {}
+impl<N, T: StreamCipherCounter, C> SeekCore<N, T> for C
+where
+    C: KeyIvInit<Key = Key, Iv = N> + StreamCipherSeekCore<Counter = T> + Drop,
+{}
 
 const PLAINTEXT: [u8; 16] = [0, 1, 2, 3, 4, 5, 6, 7, 8, 9, 10, 11, 12, 13, 14, 15];
 
 const CIPHERTEXT: [u8; 16] = *b"\xe4\x05\x62\x6e\x4f\x12\x36\xb3\x67\x0e\xe4\x28\x33\x2e\xa2\x0e";
 
-/// Each row's number and what fails in it: for a core in the layout of RFC 8439, one in the layout before it, and a cipher
-/// with nonces of 24 bytes.
+/// Each row's number and what fails in it: for cores in the layout of RFC 8439, in the one before it, and with nonces of 24
+/// bytes.
 pub fn verdicts<K, L, X>() -> [(usize, Verdict); 9]
 where
-    K: KeyIvInit<Key = Key, Iv = Nonce> + StreamCipherSeekCore<Counter = u32> + Drop,
-    L: KeyIvInit<Key = Key, Iv = LegacyNonce> + StreamCipherSeekCore<Counter = u64> + Drop,
-    X: SeekCipher<XNonce>,
+    K: SeekCore<Nonce, u32>,
+    L: SeekCore<LegacyNonce, u64>,
+    X: SeekCore<XNonce, u32>,
 {
     [
         (1, row_1::<K>()),
         (3, row_3()),
-        (4, row_4::<StreamCipherCoreWrapper<K>>()),
+        (4, row_4::<K>()),
         (5, row_5::<X>()),
         (6, row_6::<L>()),
-        (11, row_11::<StreamCipherCoreWrapper<K>>()),
-        (12, row_12::<K, StreamCipherCoreWrapper<L>>()),
-        (16, row_16::<StreamCipherCoreWrapper<K>>()),
-        (
-            22,
-            row_22::<StreamCipherCoreWrapper<K>, StreamCipherCoreWrapper<L>>(),
-        ),
+        (11, row_11::<K>()),
+        (12, row_12::<K, L>()),
+        (16, row_16::<K>()),
+        (22, row_22::<K, L>()),
     ]
 }
 
 /// The first row's ciphertext; its plaintext, if the cipher refuses it.
-pub fn first_ciphertext<C: SeekCipher<Nonce>>() -> [u8; 16] {
+pub fn first_ciphertext() -> [u8; 16] {
     let mut data = PLAINTEXT;
-    let _ = C::new(&[0x42; 32], &[0x24; 12]).try_apply_keystream(&mut data);
+    let _ = ChaCha20::new(&[0x42; 32], &[0x24; 12]).try_apply_keystream(&mut data);
     data
 }
 
 // There and back, and there again in pieces of 3.
-fn row_1<K>() -> Verdict
-where
-    K: KeyIvInit<Key = Key, Iv = Nonce> + StreamCipherSeekCore<Counter = u32> + Drop,
-{
+fn row_1<K: SeekCore<Nonce, u32>>() -> Verdict {
     let mut cipher = StreamCipherCoreWrapper::<K>::new(&[0x42; 32], &[0x24; 12]);
     let mut data = PLAINTEXT;
     cipher.apply_keystream(&mut data);
@@ -92,8 +91,11 @@ fn row_3() -> Verdict {
 }
 
 // A message from block 1 on (RFC 8439, section 2.4.2).
-fn row_4<C: SeekCipher<Nonce>>() -> Verdict {
-    let mut cipher = C::new(&COUNTING, &[0, 0, 0, 0, 0, 0, 0, 0x4a, 0, 0, 0, 0]);
+fn row_4<K: SeekCore<Nonce, u32>>() -> Verdict {
+    let mut cipher = StreamCipherCoreWrapper::<K>::new(
+        &COUNTING,
+        &[0, 0, 0, 0, 0, 0, 0, 0x4a, 0, 0, 0, 0],
+    );
     let mut text = *b"Ladies and Gentl";
     failed(&[
         cipher.try_apply_keystream(&mut [0; 64]).is_ok(),
@@ -103,8 +105,8 @@ fn row_4<C: SeekCipher<Nonce>>() -> Verdict {
 }
 
 // XChaCha20 from block 1 on.
-fn row_5<C: SeekCipher<XNonce>>() -> Verdict {
-    let mut cipher = C::new(&FROM_80, &X_NONCE);
+fn row_5<X: SeekCore<XNonce, u32>>() -> Verdict {
+    let mut cipher = StreamCipherCoreWrapper::<X>::new(&FROM_80, &X_NONCE);
     let mut stream = [0; 32];
     failed(&[
         cipher.try_write_keystream(&mut [0; 64]).is_ok(),
@@ -122,10 +124,7 @@ const FROM_80: Key = *b"\x80\x81\x82\x83\x84\x85\x86\x87\x88\x89\x8a\x8b\x8c\x8d
 const X_NONCE: XNonce = *b"@ABCDEFGHIJKLMNOPQRSTUVX";
 
 // The legacy cipher, from its start and from byte 17.
-fn row_6<L>() -> Verdict
-where
-    L: KeyIvInit<Key = Key, Iv = LegacyNonce> + StreamCipherSeekCore<Counter = u64> + Drop,
-{
+fn row_6<L: SeekCore<LegacyNonce, u64>>() -> Verdict {
     let mut cipher = StreamCipherCoreWrapper::<L>::new(&FROM_1, &LEGACY_NONCE);
     let mut stream = [0; 32];
     let mut three = [0; 3];
@@ -144,8 +143,8 @@ where
 }
 
 // The end of the stream: nothing can be taken there, and nothing is past it.
-fn row_11<C: SeekCipher<Nonce>>() -> Verdict {
-    let mut cipher = C::new(&COUNTING, &[0; 12]);
+fn row_11<K: SeekCore<Nonce, u32>>() -> Verdict {
+    let mut cipher = StreamCipherCoreWrapper::<K>::new(&COUNTING, &[0; 12]);
     let mut byte = [7];
     failed(&[
         cipher.try_seek(274877906880u64).is_ok(),
@@ -160,12 +159,8 @@ fn row_11<C: SeekCipher<Nonce>>() -> Verdict {
 }
 
 // Positions that a type can't say.
-fn row_12<K, L>() -> Verdict
-where
-    K: KeyIvInit<Key = Key, Iv = Nonce> + StreamCipherSeekCore<Counter = u32> + Drop,
-    L: SeekCipher<LegacyNonce>,
-{
-    let mut legacy = L::new(&FROM_1, &LEGACY_NONCE);
+fn row_12<K: SeekCore<Nonce, u32>, L: SeekCore<LegacyNonce, u64>>() -> Verdict {
+    let mut legacy = StreamCipherCoreWrapper::<L>::new(&FROM_1, &LEGACY_NONCE);
     let mut cipher = StreamCipherCoreWrapper::<K>::new(&COUNTING, &[0; 12]);
     cipher.seek(2147483648u32);
     failed(&[
@@ -178,8 +173,8 @@ where
 }
 
 // Two slices of different lengths.
-fn row_16<C: SeekCipher<Nonce>>() -> Verdict {
-    let mut cipher = C::new(&COUNTING, &[0; 12]);
+fn row_16<K: SeekCore<Nonce, u32>>() -> Verdict {
+    let mut cipher = StreamCipherCoreWrapper::<K>::new(&COUNTING, &[0; 12]);
     let mut output = [1, 2, 3, 4];
     failed(&[
         cipher.try_apply_keystream_b2b(&[5, 6, 7], &mut output) == Err(StreamCipherError),
@@ -189,9 +184,9 @@ fn row_16<C: SeekCipher<Nonce>>() -> Verdict {
 }
 
 // How much a fresh cipher takes.
-fn row_22<C: SeekCipher<Nonce>, L: SeekCipher<LegacyNonce>>() -> Verdict {
-    let cipher = C::new(&COUNTING, &[0; 12]);
-    let legacy = L::new(&FROM_1, &LEGACY_NONCE);
+fn row_22<K: SeekCore<Nonce, u32>, L: SeekCore<LegacyNonce, u64>>() -> Verdict {
+    let cipher = StreamCipherCoreWrapper::<K>::new(&COUNTING, &[0; 12]);
+    let legacy = StreamCipherCoreWrapper::<L>::new(&FROM_1, &LEGACY_NONCE);
     failed(&[
         cipher.check_remaining(274877906880).is_ok(),
         cipher.check_remaining(274877906881) == Err(StreamCipherError),

@@ -10,18 +10,12 @@ use chacha20::cipher::{
 };
 use chacha20::rand_core::SeedableRng;
 use chacha20::variants::{Ietf, Legacy, Variant};
-use chacha20::{ChaChaCore, R20, Rounds, Steps, StreamCipherCoreWrapper, XChaChaCore};
+use chacha20::{ChaChaCore, R8, R12, R20, Rounds, Steps, XChaChaCore};
 use std::process::Abort;
 
 type IetfCore<B> = ChaChaCore<R20, Ietf, B>;
 
-type IetfCipher<B> = StreamCipherCoreWrapper<IetfCore<B>>;
-
 type LegacyCore<B> = ChaChaCore<R20, Legacy, B>;
-
-type LegacyCipher<B> = StreamCipherCoreWrapper<LegacyCore<B>>;
-
-type XChaChaCipher<B> = StreamCipherCoreWrapper<XChaChaCore<R20, B>>;
 
 // The number of the first row that isn't right, and the place of the check that fails in it.
 fn wrong(rows: &[(usize, Verdict)]) -> Option<(usize, usize)> {
@@ -37,16 +31,19 @@ fn wrong_cipher_row<B>() -> Option<(usize, usize)>
 where
     B: StreamCipherBackend<R20, Ietf> + StreamCipherBackend<R20, Legacy>,
 {
-    wrong(&ciphers::verdicts::<IetfCore<B>, LegacyCore<B>, XChaChaCipher<B>>())
+    wrong(&ciphers::verdicts::<IetfCore<B>, LegacyCore<B>, XChaChaCore<R20, B>>())
 }
 
 #[test]
 fn rows_of_ciphers(rt: HostRuntime) {
-    assert_eq!(rt; wrong_cipher_row::<Soft>(), None);
-    assert_eq!(rt; wrong_cipher_row::<Lanes4>(), None);
-    assert_eq!(rt; wrong_cipher_row::<Lanes8>(), None);
-    assert_eq!(rt; wrong_cipher_row::<Rows8>(), None);
-    assert_eq!(rt; wrong_cipher_row::<Lanes16>(), None);
+    let wrong_rows = [
+        wrong_cipher_row::<Soft>(),
+        wrong_cipher_row::<Lanes4>(),
+        wrong_cipher_row::<Lanes8>(),
+        wrong_cipher_row::<Rows8>(),
+        wrong_cipher_row::<Lanes16>(),
+    ];
+    assert_eq!(rt; wrong_rows, [None; 5]);
 }
 
 fn row_13<
@@ -57,20 +54,33 @@ fn row_13<
 
 #[test]
 fn rows_of_cores(rt: HostRuntime) {
-    assert_eq!(rt; row_13::<Soft>(), None);
-    assert_eq!(rt; row_13::<Lanes4>(), None);
-    assert_eq!(rt; row_13::<Lanes8>(), None);
-    assert_eq!(rt; row_13::<Rows8>(), None);
-    assert_eq!(rt; row_13::<Lanes16>(), None);
+    let verdicts = [
+        row_13::<Soft>(),
+        row_13::<Lanes4>(),
+        row_13::<Lanes8>(),
+        row_13::<Rows8>(),
+        row_13::<Lanes16>(),
+    ];
+    assert_eq!(rt; verdicts, [None; 5]);
+}
+
+fn wrong_generator_row<B>() -> Option<(usize, usize)>
+where
+    B: RngBackend<R8> + RngBackend<R12> + RngBackend<R20>,
+{
+    wrong(&generators::verdicts::<B>())
 }
 
 #[test]
 fn rows_of_generators(rt: HostRuntime) {
-    assert_eq!(rt; wrong(&generators::verdicts::<Soft>()), None);
-    assert_eq!(rt; wrong(&generators::verdicts::<Lanes4>()), None);
-    assert_eq!(rt; wrong(&generators::verdicts::<Lanes8>()), None);
-    assert_eq!(rt; wrong(&generators::verdicts::<Rows8>()), None);
-    assert_eq!(rt; wrong(&generators::verdicts::<Lanes16>()), None);
+    let wrong_rows = [
+        wrong_generator_row::<Soft>(),
+        wrong_generator_row::<Lanes4>(),
+        wrong_generator_row::<Lanes8>(),
+        wrong_generator_row::<Rows8>(),
+        wrong_generator_row::<Lanes16>(),
+    ];
+    assert_eq!(rt; wrong_rows, [None; 5]);
 }
 
 // The streams of ciphers; the legacy one between all places that are multiples of so many bytes.
@@ -78,9 +88,9 @@ fn streams_of_ciphers<B>(rt: &impl Abort, step: usize)
 where
     B: StreamCipherBackend<R20, Ietf> + StreamCipherBackend<R20, Legacy>,
 {
-    assert!(rt; streams::ietf_stream::<IetfCipher<B>>());
-    assert!(rt; streams::xchacha_stream::<XChaChaCipher<B>>());
-    assert_eq!(rt; streams::legacy_stream::<LegacyCipher<B>>(step), None);
+    assert!(rt; streams::ietf_stream::<IetfCore<B>>());
+    assert!(rt; streams::xchacha_stream::<XChaChaCore<R20, B>>());
+    assert_eq!(rt; streams::legacy_stream::<LegacyCore<B>>(step), None);
 }
 
 #[test]
@@ -205,21 +215,41 @@ fn wrong_words<R: Rounds, B: RngBackend<R>>() -> Option<usize> {
     None
 }
 
-fn beside_soft<R: Rounds, B>(rt: &impl Abort)
+// What goes wrong in cores beside those over the plain backend, in either layout.
+fn wrong_cores<R: Rounds, B>() -> [Option<usize>; 2]
 where
     B: StreamCipherBackend<R, Ietf> + StreamCipherBackend<R, Legacy> + RngBackend<R>,
 {
     let mut plain = ChaChaCore::<R, Ietf, Soft>::new(&COUNTING, &[7; 12]);
     let mut wide = ChaChaCore::<R, Ietf, B>::new(&COUNTING, &[7; 12]);
-    assert_eq!(rt; wrong_count(&mut wide, &mut plain, START), None);
-    let mut plain = ChaChaCore::<R, Legacy, Soft>::from_seed(COUNTING);
-    let mut wide = ChaChaCore::<R, Legacy, B>::from_seed(COUNTING);
-    assert_eq!(rt; wrong_count(&mut wide, &mut plain, u64::from(START)), None);
-    assert_eq!(rt; wrong_single_block::<R, Ietf, B>(), None);
-    assert_eq!(rt; wrong_single_block::<R, Legacy, B>(), None);
-    assert_eq!(rt; wrong_tail::<R, Ietf, B>(), None);
-    assert_eq!(rt; wrong_tail::<R, Legacy, B>(), None);
-    assert_eq!(rt; wrong_words::<R, B>(), None);
+    let mut plain_legacy = ChaChaCore::<R, Legacy, Soft>::from_seed(COUNTING);
+    let mut wide_legacy = ChaChaCore::<R, Legacy, B>::from_seed(COUNTING);
+    [
+        wrong_count(&mut wide, &mut plain, START),
+        wrong_count(&mut wide_legacy, &mut plain_legacy, u64::from(START)),
+    ]
+}
+
+// What goes wrong in the calls of a backend.
+fn wrong_calls<R: Rounds, B>() -> [Option<usize>; 5]
+where
+    B: StreamCipherBackend<R, Ietf> + StreamCipherBackend<R, Legacy> + RngBackend<R>,
+{
+    [
+        wrong_single_block::<R, Ietf, B>(),
+        wrong_single_block::<R, Legacy, B>(),
+        wrong_tail::<R, Ietf, B>(),
+        wrong_tail::<R, Legacy, B>(),
+        wrong_words::<R, B>(),
+    ]
+}
+
+fn beside_soft<R: Rounds, B>(rt: &impl Abort)
+where
+    B: StreamCipherBackend<R, Ietf> + StreamCipherBackend<R, Legacy> + RngBackend<R>,
+{
+    assert_eq!(rt; wrong_cores::<R, B>(), [None; 2]);
+    assert_eq!(rt; wrong_calls::<R, B>(), [None; 5]);
 }
 
 #[test]

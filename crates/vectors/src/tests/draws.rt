@@ -68,10 +68,10 @@ fn every_card_once(rt: HostRuntime) {
 fn drawn_again(rt: HostRuntime) {
     let mut first = ChaCha20Rng::from_seed([3; 32]);
     let mut second = ChaCha20Rng::from_seed([3; 32]);
-    assert_eq!(rt; rolls(&mut first), rolls(&mut second));
+    assert!(rt; rolls(&mut first) == rolls(&mut second));
     let mut restored = ChaCha20Rng::deserialize_state(&first.serialize_state());
     let deck = shuffled_deck(&mut first);
-    assert_eq!(rt; shuffled_deck(&mut second), deck);
-    assert_eq!(rt; shuffled_deck(&mut restored), deck);
-    assert_eq!(rt; restored, first);
+    assert!(rt; shuffled_deck(&mut second) == deck);
+    assert!(rt; shuffled_deck(&mut restored) == deck);
+    assert!(rt; restored == first);
 }

@@ -1,7 +1,7 @@
 //! Cores as makers of words, 64 at a time.
 
 use super::streams::{CARRY_BLOCKS, ZERO_SEED_WORDS};
-use crate::rows::R0;
+use crate::rows::{R0, failed};
 use chacha20::backends::Soft;
 use chacha20::rand_core::SeedableRng;
 use chacha20::variants::Legacy;
@@ -16,53 +16,77 @@ fn four_blocks<G: Generator<Output = [u32; 64]>>(core: &mut G) -> [u32; 64] {
     words
 }
 
-// Four blocks without rounds: each word of the start state, doubled. The last counter is followed by the first.
+// The 16 words of a zero seed's block without rounds: those of the start state, doubled. The counter's words are given.
+fn doubled(low: u32, high: u32) -> [u32; 16] {
+    [
+        0xc2e0_f0ca,
+        0x6640_c8dc,
+        0xf2c4_5a64,
+        0xd640_cae8,
+        0,
+        0,
+        0,
+        0,
+        0,
+        0,
+        0,
+        0,
+        low,
+        high,
+        0,
+        0,
+    ]
+}
+
+// The last counter is followed by the first.
 #[test]
 fn four_blocks_without_rounds(rt: HostRuntime) {
     let mut core = NoRounds::from_seed([0; 32]);
     core.set_block_pos(u64::MAX - 1);
     let words = four_blocks(&mut core);
-    let counters: [[u32; 2]; 4] = [
-        [0xffff_fffc, 0xffff_fffe],
-        [0xffff_fffe, 0xffff_fffe],
-        [0, 0],
-        [2, 0],
+    let expected = [
+        doubled(0xffff_fffc, 0xffff_fffe),
+        doubled(0xffff_fffe, 0xffff_fffe),
+        doubled(0, 0),
+        doubled(2, 0),
     ];
-    for i in 0..4usize {
-        let block = &words[16 * i..16 * i + 16];
-        assert_eq!(rt;
-            &block[..4],
-            [0xc2e0_f0ca, 0x6640_c8dc, 0xf2c4_5a64, 0xd640_cae8].as_slice()
-        );
-        assert_eq!(rt; &block[4..12], [0; 8].as_slice());
-        assert_eq!(rt; &block[12..14], counters[i].as_slice());
-        assert_eq!(rt; &block[14..], [0; 2].as_slice());
-    }
+    assert!(rt; words.as_slice() == expected.as_flattened());
     assert_eq!(rt; core.get_block_pos(), 2);
+}
+
+// The words of the four blocks from a counter on.
+fn words_from(core: &mut ChaCha20LegacyCore, counter: u64) -> [u32; 64] {
+    core.set_block_pos(counter);
+    four_blocks(core)
+}
+
+// Whether words begin with these bytes.
+fn begin_with(words: &[u32; 64], bytes: &[u8; 192]) -> bool {
+    let mut right = true;
+    for (word, four) in words.iter().zip(bytes.chunks_exact(4)) {
+        right &= word.to_le_bytes().as_slice() == four;
+    }
+    right
 }
 
 #[test]
 fn four_blocks_of_20_rounds(rt: HostRuntime) {
     let mut core = ChaCha20LegacyCore::from_seed([0; 32]);
-    assert_eq!(rt; &four_blocks(&mut core)[..16], ZERO_SEED_WORDS.as_slice());
-    assert_eq!(rt; core.get_block_pos(), 4);
-
+    let first = four_blocks(&mut core);
+    let after_first = core.get_block_pos();
     // The block with the greatest counter, and then the first.
-    core.set_block_pos(u64::MAX);
-    let words = four_blocks(&mut core);
-    assert_eq!(rt;
-        &words[..4],
-        [0xd88c_91d7, 0x32f8_0c62, 0xc052_2653, 0x53a5_014c].as_slice()
-    );
-    assert_eq!(rt; &words[16..32], ZERO_SEED_WORDS.as_slice());
-    assert_eq!(rt; core.get_block_pos(), 3);
-
+    let over_the_end = words_from(&mut core, u64::MAX);
+    let after_the_end = core.get_block_pos();
     // The counter's low word is full.
-    core.set_block_pos(0xffff_ffff);
-    let words = four_blocks(&mut core);
-    let bytes = CARRY_BLOCKS.as_slice();
-    for i in 0..48usize {
-        assert_eq!(rt; words[i].to_le_bytes().as_slice(), &bytes[4 * i..4 * i + 4]);
-    }
-    assert_eq!(rt; core.get_block_pos(), 0x1_0000_0003);
+    let with_carry = words_from(&mut core, 0xffff_ffff);
+    let right = failed(&[
+        first.starts_with(&ZERO_SEED_WORDS),
+        after_first == 4,
+        over_the_end.starts_with(&[0xd88c_91d7, 0x32f8_0c62, 0xc052_2653, 0x53a5_014c]),
+        over_the_end[16..].starts_with(&ZERO_SEED_WORDS),
+        after_the_end == 3,
+        begin_with(&with_carry, CARRY_BLOCKS),
+        core.get_block_pos() == 0x1_0000_0003,
+    ]);
+    assert_eq!(rt; right, None);
 }

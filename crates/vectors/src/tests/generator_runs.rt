@@ -1,11 +1,10 @@
 //! A run on the generator without rounds, and rows of generators as lists of calls, over each backend.
 
-use crate::rows::R0;
+use crate::rows::{R0, Verdict, failed};
 use chacha20::backends::{Lanes4, Lanes8, Lanes16, Rows8, Soft};
 use chacha20::cipher::RngBackend;
 use chacha20::runs::{RngAnswer, RngCall, run_rng};
 use chacha20::{ChaChaRng, R20, SerializedRngState};
-use std::process::Abort;
 
 type ZeroGenerator<B> = ChaChaRng<R0, B>;
 
@@ -14,32 +13,38 @@ const STREAM: u64 = 0x8000_0001_0000_0003;
 // 2^68 + 14, which is position 14.
 const PAST_THE_LAST: u128 = 295147905179352825870;
 
-fn run_directly<B: RngBackend<R0>>(rt: &impl Abort) {
+fn run_directly<B: RngBackend<R0>>() -> Verdict {
     let mut rng = ZeroGenerator::<B>::from_seed([0; 32]);
     rng.set_stream(STREAM);
     rng.set_word_pos(PAST_THE_LAST);
-    assert_eq!(rt; rng.next_u64(), 0x0000_0002_0000_0006);
-    assert_eq!(rt; rng.get_word_pos(), 16);
-    assert_eq!(rt; rng.get_block_pos(), 1);
+    let words = rng.next_u64();
+    let positions = (rng.get_word_pos(), rng.get_block_pos());
     let mut data = [0; 5];
     rng.fill_bytes(&mut data);
-    assert_eq!(rt; data, *b"\xca\xf0\xe0\xc2\xdc");
     let rng = ZeroGenerator::<B>::deserialize_state(&rng.serialize_state());
-    assert_eq!(rt; rng.get_word_pos(), 18);
-    assert_eq!(rt; rng.get_block_pos(), 1);
-    assert_eq!(rt; rng.get_stream(), STREAM);
+    failed(&[
+        words == 0x0000_0002_0000_0006,
+        positions == (16, 1),
+        data == *b"\xca\xf0\xe0\xc2\xdc",
+        rng.get_word_pos() == 18,
+        rng.get_block_pos() == 1,
+        rng.get_stream() == STREAM,
+    ])
 }
 
 #[test]
 fn directly(rt: HostRuntime) {
-    run_directly::<Soft>(&rt);
-    run_directly::<Lanes4>(&rt);
-    run_directly::<Lanes8>(&rt);
-    run_directly::<Rows8>(&rt);
-    run_directly::<Lanes16>(&rt);
+    let verdicts = [
+        run_directly::<Soft>(),
+        run_directly::<Lanes4>(),
+        run_directly::<Lanes8>(),
+        run_directly::<Rows8>(),
+        run_directly::<Lanes16>(),
+    ];
+    assert_eq!(rt; verdicts, [None; 5]);
 }
 
-fn run_as_a_list<B: RngBackend<R0>>(rt: &impl Abort) {
+fn run_as_a_list<B: RngBackend<R0>>() -> Verdict {
     let mut rng = ZeroGenerator::<B>::from_seed([0; 32]);
     let mut data = [0; 5];
     let calls = [
@@ -56,7 +61,6 @@ fn run_as_a_list<B: RngBackend<R0>>(rt: &impl Abort) {
     ];
     let mut answers = [RngAnswer::U32(7); 10];
     run_rng(&mut rng, &mut data, &calls, &mut answers);
-    assert_eq!(rt; data, *b"\xca\xf0\xe0\xc2\xdc");
     let expected = [
         RngAnswer::Done,
         RngAnswer::Done,
@@ -69,11 +73,11 @@ fn run_as_a_list<B: RngBackend<R0>>(rt: &impl Abort) {
         RngAnswer::U64(1),
         RngAnswer::U64(STREAM),
     ];
-    assert_eq!(rt; answers, expected);
+    failed(&[data == *b"\xca\xf0\xe0\xc2\xdc", answers == expected])
 }
 
 // Row 20: two words around the wrap.
-fn row_20_as_a_list<B: RngBackend<R20>>(rt: &impl Abort) {
+fn row_20_as_a_list<B: RngBackend<R20>>() -> Verdict {
     let calls = [
         RngCall::SetWordPos((1 << 68) - 64),
         RngCall::Fill { at: 0, len: 252 },
@@ -89,11 +93,11 @@ fn row_20_as_a_list<B: RngBackend<R20>>(rt: &impl Abort) {
         RngAnswer::U64(0xade0_b876_8976_b107),
         RngAnswer::U128(1),
     ];
-    assert_eq!(rt; answers, expected);
+    failed(&[answers == expected])
 }
 
 // Row 21: another stream of the same seed.
-fn row_21_as_a_list<B: RngBackend<R20>>(rt: &impl Abort) {
+fn row_21_as_a_list<B: RngBackend<R20>>() -> Verdict {
     let calls = [
         RngCall::Fill { at: 0, len: 16 },
         RngCall::NextU32,
@@ -113,22 +117,27 @@ fn row_21_as_a_list<B: RngBackend<R20>>(rt: &impl Abort) {
         RngAnswer::Seed([0; 32]),
         RngAnswer::U32(0x374d_c6c2),
     ];
-    assert_eq!(rt; answers, expected);
+    failed(&[answers == expected])
 }
 
-fn all_as_lists<B: RngBackend<R0> + RngBackend<R20>>(rt: &impl Abort) {
-    run_as_a_list::<B>(rt);
-    row_20_as_a_list::<B>(rt);
-    row_21_as_a_list::<B>(rt);
+fn all_as_lists<B: RngBackend<R0> + RngBackend<R20>>() -> [Verdict; 3] {
+    [
+        run_as_a_list::<B>(),
+        row_20_as_a_list::<B>(),
+        row_21_as_a_list::<B>(),
+    ]
 }
 
 #[test]
 fn as_lists(rt: HostRuntime) {
-    all_as_lists::<Soft>(&rt);
-    all_as_lists::<Lanes4>(&rt);
-    all_as_lists::<Lanes8>(&rt);
-    all_as_lists::<Rows8>(&rt);
-    all_as_lists::<Lanes16>(&rt);
+    let verdicts = [
+        all_as_lists::<Soft>(),
+        all_as_lists::<Lanes4>(),
+        all_as_lists::<Lanes8>(),
+        all_as_lists::<Rows8>(),
+        all_as_lists::<Lanes16>(),
+    ];
+    assert_eq!(rt; verdicts, [[None; 3]; 5]);
 }
 
 // The calls that the run above doesn't make.

@@ -1,15 +1,13 @@
 //! Generators through the traits of `rand_core`, as generic code uses them.
 
-use crate::rows::{FROM_1, R0};
+use crate::rows::{FROM_1, R0, Verdict, failed};
 use chacha20::backends::{Lanes4, Lanes8, Lanes16, Rows8, Soft};
 use chacha20::cipher::{RngBackend, StreamCipherCore};
 use chacha20::rand_core::{self, CryptoRng, Rng, SeedableRng, TryRng};
 use chacha20::{ChaCha8Rng, ChaCha12Rng, ChaCha20LegacyCore, ChaCha20Rng, ChaChaRng, R20, Seed};
-use std::process::Abort;
-use std::test::Fail;
 
 // What a list of reads answers: a word, two words, 5 bytes, no bytes, a word.
-#[derive(Clone, Copy, Debug, PartialEq, Eq)]
+#[derive(Clone, Copy, PartialEq, Eq)]
 struct Answers {
     word: u32,
     two_words: u64,
@@ -55,21 +53,25 @@ fn try_reads<G: TryRng>(rng: &mut G) -> Result<Answers, G::Error> {
     })
 }
 
-fn reads_without_rounds<B: RngBackend<R0>>(rt: &impl Abort) -> Result<(), Fail> {
+fn reads_without_rounds<B: RngBackend<R0>>() -> Verdict {
     let mut rng = ChaChaRng::<R0, B>::from_seed([0; 32]);
-    assert_eq!(rt; reads(&mut rng), WORKED);
-    let mut rng = ChaChaRng::<R0, B>::from_seed([0; 32]);
-    assert_eq!(rt; try_reads(&mut rng)?, WORKED);
-    Ok(())
+    let mut other = ChaChaRng::<R0, B>::from_seed([0; 32]);
+    failed(&[
+        reads(&mut rng) == WORKED,
+        try_reads(&mut other) == Ok(WORKED),
+    ])
 }
 
 #[test]
-fn without_rounds(rt: HostRuntime) -> Result<(), Fail> {
-    reads_without_rounds::<Soft>(&rt)?;
-    reads_without_rounds::<Lanes4>(&rt)?;
-    reads_without_rounds::<Lanes8>(&rt)?;
-    reads_without_rounds::<Rows8>(&rt)?;
-    reads_without_rounds::<Lanes16>(&rt)
+fn without_rounds(rt: HostRuntime) {
+    let verdicts = [
+        reads_without_rounds::<Soft>(),
+        reads_without_rounds::<Lanes4>(),
+        reads_without_rounds::<Lanes8>(),
+        reads_without_rounds::<Rows8>(),
+        reads_without_rounds::<Lanes16>(),
+    ];
+    assert_eq!(rt; verdicts, [None; 5]);
 }
 
 // Two reads of 13 bytes.
@@ -87,27 +89,31 @@ fn try_fills<G: TryRng>(rng: &mut G) -> Result<[[u8; 13]; 2], G::Error> {
     Ok(bytes)
 }
 
-fn reads_of_row_7<B: RngBackend<R20>>(rt: &impl Abort) -> Result<(), Fail> {
+fn reads_of_row_7<B: RngBackend<R20>>() -> Verdict {
     let expected = [
         *b"\xb1\x69\x7e\x9f\xc6\x46\x1e\x19\x83\xd1\x31\xcf\x69",
         *b"\xa7\xa3\xfc\x13\x4f\x14\x98\x80\xe8\xbb\x2b\x5d\x23",
     ];
     let mut rng = ChaChaRng::<R20, B>::from_seed(FROM_1);
-    assert_eq!(rt; fills(&mut rng), expected);
-    assert_eq!(rt; rng.get_word_pos(), 8);
-    let mut rng = ChaChaRng::<R20, B>::from_seed(FROM_1);
-    assert_eq!(rt; try_fills(&mut rng)?, expected);
-    assert_eq!(rt; rng.get_word_pos(), 8);
-    Ok(())
+    let mut other = ChaChaRng::<R20, B>::from_seed(FROM_1);
+    failed(&[
+        fills(&mut rng) == expected,
+        rng.get_word_pos() == 8,
+        try_fills(&mut other) == Ok(expected),
+        other.get_word_pos() == 8,
+    ])
 }
 
 #[test]
-fn row_7(rt: HostRuntime) -> Result<(), Fail> {
-    reads_of_row_7::<Soft>(&rt)?;
-    reads_of_row_7::<Lanes4>(&rt)?;
-    reads_of_row_7::<Lanes8>(&rt)?;
-    reads_of_row_7::<Rows8>(&rt)?;
-    reads_of_row_7::<Lanes16>(&rt)
+fn row_7(rt: HostRuntime) {
+    let verdicts = [
+        reads_of_row_7::<Soft>(),
+        reads_of_row_7::<Lanes4>(),
+        reads_of_row_7::<Lanes8>(),
+        reads_of_row_7::<Rows8>(),
+        reads_of_row_7::<Lanes16>(),
+    ];
+    assert_eq!(rt; verdicts, [None; 5]);
 }
 
 // A generator that another one seeds.
@@ -132,27 +138,31 @@ fn of_number<G: SeedableRng>(number: u64) -> G {
     G::seed_from_u64(number)
 }
 
+// The first block of a core, and of a generator.
+fn first_block(number: u64) -> [u8; 64] {
+    let mut block = [0; 64];
+    of_number::<ChaCha20LegacyCore>(number).write_keystream_block(&mut block);
+    block
+}
+
+fn first_bytes(seed: Seed) -> [u8; 64] {
+    let mut bytes = [0; 64];
+    ChaCha20Rng::from_seed(seed).fill_bytes(&mut bytes);
+    bytes
+}
+
 // The seed of a number is the one that rand_core makes of it.
 #[test]
 fn seed_from_u64(rt: HostRuntime) {
     for number in [0, 1, 0x0123_4567_89ab_cdef, u64::MAX] {
         let seed: Seed = rand_core::Seed::from_u64(number);
-        assert_eq!(rt;
-            of_number::<ChaCha8Rng>(number),
-            ChaCha8Rng::from_seed(seed)
-        );
-        assert_eq!(rt;
-            of_number::<ChaCha12Rng>(number),
-            ChaCha12Rng::from_seed(seed)
-        );
-        let mut rng = of_number::<ChaCha20Rng>(number);
-        assert_eq!(rt; rng, ChaCha20Rng::from_seed(seed));
-        let mut core = of_number::<ChaCha20LegacyCore>(number);
-        let mut block = [0; 64];
-        let mut words = [0; 64];
-        core.write_keystream_block(&mut block);
-        rng.fill_bytes(&mut words);
-        assert_eq!(rt; block, words);
+        let right = failed(&[
+            of_number::<ChaCha8Rng>(number) == ChaCha8Rng::from_seed(seed),
+            of_number::<ChaCha12Rng>(number) == ChaCha12Rng::from_seed(seed),
+            of_number::<ChaCha20Rng>(number) == ChaCha20Rng::from_seed(seed),
+            first_block(number) == first_bytes(seed),
+        ]);
+        assert_eq!(rt; right, None, "of {number}");
     }
 }
 

@@ -22,12 +22,23 @@ where
 
 #[test]
 fn sizes_of_cores(rt: HostRuntime) {
-    assert_eq!(rt; sizes::<ChaChaCore<R8, Ietf, Soft>>(), [64, 32, 12, 1]);
-    assert_eq!(rt; sizes::<ChaChaCore<R12, Ietf, Lanes4>>(), [64, 32, 12, 4]);
-    assert_eq!(rt; sizes::<ChaChaCore<R20, Legacy, Lanes8>>(), [64, 32, 8, 4]);
-    assert_eq!(rt; sizes::<ChaCha20LegacyCore>(), [64, 32, 8, 16]);
-    assert_eq!(rt; sizes::<XChaChaCore<R20, Rows8>>(), [64, 32, 24, 8]);
-    assert_eq!(rt; sizes::<XChaChaCore<R20, Lanes16>>(), [64, 32, 24, 16]);
+    let found = [
+        sizes::<ChaChaCore<R8, Ietf, Soft>>(),
+        sizes::<ChaChaCore<R12, Ietf, Lanes4>>(),
+        sizes::<ChaChaCore<R20, Legacy, Lanes8>>(),
+        sizes::<ChaCha20LegacyCore>(),
+        sizes::<XChaChaCore<R20, Rows8>>(),
+        sizes::<XChaChaCore<R20, Lanes16>>(),
+    ];
+    let expected = [
+        [64, 32, 12, 1],
+        [64, 32, 12, 4],
+        [64, 32, 8, 4],
+        [64, 32, 8, 16],
+        [64, 32, 24, 8],
+        [64, 32, 24, 16],
+    ];
+    assert_eq!(rt; found, expected);
 }
 
 fn number<C: StreamCipherCounter>(counter: C) -> u64 {
@@ -66,11 +77,14 @@ fn first_word<G: Generator<Output = [u32; 64]>>(core: &mut G) -> u32 {
 
 #[test]
 fn cores(rt: HostRuntime) {
-    assert_eq!(rt; after_block::<R8, Ietf, Lanes4>(), 1);
-    assert_eq!(rt; word_of_zeros::<R12, Rows8>(), 0);
     let mut core = ChaCha20LegacyCore::from_seed([0; 32]);
-    assert_eq!(rt; first_word(&mut core), 0xade0_b876);
-    assert_eq!(rt; after_core_block(&mut core), 5);
+    let word = first_word(&mut core);
+    assert_eq!(rt; [word, word_of_zeros::<R12, Rows8>()], [0xade0_b876, 0]);
+    let counters = [
+        after_block::<R8, Ietf, Lanes4>(),
+        after_core_block(&mut core),
+    ];
+    assert_eq!(rt; counters, [1, 5]);
 }
 
 // By a new cipher: the four bytes from a position on.
@@ -90,37 +104,52 @@ fn position<C: StreamCipherSeek>(cipher: &C) -> Result<i32, OverflowError> {
     cipher.try_current_pos()
 }
 
+// By a cipher over any core: the next four bytes.
+fn next_bytes<K: StreamCipherSeekCore>(cipher: &mut StreamCipherCoreWrapper<K>) -> [u8; 4] {
+    let mut bytes = [0; 4];
+    let _ = cipher.try_apply_keystream(&mut bytes);
+    bytes
+}
+
 #[test]
 fn ciphers(rt: HostRuntime) {
     let key: Key = [0; 32];
     let nonce: Nonce = [0; 12];
     let legacy_nonce: LegacyNonce = [0; 8];
+    let found = [
+        bytes_from::<ChaCha20, u32>(&key, &nonce, 0),
+        Ok(next_bytes(&mut ChaCha8::new(&key, &nonce))),
+        Ok(next_bytes(&mut ChaCha12::new(&key, &nonce))),
+        Ok(next_bytes(&mut ChaCha20Legacy::new(&key, &legacy_nonce))),
+    ];
+    let expected = [
+        Ok(*b"\x76\xb8\xe0\xad"),
+        Ok(*b"\x3e\x00\xef\x2f"),
+        Ok(*b"\x9b\xf4\x9a\x6a"),
+        Ok(*b"\x76\xb8\xe0\xad"),
+    ];
+    assert_eq!(rt; found, expected);
+}
+
+#[test]
+fn x_ciphers(rt: HostRuntime) {
+    let key: Key = [0; 32];
     let x_nonce: XNonce = [0; 24];
-    let of_8 = Ok(*b"\x3e\x00\xef\x2f");
-    let of_12 = Ok(*b"\x9b\xf4\x9a\x6a");
-    let of_20 = Ok(*b"\x76\xb8\xe0\xad");
-    assert_eq!(rt; bytes_from::<ChaCha8, u32>(&key, &nonce, 0), of_8);
-    assert_eq!(rt; bytes_from::<ChaCha12, u64>(&key, &nonce, 0), of_12);
-    assert_eq!(rt; bytes_from::<ChaCha20, usize>(&key, &nonce, 0), of_20);
+    let x_ciphers = [
+        next_bytes(&mut XChaCha8::new(&key, &x_nonce)),
+        next_bytes(&mut XChaCha12::new(&key, &x_nonce)),
+        next_bytes(&mut XChaCha20::new(&key, &x_nonce)),
+    ];
     assert_eq!(rt;
-        bytes_from::<ChaCha20Legacy, u128>(&key, &legacy_nonce, 0),
-        of_20
+        x_ciphers,
+        [derived::<R8>(), derived::<R12>(), derived::<R20>()]
     );
-    let subkey = hchacha::<R8>(&key, &[0; 16]);
-    assert_eq!(rt;
-        bytes_from::<XChaCha8, u32>(&key, &x_nonce, 0),
-        bytes_from::<ChaCha8, u32>(&subkey, &nonce, 0)
-    );
-    let subkey = hchacha::<R12>(&key, &[0; 16]);
-    assert_eq!(rt;
-        bytes_from::<XChaCha12, u32>(&key, &x_nonce, 0),
-        bytes_from::<ChaCha12, u32>(&subkey, &nonce, 0)
-    );
-    let subkey = hchacha::<R20>(&key, &[0; 16]);
-    assert_eq!(rt;
-        bytes_from::<XChaCha20, u32>(&key, &x_nonce, 0),
-        bytes_from::<ChaCha20, u32>(&subkey, &nonce, 0)
-    );
+}
+
+// By a derived key: the first bytes of a cipher whose key and nonce are zeros.
+fn derived<R: Rounds>() -> [u8; 4] {
+    let subkey = hchacha::<R>(&[0; 32], &[0; 16]);
+    next_bytes(&mut StreamCipherCoreWrapper::<ChaChaCore<R, Ietf, Soft>>::new(&subkey, &[0; 12]))
 }
 
 // The same items by the root and by its modules.
@@ -137,7 +166,7 @@ fn modules(rt: HostRuntime) {
         &[CipherCall::Seek(7)],
         &mut answers,
     );
-    assert_eq!(rt; position(&cipher), Ok(7));
+    let by_root = cipher.try_current_pos();
     let same: &mut cipher::StreamCipherCoreWrapper<
         ChaChaCore<R20, variants::Ietf, backends::Soft>,
     > = &mut cipher;
@@ -149,7 +178,7 @@ fn modules(rt: HostRuntime) {
         &[runs::CipherCall::Seek(9)],
         &mut answers,
     );
-    assert_eq!(rt; position_by_module(same), Ok(9));
+    assert_eq!(rt; [by_root, position_by_module(same)], [Ok(7), Ok(9)]);
 }
 
 fn position_by_module<C: cipher::StreamCipherSeek>(
@@ -162,9 +191,12 @@ fn position_by_module<C: cipher::StreamCipherSeek>(
 fn generators(rt: HostRuntime) {
     let seed: Seed = [0; 32];
     let state: SerializedRngState = [0; 49];
-    assert_eq!(rt; ChaCha8Rng::from_seed(seed).next_u32(), 0x2fef_003e);
-    assert_eq!(rt; ChaCha12Rng::from_seed(seed).next_u32(), 0x6a9a_f49b);
-    assert_eq!(rt; ChaCha20Rng::from_seed(seed).serialize_state(), state);
+    let words = [
+        ChaCha8Rng::from_seed(seed).next_u32(),
+        ChaCha12Rng::from_seed(seed).next_u32(),
+    ];
+    assert_eq!(rt; words, [0x2fef_003e, 0x6a9a_f49b]);
+    assert!(rt; ChaCha20Rng::from_seed(seed).serialize_state() == state);
     let mut rng = ChaChaRng::<R20, Lanes16>::deserialize_state(&state);
     let mut answers = [RngAnswer::Done];
     run_rng(&mut rng, &mut [], &[RngCall::NextU32], &mut answers);

@@ -1,10 +1,11 @@
 //! Positions, in each type that can say them.
 
-use crate::rows::COUNTING;
-use chacha20::ChaCha20;
+use crate::rows::{COUNTING, Verdict, failed};
 use chacha20::cipher::{
     KeyIvInit, OverflowError, SeekNum, StreamCipher, StreamCipherError, StreamCipherSeek,
+    StreamCipherSeekCore,
 };
+use chacha20::{ChaCha20, StreamCipherCoreWrapper};
 use std::test::Fail;
 
 const LIMIT: u64 = 274877906880;
@@ -19,101 +20,120 @@ const PLACES: [u64; 6] = [
     LIMIT,
 ];
 
+// A cipher answers its position in each type that can say it, and an error in each other.
+fn answers<K: StreamCipherSeekCore>(cipher: &StreamCipherCoreWrapper<K>, place: u64) -> Verdict {
+    failed(&[
+        cipher.try_current_pos() == i32::try_from(place).map_err(|_| OverflowError),
+        cipher.try_current_pos() == u32::try_from(place).map_err(|_| OverflowError),
+        cipher.try_current_pos() == Ok(place),
+        cipher.try_current_pos() == Ok(u128::from(place)),
+        cipher.try_current_pos() == Ok(place as usize),
+    ])
+}
+
 #[test]
 fn answered_in_each_type(rt: HostRuntime) -> Result<(), Fail> {
     let mut cipher = ChaCha20::new(&COUNTING, &[0; 12]);
     for place in PLACES {
         cipher.try_seek(place)?;
-        assert_eq!(rt;
-            cipher.try_current_pos(),
-            i32::try_from(place).map_err(|_| OverflowError)
-        );
-        assert_eq!(rt;
-            cipher.try_current_pos(),
-            u32::try_from(place).map_err(|_| OverflowError)
-        );
-        assert_eq!(rt; cipher.try_current_pos(), Ok(place));
-        assert_eq!(rt; cipher.try_current_pos(), Ok(u128::from(place)));
-        assert_eq!(rt; cipher.try_current_pos(), Ok(place as usize));
+        assert_eq!(rt; answers(&cipher, place), None, "at {place}");
     }
     Ok(())
 }
 
-// A seek in a type, from another position.
-fn sought<T: SeekNum>(number: T) -> Result<u64, Fail> {
+// Whether a seek in a type, from another position, comes to a place.
+fn is_sought<T: SeekNum>(number: T, place: u64) -> bool {
     let mut cipher = ChaCha20::new(&COUNTING, &[0; 12]);
-    cipher.try_seek(70u32)?;
-    cipher.try_seek(number)?;
-    Ok(cipher.try_current_pos()?)
+    cipher.try_seek(70u32).is_ok()
+        && cipher.try_seek(number).is_ok()
+        && cipher.try_current_pos() == Ok(place)
+}
+
+// A place is sought in each type that can say it.
+fn sought(place: u64) -> Verdict {
+    failed(&[
+        is_sought(place, place),
+        is_sought(u128::from(place), place),
+        is_sought(place as usize, place),
+        match u32::try_from(place) {
+            Ok(number) => is_sought(number, place),
+            Err(_) => true,
+        },
+        match i32::try_from(place) {
+            Ok(number) => is_sought(number, place),
+            Err(_) => true,
+        },
+    ])
 }
 
 #[test]
-fn sought_in_each_type(rt: HostRuntime) -> Result<(), Fail> {
+fn sought_in_each_type(rt: HostRuntime) {
     for place in PLACES {
-        assert_eq!(rt; sought(place)?, place);
-        assert_eq!(rt; sought(u128::from(place))?, place);
-        assert_eq!(rt; sought(place as usize)?, place);
-        if let Ok(number) = u32::try_from(place) {
-            assert_eq!(rt; sought(number)?, place);
-        }
-        if let Ok(number) = i32::try_from(place) {
-            assert_eq!(rt; sought(number)?, place);
-        }
+        assert_eq!(rt; sought(place), None, "at {place}");
     }
-    Ok(())
 }
 
 // Refused seeks leave the position.
+fn refuses_seeks<K: StreamCipherSeekCore>(cipher: &mut StreamCipherCoreWrapper<K>) -> Verdict {
+    failed(&[
+        cipher.try_seek(70u32) == Ok(()),
+        cipher.try_seek(-1i32) == Err(StreamCipherError),
+        cipher.try_seek(LIMIT + 1) == Err(StreamCipherError),
+        cipher.try_seek(u128::MAX) == Err(StreamCipherError),
+        cipher.try_current_pos() == Ok(70u32),
+    ])
+}
+
 #[test]
 fn refused_seeks(rt: HostRuntime) {
     let mut cipher = ChaCha20::new(&COUNTING, &[0; 12]);
-    assert_eq!(rt; cipher.try_seek(70u32), Ok(()));
-    assert_eq!(rt; cipher.try_seek(-1i32), Err(StreamCipherError));
-    assert_eq!(rt; cipher.try_seek(LIMIT + 1), Err(StreamCipherError));
-    assert_eq!(rt; cipher.try_seek(u128::MAX), Err(StreamCipherError));
-    assert_eq!(rt; cipher.try_current_pos(), Ok(70u32));
+    assert_eq!(rt; refuses_seeks(&mut cipher), None);
 }
 
 // At the limit nothing can be taken, and nothing changes.
+fn ends_at_the_limit<K: StreamCipherSeekCore>(cipher: &mut StreamCipherCoreWrapper<K>) -> Verdict {
+    let mut byte = [7];
+    failed(&[
+        cipher.try_seek(LIMIT) == Ok(()),
+        cipher.try_apply_keystream(&mut []) == Ok(()),
+        cipher.try_apply_keystream(&mut byte) == Err(StreamCipherError),
+        cipher.try_write_keystream(&mut byte) == Err(StreamCipherError),
+        cipher.try_apply_keystream_b2b(&[1], &mut byte) == Err(StreamCipherError),
+        byte == [7],
+        cipher.try_current_pos() == Ok(LIMIT),
+    ])
+}
+
 #[test]
 fn at_the_limit(rt: HostRuntime) {
     let mut cipher = ChaCha20::new(&COUNTING, &[0; 12]);
-    assert_eq!(rt; cipher.try_seek(LIMIT), Ok(()));
-    let mut byte = [7];
-    assert_eq!(rt; cipher.try_apply_keystream(&mut []), Ok(()));
-    assert_eq!(rt;
-        cipher.try_apply_keystream(&mut byte),
-        Err(StreamCipherError)
-    );
-    assert_eq!(rt;
-        cipher.try_write_keystream(&mut byte),
-        Err(StreamCipherError)
-    );
-    assert_eq!(rt;
-        cipher.try_apply_keystream_b2b(&[1], &mut byte),
-        Err(StreamCipherError)
-    );
-    assert_eq!(rt; byte, [7]);
-    assert_eq!(rt; cipher.try_current_pos(), Ok(LIMIT));
+    assert_eq!(rt; ends_at_the_limit(&mut cipher), None);
 }
 
 // Writing, two slices and applying give the same bytes, over several pieces and from the middle of a block on.
-#[test]
-fn written_and_between_slices(rt: HostRuntime) -> Result<(), Fail> {
+fn gives_the_same<K: StreamCipherSeekCore>(cipher: &mut StreamCipherCoreWrapper<K>) -> Verdict {
     let mut applied = [0; 70000];
     let mut written = [1; 70000];
     let mut between = [2; 70000];
+    failed(&[
+        cipher.try_seek(13u32).is_ok(),
+        cipher.try_apply_keystream(&mut applied).is_ok(),
+        cipher.try_seek(13u32).is_ok(),
+        cipher.try_write_keystream(&mut written).is_ok(),
+        cipher.try_seek(13u32).is_ok(),
+        cipher
+            .try_apply_keystream_b2b(&[0; 70000], &mut between)
+            .is_ok(),
+        applied == written,
+        applied == between,
+        cipher.try_current_pos() == Ok(70013u32),
+    ])
+}
+
+#[test]
+fn written_and_between_slices(rt: HostRuntime) {
     let mut cipher = ChaCha20::new(&COUNTING, &[0; 12]);
-    cipher.try_seek(13u32)?;
-    cipher.try_apply_keystream(&mut applied)?;
-    cipher.try_seek(13u32)?;
-    cipher.try_write_keystream(&mut written)?;
-    cipher.try_seek(13u32)?;
-    cipher.try_apply_keystream_b2b(&[0; 70000], &mut between)?;
-    assert!(rt; applied == written);
-    assert!(rt; applied == between);
-    assert_eq!(rt; cipher.try_current_pos(), Ok(70013u32));
-    Ok(())
+    assert_eq!(rt; gives_the_same(&mut cipher), None);
 }
 
 // The forms that leave the refusals to the caller.
@@ -122,14 +142,18 @@ fn without_refusals(rt: HostRuntime) {
     let mut cipher = ChaCha20::new(&[0; 32], &[0; 12]);
     let mut written = [9; 4];
     cipher.write_keystream(&mut written);
-    assert_eq!(rt; written, *b"\x76\xb8\xe0\xad");
-    assert_eq!(rt; cipher.current_pos::<u64>(), 4);
+    let after_written = cipher.current_pos::<u64>();
     cipher.seek(2u32);
     let mut applied = [0; 2];
     cipher.apply_keystream(&mut applied);
-    assert_eq!(rt; applied, *b"\xe0\xad");
     cipher.seek(0i32);
     let mut between = [9; 2];
     cipher.apply_keystream_b2b(&[0, 0], &mut between);
-    assert_eq!(rt; between, *b"\x76\xb8");
+    let right = failed(&[
+        written == *b"\x76\xb8\xe0\xad",
+        after_written == 4,
+        applied == *b"\xe0\xad",
+        between == *b"\x76\xb8",
+    ]);
+    assert_eq!(rt; right, None);
 }

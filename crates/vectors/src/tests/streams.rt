@@ -2,24 +2,26 @@
 
 ghost use Rattle.std.specs.Prelude.{◌≤◌};
 
-use crate::rows::ciphers::SeekCipher;
+use crate::rows::ciphers::SeekCore;
 use crate::rows::{COUNTING, FROM_1, LEGACY_NONCE};
-use chacha20::cipher::{RngBackend, StreamCipherError};
-use chacha20::{ChaChaRng, Key, LegacyNonce, Nonce, R20, Seed, XNonce};
+use chacha20::cipher::{
+    KeyIvInit, RngBackend, StreamCipher, StreamCipherError, StreamCipherSeek, StreamCipherSeekCore,
+};
+use chacha20::{ChaChaRng, Key, LegacyNonce, Nonce, R20, Seed, StreamCipherCoreWrapper, XNonce};
 
 /// The keystream of RFC 8439, section 2.4.2: two blocks and a last part.
-pub fn ietf_stream<C: SeekCipher<Nonce>>() -> bool {
+pub fn ietf_stream<K: SeekCore<Nonce, u32>>() -> bool {
     let mut stream = [0; 178];
-    C::new(&COUNTING, &NONCE)
+    StreamCipherCoreWrapper::<K>::new(&COUNTING, &NONCE)
         .try_apply_keystream(&mut stream)
         .is_ok()
         && stream.ends_with(IETF_FROM_64)
 }
 
 /// XChaCha20 from block 1 on.
-pub fn xchacha_stream<C: SeekCipher<XNonce>>() -> bool {
+pub fn xchacha_stream<X: SeekCore<XNonce, u32>>() -> bool {
     let mut stream = [0; 368];
-    C::new(&X_KEY, &X_NONCE)
+    StreamCipherCoreWrapper::<X>::new(&X_KEY, &X_NONCE)
         .try_apply_keystream(&mut stream)
         .is_ok()
         && stream.ends_with(XCHACHA_FROM_64)
@@ -27,8 +29,8 @@ pub fn xchacha_stream<C: SeekCipher<XNonce>>() -> bool {
 
 /// Four blocks with a nonce of 8 bytes, between any three places that are multiples of so many bytes, in two parts.
 /// It answers the first places between which the stream is wrong.
-pub fn legacy_stream<C: SeekCipher<LegacyNonce>>(step: usize) -> Option<[usize; 3]> {
-    let mut cipher = C::new(&FROM_1, &LEGACY_NONCE);
+pub fn legacy_stream<L: SeekCore<LegacyNonce, u64>>(step: usize) -> Option<[usize; 3]> {
+    let mut cipher = StreamCipherCoreWrapper::<L>::new(&FROM_1, &LEGACY_NONCE);
     for from in 0..256usize {
         if is_place(from, step) {
             for middle in from..256 {
@@ -48,8 +50,8 @@ fn is_place(byte: usize, step: usize) -> bool {
 }
 
 // The first place, from the middle on, to which the stream is wrong.
-fn wrong_last<C: SeekCipher<LegacyNonce>>(
-    cipher: &mut C,
+fn wrong_last<L: StreamCipherSeekCore>(
+    cipher: &mut StreamCipherCoreWrapper<L>,
     from: usize,
     middle: usize,
     step: usize,
@@ -64,8 +66,8 @@ fn wrong_last<C: SeekCipher<LegacyNonce>>(
     None
 }
 
-fn is_part_of_legacy<C: SeekCipher<LegacyNonce>>(
-    cipher: &mut C,
+fn is_part_of_legacy<L: StreamCipherSeekCore>(
+    cipher: &mut StreamCipherCoreWrapper<L>,
     from: usize,
     middle: usize,
     last: usize,
@@ -77,20 +79,16 @@ fn is_part_of_legacy<C: SeekCipher<LegacyNonce>>(
     let stream = LEGACY.as_slice();
     let mut front = [0; 256];
     let mut back = [0; 256];
-    apply_from(
-        cipher,
-        from,
-        &mut front[..middle - from],
-        &mut back[..last - middle],
-    )
-    .is_ok()
-        && &front[..middle - from] == &stream[from..middle]
-        && &back[..last - middle] == &stream[middle..last]
+    let front = &mut front[..middle - from];
+    let back = &mut back[..last - middle];
+    apply_from(cipher, from, front, back).is_ok()
+        && &*front == &stream[from..middle]
+        && &*back == &stream[middle..last]
 }
 
 // Moves to a byte, and applies in two parts.
-fn apply_from<C: SeekCipher<LegacyNonce>>(
-    cipher: &mut C,
+fn apply_from<L: StreamCipherSeekCore>(
+    cipher: &mut StreamCipherCoreWrapper<L>,
     from: usize,
     front: &mut [u8],
     back: &mut [u8],
