@@ -10,15 +10,9 @@ use chacha20::rand_core::{Rng, SeedableRng};
 use chacha20::variants::{Ietf, Legacy};
 use chacha20::{ChaChaCore, ChaChaRng, Key, R20, Seed, StreamCipherCoreWrapper, XChaChaCore};
 
-type IetfCore<B> = ChaChaCore<R20, Ietf, B>;
+type Cipher<V, B> = StreamCipherCoreWrapper<ChaChaCore<R20, V, B>>;
 
-type IetfCipher<B> = StreamCipherCoreWrapper<IetfCore<B>>;
-
-type LegacyCore<B> = ChaChaCore<R20, Legacy, B>;
-
-type LegacyCipher<B> = StreamCipherCoreWrapper<LegacyCore<B>>;
-
-type XChaChaCipher<B> = StreamCipherCoreWrapper<XChaChaCore<R20, B>>;
+type XCipher<B> = StreamCipherCoreWrapper<XChaChaCore<R20, B>>;
 
 // The number of the first row that isn't right.
 fn wrong_row(rows: &[(usize, Verdict)]) -> Option<usize> {
@@ -33,9 +27,9 @@ fn wrong_row(rows: &[(usize, Verdict)]) -> Option<usize> {
 #[test]
 fn rows(rt: HostRuntime) {
     let of_ciphers = ciphers::verdicts::<
-        IetfCore<Width3>,
-        LegacyCore<Width3>,
-        XChaChaCipher<Width3>,
+        ChaChaCore<R20, Ietf, Width3>,
+        ChaChaCore<R20, Legacy, Width3>,
+        XCipher<Width3>,
     >();
     let of_cores = cores::row_13::<ChaChaCore<R0, Ietf, Width3>, ChaChaCore<R0, Legacy, Width3>>();
     assert_eq!(rt; wrong_row(&of_ciphers), None);
@@ -91,20 +85,20 @@ where
 #[test]
 fn ietf_beside_soft(rt: HostRuntime) {
     assert_eq!(rt;
-        wrong_length::<_, IetfCipher<Width3>, IetfCipher<Soft>>(&[7; 12]),
+        wrong_length::<_, Cipher<Ietf, Width3>, Cipher<Ietf, Soft>>(&[7; 12]),
         None
     );
 }
 
 #[test]
 fn legacy_beside_soft(rt: HostRuntime) {
-    let wrong = wrong_length::<_, LegacyCipher<Width3>, LegacyCipher<Soft>>(&LEGACY_NONCE);
+    let wrong = wrong_length::<_, Cipher<Legacy, Width3>, Cipher<Legacy, Soft>>(&LEGACY_NONCE);
     assert_eq!(rt; wrong, None);
 }
 
 #[test]
 fn xchacha_beside_soft(rt: HostRuntime) {
-    let wrong = wrong_length::<_, XChaChaCipher<Width3>, XChaChaCipher<Soft>>(&[7; 24]);
+    let wrong = wrong_length::<_, XCipher<Width3>, XCipher<Soft>>(&[7; 24]);
     assert_eq!(rt; wrong, None);
 }
 
