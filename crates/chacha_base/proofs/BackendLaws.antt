@@ -1,5 +1,6 @@
--- Laws of states and of their blocks, which proofs of backends may cite: `s` is the first state, of
--- sixteen words that fit (`Words`), and `t` the one some blocks on.
+-- Laws of states and of their blocks that proofs of backends may cite, as StateLemmas states them.
+-- `s` is the first state, of sixteen words that fit (`Words`), and `t` the one some blocks on. In an
+-- answer `c.told-state` and `c.fits-state` say of an argument `state` that it is such a state.
 
 -- no blocks on; i blocks on, and then j; k blocks more than a
 pub use Rattle.chacha_base.proofs.StateLemmas.{Words, state_after-zero, state_after-state_after, state_after-more}
