@@ -1,8 +1,10 @@
-//! Every worked row and every published stream over each backend, and wide backends beside the plain one.
+//! Every worked row and every published stream over each backend, the rows over a user's own as well, and wide backends
+//! beside the plain one.
 
 ghost use Rattle.std.specs.Prelude.{◌≤◌};
 
 use super::streams;
+use crate::own_backend::Width3;
 use crate::rows::{COUNTING, R0, Verdict, ciphers, cores, generators};
 use chacha20::backends::{Lanes4, Lanes8, Lanes16, Rows8, Soft};
 use chacha20::cipher::{
@@ -42,8 +44,9 @@ fn rows_of_ciphers(rt: HostRuntime) {
         wrong_cipher_row::<Lanes8>(),
         wrong_cipher_row::<Rows8>(),
         wrong_cipher_row::<Lanes16>(),
+        wrong_cipher_row::<Width3>(),
     ];
-    assert_eq!(rt; wrong_rows, [None; 5]);
+    assert_eq!(rt; wrong_rows, [None; 6]);
 }
 
 fn row_13<
@@ -60,8 +63,9 @@ fn rows_of_cores(rt: HostRuntime) {
         row_13::<Lanes8>(),
         row_13::<Rows8>(),
         row_13::<Lanes16>(),
+        row_13::<Width3>(),
     ];
-    assert_eq!(rt; verdicts, [None; 5]);
+    assert_eq!(rt; verdicts, [None; 6]);
 }
 
 fn wrong_generator_row<B>() -> Option<(usize, usize)>
@@ -79,8 +83,9 @@ fn rows_of_generators(rt: HostRuntime) {
         wrong_generator_row::<Lanes8>(),
         wrong_generator_row::<Rows8>(),
         wrong_generator_row::<Lanes16>(),
+        wrong_generator_row::<Width3>(),
     ];
-    assert_eq!(rt; wrong_rows, [None; 5]);
+    assert_eq!(rt; wrong_rows, [None; 6]);
 }
 
 // The streams of ciphers; the legacy one between all places that are multiples of so many bytes.

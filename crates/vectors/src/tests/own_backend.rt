@@ -1,9 +1,9 @@
-//! A backend of a user's own: every worked row over it, and its bytes beside the plain backend's.
+//! A backend of a user's own beside the plain one. The worked rows over it stand with those over the others.
 
 ghost use Rattle.std.specs.Prelude.{◌≤◌, length};
 
 use crate::own_backend::Width3;
-use crate::rows::{COUNTING, LEGACY_NONCE, R0, Verdict, ciphers, cores, generators};
+use crate::rows::{COUNTING, LEGACY_NONCE};
 use chacha20::backends::Soft;
 use chacha20::cipher::{KeyIvInit, StreamCipher, StreamCipherError};
 use chacha20::rand_core::{Rng, SeedableRng};
@@ -13,29 +13,6 @@ use chacha20::{ChaChaCore, ChaChaRng, Key, R20, Seed, StreamCipherCoreWrapper, X
 type Cipher<V, B> = StreamCipherCoreWrapper<ChaChaCore<R20, V, B>>;
 
 type XCipher<B> = StreamCipherCoreWrapper<XChaChaCore<R20, B>>;
-
-// The number of the first row that isn't right.
-fn wrong_row(rows: &[(usize, Verdict)]) -> Option<usize> {
-    for (number, verdict) in rows {
-        if verdict.is_some() {
-            return Some(*number);
-        }
-    }
-    None
-}
-
-#[test]
-fn rows(rt: HostRuntime) {
-    let of_ciphers = ciphers::verdicts::<
-        ChaChaCore<R20, Ietf, Width3>,
-        ChaChaCore<R20, Legacy, Width3>,
-        XCipher<Width3>,
-    >();
-    let of_cores = cores::row_13::<ChaChaCore<R0, Ietf, Width3>, ChaChaCore<R0, Legacy, Width3>>();
-    assert_eq!(rt; wrong_row(&of_ciphers), None);
-    assert_eq!(rt; of_cores, None);
-    assert_eq!(rt; wrong_row(&generators::verdicts::<Width3>()), None);
-}
 
 // Applies a cipher to so many bytes, and then to the rest.
 fn apply_in_two<C: StreamCipher>(
