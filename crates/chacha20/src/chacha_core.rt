@@ -263,12 +263,13 @@ fn xor_blocks(data: &mut [u8], blocks: &[[u8; 64]])
 #[inline(always)]
 fn apply_groups<R: Rounds, V: Variant, B: StreamCipherBackend<R, V>>(
     state: &mut [u32; 16],
-    blocks: &mut [[u8; 64]; 16],
+    blocks: &mut [[u8; 64]],
     data: &mut [u8],
     groups: usize,
     steps: &mut Steps,
 )
-    requires { length «data».old ≡ 64 * (B.PAR_BLOCKS * groups) }
+    requires whole { length «data».old ≡ 64 * (B.PAR_BLOCKS * groups) }
+    requires room { B.PAR_BLOCKS ≤ length blocks.old }
     ensures data { «data».new
         ≡ xor_stream (keystream (modulus V.layout)
         (state_block R.COUNT V.layout (fixed_words V.layout state.old)))
@@ -290,12 +291,13 @@ fn apply_groups<R: Rounds, V: Variant, B: StreamCipherBackend<R, V>>(
 #[inline(always)]
 fn apply_tail<R: Rounds, V: Variant, B: StreamCipherBackend<R, V>>(
     state: &mut [u32; 16],
-    blocks: &mut [[u8; 64]; 16],
+    blocks: &mut [[u8; 64]],
     data: &mut [u8],
     steps: &mut Steps,
 )
     requires whole { length «data».old % 64 ≡ 0 }
     requires few { length «data».old < 64 * B.PAR_BLOCKS }
+    requires room { B.PAR_BLOCKS ≤ length blocks.old }
     ensures data { «data».new
         ≡ xor_stream (keystream (modulus V.layout)
         (state_block R.COUNT V.layout (fixed_words V.layout state.old)))
@@ -332,8 +334,55 @@ fn apply_one<R: Rounds, V: Variant, B: StreamCipherBackend<R, V>>(
     xor_bytes(data, &block);
 }
 
-// Combines bytes with any number of blocks. It is kept out of its caller, so that a single block needs no room for it.
+// Combines bytes with any number of blocks, which are made in a buffer that has room for those of a parallel call.
+#[inline(always)]
+fn apply_through<R: Rounds, V: Variant, B: StreamCipherBackend<R, V>>(
+    state: &mut [u32; 16],
+    blocks: &mut [[u8; 64]],
+    data: &mut [u8],
+    steps: &mut Steps,
+)
+    requires whole { length «data».old % 64 ≡ 0 }
+    requires room { B.PAR_BLOCKS ≤ length blocks.old }
+    ensures data { «data».new
+        ≡ xor_stream (keystream (modulus V.layout)
+        (state_block R.COUNT V.layout (fixed_words V.layout state.old)))
+        (64 * state_counter V.layout state.old) «data».old }
+    ensures state { state.new ≡ state_after V.layout (length «data».old / 64) state.old }
+    ensures steps { Grows
+        (for_blocks B.PAR_BLOCKS (B.PAR_STEPS * R.COUNT) (B.ONE_STEPS * R.COUNT)
+        (length «data».old / 64) 0) steps.old steps.new }
+{
+    let width = B::PAR_BLOCKS;
+    let groups = data.len() / 64 / width;
+    let (whole, tail) = data.split_at_mut(64 * (width * groups));
+    apply_groups::<R, V, B>(state, blocks, whole, groups, steps);
+    apply_tail::<R, V, B>(state, blocks, tail, steps);
+}
+
+// Combines bytes with any number of blocks, where a parallel call makes one. It is kept out of its caller, where the
+// compiler has made slower code of plain rounds.
 #[inline(never)]
+fn apply_each<R: Rounds, V: Variant, B: StreamCipherBackend<R, V>>(
+    state: &mut [u32; 16],
+    data: &mut [u8],
+    steps: &mut Steps,
+)
+    requires whole { length «data».old % 64 ≡ 0 }
+    requires narrow { B.PAR_BLOCKS ≡ 1 }
+    ensures data { «data».new
+        ≡ xor_stream (keystream (modulus V.layout)
+        (state_block R.COUNT V.layout (fixed_words V.layout state.old)))
+        (64 * state_counter V.layout state.old) «data».old }
+    ensures state { state.new ≡ state_after V.layout (length «data».old / 64) state.old }
+    ensures steps { Grows
+        (for_blocks B.PAR_BLOCKS (B.PAR_STEPS * R.COUNT) (B.ONE_STEPS * R.COUNT)
+        (length «data».old / 64) 0) steps.old steps.new }
+{
+    apply_through::<R, V, B>(state, &mut [[0; 64]; 1], data, steps);
+}
+
+// Combines bytes with any number of blocks. For narrow backends a buffer of four blocks is made ready.
 fn apply_many<R: Rounds, V: Variant, B: StreamCipherBackend<R, V>>(
     state: &mut [u32; 16],
     data: &mut [u8],
@@ -349,12 +398,11 @@ fn apply_many<R: Rounds, V: Variant, B: StreamCipherBackend<R, V>>(
         (for_blocks B.PAR_BLOCKS (B.PAR_STEPS * R.COUNT) (B.ONE_STEPS * R.COUNT)
         (length «data».old / 64) 0) steps.old steps.new }
 {
-    let mut blocks = [[0; 64]; 16];
-    let width = B::PAR_BLOCKS;
-    let groups = data.len() / 64 / width;
-    let (whole, tail) = data.split_at_mut(64 * (width * groups));
-    apply_groups::<R, V, B>(state, &mut blocks, whole, groups, steps);
-    apply_tail::<R, V, B>(state, &mut blocks, tail, steps);
+    if B::PAR_BLOCKS <= 4 {
+        apply_through::<R, V, B>(state, &mut [[0; 64]; 4], data, steps);
+    } else {
+        apply_through::<R, V, B>(state, &mut [[0; 64]; 16], data, steps);
+    }
 }
 
 // Combines bytes with whole blocks. A single one goes through a buffer of its own, where a parallel call makes more.
@@ -374,7 +422,9 @@ fn apply_blocks<R: Rounds, V: Variant, B: StreamCipherBackend<R, V>>(
         (for_blocks B.PAR_BLOCKS (B.PAR_STEPS * R.COUNT) (B.ONE_STEPS * R.COUNT)
         (length «data».old / 64) 0) steps.old steps.new }
 {
-    if data.len() == 64 && B::PAR_BLOCKS > 1 {
+    if B::PAR_BLOCKS == 1 {
+        apply_each::<R, V, B>(state, data, steps);
+    } else if data.len() == 64 {
         apply_one::<R, V, B>(state, data, steps);
     } else {
         apply_many::<R, V, B>(state, data, steps);

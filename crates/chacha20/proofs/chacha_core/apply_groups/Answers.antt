@@ -35,7 +35,7 @@ groups-preserved g c =
     let k = c.groups.group in
     let cost = g.B.StreamCipherBackend.PAR_STEPS * n in
     let stream = keystream (modulus layout) (state_block n layout (fixed_words layout s)) in
-    let bound = g.B.ParBlocksSizeUser.par_blocks_to in
+    let bound = c.requires.room in
     let made : length c.groups.made ≡ w =
     c.groups.auto.made ∙ length-take-le c.PAR_BLOCKS-width.result c.args.blocks.now (omega (arith, bound)) ∙ c.PAR_BLOCKS-width.ensures in
     let fresh : length c.gen_par_ks_blocks.new.blocks ≡ w = omega arith in

@@ -1,7 +1,7 @@
 use Rattle.std.proofs.Common.{◌≡◌, ◌*◌, ◌+◌, ◌/◌, ◌∙◌, length, ap, arith}
 use Rattle.chacha_base.proofs.StateLemmas.{state_after-more}
 use Rattle.chacha20.proofs.BlocksLemmas.{xor_stream-after}
-use Rattle.chacha20.proofs.chacha_core.apply_many.Goals as goal
+use Rattle.chacha20.proofs.chacha_core.apply_through.Goals as goal
 
 pub returns-clause-data : goal.returns-clause-data
 returns-clause-data g c =
