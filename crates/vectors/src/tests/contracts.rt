@@ -1,12 +1,13 @@
 //! What callers learn from public contracts alone.
 
-ghost use Rattle.std.specs.Prelude.{◌≡◌, ◌+◌, ◌≤◌, ◌<◌, ◌^◌, ◌↔◌, ℕ, length, slice_get, IsOk, OnOk, OnErr};
+ghost use Rattle.std.specs.Prelude.{◌≡◌, ◌+◌, ◌≤◌, ◌<◌, ◌^◌, ◌↔◌, ℕ, ◌*◌, length, slice_get, IsOk, OnOk, OnErr};
 ghost use Rattle.chacha20.specs.Layout.{ietf, legacy};
 ghost use Rattle.chacha20.specs.Block.{block};
 ghost use Rattle.chacha20.specs.State.{fixed_words, state_counter};
 ghost use Rattle.chacha20.specs.Keystream.{keystream, xor_stream};
 ghost use Rattle.chacha20.specs.Limit.{limit_of};
 ghost use Rattle.chacha20.specs.XChaCha.{subkey, subnonce};
+ghost use Rattle.chacha20.specs.Counts.{Grows, for_bytes};
 
 use super::streams::{IETF_FROM_64, LEGACY, NONCE, X_KEY, X_NONCE, XCHACHA_FROM_64};
 use crate::rows::{COUNTING, FROM_1, LEGACY_NONCE};
@@ -218,8 +219,19 @@ fn agreed(rt: HostRuntime) {
     assert!(rt; agree::<Rows8, Lanes16>());
 }
 
-// What a fresh cipher over each backend may count for nine blocks and a last part of ten bytes: parallel calls and others
-// at most, and quarter rounds.
+// Applies a fresh cipher to nine blocks and a last part of ten bytes. It counts what its backend's constants say.
+fn apply_586_bytes<B: StreamCipherBackend<R20, Ietf>>(
+    steps: &mut Steps,
+) -> Result<(), StreamCipherError>
+    ensures accepted { IsOk result }
+    ensures steps { OnOk result (Grows
+        (for_bytes B.PAR_BLOCKS (B.PAR_STEPS * 10) (B.ONE_STEPS * 10) 0 586)
+        steps.old steps.new) }
+{
+    Ietf20::<B>::new(&[0; 32], &[0; 12]).try_apply_keystream_counted(&mut [0; 586], steps)
+}
+
+// What that is over each backend: parallel calls and others at most, and quarter rounds.
 
 // Nine parallel calls of one block.
 fn apply_586_bytes_soft(steps: &mut Steps) -> Result<(), StreamCipherError>
@@ -228,7 +240,7 @@ fn apply_586_bytes_soft(steps: &mut Steps) -> Result<(), StreamCipherError>
     ensures other { steps.new.other ≤ steps.old.other + 1 }
     ensures rounds { steps.new.rounds ≡ steps.old.rounds + 800 }
 {
-    Ietf20::<Soft>::new(&[0; 32], &[0; 12]).try_apply_keystream_counted(&mut [0; 586], steps)
+    apply_586_bytes::<Soft>(steps)
 }
 
 // Two parallel calls of four blocks, a tail of one, and the last part.
@@ -238,7 +250,7 @@ fn apply_586_bytes_lanes4(steps: &mut Steps) -> Result<(), StreamCipherError>
     ensures other { steps.new.other ≤ steps.old.other + 2 }
     ensures rounds { steps.new.rounds ≡ steps.old.rounds + 320 }
 {
-    Ietf20::<Lanes4>::new(&[0; 32], &[0; 12]).try_apply_keystream_counted(&mut [0; 586], steps)
+    apply_586_bytes::<Lanes4>(steps)
 }
 
 // The same, two blocks to a vector.
@@ -248,7 +260,7 @@ fn apply_586_bytes_lanes8(steps: &mut Steps) -> Result<(), StreamCipherError>
     ensures other { steps.new.other ≤ steps.old.other + 2 }
     ensures rounds { steps.new.rounds ≡ steps.old.rounds + 160 }
 {
-    Ietf20::<Lanes8>::new(&[0; 32], &[0; 12]).try_apply_keystream_counted(&mut [0; 586], steps)
+    apply_586_bytes::<Lanes8>(steps)
 }
 
 // One parallel call of eight blocks, a tail of one, and the last part.
@@ -258,7 +270,7 @@ fn apply_586_bytes_rows8(steps: &mut Steps) -> Result<(), StreamCipherError>
     ensures other { steps.new.other ≤ steps.old.other + 2 }
     ensures rounds { steps.new.rounds ≡ steps.old.rounds + 480 }
 {
-    Ietf20::<Rows8>::new(&[0; 32], &[0; 12]).try_apply_keystream_counted(&mut [0; 586], steps)
+    apply_586_bytes::<Rows8>(steps)
 }
 
 // A tail of nine blocks, and the last part.
@@ -269,7 +281,7 @@ fn apply_586_bytes_lanes16(steps: &mut Steps) -> Result<(), StreamCipherError>
     ensures rounds_from { steps.old.rounds + 40 ≤ steps.new.rounds }
     ensures rounds_to { steps.new.rounds ≤ steps.old.rounds + 200 }
 {
-    Ietf20::<Lanes16>::new(&[0; 32], &[0; 12]).try_apply_keystream_counted(&mut [0; 586], steps)
+    apply_586_bytes::<Lanes16>(steps)
 }
 
 #[test]

@@ -3,7 +3,7 @@
 ghost use Rattle.std.specs.Prelude.{◌≡◌, ◌↔◌, ◌≤◌, ◌+◌, ◌*◌, length, IsOk, OnOk, OnErr};
 ghost use Rattle.chacha20.specs.Keystream.{xor_stream};
 
-use crate::rows::COUNTING;
+use crate::rows::{COUNTING, Verdict, failed};
 use chacha20::ChaCha20;
 use chacha20::cipher::{KeyIvInit, StreamCipher, StreamCipherError, StreamCipherSeek};
 use std::test::Fail;
@@ -30,32 +30,29 @@ fn encrypt_record<S: StreamCipherSeek>(
     cipher.try_apply_keystream(record)
 }
 
-// Four records of 100 bytes, in any order.
-fn encrypt_file<S: StreamCipherSeek>(
-    cipher: &mut S,
-    file: &mut [u8; 400],
-) -> Result<(), StreamCipherError> {
+// Four records of 100 bytes, in any order, are what one application gives. A refused one changes nothing.
+fn as_a_whole<S: StreamCipherSeek>(cipher: &mut S, whole: &[u8; 400]) -> Verdict {
+    let mut file = [9; 400];
+    let mut accepted = true;
     for k in [2, 0, 3, 1] {
-        encrypt_record(
-            cipher,
-            k,
-            &mut file[100 * k as usize..100 * k as usize + 100],
-        )?;
+        let record = &mut file[100 * k as usize..100 * k as usize + 100];
+        accepted &= encrypt_record(cipher, k, record).is_ok();
     }
-    Ok(())
+    let encrypted = file;
+    failed(&[
+        accepted,
+        encrypted == *whole,
+        encrypt_record(cipher, u64::MAX, &mut file) == Err(StreamCipherError),
+        file == encrypted,
+        cipher.try_current_pos() == Ok(200u32),
+    ])
 }
 
-// Records in any order are what one application gives. A refused one changes nothing.
 #[test]
 fn records(rt: HostRuntime) -> Result<(), Fail> {
     let mut whole = [9; 400];
-    let mut file = whole;
     ChaCha20::new(&COUNTING, &[0; 12]).try_apply_keystream(&mut whole)?;
     let mut cipher = ChaCha20::new(&COUNTING, &[0; 12]);
-    encrypt_file(&mut cipher, &mut file)?;
-    assert!(rt; whole == file);
-    let refused = encrypt_record(&mut cipher, u64::MAX, &mut file);
-    assert!(rt; refused == Err(StreamCipherError) && whole == file);
-    assert_eq!(rt; cipher.try_current_pos(), Ok(200u32));
+    assert_eq!(rt; as_a_whole(&mut cipher, &whole), None);
     Ok(())
 }
