@@ -166,6 +166,16 @@ impl<V: Vector> States for Columns<V> {
             third,
             fourth,
         } = self;
+        // The words of the fourth column are ready in the order a, d, c, b.
+        let s = quarter_round(
+            Quad {
+                a: fourth.a,
+                b: first.b,
+                c: second.c,
+                d: third.d,
+            },
+            steps,
+        );
         let p = quarter_round(
             Quad {
                 a: first.a,
@@ -190,15 +200,6 @@ impl<V: Vector> States for Columns<V> {
                 b: fourth.b,
                 c: first.c,
                 d: second.d,
-            },
-            steps,
-        );
-        let s = quarter_round(
-            Quad {
-                a: fourth.a,
-                b: first.b,
-                c: second.c,
-                d: third.d,
             },
             steps,
         );
