@@ -1,5 +1,5 @@
-//! Worked rows: published calls with their answers, for any cipher, core and generator of their kind. A row is right if
-//! each call answers as published.
+//! Worked rows: published calls with their answers, for any core and generator of their kind, and for the cipher over any
+//! core. A row is right if each call answers as published.
 
 pub mod ciphers;
 pub mod cores;

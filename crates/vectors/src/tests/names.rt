@@ -131,22 +131,21 @@ fn ciphers(rt: HostRuntime) {
     assert_eq!(rt; found, expected);
 }
 
+// Ciphers with nonces of 24 bytes are the others under a derived key.
 #[test]
 fn x_ciphers(rt: HostRuntime) {
     let key: Key = [0; 32];
     let x_nonce: XNonce = [0; 24];
-    let x_ciphers = [
+    let found = [
         next_bytes(&mut XChaCha8::new(&key, &x_nonce)),
         next_bytes(&mut XChaCha12::new(&key, &x_nonce)),
         next_bytes(&mut XChaCha20::new(&key, &x_nonce)),
     ];
-    assert_eq!(rt;
-        x_ciphers,
-        [derived::<R8>(), derived::<R12>(), derived::<R20>()]
-    );
+    let expected = [derived::<R8>(), derived::<R12>(), derived::<R20>()];
+    assert_eq!(rt; found, expected);
 }
 
-// By a derived key: the first bytes of a cipher whose key and nonce are zeros.
+// The first bytes under the key that is derived of zeros.
 fn derived<R: Rounds>() -> [u8; 4] {
     let subkey = hchacha::<R>(&[0; 32], &[0; 16]);
     next_bytes(&mut StreamCipherCoreWrapper::<ChaChaCore<R, Ietf, Soft>>::new(&subkey, &[0; 12]))

@@ -1,4 +1,4 @@
-//! Published streams, for any cipher and generator of their kind.
+//! Published streams, for the cipher over any core, and for any generator, of their kind.
 
 ghost use Rattle.std.specs.Prelude.{◌≤◌};
 
