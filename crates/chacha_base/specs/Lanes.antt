@@ -22,13 +22,6 @@ low_words x y = slice_index x 0 ∷ slice_index y 0 ∷ slice_index x 1 ∷ slic
 abbrev pub high_words : List ℕ → List ℕ → List ℕ
 high_words x y = slice_index x 2 ∷ slice_index y 2 ∷ slice_index x 3 ∷ slice_index y 3 ∷ []
 
--- the first two words of two rows, and the last two, row after row
-abbrev pub low_pairs : List ℕ → List ℕ → List ℕ
-low_pairs x y = slice_index x 0 ∷ slice_index x 1 ∷ slice_index y 0 ∷ slice_index y 1 ∷ []
-
-abbrev pub high_pairs : List ℕ → List ℕ → List ℕ
-high_pairs x y = slice_index x 2 ∷ slice_index x 3 ∷ slice_index y 2 ∷ slice_index y 3 ∷ []
-
 -- four words turned to the left by one, two and three places
 abbrev pub turned_1 : List ℕ → List ℕ
 turned_1 x = slice_index x 1 ∷ slice_index x 2 ∷ slice_index x 3 ∷ slice_index x 0 ∷ []

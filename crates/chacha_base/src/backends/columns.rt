@@ -74,15 +74,15 @@ fn by_states<V: WordVector>(w0: V, w1: V, w2: V, w3: V) -> Quad<V>
     ensures d { (g : ℕ) → g < V.FOURS
         → row (V.lane result.d) g ≡ words_at V.lane w0 w1 w2 w3 (4 * g + 3) }
 {
-    let low_01 = w0.low_words(w1);
-    let low_23 = w2.low_words(w3);
-    let high_01 = w0.high_words(w1);
-    let high_23 = w2.high_words(w3);
+    let low_02 = w0.low_words(w2);
+    let low_13 = w1.low_words(w3);
+    let high_02 = w0.high_words(w2);
+    let high_13 = w1.high_words(w3);
     Quad {
-        a: low_01.low_pairs(low_23),
-        b: low_01.high_pairs(low_23),
-        c: high_01.low_pairs(high_23),
-        d: high_01.high_pairs(high_23),
+        a: low_02.low_words(low_13),
+        b: low_02.high_words(low_13),
+        c: high_02.low_words(high_13),
+        d: high_02.high_words(high_13),
     }
 }
 

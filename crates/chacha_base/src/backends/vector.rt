@@ -3,7 +3,7 @@
 
 ghost use Rattle.std.specs.Prelude.{◌≡◌, ◌≤◌, ◌<◌, ℕ, ◌*◌, bit_xor, slice_index};
 ghost use Rattle.chacha_base.specs.Words.{add, rotl};
-ghost use Rattle.chacha_base.specs.Lanes.{row, low_words, high_words, low_pairs, high_pairs, turned_1, turned_2, turned_3};
+ghost use Rattle.chacha_base.specs.Lanes.{row, low_words, high_words, turned_1, turned_2, turned_3};
 
 use std::simd::prelude::*;
 
@@ -20,10 +20,6 @@ pub trait Vector: Copy {
     /// The vector of the first of these words.
     fn from_words(words: &[u32; 16]) -> Self
         ensures { (j : ℕ) → j < LANES → lane result j ≡ slice_index words.now j };
-
-    /// Its words, and any others behind them.
-    fn to_words(self) -> [u32; 16]
-        ensures { (j : ℕ) → j < LANES → slice_index result j ≡ lane self j };
 
     /// The sums of the words in each lane.
     fn plus(self, other: Self) -> Self
@@ -66,16 +62,6 @@ pub trait WordVector: Fours {
     fn high_words(self, other: Self) -> Self
         ensures { (g : ℕ) → g < Self.FOURS → row (Self.lane result) g
             ≡ high_words (row (Self.lane self) g) (row (Self.lane other) g) };
-
-    /// The first two words of each four, and then those of another vector.
-    fn low_pairs(self, other: Self) -> Self
-        ensures { (g : ℕ) → g < Self.FOURS → row (Self.lane result) g
-            ≡ low_pairs (row (Self.lane self) g) (row (Self.lane other) g) };
-
-    /// The last two words of each four, and then those of another vector.
-    fn high_pairs(self, other: Self) -> Self
-        ensures { (g : ℕ) → g < Self.FOURS → row (Self.lane result) g
-            ≡ high_pairs (row (Self.lane self) g) (row (Self.lane other) g) };
 }
 
 /// A vector that holds the same row of some states, four lanes a state, in order of counter.
@@ -103,17 +89,6 @@ fn lanes_from<const N: usize>(words: &[u32; 16]) -> Simd<u32, N>
     ensures { (j : ℕ) → j < N → slice_index result j ≡ slice_index words.now j }
 {
     Simd::from_slice(words)
-}
-
-// The words of a vector of any width.
-#[inline(always)]
-fn lanes_to<const N: usize>(vector: Simd<u32, N>) -> [u32; 16]
-    requires { N ≤ 16 }
-    ensures { (j : ℕ) → j < N → slice_index result j ≡ slice_index vector.entry j }
-{
-    let mut words = [0; 16];
-    vector.copy_to_slice(&mut words);
-    words
 }
 
 // The sums of the lanes of two vectors of any width.
@@ -159,11 +134,6 @@ impl Vector for u32x4 {
     }
 
     #[inline(always)]
-    fn to_words(self) -> [u32; 16] {
-        lanes_to(self)
-    }
-
-    #[inline(always)]
     fn plus(self, other: u32x4) -> u32x4 {
         lanes_plus(self, other)
     }
@@ -199,16 +169,6 @@ impl WordVector for u32x4 {
     fn high_words(self, other: u32x4) -> u32x4 {
         self.shuffle(other, [2, 6, 3, 7])
     }
-
-    #[inline(always)]
-    fn low_pairs(self, other: u32x4) -> u32x4 {
-        self.shuffle(other, [0, 1, 4, 5])
-    }
-
-    #[inline(always)]
-    fn high_pairs(self, other: u32x4) -> u32x4 {
-        self.shuffle(other, [2, 3, 6, 7])
-    }
 }
 
 impl RowVector for u32x4 {
@@ -242,11 +202,6 @@ impl Vector for u32x8 {
     #[inline(always)]
     fn from_words(words: &[u32; 16]) -> u32x8 {
         lanes_from(words)
-    }
-
-    #[inline(always)]
-    fn to_words(self) -> [u32; 16] {
-        lanes_to(self)
     }
 
     #[inline(always)]
@@ -312,11 +267,6 @@ impl Vector for u32x16 {
     }
 
     #[inline(always)]
-    fn to_words(self) -> [u32; 16] {
-        lanes_to(self)
-    }
-
-    #[inline(always)]
     fn plus(self, other: u32x16) -> u32x16 {
         lanes_plus(self, other)
     }
@@ -361,22 +311,6 @@ impl WordVector for u32x16 {
         self.shuffle(
             other,
             [2, 18, 3, 19, 6, 22, 7, 23, 10, 26, 11, 27, 14, 30, 15, 31],
-        )
-    }
-
-    #[inline(always)]
-    fn low_pairs(self, other: u32x16) -> u32x16 {
-        self.shuffle(
-            other,
-            [0, 1, 16, 17, 4, 5, 20, 21, 8, 9, 24, 25, 12, 13, 28, 29],
-        )
-    }
-
-    #[inline(always)]
-    fn high_pairs(self, other: u32x16) -> u32x16 {
-        self.shuffle(
-            other,
-            [2, 3, 18, 19, 6, 7, 22, 23, 10, 11, 26, 27, 14, 15, 30, 31],
         )
     }
 }
