@@ -6,7 +6,7 @@ use Rattle.chacha_base.specs.Counts.{Counts, Grows, for_call, for_tail, tail_of_
 use Rattle.chacha_base.specs.Buffered.{left_at}
 
 -- k single blocks after the others
-pub grows-more : (w par one m k : ℕ) (a b c : Counts) → Grows (for_blocks w par one m 0) a b → Grows (for_call 0 k (k * one)) b c
+grows-more : (w par one m k : ℕ) (a b c : Counts) → Grows (for_blocks w par one m 0) a b → Grows (for_call 0 k (k * one)) b c
     → Grows (for_blocks w par one m k) a c
 grows-more w par one m k a b c first then =
     let least = add-mul (min 1 (m % w)) k one in

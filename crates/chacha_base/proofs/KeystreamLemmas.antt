@@ -104,7 +104,7 @@ xor_stream-block modulus block c key xs ys made fits same each =
     each j less ∙ ap (bit_xor (slice_index xs j)) (ap (λ b. slice_index b j) made ∙ keystream_byte modulus block c j (omega arith)))
 
 -- counters that are the same when they wrap
-pub keystream-same : (modulus : ℕ) (block : ℕ → List ℕ) (c d i : ℕ) (xs : List ℕ) → c % modulus ≡ d % modulus
+keystream-same : (modulus : ℕ) (block : ℕ → List ℕ) (c d i : ℕ) (xs : List ℕ) → c % modulus ≡ d % modulus
     → xor_stream (keystream modulus block) (64 * (c + i)) xs ≡ xor_stream (keystream modulus block) (64 * (d + i)) xs
 keystream-same modulus block c d i xs same =
     sym (keystream-wrapped modulus block (c + i) (64 * (c + i)) xs refl)

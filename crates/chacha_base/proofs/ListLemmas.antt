@@ -24,7 +24,7 @@ slice_get-set_same [] i x h = absurd (omega arith)
 slice_get-set_same (y ∷ ys) zero x h = refl
 slice_get-set_same (y ∷ ys) (suc i) x h = slice_get-set_same ys i x (omega arith)
 
-pub slice_get-set_below : {X : Type 0} (xs : List X) (i j : ℕ) (x : X) → j < i → slice_get (set xs i x) j ≡ slice_get xs j
+slice_get-set_below : {X : Type 0} (xs : List X) (i j : ℕ) (x : X) → j < i → slice_get (set xs i x) j ≡ slice_get xs j
 slice_get-set_below [] i j x h = refl
 slice_get-set_below (y ∷ ys) zero j x h = absurd (omega arith)
 slice_get-set_below (y ∷ ys) (suc i) zero x h = refl
@@ -60,13 +60,13 @@ slice_get-append [] ys i h = absurd (omega arith)
 slice_get-append (x ∷ xs) ys zero h = refl
 slice_get-append (x ∷ xs) ys (suc i) h = slice_get-append xs ys i (omega arith)
 
-pub slice_get-put_mid_below : {X : Type 0} (a k i : ℕ) (xs ys : List X) → i < a → a ≤ length xs → slice_get (put_mid a k xs ys) i ≡ slice_get xs i
+slice_get-put_mid_below : {X : Type 0} (a k i : ℕ) (xs ys : List X) → i < a → a ≤ length xs → slice_get (put_mid a k xs ys) i ≡ slice_get xs i
 slice_get-put_mid_below zero k i xs ys h room = absurd (omega arith)
 slice_get-put_mid_below (suc a) k i [] ys h room = absurd (omega arith)
 slice_get-put_mid_below (suc a) k zero (x ∷ xs) ys h room = refl
 slice_get-put_mid_below (suc a) k (suc i) (x ∷ xs) ys h room = slice_get-put_mid_below a k i xs ys (omega arith) (omega arith)
 
-pub slice_get-put_mid_inside : {X : Type 0} (a k i : ℕ) (xs ys : List X) → i < length ys → a ≤ length xs
+slice_get-put_mid_inside : {X : Type 0} (a k i : ℕ) (xs ys : List X) → i < length ys → a ≤ length xs
     → slice_get (put_mid a k xs ys) (a + i) ≡ slice_get ys i
 slice_get-put_mid_inside zero k i xs ys h room =
     let here : 0 + i ≡ i = omega arith in rw here (slice_get-append ys (drop k (drop 0 xs)) i h)

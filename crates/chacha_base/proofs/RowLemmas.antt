@@ -36,7 +36,7 @@ sums-of-lanes n lanes lane x y z four e g h =
     of_columns-same (e (4 * g) (omega arith)) (e (4 * g + 1) (omega arith)) (e (4 * g + 2) (omega arith)) (e (4 * g + 3) (omega arith))
 
 -- a state with the last row of one of the next states is that state
-pub with_last_words-state_after : (layout : Layout) (i : ℕ) (s : List ℕ) → length s ≡ 16
+with_last_words-state_after : (layout : Layout) (i : ℕ) (s : List ℕ) → length s ≡ 16
     → with_last_words s (drop 12 (state_after layout i s)) ≡ state_after layout i s
 with_last_words-state_after ietf i =
     each 16 (λ s. with_last_words s (drop 12 (state_after ietf i s)) ≡ state_after ietf i s)

@@ -19,10 +19,6 @@ use Rattle.chacha_base.proofs.ListLemmas.{each, one_more, written_more}
 abbrev pub Words : List ℕ → Type 0
 Words s = (i : ℕ) → slice_index s i < 2 ^ 32
 
-pub modulus-positive : (layout : Layout) → 0 < modulus layout
-modulus-positive ietf = omega arith
-modulus-positive legacy = omega arith
-
 -- the two halves of a counter
 pub halves : (c : ℕ) → c % 2 ^ 32 + 2 ^ 32 * (c / 2 ^ 32) ≡ c
 halves c = omega arith
@@ -58,7 +54,7 @@ state_at-written legacy c s row h same =
     rw same (each 16 (λ t. put_mid 12 4 t (row_at legacy c (take 4 (drop 12 t))) ≡ state_at legacy c t) (λ x0 x1 x2 x3 x4 x5 x6 x7 x8 x9 x10 x11 x12 x13 x14 x15. refl) s h)
 
 -- the state at its own counter
-pub state_at-own : (layout : Layout) (s : List ℕ) → length s ≡ 16 → Words s → state_at layout (state_counter layout s) s ≡ s
+state_at-own : (layout : Layout) (s : List ℕ) → length s ≡ 16 → Words s → state_at layout (state_counter layout s) s ≡ s
 state_at-own ietf =
     each 16 (λ s. Words s → state_at ietf (state_counter ietf s) s ≡ s) (λ x0 x1 x2 x3 x4 x5 x6 x7 x8 x9 x10 x11 x12 x13 x14 x15 fits. refl)
 state_at-own legacy =
@@ -128,7 +124,7 @@ state_counter-start ietf key nonce c =
 state_counter-start legacy key nonce c =
     each 8 (λ k. state_counter legacy (constants ++ k ++ counter_words legacy c ++ words nonce) ≡ c) (λ x0 x1 x2 x3 x4 x5 x6 x7. halves c) (words key)
 
-pub length-mix : (n : ℕ) (s : List ℕ) → length (mix n s) ≡ 16
+length-mix : (n : ℕ) (s : List ℕ) → length (mix n s) ≡ 16
 unfolding add_states
 length-mix n s = length-map-range_with_len (λ w. add (slice_index (rounds n s) w) (slice_index s w)) 0 16
 
