@@ -1,10 +1,26 @@
 //! The ChaCha stream ciphers, and seekable generators of random words over the same block function.
 //!
 //! ```text
-//! use chacha20::{ChaCha20, ChaCha20Rng};
+//! use chacha20::ChaCha20;
 //! use chacha20::cipher::{KeyIvInit, StreamCipher};
-//! use chacha20::rand_core::{Rng, SeedableRng};
+//!
+//! let mut message = *b"attack at dawn";
+//! let mut cipher = ChaCha20::new(&key, &nonce);
+//! cipher.try_apply_keystream(&mut message)?;
 //! ```
+//!
+//! To decrypt is the same call. No two messages under one key may have the same nonce, and there is no authentication.
+//!
+//! | type | rounds | nonce | a stream has |
+//! |---|---|---|---|
+//! | `ChaCha20` (RFC 8439), `ChaCha12`, `ChaCha8` | 20, 12, 8 | 12 bytes | 64 * (2^32 - 1) bytes |
+//! | `XChaCha20` (draft-irtf-cfrg-xchacha), `XChaCha12`, `XChaCha8` | 20, 12, 8 | 24 bytes | 64 * (2^32 - 1) bytes |
+//! | `ChaCha20Legacy` | 20 | 8 bytes | 64 * (2^64 - 1) bytes |
+//! | `ChaCha20Rng`, `ChaCha12Rng`, `ChaCha8Rng` | 20, 12, 8 | a number of 64 bits, the stream | 2^68 words, and then the first again |
+//!
+//! What a call does stands in the clauses of its trait: `cipher::StreamCipher` and `cipher::StreamCipherSeek` for
+//! ciphers, the calls of `ChaChaRng` for generators. Most tests stand in the crate `vectors`, since a crate with tests is
+//! proved twice.
 #![tactic(auto)]
 
 mod chacha;
