@@ -12,14 +12,14 @@ pub type Key = [u8; 32];
 /// A nonce of 12 bytes. No two messages under one key may have the same.
 pub type Nonce = [u8; 12];
 
-/// ChaCha with four double rounds, from block 0 on. It takes 274877906880 bytes for one key and nonce: all blocks but
-/// the one with the greatest counter. The number of rounds is this crate's own.
+/// ChaCha with four double rounds, from block 0 on. It takes 274877906944 bytes for one key and nonce: 64 of each of
+/// the 2^32 blocks. The number of rounds is this crate's own.
 pub type ChaCha8 = StreamCipherCoreWrapper<ChaChaCore<R8, Ietf, Lanes16>>;
 
-/// ChaCha with six double rounds, from block 0 on. It takes 274877906880 bytes for one key and nonce: all blocks but
-/// the one with the greatest counter. The number of rounds is this crate's own.
+/// ChaCha with six double rounds, from block 0 on. It takes 274877906944 bytes for one key and nonce: 64 of each of
+/// the 2^32 blocks. The number of rounds is this crate's own.
 pub type ChaCha12 = StreamCipherCoreWrapper<ChaChaCore<R12, Ietf, Lanes16>>;
 
-/// ChaCha20, with ten double rounds (RFC 8439, section 2.4), from block 0 on. It takes 274877906880 bytes for one key
-/// and nonce: all blocks but the one with the greatest counter.
+/// ChaCha20, with ten double rounds (RFC 8439, section 2.4), from block 0 on. It takes 274877906944 bytes for one key
+/// and nonce: 64 of each of the 2^32 blocks.
 pub type ChaCha20 = StreamCipherCoreWrapper<ChaChaCore<R20, Ietf, Lanes16>>;

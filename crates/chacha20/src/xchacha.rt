@@ -27,8 +27,7 @@ pub type XChaCha8 = StreamCipherCoreWrapper<XChaChaCore<R8, Lanes16>>;
 pub type XChaCha12 = StreamCipherCoreWrapper<XChaChaCore<R12, Lanes16>>;
 
 /// XChaCha20 (draft-irtf-cfrg-xchacha, section 2.3), from block 0 on: ChaCha20 under the key and the nonce that
-/// `XChaChaCore` derives. It takes 274877906880 bytes for one key and nonce: all blocks but the one with the greatest
-/// counter.
+/// `XChaChaCore` derives. It takes 274877906944 bytes for one key and nonce: 64 of each of the 2^32 blocks.
 pub type XChaCha20 = StreamCipherCoreWrapper<XChaChaCore<R20, Lanes16>>;
 
 /// The 32 bytes that HChaCha makes of a key and of 16 bytes more (draft-irtf-cfrg-xchacha, section 2.2, for `R20`;

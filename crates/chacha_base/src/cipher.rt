@@ -159,8 +159,7 @@ pub trait RngBackend<R: Rounds> {
             ≡ record steps.old { rounds = steps.old.rounds + RNG_STEPS * R.COUNT } };
 }
 
-/// Hands out the blocks of a keystream one after another, in order of counter. Counters wrap; nothing is refused, and
-/// the block with the greatest counter is handed out too.
+/// Hands out the blocks of a keystream one after another, in order of counter. Counters wrap; nothing is refused.
 pub trait StreamCipherCore: Keystream + BlockSizeUser + ParBlocksSizeUser {
     // The counter of the next block.
     ghost counter: { Self → ℕ };
@@ -170,7 +169,8 @@ pub trait StreamCipherCore: Keystream + BlockSizeUser + ParBlocksSizeUser {
 
     ghost one_cost: { ℕ };
 
-    /// How many blocks a cipher may still take: all but the one with the greatest counter.
+    /// How many blocks come from the counter on, up to the one with the greatest counter. `None` where these are more
+    /// than a `usize` says, so at counter 0 of 64 bits alone.
     fn remaining_blocks(&self) -> Option<usize>
         ensures remaining { result ≡ remaining Self.modulus (counter self.now) }
         ensures below { counter self.now < Self.modulus };

@@ -3,6 +3,7 @@ mod words;
 
 use crate::cipher::{
     KeyIvInit, StreamCipher, StreamCipherCore, StreamCipherCoreWrapper, StreamCipherError,
+    StreamCipherSeek,
 };
 use crate::rounds::{Steps, quarter_round};
 use toy::Toy;
@@ -88,14 +89,58 @@ fn toy_in_blocks(rt: HostRuntime) {
     assert_eq!(rt; block.as_slice(), &stream[640..]);
 }
 
-// No byte of the block with counter 2^32 - 1 is taken.
+// A cipher takes 64 bytes of each of the 2^32 blocks, and not one more.
 #[test]
 fn toy_to_the_limit(rt: HostRuntime) {
     let mut cipher = StreamCipherCoreWrapper::<Toy>::new(&7, &());
-    let limit = 64 * 0xffff_ffffusize;
+    let limit = 64 * 0x1_0000_0000usize;
     assert_eq!(rt; cipher.check_remaining(limit), Ok(()));
     assert_eq!(rt; cipher.check_remaining(limit + 1), Err(StreamCipherError));
     assert_eq!(rt; cipher.try_apply_keystream(&mut [0; 130]), Ok(()));
     assert_eq!(rt; cipher.check_remaining(limit - 130), Ok(()));
     assert_eq!(rt; cipher.check_remaining(limit - 129), Err(StreamCipherError));
+}
+
+// Across the front of the last block: byte i of it is 163 + i, the byte before it 126.
+#[test]
+fn toy_in_the_last_block(rt: HostRuntime) {
+    let mut cipher = StreamCipherCoreWrapper::<Toy>::new(&7, &());
+    let limit = 64 * 0x1_0000_0000u64;
+    let mut bytes = [0; 66];
+    assert_eq!(rt; cipher.try_seek(limit - 65), Ok(()));
+    assert_eq!(rt;
+        cipher.try_apply_keystream(&mut bytes),
+        Err(StreamCipherError)
+    );
+    assert_eq!(rt; cipher.try_apply_keystream(&mut bytes[..65]), Ok(()));
+    assert_eq!(rt; &bytes[..3], [126, 163, 164].as_slice());
+    assert_eq!(rt; &bytes[64..], [226, 0].as_slice());
+    assert_eq!(rt; cipher.try_current_pos(), Ok(limit));
+}
+
+// At the limit a core's counter is 0, as at the start.
+#[test]
+fn toy_at_the_limit(rt: HostRuntime) {
+    let mut cipher = StreamCipherCoreWrapper::<Toy>::new(&7, &());
+    let limit = 64 * 0x1_0000_0000u64;
+    let mut byte = [0];
+    assert_eq!(rt; cipher.try_seek(limit), Ok(()));
+    assert_eq!(rt; cipher.try_apply_keystream(&mut []), Ok(()));
+    assert_eq!(rt;
+        cipher.try_apply_keystream(&mut byte),
+        Err(StreamCipherError)
+    );
+    assert_eq!(rt; cipher.try_seek(limit + 1), Err(StreamCipherError));
+    assert_eq!(rt; cipher.try_current_pos(), Ok(limit));
+    assert_eq!(rt; cipher.try_seek(0u32), Ok(()));
+    assert_eq!(rt; cipher.try_current_pos(), Ok(0u32));
+    assert_eq!(rt; cipher.try_write_keystream(&mut byte), Ok(()));
+    assert_eq!(rt; byte, [7]);
+    assert_eq!(rt; cipher.try_seek(limit - 1), Ok(()));
+    assert_eq!(rt; cipher.try_write_keystream(&mut byte), Ok(()));
+    assert_eq!(rt; byte, [226]);
+    assert_eq!(rt;
+        cipher.try_apply_keystream(&mut byte),
+        Err(StreamCipherError)
+    );
 }

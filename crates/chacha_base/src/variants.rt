@@ -126,8 +126,8 @@ pub trait Variant: Sealed {
         requires { counter_len layout ≤ length row.old }
         ensures { row.new ≡ row_at layout (Self.Counter.value pos) row.old };
 
-    /// How many blocks a cipher may still take where its next block has this counter: all but the one with the
-    /// greatest counter.
+    /// How many blocks a cipher may still take where its next block has this counter: that one and all after it. `None`
+    /// where these are more than a `usize` says, so at counter 0 of 64 bits alone.
     fn remaining_blocks(block_pos: Self::Counter) -> Option<usize>
         ensures { result ≡ remaining (modulus layout) (Self.Counter.value block_pos) };
 
@@ -162,7 +162,7 @@ impl Variant for Ietf {
     }
 
     fn remaining_blocks(block_pos: u32) -> Option<usize> {
-        Some((u32::MAX - block_pos) as usize)
+        Some((u32::MAX - block_pos) as usize + 1)
     }
 }
 
@@ -193,6 +193,6 @@ impl Variant for Legacy {
     }
 
     fn remaining_blocks(block_pos: u64) -> Option<usize> {
-        Some((u64::MAX - block_pos) as usize)
+        ((u64::MAX - block_pos) as usize).checked_add(1)
     }
 }

@@ -18,27 +18,30 @@ use std::marker::Model;
 /// A cipher over bytes, of a core that hands out blocks.
 ///
 /// Clauses see it as its fixed part and its position in bytes (`Cipher`). It keeps one block, so that a message may
-/// come in pieces of any size, and takes all blocks of the core but the one with the greatest counter.
+/// come in pieces of any size, and takes all blocks of the core, from the one with counter 0 to the one with the
+/// greatest counter.
 #[derive(Drop)]
 pub struct StreamCipherCoreWrapper<C: StreamCipherSeekCore> {
     core: C,
     // The last block that the core made, of which the last `left` bytes are still to be used.
     buffer: [u8; 64],
-    left: usize,
+    left: u8,
+    // Whether the core is past the block with the greatest counter: its own counter is then 0 again.
+    past: bool,
 }
 
 impl<C: StreamCipherSeekCore> Model for StreamCipherCoreWrapper<C> {
     ghost use Rattle.chacha_base.specs.Cipher.{Cipher};
-    ghost use Rattle.chacha_base.specs.Buffered.{IsBuffered, position_of};
+    ghost use Rattle.chacha_base.specs.Buffered.{IsBuffered, blocks_made, position_of};
 
     ghost Value = { Cipher };
 
     ghost view = { λ w. record {
       fixed = C.fixed w.core;
-      position = position_of (C.counter w.core) w.left;
+      position = position_of (blocks_made C.modulus w.past (C.counter w.core)) w.left;
     } };
 
-    ghost invariant = { λ w. IsBuffered C.modulus (C.block_at (C.fixed w.core))
+    ghost invariant = { λ w. IsBuffered C.modulus (C.block_at (C.fixed w.core)) w.past
         (C.counter w.core) w.buffer w.left };
 }
 
@@ -78,6 +81,7 @@ impl<C: StreamCipherSeekCore + KeyIvInit> KeyIvInit for StreamCipherCoreWrapper<
             core: C::new(key, iv),
             buffer: [0; 64],
             left: 0,
+            past: false,
         }
     }
 }
@@ -106,7 +110,12 @@ impl<C: StreamCipherSeekCore> StreamCipher for StreamCipherCoreWrapper<C> {
     ghost at_at = { λ c p q. refl };
 
     fn check_remaining(&self, len: usize) -> Result<(), StreamCipherError> {
-        match self.core.remaining_blocks() {
+        let blocks = if self.past {
+            Some(0)
+        } else {
+            self.core.remaining_blocks()
+        };
+        match blocks {
             Some(blocks) if len as u128 > 64 * blocks as u128 + self.left as u128 => Err(
                 StreamCipherError,
             ),
@@ -134,7 +143,7 @@ impl<C: StreamCipherSeekCore> StreamCipher for StreamCipherCoreWrapper<C> {
 impl<C: StreamCipherSeekCore> StreamCipherSeek for StreamCipherCoreWrapper<C> {
     fn try_seek<T: SeekNum>(&mut self, pos: T) -> Result<(), StreamCipherError> {
         match pos.to_position() {
-            Some(place) if place <= 64 * u128::from(C::Counter::last()) => {
+            Some(place) if place <= 64 * u128::from(C::Counter::last()) + 64 => {
                 self.move_to(place, &mut Steps::new());
                 Ok(())
             }
@@ -143,8 +152,12 @@ impl<C: StreamCipherSeekCore> StreamCipherSeek for StreamCipherCoreWrapper<C> {
     }
 
     fn try_current_pos<T: SeekNum>(&self) -> Result<T, OverflowError> {
-        let counter = self.core.get_block_pos().to_u64();
-        T::from_position(64 * u128::from(counter) - self.left as u128)
+        let made = if self.past {
+            u128::from(C::Counter::last()) + 1
+        } else {
+            u128::from(self.core.get_block_pos().to_u64())
+        };
+        T::from_position(64 * made - self.left as u128)
     }
 }
 
@@ -153,7 +166,7 @@ impl<C: StreamCipherSeekCore> StreamCipherCoreWrapper<C> {
     fn left(&self) -> usize
         ensures { result ≡ left_at self.now.position }
     {
-        self.left
+        self.left as usize
     }
 
     // Combines bytes with what is left of the block that has been begun.
@@ -164,9 +177,9 @@ impl<C: StreamCipherSeekCore> StreamCipherCoreWrapper<C> {
         ensures moved { self.new
             ≡ record self.old { position = self.old.position + length bytes.old } }
     {
-        let from = 64 - self.left;
+        let from = 64 - self.left as usize;
         xor_bytes(bytes, &self.buffer[from..from + bytes.len()]);
-        self.left -= bytes.len();
+        self.left -= bytes.len() as u8;
     }
 
     // Combines whole blocks, where none has been begun.
@@ -184,6 +197,7 @@ impl<C: StreamCipherSeekCore> StreamCipherCoreWrapper<C> {
     {
         if !blocks.is_empty() {
             self.core.apply_blocks_counted(blocks, steps);
+            self.past = self.core.get_block_pos().to_u64() == 0;
         }
     }
 
@@ -203,7 +217,8 @@ impl<C: StreamCipherSeekCore> StreamCipherCoreWrapper<C> {
         if !bytes.is_empty() {
             self.core.write_block_counted(&mut self.buffer, steps);
             xor_bytes(bytes, &self.buffer[..bytes.len()]);
-            self.left = 64 - bytes.len();
+            self.left = (64 - bytes.len()) as u8;
+            self.past = self.core.get_block_pos().to_u64() == 0;
         }
     }
 
@@ -215,12 +230,16 @@ impl<C: StreamCipherSeekCore> StreamCipherCoreWrapper<C> {
             (for_call 0 (min 1 (place % 64))
             (min 1 (place % 64) * C.one_cost)) steps.old steps.new }
     {
+        let last = u128::from(C::Counter::last());
         let used = (place % 64) as usize;
-        let counter = (place / 64) as u64;
+        let block = place / 64;
+        // At the limit the core is past its last block.
+        let counter = if block > last { 0 } else { block as u64 };
         self.core.set_block_pos(C::Counter::from_u64(counter));
         if used > 0 {
             self.core.write_block_counted(&mut self.buffer, steps);
         }
-        self.left = (64 - used) % 64;
+        self.left = ((64 - used) % 64) as u8;
+        self.past = place > 64 * last;
     }
 }

@@ -100,7 +100,7 @@ impl StreamCipherCore for Toy {
     ghost position_is = { λ c. refl };
 
     fn remaining_blocks(&self) -> Option<usize> {
-        Some((u32::MAX - self.counter) as usize)
+        Some((u32::MAX - self.counter) as usize + 1)
     }
 
     fn write_keystream_blocks(&mut self, blocks: &mut [[u8; 64]]) {

@@ -26,7 +26,7 @@ const CIPHERTEXT: [u8; 16] = *b"\xe4\x05\x62\x6e\x4f\x12\x36\xb3\x67\x0e\xe4\x28
 
 /// Each row's number and what fails in it: for cores in the layout of RFC 8439, in the one before it, and with nonces of 24
 /// bytes.
-pub fn verdicts<K, L, X>() -> [(usize, Verdict); 9]
+pub fn verdicts<K, L, X>() -> [(usize, Verdict); 10]
 where
     K: SeekCore<Nonce, u32>,
     L: SeekCore<LegacyNonce, u64>,
@@ -41,6 +41,7 @@ where
         (11, row_11::<K>()),
         (12, row_12::<K, L>()),
         (16, row_16::<K>()),
+        (18, row_18::<K>()),
         (22, row_22::<K, L>()),
     ]
 }
@@ -142,19 +143,17 @@ fn row_6<L: SeekCore<LegacyNonce, u64>>() -> Verdict {
     ])
 }
 
-// The end of the stream: nothing can be taken there, and nothing is past it.
+// The block with the greatest counter is taken as any other.
 fn row_11<K: SeekCore<Nonce, u32>>() -> Verdict {
     let mut cipher = StreamCipherCoreWrapper::<K>::new(&COUNTING, &[0; 12]);
-    let mut byte = [7];
     failed(&[
         cipher.try_seek(274877906880u64).is_ok(),
         cipher.try_apply_keystream(&mut []).is_ok(),
-        cipher.try_apply_keystream(&mut byte) == Err(StreamCipherError),
-        byte == [7],
-        cipher.try_current_pos() == Ok(274877906880u64),
-        cipher.try_seek(274877906881u64) == Err(StreamCipherError),
+        cipher.try_apply_keystream(&mut [7]).is_ok(),
+        cipher.try_current_pos() == Ok(274877906881u64),
+        cipher.try_seek(274877906881u64).is_ok(),
         cipher.try_seek(-1i32) == Err(StreamCipherError),
-        cipher.try_current_pos() == Ok(274877906880u64),
+        cipher.try_current_pos() == Ok(274877906881u64),
     ])
 }
 
@@ -183,13 +182,27 @@ fn row_16<K: SeekCore<Nonce, u32>>() -> Verdict {
     ])
 }
 
+// The last byte: the stream ends after it, and a fresh cipher begins at its start.
+fn row_18<K: SeekCore<Nonce, u32>>() -> Verdict {
+    let mut cipher = StreamCipherCoreWrapper::<K>::new(&COUNTING, &[0; 12]);
+    let fresh = StreamCipherCoreWrapper::<K>::new(&COUNTING, &[0; 12]);
+    failed(&[
+        cipher.try_seek(274877906943u64).is_ok(),
+        cipher.try_apply_keystream(&mut [0]).is_ok(),
+        cipher.try_current_pos() == Ok(274877906944u64),
+        cipher.try_apply_keystream(&mut [0]) == Err(StreamCipherError),
+        fresh.try_current_pos() == Ok(0u64),
+    ])
+}
+
 // How much a fresh cipher takes.
 fn row_22<K: SeekCore<Nonce, u32>, L: SeekCore<LegacyNonce, u64>>() -> Verdict {
     let cipher = StreamCipherCoreWrapper::<K>::new(&COUNTING, &[0; 12]);
     let legacy = StreamCipherCoreWrapper::<L>::new(&FROM_1, &LEGACY_NONCE);
     failed(&[
         cipher.check_remaining(274877906880).is_ok(),
-        cipher.check_remaining(274877906881) == Err(StreamCipherError),
+        cipher.check_remaining(274877906881).is_ok(),
+        cipher.check_remaining(274877906945) == Err(StreamCipherError),
         legacy.check_remaining(usize::MAX).is_ok(),
     ])
 }

@@ -42,7 +42,7 @@ fn encrypt<C: KeyIvInit + StreamCipher + Drop>(
 
 // A message under a key and a nonce, as RFC 8439 has it.
 fn encrypt_ietf(key: &Key, nonce: &Nonce, message: &mut [u8]) -> Result<(), StreamCipherError>
-    ensures accepted { IsOk result ↔ (length message.old ≤ 274877906880) }
+    ensures accepted { IsOk result ↔ (length message.old ≤ 274877906944) }
     ensures bytes { OnOk result (message.new
         ≡ xor_stream (keystream (2 ^ 32) (block 10 ietf key.now nonce.now)) 0 message.old) }
     ensures refused { OnErr result (message.new ≡ message.old) }
@@ -65,7 +65,7 @@ fn encrypt_legacy(
 
 // A message under a key and a nonce: the cipher is that of RFC 8439 under the key and the nonce that are derived.
 fn encrypt_xchacha(key: &Key, nonce: &XNonce, message: &mut [u8]) -> Result<(), StreamCipherError>
-    ensures accepted { IsOk result ↔ (length message.old ≤ 274877906880) }
+    ensures accepted { IsOk result ↔ (length message.old ≤ 274877906944) }
     ensures bytes { OnOk result (message.new
         ≡ xor_stream (keystream (2 ^ 32)
         (block 10 ietf (subkey 10 key.now nonce.now) (subnonce nonce.now))) 0 message.old) }

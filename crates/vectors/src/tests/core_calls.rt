@@ -28,21 +28,26 @@ fn zeroized(rt: HostRuntime) {
     assert_eq!(rt; verdicts, [None; 5]);
 }
 
+// The block with the greatest counter counts. 2^64 blocks are more than a number of blocks says.
 #[test]
 fn remaining_blocks(rt: HostRuntime) {
     let of_ietf = [Ietf::remaining_blocks(0), Ietf::remaining_blocks(u32::MAX)];
     let of_legacy = [
         Legacy::remaining_blocks(0),
+        Legacy::remaining_blocks(1),
         Legacy::remaining_blocks(u64::MAX),
     ];
-    assert_eq!(rt; of_ietf, [Some(4294967295), Some(0)]);
-    assert_eq!(rt; of_legacy, [Some(usize::MAX), Some(0)]);
+    let right = failed(&[
+        of_ietf == [Some(4294967296), Some(1)],
+        of_legacy == [None, Some(18446744073709551615), Some(1)],
+    ]);
+    assert_eq!(rt; right, None);
 }
 
 type PlainCore = ChaChaCore<R20, Ietf, Soft>;
 
 // Four single blocks.
-fn single_blocks(core: &mut PlainCore) -> [[u8; 64]; 4] {
+fn single_blocks<C: StreamCipherCore>(core: &mut C) -> [[u8; 64]; 4] {
     let mut blocks = [[0; 64]; 4];
     for block in &mut blocks {
         core.write_keystream_block(block);
@@ -51,7 +56,7 @@ fn single_blocks(core: &mut PlainCore) -> [[u8; 64]; 4] {
 }
 
 // None, one and three blocks at once.
-fn written_at_once(core: &mut PlainCore) -> [[u8; 64]; 4] {
+fn written_at_once<C: StreamCipherCore>(core: &mut C) -> [[u8; 64]; 4] {
     let mut blocks = [[1; 64]; 4];
     core.write_keystream_blocks(&mut []);
     core.write_keystream_blocks(&mut blocks[..1]);
@@ -59,7 +64,7 @@ fn written_at_once(core: &mut PlainCore) -> [[u8; 64]; 4] {
     blocks
 }
 
-fn applied_at_once(core: &mut PlainCore) -> [[u8; 64]; 4] {
+fn applied_at_once<C: StreamCipherCore>(core: &mut C) -> [[u8; 64]; 4] {
     let mut blocks = [[0xa5; 64]; 4];
     core.apply_keystream_blocks(&mut []);
     core.apply_keystream_blocks(&mut blocks[..1]);
@@ -81,43 +86,56 @@ fn blocks_at_once(rt: HostRuntime) {
     let single = single_blocks(&mut PlainCore::new(&COUNTING, &[7; 12]));
     let mut writes = PlainCore::new(&COUNTING, &[7; 12]);
     let mut applies = PlainCore::new(&COUNTING, &[7; 12]);
-    assert!(rt; written_at_once(&mut writes) == single);
-    assert!(rt; applied_at_once(&mut applies) == of_a5(single));
-    assert_eq!(rt; [writes.get_block_pos(), applies.get_block_pos()], [4, 4]);
+    let right = failed(&[
+        written_at_once(&mut writes) == single,
+        applied_at_once(&mut applies) == of_a5(single),
+        writes.get_block_pos() == 4,
+        applies.get_block_pos() == 4,
+    ]);
+    assert_eq!(rt; right, None);
 }
 
-// A block that is applied is the block that is written.
+// The next block as one core writes it is what another applies to zeros.
+fn applies_as_written<C: StreamCipherCore>(writes: &mut C, applies: &mut C) -> bool {
+    let mut written = [1; 64];
+    let mut applied = [0; 64];
+    writes.write_keystream_block(&mut written);
+    applies.apply_keystream_block(&mut applied);
+    written == applied
+}
+
 #[test]
 fn block_applied(rt: HostRuntime) {
     let mut writes = ChaCha20LegacyCore::new(&COUNTING, &[7; 8]);
     let mut applies = ChaCha20LegacyCore::new(&COUNTING, &[7; 8]);
     writes.set_block_pos(0xffff_ffff);
     applies.set_block_pos(0xffff_ffff);
-    for _ in 0..2 {
-        let mut written = [1; 64];
-        let mut applied = [0; 64];
-        writes.write_keystream_block(&mut written);
-        applies.apply_keystream_block(&mut applied);
-        assert_eq!(rt; written.as_slice(), applied.as_slice());
-    }
-    assert_eq!(rt; applies.get_block_pos(), 0x1_0000_0001);
+    let right = failed(&[
+        applies_as_written(&mut writes, &mut applies),
+        applies_as_written(&mut writes, &mut applies),
+        applies.get_block_pos() == 0x1_0000_0001,
+    ]);
+    assert_eq!(rt; right, None);
 }
 
-// Three blocks, of which two are written at once and one is counted.
-fn two_and_one(core: &mut XChaChaCore<R20, Soft>) -> [[u8; 64]; 3] {
+// Three blocks, of which two are written at once and one is counted, and the position after them.
+fn two_and_one<C: StreamCipherSeekCore<Counter = u32>>(core: &mut C) -> ([[u8; 64]; 3], u32) {
     let mut blocks = [[0; 64]; 3];
     core.write_keystream_blocks(&mut blocks[..2]);
     core.write_block_counted(&mut blocks[2], &mut Steps::new());
-    blocks
+    (blocks, core.get_block_pos())
+}
+
+fn three<C: StreamCipherSeekCore<Counter = u32>>(core: &mut C) -> ([[u8; 64]; 3], u32) {
+    let mut blocks = [[0; 64]; 3];
+    core.apply_blocks_counted(blocks.as_flattened_mut(), &mut Steps::new());
+    (blocks, core.get_block_pos())
 }
 
 // Blocks of bytes are combined as blocks are written, and both cores then stand behind them.
 #[test]
 fn blocks_counted(rt: HostRuntime) {
-    let mut applies = XChaChaCore::<R20, Lanes16>::new(&COUNTING, &[7; 24]);
-    let mut writes = XChaChaCore::<R20, Soft>::new(&COUNTING, &[7; 24]);
-    let mut applied = [0; 192];
-    applies.apply_blocks_counted(&mut applied, &mut Steps::new());
-    assert!(rt; applied.as_slice() == two_and_one(&mut writes).as_flattened());
-    assert_eq!(rt; [applies.get_block_pos(), writes.get_block_pos()], [3, 3]);
+    let applied = three(&mut XChaChaCore::<R20, Lanes16>::new(&COUNTING, &[7; 24]));
+    let written = two_and_one(&mut XChaChaCore::<R20, Soft>::new(&COUNTING, &[7; 24]));
+    assert!(rt; applied == written && written.1 == 3);
 }

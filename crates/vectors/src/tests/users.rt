@@ -31,7 +31,7 @@ type ChaCha6 = StreamCipherCoreWrapper<ChaChaCore<R6, Ietf, Lanes16>>;
 
 // A message under a key and a nonce, with three double rounds.
 fn encrypt_6(key: &Key, nonce: &Nonce, message: &mut [u8]) -> Result<(), StreamCipherError>
-    ensures accepted { IsOk result ↔ (length message.old ≤ 274877906880) }
+    ensures accepted { IsOk result ↔ (length message.old ≤ 274877906944) }
     ensures bytes { OnOk result (message.new
         ≡ xor_stream (keystream (2 ^ 32) (block 3 ietf key.now nonce.now)) 0 message.old) }
     ensures refused { OnErr result (message.new ≡ message.old) }

@@ -1,6 +1,6 @@
 use Rattle.std.proofs.Common.{◌≡◌, ◌≤◌, List, ℕ, length, ap, subst, arith}
 use Rattle.chacha_base.proofs.BufferedLemmas.{xor_stream-begun}
-use Rattle.chacha_base.specs.Buffered.{IsBuffered, position_of}
+use Rattle.chacha_base.specs.Buffered.{IsBuffered, blocks_made, position_of}
 use Rattle.chacha_base.proofs.wrapper.StreamCipherCoreWrapper.apply_begun.Goals as goal
 
 pub returns-clause-bytes : goal.returns-clause-bytes
@@ -8,8 +8,9 @@ returns-clause-bytes g c =
     let modulus = g.C.Keystream.modulus in
     let block = g.C.Keystream.block_at in
     let counter = g.C.StreamCipherCore.counter c.self.inside.core in
+    let past = c.self.inside.past in
     let left = c.self.inside.left in
-    let kept = subst (λ (f : List ℕ). IsBuffered modulus (block f) counter c.self.inside.buffer left) (ap (λ v. v.fixed) c.self.view_is) c.self.invariant in
-    let place : position_of counter left ≡ c.args.self.now.position = ap (λ v. v.position) c.self.view_is in
+    let kept = subst (λ (f : List ℕ). IsBuffered modulus (block f) past counter c.self.inside.buffer left) (ap (λ v. v.fixed) c.self.view_is) c.self.invariant in
+    let place : position_of (blocks_made modulus past counter) left ≡ c.args.self.now.position = ap (λ v. v.position) c.self.view_is in
     let fits : length c.args.bytes.now ≤ left = omega (arith, c.self.invariant.part, c.self.invariant.begun) in
-    xor_stream-begun modulus (block c.args.self.now.fixed) counter left _ c.self.inside.buffer _ _ kept place fits (omega arith) c.xor_bytes.ensures
+    xor_stream-begun modulus (block c.args.self.now.fixed) past counter left _ c.self.inside.buffer _ _ kept place fits (omega arith) c.xor_bytes.ensures
