@@ -10,7 +10,6 @@ mod generator_runs;
 mod generator_states;
 mod generator_traits;
 mod generators;
-mod named;
 mod names;
 mod odd_cuts;
 mod own_backend;

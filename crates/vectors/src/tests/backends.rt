@@ -5,7 +5,7 @@ ghost use Rattle.std.specs.Prelude.{◌≤◌};
 
 use super::streams;
 use crate::own_backend::Width3;
-use crate::rows::{COUNTING, R0, Verdict, ciphers, cores, generators};
+use crate::rows::{COUNTING, R0, Verdict, ciphers, cores, failed, generators};
 use chacha20::backends::{Lanes4, Lanes8, Lanes16, Rows8, Soft};
 use chacha20::cipher::{
     KeyIvInit, RngBackend, StreamCipherBackend, StreamCipherCounter, StreamCipherSeekCore,
@@ -89,59 +89,65 @@ fn rows_of_generators(rt: HostRuntime) {
 }
 
 // The streams of ciphers; the legacy one between all places that are multiples of so many bytes.
-fn streams_of_ciphers<B>(rt: &impl Abort, step: usize)
+fn wrong_cipher_stream<B>(step: usize) -> Verdict
 where
     B: StreamCipherBackend<R20, Ietf> + StreamCipherBackend<R20, Legacy>,
 {
-    assert!(rt; streams::ietf_stream::<IetfCore<B>>());
-    assert!(rt; streams::xchacha_stream::<XChaChaCore<R20, B>>());
-    assert_eq!(rt; streams::legacy_stream::<LegacyCore<B>>(step), None);
+    failed(&[
+        streams::ietf_stream::<IetfCore<B>>(),
+        streams::xchacha_stream::<XChaChaCore<R20, B>>(),
+        streams::legacy_stream::<LegacyCore<B>>(step).is_none(),
+    ])
 }
 
 #[test]
 fn cipher_streams(rt: HostRuntime) {
-    streams_of_ciphers::<Soft>(&rt, 1);
-    streams_of_ciphers::<Lanes4>(&rt, 17);
-    streams_of_ciphers::<Lanes8>(&rt, 17);
-    streams_of_ciphers::<Rows8>(&rt, 17);
-    streams_of_ciphers::<Lanes16>(&rt, 17);
+    let verdicts = [
+        wrong_cipher_stream::<Soft>(1),
+        wrong_cipher_stream::<Lanes4>(17),
+        wrong_cipher_stream::<Lanes8>(17),
+        wrong_cipher_stream::<Rows8>(17),
+        wrong_cipher_stream::<Lanes16>(17),
+    ];
+    assert_eq!(rt; verdicts, [None; 5]);
 }
 
-fn streams_of_generators<B: RngBackend<R20>>(rt: &impl Abort) {
-    assert_eq!(rt; streams::zero_seed_words::<B>(), None);
-    assert_eq!(rt; streams::every_17th_word::<B>(), None);
-    assert!(rt; streams::carry_blocks::<B>());
-    assert!(rt; streams::wrap_to_start::<B>());
+fn wrong_generator_stream<B: RngBackend<R20>>() -> Verdict {
+    failed(&[
+        streams::zero_seed_words::<B>().is_none(),
+        streams::every_17th_word::<B>().is_none(),
+        streams::carry_blocks::<B>(),
+        streams::wrap_to_start::<B>(),
+    ])
 }
 
 #[test]
 fn generator_streams(rt: HostRuntime) {
-    streams_of_generators::<Soft>(&rt);
-    streams_of_generators::<Lanes4>(&rt);
-    streams_of_generators::<Lanes8>(&rt);
-    streams_of_generators::<Rows8>(&rt);
-    streams_of_generators::<Lanes16>(&rt);
+    let verdicts = [
+        wrong_generator_stream::<Soft>(),
+        wrong_generator_stream::<Lanes4>(),
+        wrong_generator_stream::<Lanes8>(),
+        wrong_generator_stream::<Rows8>(),
+        wrong_generator_stream::<Lanes16>(),
+    ];
+    assert_eq!(rt; verdicts, [None; 5]);
 }
 
-// Whether so many blocks from a counter on, and the core after them, are those of another core.
-fn same_blocks<A, B>(core: &mut A, other: &mut B, start: A::Counter, count: usize) -> bool
-where
-    A: StreamCipherSeekCore,
-    B: StreamCipherSeekCore<Counter = A::Counter>,
+// So many blocks from a counter on, the single block after them, and the position after the many.
+fn made<C: StreamCipherSeekCore>(
+    core: &mut C,
+    start: C::Counter,
+    count: usize,
+) -> ([[u8; 64]; 33], [u8; 64], u64)
     requires { count ≤ 33 }
 {
     let mut blocks = [[0; 64]; 33];
-    let mut others = [[1; 64]; 33];
-    core.set_block_pos(start);
-    other.set_block_pos(start);
-    core.write_keystream_blocks(&mut blocks[..count]);
-    other.write_keystream_blocks(&mut others[..count]);
     let mut next = [0; 64];
-    let mut other_next = [1; 64];
-    let same = core.get_block_pos().to_u64() == other.get_block_pos().to_u64();
+    core.set_block_pos(start);
+    core.write_keystream_blocks(&mut blocks[..count]);
+    let after = core.get_block_pos().to_u64();
     core.write_keystream_block(&mut next);
-    other.write_keystream_block(&mut other_next);
-    same && blocks[..count] == others[..count] && next == other_next
+    (blocks, next, after)
 }
 
 // The first number of blocks, from none to 33, for which two cores differ.
@@ -151,7 +157,7 @@ where
     B: StreamCipherSeekCore<Counter = A::Counter>,
 {
     for count in 0..34usize {
-        if !same_blocks(core, other, start, count) {
+        if made(core, start, count) != made(other, start, count) {
             return Some(count);
         }
     }

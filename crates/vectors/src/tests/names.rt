@@ -1,5 +1,6 @@
 //! Every public name by the crate's root, and by the module that it stands in.
 
+use crate::rows::failed;
 use chacha20::rand_core::{Rng, SeedableRng};
 use chacha20::{
     BlockSizeUser, ChaCha8, ChaCha8Rng, ChaCha12, ChaCha12Rng, ChaCha20, ChaCha20Legacy,
@@ -87,68 +88,115 @@ fn cores(rt: HostRuntime) {
     assert_eq!(rt; counters, [1, 5]);
 }
 
-// By a new cipher: the four bytes from a position on.
-fn bytes_from<C, T>(key: &C::Key, iv: &C::Iv, from: T) -> Result<[u8; 4], StreamCipherError>
-where
-    C: KeyIvInit + StreamCipher + StreamCipherSeek + Drop,
-    T: SeekNum,
-{
-    let mut cipher = C::new(key, iv);
-    let mut bytes = [0; 4];
-    cipher.try_seek(from)?;
-    cipher.try_apply_keystream(&mut bytes)?;
-    Ok(bytes)
-}
-
 fn position<C: StreamCipherSeek>(cipher: &C) -> Result<i32, OverflowError> {
     cipher.try_current_pos()
 }
 
-// By a cipher over any core: the next four bytes.
-fn next_bytes<K: StreamCipherSeekCore>(cipher: &mut StreamCipherCoreWrapper<K>) -> [u8; 4] {
-    let mut bytes = [0; 4];
-    let _ = cipher.try_apply_keystream(&mut bytes);
-    bytes
+// The sizes of a cipher's key and nonce. No cipher is handed over: the argument names its type.
+fn sizes_of_type<K>(_cipher: Option<&StreamCipherCoreWrapper<K>>) -> (usize, usize)
+where
+    K: StreamCipherSeekCore + KeySizeUser + IvSizeUser,
+{
+    (
+        StreamCipherCoreWrapper::<K>::KEY_SIZE,
+        StreamCipherCoreWrapper::<K>::IV_SIZE,
+    )
 }
 
+// The same, after the first bytes of a new cipher.
+fn of_type<K>(
+    key: &K::Key,
+    nonce: &K::Iv,
+    cipher: Option<&StreamCipherCoreWrapper<K>>,
+) -> ([u8; 32], usize, usize)
+where
+    K: KeyIvInit + KeySizeUser + IvSizeUser + StreamCipherSeekCore + Drop,
+{
+    let (key_size, nonce_size) = sizes_of_type(cipher);
+    let mut cipher = StreamCipherCoreWrapper::<K>::new(key, nonce);
+    let mut bytes = [0; 32];
+    let _ = cipher.try_apply_keystream(&mut bytes);
+    (bytes, key_size, nonce_size)
+}
+
+// What the names stand for. The bytes are those of draft-strombergson-chacha-test-vectors (TC1, keys of 256 bits), for a
+// key and a nonce of zeros. The nonce there is that of the legacy layout; at block 0 the layouts agree.
 #[test]
 fn ciphers(rt: HostRuntime) {
     let key: Key = [0; 32];
     let nonce: Nonce = [0; 12];
     let legacy_nonce: LegacyNonce = [0; 8];
     let found = [
-        bytes_from::<ChaCha20, u32>(&key, &nonce, 0),
-        Ok(next_bytes(&mut ChaCha8::new(&key, &nonce))),
-        Ok(next_bytes(&mut ChaCha12::new(&key, &nonce))),
-        Ok(next_bytes(&mut ChaCha20Legacy::new(&key, &legacy_nonce))),
+        of_type(&key, &nonce, None::<&ChaCha8>),
+        of_type(&key, &nonce, None::<&ChaCha12>),
+        of_type(&key, &nonce, None::<&ChaCha20>),
+        of_type(&key, &legacy_nonce, None::<&ChaCha20Legacy>),
     ];
+    let expected_of_8 = *b"\x3e\x00\xef\x2f\x89\x5f\x40\xd6\x7f\x5b\xb8\xe8\x1f\x09\xa5\xa1\
+        \x2c\x84\x0e\xc3\xce\x9a\x7f\x3b\x18\x1b\xe1\x88\xef\x71\x1a\x1e";
+    let expected_of_12 = *b"\x9b\xf4\x9a\x6a\x07\x55\xf9\x53\x81\x1f\xce\x12\x5f\x26\x83\xd5\
+        \x04\x29\xc3\xbb\x49\xe0\x74\x14\x7e\x00\x89\xa5\x2e\xae\x15\x5f";
+    let expected_of_20 = *b"\x76\xb8\xe0\xad\xa0\xf1\x3d\x90\x40\x5d\x6a\xe5\x53\x86\xbd\x28\
+        \xbd\xd2\x19\xb8\xa0\x8d\xed\x1a\xa8\x36\xef\xcc\x8b\x77\x0d\xc7";
     let expected = [
-        Ok(*b"\x76\xb8\xe0\xad"),
-        Ok(*b"\x3e\x00\xef\x2f"),
-        Ok(*b"\x9b\xf4\x9a\x6a"),
-        Ok(*b"\x76\xb8\xe0\xad"),
+        (expected_of_8, 32, 12),
+        (expected_of_12, 32, 12),
+        (expected_of_20, 32, 12),
+        (expected_of_20, 32, 8),
     ];
     assert_eq!(rt; found, expected);
 }
 
-// Ciphers with nonces of 24 bytes are the others under a derived key.
+// The first byte from a place on.
+fn byte_from<K, T>(key: &K::Key, nonce: &K::Iv, place: T) -> Result<u8, StreamCipherError>
+where
+    K: KeyIvInit + StreamCipherSeekCore + Drop,
+    T: SeekNum,
+{
+    let mut cipher = StreamCipherCoreWrapper::<K>::new(key, nonce);
+    let mut byte = [0];
+    cipher.try_seek(place)?;
+    cipher.try_apply_keystream(&mut byte)?;
+    Ok(byte[0])
+}
+
+// The subkey of zeros is that of the tests of golang.org/x/crypto, of which the first bytes are given.
 #[test]
 fn x_ciphers(rt: HostRuntime) {
-    let key: Key = [0; 32];
-    let x_nonce: XNonce = [0; 24];
-    let found = [
-        next_bytes(&mut XChaCha8::new(&key, &x_nonce)),
-        next_bytes(&mut XChaCha12::new(&key, &x_nonce)),
-        next_bytes(&mut XChaCha20::new(&key, &x_nonce)),
+    let sizes = [
+        sizes_of_type(None::<&XChaCha8>),
+        sizes_of_type(None::<&XChaCha12>),
+        sizes_of_type(None::<&XChaCha20>),
     ];
-    let expected = [derived::<R8>(), derived::<R12>(), derived::<R20>()];
-    assert_eq!(rt; found, expected);
+    let right = failed(&[
+        sizes == [(32, 24); 3],
+        hchacha::<R20>(&[0; 32], &[0; 16]).starts_with(b"\x11\x40\x70\x4c\x32\x8d\x1d\x5d"),
+        byte_from::<ChaChaCore<R20, Ietf, Soft>, u32>(&[0; 32], &[0; 12], 2) == Ok(0xe0),
+    ]);
+    assert_eq!(rt; right, None);
 }
 
-// The first bytes under the key that is derived of zeros.
-fn derived<R: Rounds>() -> [u8; 4] {
-    let subkey = hchacha::<R>(&[0; 32], &[0; 16]);
-    next_bytes(&mut StreamCipherCoreWrapper::<ChaChaCore<R, Ietf, Soft>>::new(&subkey, &[0; 12]))
+// By a list of calls: a seek, and the position after it.
+fn sought<K: StreamCipherSeekCore>(cipher: &mut StreamCipherCoreWrapper<K>) -> bool {
+    let calls = [CipherCall::Seek(7), CipherCall::Pos];
+    let mut answers = [CipherAnswer::Refused; 2];
+    run_cipher(cipher, &[], &mut [], &calls, &mut answers);
+    answers == [CipherAnswer::Done, CipherAnswer::Position(7)] && position(cipher) == Ok(7)
+}
+
+fn sought_by_modules<K: cipher::StreamCipherSeekCore>(
+    cipher: &mut cipher::StreamCipherCoreWrapper<K>,
+) -> bool {
+    let calls = [runs::CipherCall::Seek(9)];
+    let mut answers = [runs::CipherAnswer::Refused];
+    runs::run_cipher(cipher, &[], &mut [], &calls, &mut answers);
+    answers == [runs::CipherAnswer::Done] && position_by_module(cipher) == Ok(9)
+}
+
+fn position_by_module<C: cipher::StreamCipherSeek>(
+    cipher: &C,
+) -> Result<i32, cipher::OverflowError> {
+    position(cipher)
 }
 
 // The same items by the root and by its modules.
@@ -157,33 +205,11 @@ fn modules(rt: HostRuntime) {
     let mut cipher = StreamCipherCoreWrapper::<ChaChaCore<R20, Ietf, Soft>>::new(
         &[0; 32], &[0; 12],
     );
-    let mut answers = [CipherAnswer::Refused];
-    run_cipher(
-        &mut cipher,
-        &[],
-        &mut [],
-        &[CipherCall::Seek(7)],
-        &mut answers,
-    );
-    let by_root = cipher.try_current_pos();
+    let by_root = sought(&mut cipher);
     let same: &mut cipher::StreamCipherCoreWrapper<
         ChaChaCore<R20, variants::Ietf, backends::Soft>,
     > = &mut cipher;
-    let mut answers = [runs::CipherAnswer::Refused];
-    runs::run_cipher(
-        same,
-        &[],
-        &mut [],
-        &[runs::CipherCall::Seek(9)],
-        &mut answers,
-    );
-    assert_eq!(rt; [by_root, position_by_module(same)], [Ok(7), Ok(9)]);
-}
-
-fn position_by_module<C: cipher::StreamCipherSeek>(
-    cipher: &C,
-) -> Result<i32, cipher::OverflowError> {
-    position(cipher)
+    assert_eq!(rt; [by_root, sought_by_modules(same)], [true; 2]);
 }
 
 #[test]

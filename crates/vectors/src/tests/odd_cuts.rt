@@ -1,4 +1,4 @@
-//! Odd cuts, ends of streams and greatest values, over each backend: called directly, and as lists of calls.
+//! Odd cuts, over each backend: called directly, and as lists of calls.
 
 ghost use Rattle.std.specs.Prelude.{◌≤◌, ◌+◌, length};
 
@@ -10,7 +10,6 @@ use chacha20::cipher::{
 use chacha20::runs::{CipherAnswer, CipherCall, run_cipher};
 use chacha20::variants::{Ietf, Legacy};
 use chacha20::{ChaChaCore, R8, R12, R20, StreamCipherCoreWrapper, XChaChaCore};
-use std::process::Abort;
 
 // A message of some blocks and one byte more than a group of any backend.
 const LENGTH: usize = 2049;
@@ -19,7 +18,11 @@ const LENGTH: usize = 2049;
 const SIZES: [usize; 9] = [1, 3, 63, 64, 65, 255, 257, 1023, 1025];
 
 // Whether pieces of a size, with an empty piece after each, come out as the whole.
-fn same_in_pieces<C: StreamCipherSeek>(cipher: &mut C, whole: &[u8], size: usize) -> bool {
+fn same_in_pieces<C: StreamCipherSeekCore>(
+    cipher: &mut StreamCipherCoreWrapper<C>,
+    whole: &[u8],
+    size: usize,
+) -> bool {
     let mut bytes = [0; LENGTH];
     let mut all_accepted = cipher.try_seek(0u32).is_ok();
     for piece in bytes.chunks_mut(size.max(1)) {
@@ -30,7 +33,11 @@ fn same_in_pieces<C: StreamCipherSeek>(cipher: &mut C, whole: &[u8], size: usize
 }
 
 // Whether the rest from a byte on, after a seek to it, comes out as the whole does from there on.
-fn same_from<C: StreamCipherSeek>(cipher: &mut C, whole: &[u8; LENGTH], from: usize) -> bool
+fn same_from<C: StreamCipherSeekCore>(
+    cipher: &mut StreamCipherCoreWrapper<C>,
+    whole: &[u8; LENGTH],
+    from: usize,
+) -> bool
     requires { from ≤ 2049 }
 {
     let mut bytes = [0; LENGTH];
@@ -40,7 +47,7 @@ fn same_from<C: StreamCipherSeek>(cipher: &mut C, whole: &[u8; LENGTH], from: us
 }
 
 // The first size of pieces, or the first place of a seek, for which the bytes differ from those of one application.
-fn wrong_cut<C: StreamCipherSeek>(cipher: &mut C) -> Option<usize> {
+fn wrong_cut<C: StreamCipherSeekCore>(cipher: &mut StreamCipherCoreWrapper<C>) -> Option<usize> {
     let mut whole = [0; LENGTH];
     if cipher.try_apply_keystream(&mut whole).is_err() {
         return Some(LENGTH);
@@ -106,32 +113,22 @@ fn wrong_list<C: StreamCipherSeekCore>(cipher: &mut StreamCipherCoreWrapper<C>) 
 }
 
 // A cipher of each kind over a backend.
-fn cuts_over<B>(rt: &impl Abort)
+fn cuts_over<B>() -> [Option<usize>; 7]
 where
     B: StreamCipherBackend<R8, Ietf>
         + StreamCipherBackend<R12, Ietf>
         + StreamCipherBackend<R20, Ietf>
         + StreamCipherBackend<R20, Legacy>,
 {
-    assert_eq!(rt;
+    [
         wrong_of::<ChaChaCore<R8, Ietf, B>>(&COUNTING, &[7; 12]),
-        None
-    );
-    assert_eq!(rt;
         wrong_of::<ChaChaCore<R12, Ietf, B>>(&COUNTING, &[7; 12]),
-        None
-    );
-    assert_eq!(rt;
         wrong_of::<ChaChaCore<R20, Ietf, B>>(&COUNTING, &[7; 12]),
-        None
-    );
-    assert_eq!(rt;
         wrong_of::<ChaChaCore<R20, Legacy, B>>(&COUNTING, &[7; 8]),
-        None
-    );
-    assert_eq!(rt; wrong_of::<XChaChaCore<R8, B>>(&COUNTING, &[7; 24]), None);
-    assert_eq!(rt; wrong_of::<XChaChaCore<R12, B>>(&COUNTING, &[7; 24]), None);
-    assert_eq!(rt; wrong_of::<XChaChaCore<R20, B>>(&COUNTING, &[7; 24]), None);
+        wrong_of::<XChaChaCore<R8, B>>(&COUNTING, &[7; 24]),
+        wrong_of::<XChaChaCore<R12, B>>(&COUNTING, &[7; 24]),
+        wrong_of::<XChaChaCore<R20, B>>(&COUNTING, &[7; 24]),
+    ]
 }
 
 fn wrong_of<C: KeyIvInit + StreamCipherSeekCore + Drop>(
@@ -144,9 +141,12 @@ fn wrong_of<C: KeyIvInit + StreamCipherSeekCore + Drop>(
 
 #[test]
 fn cuts(rt: HostRuntime) {
-    cuts_over::<Soft>(&rt);
-    cuts_over::<Lanes4>(&rt);
-    cuts_over::<Lanes8>(&rt);
-    cuts_over::<Rows8>(&rt);
-    cuts_over::<Lanes16>(&rt);
+    let wrong_cuts = [
+        cuts_over::<Soft>(),
+        cuts_over::<Lanes4>(),
+        cuts_over::<Lanes8>(),
+        cuts_over::<Rows8>(),
+        cuts_over::<Lanes16>(),
+    ];
+    assert_eq!(rt; wrong_cuts, [[None; 7]; 5]);
 }

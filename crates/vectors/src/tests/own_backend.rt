@@ -3,20 +3,24 @@
 ghost use Rattle.std.specs.Prelude.{◌≤◌, length};
 
 use crate::own_backend::Width3;
+use crate::rows::ciphers::SeekCore;
 use crate::rows::{COUNTING, LEGACY_NONCE};
 use chacha20::backends::Soft;
-use chacha20::cipher::{KeyIvInit, StreamCipher, StreamCipherError};
+use chacha20::cipher::{
+    KeyIvInit, StreamCipher, StreamCipherCounter, StreamCipherError, StreamCipherSeekCore,
+};
 use chacha20::rand_core::{Rng, SeedableRng};
 use chacha20::variants::{Ietf, Legacy};
-use chacha20::{ChaChaCore, ChaChaRng, Key, R20, Seed, StreamCipherCoreWrapper, XChaChaCore};
+use chacha20::{
+    ChaChaCore, ChaChaRng, LegacyNonce, Nonce, R20, Seed, StreamCipherCoreWrapper, XChaChaCore,
+    XNonce,
+};
 
-type Cipher<V, B> = StreamCipherCoreWrapper<ChaChaCore<R20, V, B>>;
-
-type XCipher<B> = StreamCipherCoreWrapper<XChaChaCore<R20, B>>;
+type Cipher<K> = StreamCipherCoreWrapper<K>;
 
 // Applies a cipher to so many bytes, and then to the rest.
-fn apply_in_two<C: StreamCipher>(
-    cipher: &mut C,
+fn apply_in_two<K: StreamCipherSeekCore>(
+    cipher: &mut Cipher<K>,
     bytes: &mut [u8],
     first: usize,
 ) -> Result<(), StreamCipherError>
@@ -29,29 +33,27 @@ fn apply_in_two<C: StreamCipher>(
 
 // Whether one cipher takes back what the other gives, over ten blocks and a last part of 63 bytes, of which both take so
 // many bytes at first.
-fn takes_back<N, A, B>(nonce: &N, first: usize) -> bool
-where
-    A: KeyIvInit<Key = Key, Iv = N> + StreamCipher + Drop,
-    B: KeyIvInit<Key = Key, Iv = N> + StreamCipher + Drop,
+fn takes_back<N, T: StreamCipherCounter, A: SeekCore<N, T>, B: SeekCore<N, T>>(
+    nonce: &N,
+    first: usize,
+) -> bool
     requires { first ≤ 703 }
 {
     let mut bytes = [0; 703];
-    apply_in_two(&mut A::new(&COUNTING, nonce), &mut bytes, first).is_ok()
-        && apply_in_two(&mut B::new(&COUNTING, nonce), &mut bytes, first).is_ok()
+    apply_in_two(&mut Cipher::<A>::new(&COUNTING, nonce), &mut bytes, first).is_ok()
+        && apply_in_two(&mut Cipher::<B>::new(&COUNTING, nonce), &mut bytes, first).is_ok()
         && bytes == [0; 703]
 }
 
 // The first number of blocks, from 1 to 10, after which two ciphers differ with a last part of 0, 1 or 63 bytes.
-fn wrong_length<N, A, B>(nonce: &N) -> Option<usize>
-where
-    A: KeyIvInit<Key = Key, Iv = N> + StreamCipher + Drop,
-    B: KeyIvInit<Key = Key, Iv = N> + StreamCipher + Drop,
-{
+fn wrong_length<N, T: StreamCipherCounter, A: SeekCore<N, T>, B: SeekCore<N, T>>(
+    nonce: &N,
+) -> Option<usize> {
     for blocks in 1..11usize {
         let whole = 64 * blocks;
-        if !(takes_back::<N, A, B>(nonce, whole)
-            && takes_back::<N, A, B>(nonce, whole + 1)
-            && takes_back::<N, A, B>(nonce, whole + 63))
+        if !(takes_back::<N, T, A, B>(nonce, whole)
+            && takes_back::<N, T, A, B>(nonce, whole + 1)
+            && takes_back::<N, T, A, B>(nonce, whole + 63))
         {
             return Some(blocks);
         }
@@ -60,23 +62,20 @@ where
 }
 
 #[test]
-fn ietf_beside_soft(rt: HostRuntime) {
-    assert_eq!(rt;
-        wrong_length::<_, Cipher<Ietf, Width3>, Cipher<Ietf, Soft>>(&[7; 12]),
-        None
-    );
-}
-
-#[test]
-fn legacy_beside_soft(rt: HostRuntime) {
-    let wrong = wrong_length::<_, Cipher<Legacy, Width3>, Cipher<Legacy, Soft>>(&LEGACY_NONCE);
-    assert_eq!(rt; wrong, None);
-}
-
-#[test]
-fn xchacha_beside_soft(rt: HostRuntime) {
-    let wrong = wrong_length::<_, XCipher<Width3>, XCipher<Soft>>(&[7; 24]);
-    assert_eq!(rt; wrong, None);
+fn ciphers_beside_soft(rt: HostRuntime) {
+    let wrong = [
+        wrong_length::<Nonce, u32, ChaChaCore<R20, Ietf, Width3>, ChaChaCore<R20, Ietf, Soft>>(
+            &[7; 12],
+        ),
+        wrong_length::<
+            LegacyNonce,
+            u64,
+            ChaChaCore<R20, Legacy, Width3>,
+            ChaChaCore<R20, Legacy, Soft>,
+        >(&LEGACY_NONCE),
+        wrong_length::<XNonce, u32, XChaChaCore<R20, Width3>, XChaChaCore<R20, Soft>>(&[7; 24]),
+    ];
+    assert_eq!(rt; wrong, [None; 3]);
 }
 
 // Whether two generators fill so many bytes alike, and then give the same words.

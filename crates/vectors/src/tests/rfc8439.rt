@@ -4,23 +4,35 @@ use super::streams::NONCE;
 use crate::rows::COUNTING;
 use chacha20::cipher::{KeyIvInit, StreamCipher};
 use chacha20::{ChaCha20, Key, Nonce};
-use std::test::Fail;
 
-// Section 2.4.2, whose message begins at block 1.
-#[test]
-fn encryption(rt: HostRuntime) -> Result<(), Fail> {
+// The message of section 2.4.2, which begins at block 1.
+fn encrypted<C: StreamCipher>(cipher: &mut C) -> [u8; 114] {
     let mut message =
         *b"Ladies and Gentlemen of the class of '99: If I could offer you only one tip for the future, sunscreen would be it.";
-    let mut cipher = ChaCha20::new(&COUNTING, &NONCE);
-    cipher.try_apply_keystream(&mut [0; 64])?;
-    cipher.try_apply_keystream(&mut message)?;
+    let _ = cipher.try_apply_keystream(&mut [0; 64]);
+    let _ = cipher.try_apply_keystream(&mut message);
+    message
+}
+
+#[test]
+fn encryption(rt: HostRuntime) {
+    let message = encrypted(&mut ChaCha20::new(&COUNTING, &NONCE));
     assert_eq!(rt; message.as_slice(), CIPHERTEXT.as_slice());
-    Ok(())
+}
+
+// The block of a new cipher after so many others.
+fn block_after<C: StreamCipher>(cipher: &mut C, before: u32) -> [u8; 64] {
+    let mut block = [0; 64];
+    for _ in 0..before {
+        let _ = cipher.try_apply_keystream(&mut [0; 64]);
+    }
+    let _ = cipher.try_apply_keystream(&mut block);
+    block
 }
 
 // Appendix A.1: the block of a key and a nonce after so many others.
 #[test]
-fn keystream_blocks(rt: HostRuntime) -> Result<(), Fail> {
+fn keystream_blocks(rt: HostRuntime) {
     let mut last_one: Key = [0; 32];
     last_one[31] = 1;
     let mut second_ff: Key = [0; 32];
@@ -34,15 +46,9 @@ fn keystream_blocks(rt: HostRuntime) -> Result<(), Fail> {
         (second_ff, [0; 12], 2, KEY_FF),
         ([0; 32], last_two, 0, NONCE_2),
     ] {
-        let mut cipher = ChaCha20::new(&key, &nonce);
-        for _ in 0..before {
-            cipher.try_apply_keystream(&mut [0; 64])?;
-        }
-        let mut block = [0; 64];
-        cipher.try_apply_keystream(&mut block)?;
+        let block = block_after(&mut ChaCha20::new(&key, &nonce), before);
         assert_eq!(rt; block.as_slice(), expected.as_slice());
     }
-    Ok(())
 }
 
 const CIPHERTEXT: &[u8; 114] = b"\

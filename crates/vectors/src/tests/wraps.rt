@@ -1,7 +1,7 @@
 //! Counters and positions that wrap, and states of any bytes, over each backend. Nothing here makes rounds, so that words
 //! can be computed by hand.
 
-use crate::rows::R0;
+use crate::rows::{R0, Verdict, failed};
 use chacha20::backends::{Lanes4, Lanes8, Lanes16, Rows8, Soft};
 use chacha20::cipher::{
     KeyIvInit, RngBackend, StreamCipherBackend, StreamCipherCounter, StreamCipherSeekCore,
@@ -9,7 +9,6 @@ use chacha20::cipher::{
 use chacha20::rand_core::SeedableRng;
 use chacha20::variants::{Ietf, Legacy};
 use chacha20::{ChaChaCore, ChaChaRng};
-use std::process::Abort;
 
 // Bytes 48 to 55 of blocks 0, 2, 3 and 19 of twenty, and the position after them.
 type Ends = ([[u8; 8]; 4], u64);
@@ -37,64 +36,61 @@ fn ends<C: StreamCipherSeekCore>(core: &mut C, start: C::Counter) -> Option<Ends
 }
 
 // A counter of 32 bits wraps to 0, and the nonce behind it stays.
-fn ietf_wrap<C>(rt: &impl Abort, core: &mut C)
-where
-    C: StreamCipherSeekCore<Counter = u32>,
-{
-    let expected = [
+const IETF_WRAP: Ends = (
+    [
         *b"\xfa\xff\xff\xff\0\0\0\0",
         *b"\xfe\xff\xff\xff\0\0\0\0",
         *b"\0\0\0\0\0\0\0\0",
         *b"\x20\0\0\0\0\0\0\0",
-    ];
-    assert_eq!(rt; ends(core, u32::MAX - 2), Some((expected, 17)));
-}
+    ],
+    17,
+);
 
 // A counter of 64 bits carries into its high word.
-fn legacy_carry<C>(rt: &impl Abort, core: &mut C)
-where
-    C: StreamCipherSeekCore<Counter = u64>,
-{
-    let expected = [
+const LEGACY_CARRY: Ends = (
+    [
         *b"\xfa\xff\xff\xff\0\0\0\0",
         *b"\xfe\xff\xff\xff\0\0\0\0",
         *b"\0\0\0\0\x02\0\0\0",
         *b"\x20\0\0\0\x02\0\0\0",
-    ];
-    assert_eq!(rt; ends(core, 0xffff_fffd), Some((expected, 4294967313)));
-}
+    ],
+    4294967313,
+);
 
 // And wraps to 0 as well.
-fn legacy_wrap<C>(rt: &impl Abort, core: &mut C)
-where
-    C: StreamCipherSeekCore<Counter = u64>,
-{
-    let expected = [
+const LEGACY_WRAP: Ends = (
+    [
         *b"\xfa\xff\xff\xff\xfe\xff\xff\xff",
         *b"\xfe\xff\xff\xff\xfe\xff\xff\xff",
         *b"\0\0\0\0\0\0\0\0",
         *b"\x20\0\0\0\0\0\0\0",
-    ];
-    assert_eq!(rt; ends(core, u64::MAX - 2), Some((expected, 17)));
-}
+    ],
+    17,
+);
 
-fn cores_over<B>(rt: &impl Abort)
+fn wrong_core<B>() -> Verdict
 where
     B: StreamCipherBackend<R0, Ietf> + StreamCipherBackend<R0, Legacy> + RngBackend<R0>,
 {
-    ietf_wrap(rt, &mut ChaChaCore::<R0, Ietf, B>::new(&[0; 32], &[0; 12]));
+    let mut ietf = ChaChaCore::<R0, Ietf, B>::new(&[0; 32], &[0; 12]);
     let mut legacy = ChaChaCore::<R0, Legacy, B>::from_seed([0; 32]);
-    legacy_carry(rt, &mut legacy);
-    legacy_wrap(rt, &mut legacy);
+    failed(&[
+        ends(&mut ietf, u32::MAX - 2) == Some(IETF_WRAP),
+        ends(&mut legacy, 0xffff_fffd) == Some(LEGACY_CARRY),
+        ends(&mut legacy, u64::MAX - 2) == Some(LEGACY_WRAP),
+    ])
 }
 
 #[test]
 fn cores(rt: HostRuntime) {
-    cores_over::<Soft>(&rt);
-    cores_over::<Lanes4>(&rt);
-    cores_over::<Lanes8>(&rt);
-    cores_over::<Rows8>(&rt);
-    cores_over::<Lanes16>(&rt);
+    let verdicts = [
+        wrong_core::<Soft>(),
+        wrong_core::<Lanes4>(),
+        wrong_core::<Lanes8>(),
+        wrong_core::<Rows8>(),
+        wrong_core::<Lanes16>(),
+    ];
+    assert_eq!(rt; verdicts, [None; 5]);
 }
 
 // How many word positions there are.
@@ -103,25 +99,26 @@ const POSITIONS: u128 = 1 << 68;
 const STREAM: u64 = 0x8000_0001_0000_0003;
 
 // The last four words of a stream, and the first again.
-fn words_over_the_end<B: RngBackend<R0>>(rt: &impl Abort) {
+fn words_over_the_end<B: RngBackend<R0>>() -> Verdict {
     let mut rng = ChaChaRng::<R0, B>::from_seed([0; 32]);
     rng.set_stream(STREAM);
     rng.set_word_pos(POSITIONS - 4);
-    assert_eq!(rt; rng.next_u64(), 0xffff_fffe_ffff_fffe);
-    assert_eq!(rt; rng.next_u64(), 0x0000_0002_0000_0006);
-    assert_eq!(rt; rng.get_word_pos(), 0);
-    assert_eq!(rt; rng.next_u32(), 0xc2e0_f0ca);
+    failed(&[
+        rng.next_u64() == 0xffff_fffe_ffff_fffe,
+        rng.next_u64() == 0x0000_0002_0000_0006,
+        rng.get_word_pos() == 0,
+        rng.next_u32() == 0xc2e0_f0ca,
+    ])
 }
 
 // Five bytes from the last word on: all of it, and one byte of the first.
-fn bytes_over_the_end<B: RngBackend<R0>>(rt: &impl Abort) {
+fn bytes_over_the_end<B: RngBackend<R0>>() -> Verdict {
     let mut rng = ChaChaRng::<R0, B>::from_seed([0; 32]);
     rng.set_stream(STREAM);
     rng.set_word_pos(POSITIONS - 1);
     let mut bytes = [0; 5];
     rng.fill_bytes(&mut bytes);
-    assert_eq!(rt; bytes, *b"\x02\0\0\0\xca");
-    assert_eq!(rt; rng.get_word_pos(), 1);
+    failed(&[bytes == *b"\x02\0\0\0\xca", rng.get_word_pos() == 1])
 }
 
 // The first of 131 numbers of words around the wrap after which a position is wrong, or asking for it changes a word.
@@ -158,18 +155,23 @@ fn wrong_last_byte<B: RngBackend<R0>>() -> Option<u8> {
     None
 }
 
-fn generators_over<B: RngBackend<R0>>(rt: &impl Abort) {
-    words_over_the_end::<B>(rt);
-    bytes_over_the_end::<B>(rt);
-    assert_eq!(rt; wrong_position::<B>(), None);
-    assert_eq!(rt; wrong_last_byte::<B>(), None);
+fn wrong_generator<B: RngBackend<R0>>() -> Verdict {
+    failed(&[
+        words_over_the_end::<B>().is_none(),
+        bytes_over_the_end::<B>().is_none(),
+        wrong_position::<B>().is_none(),
+        wrong_last_byte::<B>().is_none(),
+    ])
 }
 
 #[test]
 fn generators(rt: HostRuntime) {
-    generators_over::<Soft>(&rt);
-    generators_over::<Lanes4>(&rt);
-    generators_over::<Lanes8>(&rt);
-    generators_over::<Rows8>(&rt);
-    generators_over::<Lanes16>(&rt);
+    let verdicts = [
+        wrong_generator::<Soft>(),
+        wrong_generator::<Lanes4>(),
+        wrong_generator::<Lanes8>(),
+        wrong_generator::<Rows8>(),
+        wrong_generator::<Lanes16>(),
+    ];
+    assert_eq!(rt; verdicts, [None; 5]);
 }

@@ -2,10 +2,11 @@
 
 use super::contracts::both;
 use super::streams::{X_KEY, X_NONCE};
+use crate::rows::ciphers::SeekCore;
 use crate::rows::{R0, failed};
 use chacha20::cipher::{KeyIvInit, StreamCipher, StreamCipherSeekCore};
 use chacha20::{
-    R8, R12, R20, Rounds, StreamCipherCoreWrapper, XChaCha8, XChaCha12, XChaCha20, hchacha,
+    R8, R12, R20, Rounds, StreamCipherCoreWrapper, XChaCha8, XChaCha12, XChaCha20, XNonce, hchacha,
 };
 
 // The 16 bytes of section 2.2.1.
@@ -26,6 +27,14 @@ fn stream_of<K: StreamCipherSeekCore>(cipher: &mut StreamCipherCoreWrapper<K>) -
     stream
 }
 
+// The stream of a new cipher. None is handed over: the argument names its type.
+fn x_stream_of<K>(_cipher: Option<&StreamCipherCoreWrapper<K>>) -> [u8; 130]
+where
+    K: SeekCore<XNonce, u32>,
+{
+    stream_of(&mut StreamCipherCoreWrapper::<K>::new(&X_KEY, &X_NONCE))
+}
+
 // The stream of the cipher under the key and the nonce that are derived.
 fn derived_stream<R: Rounds>() -> [u8; 130] {
     stream_of(&mut both::<R>(&X_KEY, &X_NONCE).1)
@@ -34,9 +43,9 @@ fn derived_stream<R: Rounds>() -> [u8; 130] {
 // Each cipher has its own number of rounds, so the streams are all different, and none of them is refused.
 #[test]
 fn as_the_derived_ciphers(rt: HostRuntime) {
-    let of_8 = stream_of(&mut XChaCha8::new(&X_KEY, &X_NONCE));
-    let of_12 = stream_of(&mut XChaCha12::new(&X_KEY, &X_NONCE));
-    let of_20 = stream_of(&mut XChaCha20::new(&X_KEY, &X_NONCE));
+    let of_8 = x_stream_of(None::<&XChaCha8>);
+    let of_12 = x_stream_of(None::<&XChaCha12>);
+    let of_20 = x_stream_of(None::<&XChaCha20>);
     let right = failed(&[
         of_8 == derived_stream::<R8>(),
         of_12 == derived_stream::<R12>(),
