@@ -44,13 +44,13 @@ next_u64 n g = (
   at_word_pos g (g.word_pos + 2),
 )
 
--- a read of so many bytes takes whole words, and loses what is left of the last
+-- a read of so many bytes takes whole words, and drops what is left of the last
 abbrev pub fill : ℕ → Generator → ℕ → List ℕ × Generator
 fill n g len =
     let k = (len + 3) / 4 in
     (take len (bytes (stream_part (word n g) g.word_pos k)), at_word_pos g (g.word_pos + k))
 
--- the three reads, as rand_core's crate names them
+-- the three reads, by the names that the crate rand_core gives them
 abbrev pub reads : ℕ → Steps Generator
 reads n =
     record { next_u32 = next_u32 n; next_u64 = next_u64 n; fill_bytes = λ len g. fill n g len }

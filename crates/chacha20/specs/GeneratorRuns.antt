@@ -21,7 +21,7 @@ outcome_with g bytes answer = record { answer = answer; rng = g; bytes = bytes }
 abbrev pub outcome_done : Generator → List ℕ → RngOutcome
 outcome_done g bytes = record { answer = Done; rng = g; bytes = bytes }
 
--- of generators with n double rounds
+-- what a call on a generator with n double rounds leaves
 abbrev pub rng_outcome : ℕ → Generator → List ℕ → RngCall → RngOutcome
 rng_outcome n g bytes NextU32 =
     let a = next_u32 n g in record { answer = U32 a.0; rng = a.1; bytes = bytes }
@@ -39,7 +39,7 @@ rng_outcome n g bytes GetSeed = outcome_with g bytes (Seed g.seed)
 rng_outcome n g bytes Serialize = outcome_with g bytes (State (state_bytes g))
 rng_outcome n g bytes Reload = outcome_done (of_state_bytes (state_bytes g)) bytes
 
--- all answers, and the generator and the data after all calls
+-- all answers, and the generator and the data after the last call
 abbrev pub rng_run : ℕ → Generator → List ℕ → List RngCall → List RngAnswer × Generator × List ℕ
 rng_run n g bytes [] = ([], g, bytes)
 rng_run n g bytes (k ∷ ks) =
@@ -47,7 +47,7 @@ rng_run n g bytes (k ∷ ks) =
     let rest = rng_run n a.rng a.bytes ks in
     (a.answer ∷ rest.0, rest.1, rest.2)
 
--- a call's range lies in the data, of this length
+-- a call's range lies in data of this length
 abbrev pub InData : ℕ → RngCall → Type 0
 InData bytes (Fill place len) = place + len ≤ bytes
 InData bytes _ = Unit {0}

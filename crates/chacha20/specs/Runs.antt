@@ -16,7 +16,7 @@ part at len xs = mid_of at len xs
 abbrev pub put : ℕ → ℕ → List ℕ → List ℕ → List ℕ
 put at len ys xs = put_mid at len xs ys
 
--- what stays in a run: the keystream of a cipher's fixed part, the greatest position, and the input
+-- what stays in a run: the keystream for each fixed part, the limit, and the input
 pub record Setting : Type 0 where
   pub stream : List ℕ → ℕ → ℕ
   pub limit : ℕ
@@ -36,8 +36,8 @@ pub record CipherOutcome : Type 0 where
   pub cipher : Cipher
   pub bytes : List ℕ
 
--- a call that is done where the test says yes, with the cipher at a position and these data, and
--- else refused, with nothing changed
+-- a call that is accepted where the test says yes, and leaves the cipher at this position and the
+-- data `after`; else it is refused and changes nothing
 abbrev pub done_if : Bool → Cipher → List ℕ → ℕ → List ℕ → CipherOutcome
 done_if accepted c bytes position after =
     if accepted
@@ -67,7 +67,7 @@ cipher_outcome s c bytes PosI32 = record {
   bytes = bytes;
 }
 
--- all answers, and the cipher and the data after all calls
+-- all answers, and the cipher and the data after the last call
 abbrev pub cipher_run : Setting → Cipher → List ℕ → List CipherCall
     → List CipherAnswer × Cipher × List ℕ
 cipher_run s c bytes [] = ([], c, bytes)
@@ -76,7 +76,7 @@ cipher_run s c bytes (k ∷ ks) =
     let rest = cipher_run s a.cipher a.bytes ks in
     (a.answer ∷ rest.0, rest.1, rest.2)
 
--- a call's ranges lie in the input and in the data, of these lengths
+-- a call's ranges lie in input and data of these lengths
 abbrev pub InSlices : ℕ → ℕ → CipherCall → Type 0
 InSlices input bytes (Apply at len) = at + len ≤ bytes
 InSlices input bytes (Write at len) = at + len ≤ bytes
@@ -84,7 +84,7 @@ InSlices input bytes (ApplyFrom from from_len at len) =
     (from + from_len ≤ input) × (at + len ≤ bytes)
 InSlices input bytes _ = Unit {0}
 
--- a range from a place on that is applied in pieces of these lengths
+-- the calls that apply the keystream in pieces of these lengths, from a place on
 abbrev pub pieces : ℕ → List ℕ → List CipherCall
 pieces at [] = []
 pieces at (len ∷ lens) = Apply at len ∷ pieces (at + len) lens

@@ -9,7 +9,7 @@ state_bytes g =
     let low = to_le_bytes w64 (g.word_pos % 2 ^ 64) in
     g.seed ++ (to_le_bytes w64 g.stream ++ (low ++ (g.word_pos / 2 ^ 64 ∷ [])))
 
--- the generator of 49 bytes; the upper half of the last byte says nothing
+-- the generator of 49 bytes; the upper half of the last byte is ignored
 abbrev pub of_state_bytes : List ℕ → Generator
 of_state_bytes bs = record {
   seed = take 32 bs;

@@ -15,12 +15,12 @@ seed_of fixed = bytes (take 8 (drop 4 fixed))
 abbrev pub stream_of : List ℕ → ℕ
 stream_of fixed = from_le_bytes w64 (bytes (drop 12 fixed))
 
--- they are those of a start state, whatever the counter is
+-- they are the words of a start state, but for the counter
 abbrev pub IsStart : List ℕ → Type 0
 IsStart fixed =
     fixed ≡ constants ++ words (seed_of fixed) ++ words (to_le_bytes w64 (stream_of fixed))
 
--- the core has moved four blocks past the front of the buffer, of which so many words are used
+-- the core is four blocks past the front of the buffer, of which so many words are used
 abbrev pub generator_of : List ℕ → ℕ → Generator
 generator_of core used = record {
   seed = seed_of (fixed_words legacy core);

@@ -4,16 +4,16 @@ use Rattle.chacha_base.specs.Block.{constants}
 use Rattle.chacha_base.specs.Bytes.{bytes, words}
 use Rattle.chacha_base.specs.Rounds.{rounds}
 
--- the 32 bytes of a key and of 16 bytes more: the first and the last row after n double rounds, to
--- which no start state is added
+-- the 32 bytes of a key and 16 more bytes: the first and the last row after n double rounds,
+-- without the start state added
 abbrev pub hchacha : ℕ → List ℕ → List ℕ → List ℕ
 hchacha n key input =
     let r = rounds n (constants ++ words key ++ words input) in bytes (take 4 r ++ drop 12 r)
 
--- the key that XChaCha's blocks are made with: HChaCha of bytes 0 to 15 of the nonce
+-- the key of XChaCha's blocks: HChaCha of bytes 0 to 15 of the nonce
 abbrev pub subkey : ℕ → List ℕ → List ℕ → List ℕ
 subkey n key nonce = hchacha n key (take 16 nonce)
 
--- the nonce that they are made with: four zero bytes, and bytes 16 to 23
+-- the nonce of its blocks: four zero bytes, and bytes 16 to 23
 abbrev pub subnonce : List ℕ → List ℕ
 subnonce nonce = replicate 4 0 ++ drop 16 nonce

@@ -9,17 +9,17 @@ use chacha_base::wrapper::StreamCipherCoreWrapper;
 /// A key of 32 bytes.
 pub type Key = [u8; 32];
 
-/// A nonce of 12 bytes. No two messages under one key may have the same.
+/// A nonce of 12 bytes (RFC 8439, section 2.3). No two messages under one key may have the same one.
 pub type Nonce = [u8; 12];
 
-/// ChaCha with four double rounds, from block 0 on. It takes 274877906944 bytes for one key and nonce: 64 of each of
-/// the 2^32 blocks. The number of rounds is this crate's own.
+/// ChaCha with four double rounds, from block 0 on. It takes 274877906944 bytes for one key and nonce: 64 from each of
+/// 2^32 blocks. The number of rounds is this crate's own: RFC 8439 defines ten double rounds alone.
 pub type ChaCha8 = StreamCipherCoreWrapper<ChaChaCore<R8, Ietf, Lanes16>>;
 
-/// ChaCha with six double rounds, from block 0 on. It takes 274877906944 bytes for one key and nonce: 64 of each of
-/// the 2^32 blocks. The number of rounds is this crate's own.
+/// ChaCha with six double rounds, from block 0 on. It takes 274877906944 bytes for one key and nonce: 64 from each of
+/// 2^32 blocks. The number of rounds is this crate's own: RFC 8439 defines ten double rounds alone.
 pub type ChaCha12 = StreamCipherCoreWrapper<ChaChaCore<R12, Ietf, Lanes16>>;
 
 /// ChaCha20, with ten double rounds (RFC 8439, section 2.4), from block 0 on. It takes 274877906944 bytes for one key
-/// and nonce: 64 of each of the 2^32 blocks.
+/// and nonce: 64 from each of 2^32 blocks.
 pub type ChaCha20 = StreamCipherCoreWrapper<ChaChaCore<R20, Ietf, Lanes16>>;

@@ -28,11 +28,13 @@ use std::simd::prelude::*;
 
 const CONSTANTS: [u32; 4] = [0x6170_7865, 0x3320_646e, 0x7962_2d32, 0x6b20_6574];
 
-/// The core of a ChaCha cipher: sixteen words, of which the variant says where the counter stands. Clauses see it as
-/// the list of its words. `R` is the number of double rounds, `V` the layout, `B` the backend that makes the blocks.
+/// The core of a ChaCha cipher: sixteen words of 32 bits (RFC 8439, section 2.3). Clauses see it as the list of its
+/// words. `R` is the number of double rounds, `V` the layout, which says where the counter stands, and `B` the backend
+/// that makes the blocks.
 ///
-/// In the layout of RFC 8439 `new` makes one of a key and a nonce for any number of rounds. In the older layout it does so
-/// for `R20` alone, as in the Rust crate; one with another number of rounds is made by `from_seed`, with a nonce of zeros.
+/// In the layout of RFC 8439 `new` makes a core from a key and a nonce for any number of rounds. In the older layout it
+/// does so for `R20` alone, as in the Rust crate; for another number of rounds `from_seed` makes a core, with a nonce
+/// of zeros.
 pub struct ChaChaCore<R: Rounds, V: Variant, B> {
     state: [u32; 16],
     rounds: PhantomData<R>,
@@ -75,8 +77,8 @@ impl<R: Rounds, V: Variant, B> ChaChaCore<R, V, B> {
         V::set_block_pos(&mut self.state[12..], pos);
     }
 
-    /// Sets all words to zero, the constants and the counter included. Nothing is claimed of other copies in memory.
-    /// This crate's own.
+    /// Sets all sixteen words to zero, the constants and the counter included. Nothing is claimed of other copies in
+    /// memory. This crate's own.
     pub fn zeroize(&mut self)
         ensures { self.new ≡ replicate 16 0 }
     {
@@ -84,7 +86,7 @@ impl<R: Rounds, V: Variant, B> ChaChaCore<R, V, B> {
     }
 }
 
-/// The text of the Rust crate, with a parenthesis that closes nothing. No word of the state is printed.
+/// The text of the Rust crate, with a parenthesis that closes nothing. It shows no word of the state.
 impl<R: Rounds, V: Variant, B> fmt::Debug for ChaChaCore<R, V, B> {
     ghost debug_output = { λ _. Some (core_text R.COUNT V.layout) };
 
@@ -198,7 +200,7 @@ pub(crate) fn start_state(key: &Key, last_row: &[u32; 4]) -> [u32; 16]
     state
 }
 
-// Writes a row as one vector. A backend that reads the row as a vector would have to wait for words written one by one.
+// Writes a row as one vector. A backend that reads the row as a vector would wait for words written one by one.
 #[inline(always)]
 fn write_row(row: &[u32; 4], output: &mut [u32])
     requires { length output.old ≡ 4 }
@@ -248,7 +250,7 @@ fn write_blocks<R: Rounds, V: Variant, B: StreamCipherBackend<R, V>>(
     B::gen_tail_blocks(state, &mut blocks[done..], &mut steps);
 }
 
-// Combines bytes with whole blocks.
+// XORs bytes with whole blocks.
 #[inline(always)]
 fn xor_blocks(data: &mut [u8], blocks: &[[u8; 64]])
     requires { length «data».old ≡ 64 * length blocks.now }
@@ -259,7 +261,7 @@ fn xor_blocks(data: &mut [u8], blocks: &[[u8; 64]])
     }
 }
 
-// Combines bytes with the blocks of parallel calls alone.
+// XORs bytes with the blocks of parallel calls alone.
 #[inline(always)]
 fn apply_groups<R: Rounds, V: Variant, B: StreamCipherBackend<R, V>>(
     state: &mut [u32; 16],
@@ -287,7 +289,7 @@ fn apply_groups<R: Rounds, V: Variant, B: StreamCipherBackend<R, V>>(
     }
 }
 
-// Combines bytes with fewer blocks than a parallel call makes.
+// XORs bytes with fewer blocks than a parallel call makes.
 #[inline(always)]
 fn apply_tail<R: Rounds, V: Variant, B: StreamCipherBackend<R, V>>(
     state: &mut [u32; 16],
@@ -311,7 +313,7 @@ fn apply_tail<R: Rounds, V: Variant, B: StreamCipherBackend<R, V>>(
     xor_blocks(data, made);
 }
 
-// Combines bytes with one block, where a parallel call makes more.
+// XORs bytes with one block, where a parallel call makes more.
 #[inline(always)]
 fn apply_one<R: Rounds, V: Variant, B: StreamCipherBackend<R, V>>(
     state: &mut [u32; 16],
@@ -334,7 +336,7 @@ fn apply_one<R: Rounds, V: Variant, B: StreamCipherBackend<R, V>>(
     xor_bytes(data, &block);
 }
 
-// Combines bytes with any number of blocks, which are made in a buffer that has room for those of a parallel call.
+// XORs bytes with any number of blocks, which are made in a buffer that has room for those of a parallel call.
 #[inline(always)]
 fn apply_through<R: Rounds, V: Variant, B: StreamCipherBackend<R, V>>(
     state: &mut [u32; 16],
@@ -360,8 +362,8 @@ fn apply_through<R: Rounds, V: Variant, B: StreamCipherBackend<R, V>>(
     apply_tail::<R, V, B>(state, blocks, tail, steps);
 }
 
-// Combines bytes with any number of blocks, where a parallel call makes one. It is kept out of its caller, where the
-// compiler has made slower code of plain rounds.
+// XORs bytes with any number of blocks, where a parallel call makes one. It is not inlined: in its caller the compiler
+// made slower code of plain rounds.
 #[inline(never)]
 fn apply_each<R: Rounds, V: Variant, B: StreamCipherBackend<R, V>>(
     state: &mut [u32; 16],
@@ -382,7 +384,7 @@ fn apply_each<R: Rounds, V: Variant, B: StreamCipherBackend<R, V>>(
     apply_through::<R, V, B>(state, &mut [[0; 64]; 1], data, steps);
 }
 
-// Combines bytes with any number of blocks. For narrow backends a buffer of four blocks is made ready.
+// XORs bytes with any number of blocks, through a buffer of four blocks for narrow backends and of sixteen for others.
 fn apply_many<R: Rounds, V: Variant, B: StreamCipherBackend<R, V>>(
     state: &mut [u32; 16],
     data: &mut [u8],
@@ -405,7 +407,7 @@ fn apply_many<R: Rounds, V: Variant, B: StreamCipherBackend<R, V>>(
     }
 }
 
-// Combines bytes with whole blocks. A single one goes through a buffer of its own, where a parallel call makes more.
+// XORs bytes with whole blocks. A single block goes through a buffer of its own, where a parallel call makes more.
 #[inline(always)]
 fn apply_blocks<R: Rounds, V: Variant, B: StreamCipherBackend<R, V>>(
     state: &mut [u32; 16],

@@ -9,18 +9,19 @@
 //! cipher.try_apply_keystream(&mut message)?;
 //! ```
 //!
-//! To decrypt is the same call. No two messages under one key may have the same nonce, and there is no authentication.
+//! Decryption is the same call. No two messages under one key may have the same nonce, and nothing here authenticates a
+//! message. Keys and seeds have 32 bytes, blocks 64; the first block has counter 0.
 //!
 //! | type | rounds | nonce | a stream has |
 //! |---|---|---|---|
-//! | `ChaCha20` (RFC 8439), `ChaCha12`, `ChaCha8` | 20, 12, 8 | 12 bytes | 64 * (2^32 - 1) bytes |
-//! | `XChaCha20` (draft-irtf-cfrg-xchacha), `XChaCha12`, `XChaCha8` | 20, 12, 8 | 24 bytes | 64 * (2^32 - 1) bytes |
-//! | `ChaCha20Legacy` | 20 | 8 bytes | 64 * (2^64 - 1) bytes |
-//! | `ChaCha20Rng`, `ChaCha12Rng`, `ChaCha8Rng` | 20, 12, 8 | a number of 64 bits, the stream | 2^68 words, and then the first again |
+//! | `ChaCha20` (RFC 8439), `ChaCha12`, `ChaCha8` | 20, 12, 8 | 12 bytes | 64 * 2^32 bytes |
+//! | `XChaCha20` (draft-irtf-cfrg-xchacha), `XChaCha12`, `XChaCha8` | 20, 12, 8 | 24 bytes | 64 * 2^32 bytes |
+//! | `ChaCha20Legacy` | 20 | 8 bytes | 64 * 2^64 bytes |
+//! | `ChaCha20Rng`, `ChaCha12Rng`, `ChaCha8Rng` | 20, 12, 8 | a number of 64 bits | 2^68 words, then it repeats |
 //!
-//! What a call does stands in the clauses of its trait: `cipher::StreamCipher` and `cipher::StreamCipherSeek` for
-//! ciphers, the calls of `ChaChaRng` for generators. Most tests stand in the crate `vectors`, since a crate with tests is
-//! proved twice.
+//! The clauses of a call say what it does. For ciphers they stand in `cipher::StreamCipher` and
+//! `cipher::StreamCipherSeek`, for generators at the calls of `ChaChaRng`. Most tests stand in the crate `vectors`,
+//! since a crate with tests is proved twice.
 #![tactic(auto)]
 
 mod chacha;

@@ -1,5 +1,5 @@
-//! What the names of ciphers and generators stand for: facts that hold by computation, each of which a wrong number of
-//! rounds, layout or size of a named type would break.
+//! What the names of ciphers and generators stand for: facts that hold by computation. A named type with a wrong number
+//! of rounds, layout or size would break one of them.
 
 ghost use Rattle.std.specs.Prelude.{◌≡◌, length};
 ghost use Rattle.rand_core.specs.Steps.{stream_of};

@@ -1,5 +1,5 @@
-//! Lists of calls. This crate's own: one contract that speaks of any list of calls on a cipher, from any state, and one
-//! of any list of calls on a generator.
+//! Lists of calls. This crate's own: one contract that speaks of any list of calls on a cipher, from any state on, and
+//! one that speaks of any list of calls on a generator.
 
 ghost use Rattle.std.specs.Prelude.{◌≡◌, ◌≤◌, ◌+◌, ℕ, List, [], ◌∷◌, All, length, sum};
 ghost use Rattle.chacha_base.specs.Keystream.{keystream};
@@ -57,7 +57,7 @@ pub enum CipherAnswer {
     Position(u128),
     /// The position.
     PositionI32(i32),
-    /// The position is greater than the type's greatest number.
+    /// The type cannot represent the position.
     Overflow,
 }
 
@@ -116,8 +116,9 @@ fn call_cipher<C: StreamCipherSeekCore>(
     }
 }
 
-/// Makes calls in order, from the cipher's state on, and writes the answer of each at its place. What the answers were
-/// before doesn't matter. All ranges lie in the slices, and there are as many answers as calls. This crate's own.
+/// Makes the calls in order, from the cipher's state on, and writes the answer to each at its place, over what stood
+/// there. A refused call leaves cipher and data as they were. The caller proves that all ranges lie in the slices, and
+/// that there are as many answers as calls. This crate's own.
 pub fn run_cipher<C: StreamCipherSeekCore>(
     cipher: &mut StreamCipherCoreWrapper<C>,
     input: &[u8],
@@ -130,14 +131,14 @@ pub fn run_cipher<C: StreamCipherSeekCore>(
     ensures run { (answers.new, cipher.new, «data».new)
         ≡ cipher_run (setting C.modulus C.block_at input.now) cipher.old «data».old calls.now }
 
-    // A range that is applied, and applied again after a seek back, is as it was.
+    // Applying the keystream to a range, seeking back and applying it again leaves the range as it was.
     ensures seek_back { (at len : ℕ)
         → calls.now ≡ Apply at len ∷ Seek cipher.old.position ∷ Apply at len ∷ []
         → answers.new ≡ Done ∷ Done ∷ Done ∷ []
         → (cipher.new ≡ record cipher.old { position = cipher.old.position + len })
         × («data».new ≡ «data».old) }
 
-    // A range that is applied in pieces of any lengths is applied as a whole, where the whole is accepted.
+    // Applying the keystream to a range in pieces of any lengths is as applying it once, where that is accepted.
     ensures cut_anywhere { (at : ℕ) (lens : List ℕ) → calls.now ≡ pieces at lens
         → let whole = cipher_outcome (setting C.modulus C.block_at input.now) cipher.old «data».old
         (Apply at (sum lens)) in

@@ -16,7 +16,7 @@ use chacha_base::variants::Ietf;
 use chacha_base::wrapper::StreamCipherCoreWrapper;
 use std::marker::Model;
 
-/// A nonce of 24 bytes. No two messages under one key may have the same; it is long enough to be drawn at random
+/// A nonce of 24 bytes. No two messages under one key may have the same one; it is long enough to be drawn at random
 /// (draft-irtf-cfrg-xchacha).
 pub type XNonce = [u8; 24];
 
@@ -27,11 +27,11 @@ pub type XChaCha8 = StreamCipherCoreWrapper<XChaChaCore<R8, Lanes16>>;
 pub type XChaCha12 = StreamCipherCoreWrapper<XChaChaCore<R12, Lanes16>>;
 
 /// XChaCha20 (draft-irtf-cfrg-xchacha, section 2.3), from block 0 on: ChaCha20 under the key and the nonce that
-/// `XChaChaCore` derives. It takes 274877906944 bytes for one key and nonce: 64 of each of the 2^32 blocks.
+/// `XChaChaCore` derives. It takes 274877906944 bytes for one key and nonce: 64 from each of 2^32 blocks.
 pub type XChaCha20 = StreamCipherCoreWrapper<XChaChaCore<R20, Lanes16>>;
 
-/// The 32 bytes that HChaCha makes of a key and of 16 bytes more (draft-irtf-cfrg-xchacha, section 2.2, for `R20`;
-/// other numbers of rounds are this crate's own).
+/// The 32 bytes that HChaCha makes from a key and 16 more bytes (draft-irtf-cfrg-xchacha, section 2.2, for `R20`; other
+/// numbers of rounds are this crate's own). Nothing is refused.
 pub fn hchacha<R: Rounds>(key: &Key, input: &[u8; 16]) -> [u8; 32]
     ensures { result ≡ hchacha R.COUNT key.now input.now }
 {
@@ -45,9 +45,10 @@ pub fn hchacha<R: Rounds>(key: &Key, input: &[u8; 16]) -> [u8; 32]
     subkey
 }
 
-/// The core of an XChaCha cipher: the core of RFC 8439's layout under a key and a nonce made of the ones given
-/// (draft-irtf-cfrg-xchacha, section 2.3). Its key is `hchacha` of the key and the first 16 bytes of the nonce, with as
-/// many double rounds; its nonce is four zero bytes and the last eight. Clauses see it as the list of that core's words.
+/// The core of an XChaCha cipher: a core of RFC 8439's layout under a derived key and nonce (draft-irtf-cfrg-xchacha,
+/// section 2.3). The derived key is `hchacha` of the given key and the first 16 bytes of the given nonce, with as many
+/// double rounds; the derived nonce is four zero bytes and then the last eight bytes of the given one. Clauses see the
+/// core as the list of its sixteen words.
 #[derive_where(Debug)]
 pub struct XChaChaCore<R: Rounds, B> {
     core: ChaChaCore<R, Ietf, B>,

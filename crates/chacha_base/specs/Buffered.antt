@@ -1,7 +1,8 @@
 -- How a core and one block kept in a buffer stand for a position in bytes (this crate).
 use Rattle.std.specs.Prelude.{ℕ, ◌*◌, ◌-◌, ◌%◌, ◌≤◌, ◌<◌, ◌≡◌, Bool, true, if◌then◌else◌, List}
 
--- how many blocks a core has handed out: its counter, or all where it is past the last block
+-- how many blocks a core has handed out: its counter, or all of them where it is past the last
+-- block
 abbrev pub blocks_made : (modulus : ℕ) (past : Bool) (counter : ℕ) → ℕ
 blocks_made modulus past counter = if past then modulus else counter
 
@@ -9,12 +10,12 @@ blocks_made modulus past counter = if past then modulus else counter
 abbrev pub position_of : ℕ → ℕ → ℕ
 position_of made left = 64 * made - left
 
--- how many bytes are left of the block that a position lies in, none at its front
+-- how many bytes are left of the block that a position lies in; none at the front of a block
 abbrev pub left_at : ℕ → ℕ
 left_at p = (64 - p % 64) % 64
 
--- The buffer holds the block that was made last, as far as some of it is left. A core that is past
--- the last block has its counter at 0 again, as a fresh one has.
+-- Where some of the block that was made last is left, the buffer holds it. A core that is past the
+-- last block has its counter at 0 again, as a fresh one has.
 pub record IsBuffered (modulus : ℕ) (block : ℕ → List ℕ) (past : Bool) (counter : ℕ)
     (buffer : List ℕ) (left : ℕ) : Type 0 where
   pub part : left < 64

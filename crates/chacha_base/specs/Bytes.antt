@@ -10,7 +10,7 @@ abbrev pub bytes : List ℕ → List ℕ
 bytes [] = []
 bytes (x ∷ xs) = word_bytes x ++ bytes xs
 
--- the words of a list of bytes, four bytes a word
+-- the words of a list of bytes, four bytes for each; fewer than four at the end are dropped
 abbrev pub words : List ℕ → List ℕ
 words (a ∷ b ∷ c ∷ d ∷ bs) = (a + 256 * b + 256 ^ 2 * c + 256 ^ 3 * d) ∷ words bs
 words _ = []

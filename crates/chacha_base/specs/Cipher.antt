@@ -1,4 +1,4 @@
--- A cipher over bytes: all of it but its position, and the position (this crate).
+-- A cipher over bytes: its core but for the counter, and its position in bytes (this crate).
 use Rattle.std.specs.Prelude.{ℕ, List}
 
 pub record Cipher : Type 0 where

@@ -1,4 +1,4 @@
--- Blocks of which sixteen vectors hold the words, a block in each lane (this crate).
+-- Sixteen vectors that hold the words of blocks, one block in each lane (this crate).
 use Rattle.std.specs.Prelude.{ℕ, List, ◌++◌}
 use Rattle.chacha_base.specs.declared.backends.quad.Quad.{Quad}
 use Rattle.chacha_base.specs.declared.backends.columns.Columns.{Columns}

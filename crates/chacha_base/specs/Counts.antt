@@ -7,14 +7,15 @@ pub record Counts : Type 0 where
   pub other : ℕ
   pub rounds : ℕ
 
--- what a call may add: parallel and other calls at most, and quarter rounds at least and at most
+-- what a call may add: so many parallel and other calls at most, and quarter rounds from `least` to
+-- `most`
 pub record Bounds : Type 0 where
   pub par : ℕ
   pub other : ℕ
   pub least : ℕ
   pub most : ℕ
 
--- the counts grew within bounds
+-- no count fell, and each grew within the bounds
 pub record Grows (bounds : Bounds) (old new : Counts) : Type 0 where
   pub par_from : old.par ≤ new.par
   pub par_to : new.par ≤ old.par + bounds.par
@@ -23,22 +24,22 @@ pub record Grows (bounds : Bounds) (old new : Counts) : Type 0 where
   pub rounds_from : old.rounds + bounds.least ≤ new.rounds
   pub rounds_to : new.rounds ≤ old.rounds + bounds.most
 
--- exactly so many quarter rounds, and calls at most
+-- exactly so many quarter rounds, and at most so many calls
 abbrev pub for_call : (par other rounds : ℕ) → Bounds
 for_call par other rounds = record { par = par; other = other; least = rounds; most = rounds }
 
--- for k blocks, fewer than a parallel call makes, with `one` quarter rounds a single block
+-- for k blocks, fewer than a parallel call makes, with `one` quarter rounds for a single block
 abbrev pub for_tail : (one k : ℕ) → Bounds
 for_tail one k = record { par = 0; other = k; least = min 1 k * one; most = k * one }
 
--- quarter rounds, for each double round, of a tail of k blocks where sixteen are the width: up to
--- four blocks fit in one vector a row, up to eight in two, and the rest in four
+-- quarter rounds, for each double round, of a tail of k blocks where the width is sixteen: four
+-- blocks fit in one vector for each row, eight in two, and more in four
 abbrev pub tail_of_16 : ℕ → ℕ
 tail_of_16 k =
     if nat_lt k 1 then 0 else (if nat_lt k 5 then 2 else (if nat_lt k 9 then 4 else 8))
 
--- for m blocks in groups of w, with `par` quarter rounds a group and `one` a single block, and k
--- single blocks after them
+-- for m blocks in groups of w, with `par` quarter rounds for a group and `one` for a single block,
+-- and k single blocks after them
 abbrev pub for_blocks : (w par one m k : ℕ) → Bounds
 for_blocks w par one m k = record {
   par = m / w;
@@ -47,8 +48,8 @@ for_blocks w par one m k = record {
   most = m / w * par + (m % w + k) * one;
 }
 
--- for so many bytes from position p on: first what is left of a block that has been begun, then
--- whole blocks, then a last part
+-- for so many bytes from position p on: first those that the begun block still has, then whole
+-- blocks, then a last part
 abbrev pub for_bytes : (w par one p len : ℕ) → Bounds
 for_bytes w par one p len =
     let rest = len - (64 - p % 64) % 64 in

@@ -1,11 +1,11 @@
--- The keystream, and bytes combined with it (RFC 8439, 2.4).
+-- The keystream, and bytes XORed (exclusive or) with it (RFC 8439, 2.4).
 use Rattle.std.specs.Prelude.{ℕ, zero, suc, ◌+◌, ◌/◌, ◌%◌, List, [], ◌∷◌, bit_xor, slice_index}
 
 -- byte p of the stream of 64-byte blocks: byte p mod 64 of the block whose counter is p div 64
 abbrev pub keystream : ℕ → (ℕ → List ℕ) → ℕ → ℕ
 keystream modulus block p = slice_index (block (p / 64 % modulus)) (p % 64)
 
--- bytes combined by exclusive or with the bytes of a stream from position p on
+-- bytes XORed with the bytes of a stream from position p on
 abbrev pub xor_stream : (ℕ → ℕ) → ℕ → List ℕ → List ℕ
 xor_stream stream p [] = []
 xor_stream stream p (x ∷ xs) = bit_xor x (stream p) ∷ xor_stream stream (p + 1) xs

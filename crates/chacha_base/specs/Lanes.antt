@@ -1,7 +1,7 @@
 -- Rows of four words in the lanes of a vector, and in a state (this crate).
 use Rattle.std.specs.Prelude.{ℕ, ◌+◌, ◌*◌, List, [], ◌∷◌, ◌++◌, slice_index}
 
--- the four words of row or block g, where `lane` gives the words one after another
+-- four words from index 4 g on, where `lane` gives the words one after another
 abbrev pub row : (ℕ → ℕ) → ℕ → List ℕ
 row lane g = lane (4 * g) ∷ lane (4 * g + 1) ∷ lane (4 * g + 2) ∷ lane (4 * g + 3) ∷ []
 

@@ -1,5 +1,5 @@
 -- The two layouts of a state's last row: a counter of one word and a nonce of three (RFC 8439,
--- 2.3), and, as before the RFC, a counter of two words and a nonce of two.
+-- 2.3); and the layout before the RFC, a counter of two words and a nonce of two.
 use Rattle.std.specs.Prelude.{ℕ, ◌+◌, ◌*◌, ◌/◌, ◌%◌, ◌^◌, List, [], ◌∷◌, ◌++◌, slice_index, drop}
 
 pub data Layout : Type 0 where

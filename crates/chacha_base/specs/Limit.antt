@@ -6,6 +6,6 @@ use Rattle.std.specs.Prelude.{ℕ, ◌*◌, ◌-◌, ◌^◌, nat_lt, if◌then�
 abbrev pub limit_of : ℕ → ℕ
 limit_of modulus = 64 * modulus
 
--- how many blocks are left at a counter; none, where that is more than a `usize` says
+-- how many blocks are left at a counter; `None` where a `usize` cannot represent that number
 abbrev pub remaining : ℕ → ℕ → Option ℕ
 remaining modulus c = if nat_lt (modulus - c) (2 ^ 64) then Some (modulus - c) else None

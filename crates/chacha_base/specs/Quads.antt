@@ -1,4 +1,4 @@
--- Lanes of four vectors that a quarter round takes lane by lane (this crate).
+-- Four vectors that a quarter round takes lane by lane (this crate).
 use Rattle.std.specs.Prelude.{ℕ}
 use Rattle.chacha_base.specs.declared.backends.quad.Quad.{Quad}
 use Rattle.chacha_base.specs.Words.{add}

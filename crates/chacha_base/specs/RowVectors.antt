@@ -1,4 +1,4 @@
--- Blocks of which four vectors hold the rows, four lanes a block (this crate).
+-- Four vectors that hold the rows of blocks, four lanes for each block (this crate).
 use Rattle.std.specs.Prelude.{ℕ, List, ◌++◌}
 use Rattle.chacha_base.specs.declared.backends.quad.Quad.{Quad}
 use Rattle.chacha_base.specs.Lanes.{row}

@@ -1,5 +1,5 @@
--- A state as a counter and all its other words, and the blocks that it gives one after another
--- (this crate).
+-- A state as a counter and its other words, and the blocks that it gives one after another (this
+-- crate).
 use Rattle.std.specs.Prelude.{ℕ, ◌+◌, ◌/◌, ◌%◌, List, ◌++◌, map, take, drop, slice_index}
 use Rattle.std.specs.List.{range_with_len}
 use Rattle.chacha_base.specs.Bytes.{bytes}
@@ -14,11 +14,11 @@ state_counter layout s = row_counter layout (drop 12 s)
 abbrev pub fixed_words : Layout → List ℕ → List ℕ
 fixed_words layout s = take 12 s ++ drop (12 + counter_len layout) s
 
--- the state of a counter and of all other words
+-- the state with this counter and these other words
 abbrev pub state_of : Layout → List ℕ → ℕ → List ℕ
 state_of layout fixed c = take 12 fixed ++ counter_words layout c ++ drop 12 fixed
 
--- the 64 bytes of a counter and of all other words, after n double rounds
+-- the 64 bytes of the block of that state, after n double rounds
 abbrev pub state_block : ℕ → Layout → List ℕ → ℕ → List ℕ
 state_block n layout fixed c = bytes (mix n (state_of layout fixed c))
 

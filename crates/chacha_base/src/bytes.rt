@@ -1,10 +1,10 @@
-//! Bytes as words, the low byte first (RFC 8439, section 2.3), and bytes combined with bytes. `chacha20` does not
-//! export these functions.
+//! Bytes as words, the low byte first (RFC 8439, section 2.3), and the XOR of bytes. `chacha20` does not export these
+//! functions. None of them refuses: the caller proves that the lengths fit.
 
 ghost use Rattle.std.specs.Prelude.{◌≡◌, ℕ, ◌<◌, ◌*◌, length, bit_xor, slice_index};
 ghost use Rattle.chacha_base.specs.Bytes.{bytes, words};
 
-/// Writes words as bytes.
+/// Writes words as bytes, four for each.
 #[inline(always)]
 pub fn write_bytes(input: &[u32], output: &mut [u8])
     requires { length output.old ≡ 4 * length input.now }
@@ -15,7 +15,7 @@ pub fn write_bytes(input: &[u32], output: &mut [u8])
     }
 }
 
-/// Reads bytes as words.
+/// Reads bytes as words, four for each.
 #[inline(always)]
 pub fn read_words(input: &[u8], output: &mut [u32])
     requires { length input.now ≡ 4 * length output.old }
@@ -32,7 +32,7 @@ pub fn read_words(input: &[u8], output: &mut [u32])
     }
 }
 
-/// Combines bytes with as many others by exclusive or.
+/// XORs bytes with as many others.
 #[inline(always)]
 pub fn xor_bytes(output: &mut [u8], other: &[u8])
     requires { length output.old ≡ length other.now }

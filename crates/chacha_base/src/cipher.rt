@@ -24,7 +24,7 @@ const PIECE: usize = 0x1_0000;
 #[derive(Clone, Copy, Debug, PartialEq, Eq)]
 pub struct StreamCipherError;
 
-/// A position that is greater than the greatest number of the type that was asked for.
+/// The refusal to return a position: the type that was asked for cannot represent it.
 #[derive(Clone, Copy, Debug, PartialEq, Eq)]
 pub struct OverflowError;
 
@@ -80,7 +80,7 @@ pub trait Keystream {
     ghost position: { Self → ℕ };
 }
 
-/// What is made of a key and a nonce.
+/// A core or a cipher that is made from a key and a nonce.
 pub trait KeyIvInit: Keystream {
     /// The key's type.
     type Key;
@@ -93,18 +93,19 @@ pub trait KeyIvInit: Keystream {
 
     ghost blocks_of: { Self.Key → Self.Iv → ℕ → List ℕ };
 
-    /// The first value of a key and a nonce: no block and no byte is taken yet.
+    /// The core or cipher of a key and a nonce, at position 0: no block and no byte is taken yet. Nothing is refused.
     fn new(key: &Self::Key, iv: &Self::Iv) -> Self
         ensures value { result ≡ init key.now iv.now }
         ensures blocks { Self.block_at (Self.fixed result) ≡ blocks_of key.now iv.now }
         ensures first { Self.position result ≡ 0 };
 }
 
-/// Makes the blocks of a state one after another. The functions have no receiver, so that a backend is a marker.
+/// Makes the blocks of a state one after another (RFC 8439, section 2.3), 64 bytes each. The functions have no
+/// receiver, so that a backend is a marker.
 ///
 /// For k blocks from counter c on, block i is that of the state with counter c + i; the state is then the one with
 /// counter c + k, and all its other words stay. Counters wrap, at 2^32 or 2^64 as the variant says. Nothing is refused.
-/// Anyone may implement it; one that counts nothing has both constants 0.
+/// Anyone may implement it; a backend that counts nothing has both constants 0.
 pub trait StreamCipherBackend<R: Rounds, V: Variant>: ParBlocksSizeUser {
     ghost PAR_STEPS: { ℕ };
 
@@ -130,7 +131,7 @@ pub trait StreamCipherBackend<R: Rounds, V: Variant>: ParBlocksSizeUser {
         ensures state { state.new ≡ state_after V.layout (length blocks.old) state.old }
         ensures steps { Grows (for_call 1 0 (PAR_STEPS * R.COUNT)) steps.old steps.new };
 
-    /// Fewer blocks than `PAR_BLOCKS`, none included.
+    /// As many of the next blocks as there is room for: fewer than `PAR_BLOCKS`, also none.
     fn gen_tail_blocks(state: &mut [u32; 16], blocks: &mut [[u8; 64]], steps: &mut Steps)
         requires { length blocks.old < Self.PAR_BLOCKS }
         ensures blocks { (i : ℕ) → i < length blocks.old
@@ -143,8 +144,8 @@ pub trait StreamCipherBackend<R: Rounds, V: Variant>: ParBlocksSizeUser {
 /// Makes the words of a generator, four blocks at a time, in the layout with a counter of 64 bits.
 ///
 /// From counter c on these are the words of blocks c to c + 3, one block after another; the state is then the one with
-/// counter c + 4, and all its other words stay. Counters wrap at 2^64. Nothing is refused. Anyone may implement it; one
-/// that counts nothing has the constant 0. This crate's own.
+/// counter c + 4, and all its other words stay. Counters wrap at 2^64. Nothing is refused. Anyone may implement it; a
+/// backend that counts nothing has the constant 0. This crate's own.
 pub trait RngBackend<R: Rounds> {
     ghost RNG_STEPS: { ℕ };
 
@@ -159,7 +160,8 @@ pub trait RngBackend<R: Rounds> {
             ≡ record steps.old { rounds = steps.old.rounds + RNG_STEPS * R.COUNT } };
 }
 
-/// Hands out the blocks of a keystream one after another, in order of counter. Counters wrap; nothing is refused.
+/// Hands out the blocks of a keystream, 64 bytes each, one after another in order of counter. Counters wrap; nothing is
+/// refused.
 pub trait StreamCipherCore: Keystream + BlockSizeUser + ParBlocksSizeUser {
     // The counter of the next block.
     ghost counter: { Self → ℕ };
@@ -169,8 +171,8 @@ pub trait StreamCipherCore: Keystream + BlockSizeUser + ParBlocksSizeUser {
 
     ghost one_cost: { ℕ };
 
-    /// How many blocks come from the counter on, up to the one with the greatest counter. `None` where these are more
-    /// than a `usize` says, so at counter 0 of 64 bits alone.
+    /// How many blocks come from the counter on, up to the one with the greatest counter. `None` where a `usize` cannot
+    /// represent that number: only at counter 0 of 64 bits.
     fn remaining_blocks(&self) -> Option<usize>
         ensures remaining { result ≡ remaining Self.modulus (counter self.now) }
         ensures below { counter self.now < Self.modulus };
@@ -185,7 +187,7 @@ pub trait StreamCipherCore: Keystream + BlockSizeUser + ParBlocksSizeUser {
         self.write_block_counted(block, &mut steps);
     }
 
-    /// Combines a block of bytes with the next block by exclusive or.
+    /// XORs a block of bytes with the next block.
     fn apply_keystream_block(&mut self, block: &mut [u8; 64])
         ensures block { block.new
             ≡ xor_stream (keystream Self.modulus (Self.block_at (Self.fixed self.old)))
@@ -197,7 +199,7 @@ pub trait StreamCipherCore: Keystream + BlockSizeUser + ParBlocksSizeUser {
         self.apply_blocks_counted(block, &mut steps);
     }
 
-    /// Writes the next blocks, in order.
+    /// Writes as many of the next blocks as there is room for, in order.
     fn write_keystream_blocks(&mut self, blocks: &mut [[u8; 64]])
         ensures blocks { (i : ℕ) → i < length blocks.old
             → slice_get blocks.new i
@@ -206,8 +208,8 @@ pub trait StreamCipherCore: Keystream + BlockSizeUser + ParBlocksSizeUser {
         ensures counter { counter self.new
             ≡ (counter self.old + length blocks.old) % Self.modulus };
 
-    /// Combines blocks of bytes with the next blocks by exclusive or, in order. The blocks are made in groups of
-    /// `PAR_BLOCKS`, and the rest at the end.
+    /// XORs blocks of bytes with as many next blocks, in order. It makes the blocks in groups of `PAR_BLOCKS`, and the
+    /// rest at the end.
     final fn apply_keystream_blocks(&mut self, blocks: &mut [[u8; 64]])
         ensures blocks { (i : ℕ) → i < length blocks.old
             → slice_get blocks.new i
@@ -234,7 +236,8 @@ pub trait StreamCipherCore: Keystream + BlockSizeUser + ParBlocksSizeUser {
         ensures counter { counter self.new ≡ (counter self.old + 1) % Self.modulus }
         ensures steps { Grows (for_call 0 1 one_cost) steps.old steps.new };
 
-    /// Combines whole blocks of bytes with the next blocks by exclusive or, and counts the steps. This crate's own.
+    /// XORs whole blocks of bytes, so a multiple of 64 bytes, with the next blocks, and counts the steps. This crate's
+    /// own.
     fn apply_blocks_counted(&mut self, data: &mut [u8], steps: &mut Steps)
         requires { length «data».old % 64 ≡ 0 }
         ensures data { «data».new
@@ -252,7 +255,7 @@ pub trait StreamCipherCore: Keystream + BlockSizeUser + ParBlocksSizeUser {
     ghost position_is: { (c : Self) → Self.position c ≡ 64 * counter c };
 }
 
-// Combines blocks of bytes with as many next blocks, which are made first.
+// XORs blocks of bytes with as many next blocks, which are made first.
 fn apply_group<C: StreamCipherCore>(core: &mut C, made: &mut [[u8; 64]], blocks: &mut [[u8; 64]])
     requires { length made.old ≡ length blocks.old }
     ensures blocks { (i : ℕ) → i < length blocks.old
@@ -277,7 +280,7 @@ pub trait StreamCipherSeekCore: StreamCipherCore {
     fn get_block_pos(&self) -> Self::Counter
         ensures { Self.Counter.value result ≡ Self.counter self.now };
 
-    /// Sets the counter of the next block; all else stays.
+    /// Sets the counter of the next block; all else stays. No counter is refused.
     fn set_block_pos(&mut self, pos: Self::Counter)
         ensures fixed { Self.fixed self.new ≡ Self.fixed self.old }
         ensures counter { Self.counter self.new ≡ Self.Counter.value pos };
@@ -285,8 +288,9 @@ pub trait StreamCipherSeekCore: StreamCipherCore {
     ghost counters: { Self.modulus ≡ Self.Counter.M };
 }
 
-/// A cipher that combines bytes with a keystream, from a position on that moves with them. Its stream is the keystream of
-/// its own blocks, which `KeyIvInit` ties to a key and a nonce.
+/// A cipher that XORs (exclusive or) bytes with a keystream, from its position on, and moves on past them. Positions
+/// and lengths are in bytes; the limit is the greatest position. The stream is the keystream of the cipher's own
+/// blocks, which `KeyIvInit` ties to a key and a nonce.
 pub trait StreamCipher: Keystream {
     // The greatest position.
     ghost limit: { ℕ };
@@ -297,16 +301,16 @@ pub trait StreamCipher: Keystream {
     // Byte p of the cipher's keystream.
     ghost stream: { Self → ℕ → ℕ };
 
-    // What an application to so many bytes from a position on may count.
+    // What an application from a position on to so many bytes may count.
     ghost cost: { ℕ → ℕ → Bounds };
 
-    /// Whether so many bytes more can be taken: `Err` exactly where they would pass the limit.
+    /// Whether the cipher can take so many more bytes: `Err` exactly where they would pass the limit.
     fn check_remaining(&self, len: usize) -> Result<(), StreamCipherError>
         ensures accepted { IsOk result ↔ (Self.position self.now + len ≤ limit) }
         ensures within { Self.position self.now ≤ limit };
 
-    /// Combines bytes with the keystream by exclusive or, and counts the steps. `Err` exactly where the bytes would
-    /// pass the limit; then nothing changes. This crate's own.
+    /// XORs bytes with the keystream, and counts the steps. `Err` exactly where the bytes would pass the limit; then
+    /// nothing changes. This crate's own.
     fn try_apply_keystream_counted(
         &mut self,
         buf: &mut [u8],
@@ -322,8 +326,8 @@ pub trait StreamCipher: Keystream {
         ensures refused { OnErr result
             ((buf.new ≡ buf.old) × (self.new ≡ self.old) × (steps.new ≡ steps.old)) };
 
-    /// Combines bytes with the keystream by exclusive or (RFC 8439, section 2.4). `Err` exactly where the bytes would
-    /// pass the limit; then nothing changes. To decrypt is the same call.
+    /// XORs bytes with the keystream (RFC 8439, section 2.4). `Err` exactly where the bytes would pass the limit; then
+    /// nothing changes. Decryption is the same call.
     fn try_apply_keystream(&mut self, buf: &mut [u8]) -> Result<(), StreamCipherError>
         ensures accepted { IsOk result ↔ (Self.position self.old + length buf.old ≤ limit) }
         ensures bytes { OnOk result
@@ -336,7 +340,7 @@ pub trait StreamCipher: Keystream {
         self.try_apply_keystream_counted(buf, &mut steps)
     }
 
-    /// Writes the keystream: each byte becomes the one at its position, whatever stood there. `Err` exactly where the
+    /// Writes the keystream over the bytes: each becomes the keystream's byte at its position. `Err` exactly where the
     /// bytes would pass the limit; then nothing changes.
     fn try_write_keystream(&mut self, buf: &mut [u8]) -> Result<(), StreamCipherError>
         ensures accepted { IsOk result ↔ (Self.position self.old + length buf.old ≤ limit) }
@@ -358,9 +362,8 @@ pub trait StreamCipher: Keystream {
         Ok(())
     }
 
-    /// Combines the input with the keystream by exclusive or into the output (RFC 8439, section 2.4). `Err` where the
-    /// lengths differ, at any position, and where the bytes would pass the limit, and nowhere else; then nothing
-    /// changes.
+    /// Writes the input XORed with the keystream into the output (RFC 8439, section 2.4). `Err` exactly where the
+    /// lengths differ or the bytes would pass the limit; then nothing changes.
     fn try_apply_keystream_b2b(
         &mut self,
         input: &[u8],
@@ -389,7 +392,7 @@ pub trait StreamCipher: Keystream {
         Ok(())
     }
 
-    /// Combines bytes with the keystream by exclusive or (RFC 8439, section 2.4). The caller keeps within the limit.
+    /// XORs bytes with the keystream (RFC 8439, section 2.4). The caller proves that they stay within the limit.
     fn apply_keystream(&mut self, buf: &mut [u8])
         requires { Self.position self.old + length buf.old ≤ limit }
         ensures bytes { buf.new ≡ xor_stream (stream self.old) (Self.position self.old) buf.old }
@@ -398,7 +401,7 @@ pub trait StreamCipher: Keystream {
         self.try_apply_keystream(buf).unwrap()
     }
 
-    /// Writes the keystream, whatever stood there. The caller keeps within the limit.
+    /// Writes the keystream over the bytes. The caller proves that they stay within the limit.
     fn write_keystream(&mut self, buf: &mut [u8])
         requires { Self.position self.old + length buf.old ≤ limit }
         ensures bytes { buf.new
@@ -408,8 +411,8 @@ pub trait StreamCipher: Keystream {
         self.try_write_keystream(buf).unwrap()
     }
 
-    /// Combines the input with the keystream by exclusive or into the output (RFC 8439, section 2.4). The caller gives
-    /// slices of one length and keeps within the limit.
+    /// Writes the input XORed with the keystream into the output (RFC 8439, section 2.4). The caller proves that the
+    /// lengths are equal and that the bytes stay within the limit.
     fn apply_keystream_b2b(&mut self, input: &[u8], output: &mut [u8])
         requires same { length input.now ≡ length output.old }
         requires fits { Self.position self.old + length input.now ≤ limit }
@@ -434,7 +437,7 @@ pub trait StreamCipher: Keystream {
     ghost at_at: { (c : Self) (p q : ℕ) → at (at c p) q ≡ at c q };
 }
 
-/// A cipher whose position can be read and set. A position is a number of bytes from the keystream's first one.
+/// A cipher whose position can be read and set. A position counts bytes from the start of the keystream.
 pub trait StreamCipherSeek: StreamCipher {
     /// Moves to a position. `Err` exactly where the number is negative or past the limit; then nothing changes. The
     /// limit itself is accepted.
@@ -443,13 +446,13 @@ pub trait StreamCipherSeek: StreamCipher {
         ensures moved { OnOk result (IfSome (T.position pos) (λ p. self.new ≡ Self.at self.old p)) }
         ensures refused { OnErr result (self.new ≡ self.old) };
 
-    /// The position. `Err` exactly where it is greater than the type's greatest number.
+    /// The position; `Err` exactly where the type cannot represent it.
     fn try_current_pos<T: SeekNum>(&self) -> Result<T, OverflowError>
         ensures accepted { IsOk result ↔ (Self.position self.now ≤ T.greatest) }
         ensures value { IfOk result (λ number. T.position number ≡ Some (Self.position self.now)) }
         ensures within { Self.position self.now ≤ Self.limit };
 
-    /// Moves to a position. The caller gives a number that is not negative and keeps within the limit.
+    /// Moves to a position. The caller proves that the number is not negative and within the limit.
     fn seek<T: SeekNum>(&mut self, pos: T)
         requires { IsSomeAnd (T.position pos) (λ p. p ≤ Self.limit) }
         ensures { IfSome (T.position pos) (λ p. self.new ≡ Self.at self.old p) }
@@ -457,7 +460,7 @@ pub trait StreamCipherSeek: StreamCipher {
         self.try_seek(pos).unwrap()
     }
 
-    /// The position. The caller asks for a type that has a number so great.
+    /// The position. The caller proves that the type can represent it.
     fn current_pos<T: SeekNum>(&self) -> T
         requires { Self.position self.now ≤ T.greatest }
         ensures { T.position result ≡ Some (Self.position self.now) }

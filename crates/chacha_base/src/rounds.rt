@@ -9,9 +9,10 @@ mod steps;
 
 pub use steps::Steps;
 
-/// How many double rounds a cipher makes. A double round is a round of the columns and one of the diagonals, so
-/// `COUNT` is half the number in a cipher's name. Anyone may implement it, for any `usize`, 0 included: beside the constant
-/// stands the same number for clauses, as in `ghost COUNT = { 3 };` and `const COUNT: usize = 3;`.
+/// How many double rounds a cipher makes (RFC 8439, section 2.3). A double round is a round of the columns and one of
+/// the diagonals, so `COUNT` is half the number in a cipher's name. Anyone may implement it, for any `usize`, 0
+/// included. The number stands there twice, as in `ghost COUNT = { 3 };` for clauses and `const COUNT: usize = 3;` for
+/// the code.
 pub trait Rounds: Copy {
     ghost COUNT: { ℕ };
 
@@ -84,8 +85,8 @@ fn quarter_words(a: u32, b: u32, c: u32, d: u32) -> (u32, u32, u32, u32)
     (a2, b2, c2, d2)
 }
 
-/// The quarter round on the words of a state at four different indices (RFC 8439, section 2.2). It counts as one
-/// quarter round.
+/// The quarter round on the words of a state at four indices (RFC 8439, section 2.2), which the caller proves below 16
+/// and different. It counts as one quarter round.
 #[inline(always)]
 pub fn quarter_round(
     a: usize,
@@ -143,8 +144,8 @@ fn diagonal_round(state: &mut [u32; 16], steps: &mut Steps)
     quarter_round(3, 4, 9, 14, state, steps);
 }
 
-/// So many double rounds on a state, each of the columns and then of the diagonals (RFC 8439, section 2.3). Each
-/// counts as eight quarter rounds. `chacha20` does not export it.
+/// `count` double rounds on a state, each of the columns and then of the diagonals (RFC 8439, section 2.3). Each counts
+/// as eight quarter rounds. Nothing is refused. `chacha20` does not export it.
 #[inline(always)]
 #[tactic(auto, unfolding(crate::specs::Rounds::rounds))]
 pub fn double_rounds(count: usize, state: &mut [u32; 16], steps: &mut Steps)

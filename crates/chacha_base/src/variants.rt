@@ -22,12 +22,12 @@ pub trait StreamCipherCounter: Sealed + Copy {
     /// Bits in a counter.
     const BITS: u32;
 
-    /// The counter with this number. This crate's own.
+    /// The counter with this number, which the caller proves below the number of counters. This crate's own.
     fn from_u64(number: u64) -> Self
         requires { number < M }
         ensures { value result ≡ number };
 
-    /// The number of a counter. This crate's own.
+    /// A counter's number. This crate's own.
     fn to_u64(self) -> u64
         ensures value { result ≡ value self }
         ensures below { result < M };
@@ -36,7 +36,7 @@ pub trait StreamCipherCounter: Sealed + Copy {
     fn last() -> u64
         ensures { result + 1 ≡ M };
 
-    /// The counter so many blocks on; it wraps. This crate's own.
+    /// The counter so many blocks on; it wraps, at 2^32 or 2^64. This crate's own.
     fn advanced_by(self, blocks: usize) -> Self
         ensures { value result ≡ (value self + blocks) % M };
 
@@ -107,8 +107,9 @@ impl StreamCipherCounter for u64 {
     }
 }
 
-/// A layout of counter and nonce. A row here is the words of a state from word 12 on, or any words that begin with
-/// the counter's. It is sealed.
+/// A layout of counter and nonce (RFC 8439, section 2.3, and the one before it). A row here is the words of a state
+/// from word 12 on, or any words that begin with the counter's; the caller proves that it has room for the counter.
+/// Nothing is refused. It is sealed.
 pub trait Variant: Sealed {
     /// The counter's type.
     type Counter: StreamCipherCounter;
@@ -127,7 +128,7 @@ pub trait Variant: Sealed {
         ensures { row.new ≡ row_at layout (Self.Counter.value pos) row.old };
 
     /// How many blocks a cipher may still take where its next block has this counter: that one and all after it. `None`
-    /// where these are more than a `usize` says, so at counter 0 of 64 bits alone.
+    /// where a `usize` cannot represent that number: only at counter 0 of 64 bits.
     fn remaining_blocks(block_pos: Self::Counter) -> Option<usize>
         ensures { result ≡ remaining (modulus layout) (Self.Counter.value block_pos) };
 

@@ -15,15 +15,15 @@ use crate::rounds::Steps;
 use crate::variants::StreamCipherCounter;
 use std::marker::Model;
 
-/// A cipher over bytes, of a core that hands out blocks.
+/// A cipher over bytes, made of a core that hands out blocks.
 ///
-/// Clauses see it as its fixed part and its position in bytes (`Cipher`). It keeps one block, so that a message may
-/// come in pieces of any size, and takes all blocks of the core, from the one with counter 0 to the one with the
-/// greatest counter.
+/// Clauses see it as its fixed part and its position in bytes (`Cipher`). It keeps one block of 64 bytes, so that a
+/// message may come in pieces of any size. Its stream has every block of the core once, from the one with counter 0 to
+/// the one with the greatest counter (RFC 8439, section 2.3).
 #[derive(Drop)]
 pub struct StreamCipherCoreWrapper<C: StreamCipherSeekCore> {
     core: C,
-    // The last block that the core made, of which the last `left` bytes are still to be used.
+    // The last block that the core made, of which the last `left` bytes are unused.
     buffer: [u8; 64],
     left: u8,
     // Whether the core is past the block with the greatest counter: its own counter is then 0 again.
@@ -162,14 +162,14 @@ impl<C: StreamCipherSeekCore> StreamCipherSeek for StreamCipherCoreWrapper<C> {
 }
 
 impl<C: StreamCipherSeekCore> StreamCipherCoreWrapper<C> {
-    // How many bytes are left of the block that has been begun.
+    // How many bytes are left of the block that the position lies in.
     fn left(&self) -> usize
         ensures { result ≡ left_at self.now.position }
     {
         self.left as usize
     }
 
-    // Combines bytes with what is left of the block that has been begun.
+    // XORs bytes with what is left of the block that the position lies in.
     fn apply_begun(&mut self, bytes: &mut [u8])
         requires { length bytes.old ≤ left_at self.old.position }
         ensures bytes { bytes.new ≡ xor_stream
@@ -182,7 +182,7 @@ impl<C: StreamCipherSeekCore> StreamCipherCoreWrapper<C> {
         self.left -= bytes.len() as u8;
     }
 
-    // Combines whole blocks, where none has been begun.
+    // XORs whole blocks of bytes, from the front of a block on.
     fn apply_whole(&mut self, blocks: &mut [u8], steps: &mut Steps)
         requires whole { length blocks.old % 64 ≡ 0 }
         requires front { 0 < length blocks.old → self.old.position % 64 ≡ 0 }
@@ -201,7 +201,7 @@ impl<C: StreamCipherSeekCore> StreamCipherCoreWrapper<C> {
         }
     }
 
-    // Combines a last part, of less than a block, where no block has been begun.
+    // XORs a last part of less than a block, from the front of a block on.
     fn apply_last(&mut self, bytes: &mut [u8], steps: &mut Steps)
         requires part { length bytes.old < 64 }
         requires front { 0 < length bytes.old → self.old.position % 64 ≡ 0 }
@@ -222,7 +222,7 @@ impl<C: StreamCipherSeekCore> StreamCipherCoreWrapper<C> {
         }
     }
 
-    // Moves to a position. It makes the block that the position lies in, and none where that is a block's front.
+    // Moves to a position. It makes the block that the position lies in, and none at the front of a block.
     fn move_to(&mut self, place: u128, steps: &mut Steps)
         requires { place ≤ limit_of C.modulus }
         ensures moved { self.new ≡ record self.old { position = place } }

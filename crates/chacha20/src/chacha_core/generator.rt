@@ -1,4 +1,4 @@
-//! Cores with a counter of 64 bits as makers of words, four blocks at a time.
+//! Cores with a counter of 64 bits, which make words, four blocks at a time.
 
 ghost use Rattle.std.specs.Prelude.{◌≡◌, ℕ, List, ◌++◌, replicate, take};
 ghost use Rattle.std.specs.Int.{w64, to_le_bytes};
@@ -18,7 +18,7 @@ use chacha_base::variants::Legacy;
 use rand_core::SeedableRng;
 use std::marker::PhantomData;
 
-/// What makes its output a buffer at a time. This crate's own.
+/// What makes its output one buffer at a time. This crate's own.
 pub trait Generator {
     /// What one call makes.
     type Output;
@@ -28,14 +28,14 @@ pub trait Generator {
 
     ghost after: { Self → Self };
 
-    /// Makes the next output. What it was before doesn't matter.
+    /// Makes the next output, over what stood there. Nothing is refused.
     fn generate(&mut self, output: &mut Self::Output)
         ensures output { output.new ≡ generated self.old }
         ensures moved { self.new ≡ after self.old };
 }
 
-/// The output is the 64 words of the next four blocks, one block after another. The counter moves by four and wraps at
-/// 2^64.
+/// The output is the 64 words of the next four blocks, one block after another. The counter moves on by four and wraps
+/// at 2^64.
 impl<R: Rounds, B: RngBackend<R>> Generator for ChaChaCore<R, Legacy, B> {
     type Output = [u32; 64];
 
@@ -48,7 +48,8 @@ impl<R: Rounds, B: RngBackend<R>> Generator for ChaChaCore<R, Legacy, B> {
     }
 }
 
-/// The key is the seed, the nonce is zero, and the first block is block 0.
+/// The key is the seed of 32 bytes, the nonce is zero, and the first block is block 0. `seed_from_u64` makes the seed
+/// as `rand_core` does.
 impl<R: Rounds, B: RngBackend<R>> SeedableRng for ChaChaCore<R, Legacy, B> {
     type Seed = Seed;
 

@@ -48,9 +48,9 @@ pub enum RngAnswer {
     U64(u64),
     /// A word position.
     U128(u128),
-    /// A seed.
+    /// A seed of 32 bytes.
     Seed(Seed),
-    /// A state.
+    /// A state of 49 bytes.
     State(SerializedRngState),
 }
 
@@ -95,8 +95,9 @@ fn call_rng<R: Rounds, B: RngBackend<R>>(
     }
 }
 
-/// Makes calls in order, from the generator's state on, and writes the answer of each at its place. What the answers
-/// were before doesn't matter. All ranges lie in the data, and there are as many answers as calls. This crate's own.
+/// Makes the calls in order, from the generator's state on, and writes the answer to each at its place, over what stood
+/// there. No call is refused. The caller proves that all ranges lie in the data, and that there are as many answers as
+/// calls. This crate's own.
 pub fn run_rng<R: Rounds, B: RngBackend<R>>(
     rng: &mut ChaChaRng<R, B>,
     data: &mut [u8],
@@ -108,7 +109,7 @@ pub fn run_rng<R: Rounds, B: RngBackend<R>>(
     ensures run { (answers.new, rng.new, «data».new)
         ≡ rng_run R.COUNT rng.old «data».old calls.now }
 
-    // A generator that is equal answers alike, whatever its buffer holds.
+    // An equal generator answers alike, whatever its buffer holds.
     ensures equality { (other : Generator) → IsTrue (same_generator rng.old other)
         → (answers.new, rng.new, «data».new) ≡ rng_run R.COUNT other «data».old calls.now }
 {

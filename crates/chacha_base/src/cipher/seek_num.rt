@@ -10,7 +10,7 @@ mod sealed {
 
 use sealed::Sealed;
 
-/// A number that can be a position: an `i32`, `u32`, `u64`, `u128` or `usize`. It is sealed.
+/// A number that can be a position in bytes: an `i32`, `u32`, `u64`, `u128` or `usize`. It is sealed.
 pub trait SeekNum: Sealed + Copy {
     // The number, where it is not negative.
     ghost position: { Self → Option ℕ };
@@ -18,12 +18,12 @@ pub trait SeekNum: Sealed + Copy {
     // The type's greatest number.
     ghost greatest: { ℕ };
 
-    /// The number, where it is not negative. This crate's own.
+    /// The number; `None` exactly where it is negative. This crate's own.
     fn to_position(self) -> Option<u128>
         ensures value { result ≡ position self }
         ensures below { IfSome result (λ p. p ≤ greatest) };
 
-    /// A position as a number of this type: `Err` exactly where the type has none so great. This crate's own.
+    /// A position as a number of this type; `Err` exactly where the type cannot represent it. This crate's own.
     fn from_position(place: u128) -> Result<Self, OverflowError>
         ensures accepted { IsOk result ↔ (place ≤ greatest) }
         ensures value { IfOk result (λ number. position number ≡ Some place) };

@@ -13,7 +13,7 @@ enum Number {
     After(Snapshot<Number>),
 }
 
-// A count without a greatest value. It takes no bytes.
+// A count without a greatest value. It takes no memory.
 #[derive(Drop)]
 struct Count {
     number: Snapshot<Number>,
@@ -47,8 +47,8 @@ impl Count {
 }
 
 /// How many steps were taken: parallel calls of a backend (`par`), other calls for a block (`other`), and quarter
-/// rounds on words or on vectors (`rounds`). Only clauses see the three numbers, which have no greatest value; the
-/// type has no bytes, and no running code reads it. This crate's own.
+/// rounds on words or on vectors (`rounds`). Only clauses see the three numbers, which have no greatest value; the type
+/// takes no memory, and no running code reads it. This crate's own.
 #[derive(Drop)]
 pub struct Steps {
     par: Count,
