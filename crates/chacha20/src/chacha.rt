@@ -6,7 +6,7 @@ use chacha_base::rounds::{R8, R12, R20};
 use chacha_base::variants::Ietf;
 use chacha_base::wrapper::StreamCipherCoreWrapper;
 
-/// A key of 32 bytes.
+/// A key of 32 bytes (RFC 8439, section 2.3).
 pub type Key = [u8; 32];
 
 /// A nonce of 12 bytes (RFC 8439, section 2.3). No two messages under one key may have the same one.
