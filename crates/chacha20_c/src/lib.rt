@@ -1,0 +1,16 @@
+//! The ciphers and generators of `chacha20` for C, and for what can call C, as a static library. `include/chacha20.h`
+//! declares each function.
+//!
+//! A slice crosses as a pointer and then its length, an array as a pointer. No pointer is null, also where a length is
+//! 0, and what a call writes overlaps nothing else that it is given. A cipher has no state here: each call names its
+//! key, its nonce and a position, which is a number of bytes from the first of the keystream. The state of a generator
+//! is 49 bytes of the caller's.
+#![tactic(auto)]
+
+mod generators;
+mod ietf;
+mod legacy;
+mod stateless;
+#[cfg(test)]
+mod tests;
+mod xchacha;
