@@ -12,7 +12,7 @@ use chacha20::cipher::{
 };
 
 /// Combines bytes with the keystream from a position on.
-pub fn xor<C: KeyIvInit + StreamCipherSeekCore + Drop>(
+pub(crate) fn xor<C: KeyIvInit + StreamCipherSeekCore + Drop>(
     key: &C::Key,
     nonce: &C::Iv,
     position: u64,
@@ -44,7 +44,7 @@ fn try_xor<C: KeyIvInit + StreamCipherSeekCore + Drop>(
 }
 
 /// Combines an input with the keystream from a position on into an output.
-pub fn xor_b2b<C: KeyIvInit + StreamCipherSeekCore + Drop>(
+pub(crate) fn xor_b2b<C: KeyIvInit + StreamCipherSeekCore + Drop>(
     key: &C::Key,
     nonce: &C::Iv,
     position: u64,
