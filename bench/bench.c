@@ -1,0 +1,32 @@
+/* bench check [BYTES [SEED]]   compares the library with what is found on the machine; the last line says how many
+                                bytes, and how many of them differ
+   bench time [TURNS]           times it beside the same */
+
+#include <stdio.h>
+#include <stdlib.h>
+#include <string.h>
+
+#include "bench.h"
+
+static int has_v3(void) {
+    return __builtin_cpu_supports("avx2") && __builtin_cpu_supports("bmi") && __builtin_cpu_supports("bmi2") &&
+           __builtin_cpu_supports("fma");
+}
+
+int main(int argc, char **argv) {
+    struct machine machine = {.levels = {&library_default}, .level_count = 1};
+    int is_check = argc > 1 && strcmp(argv[1], "check") == 0, is_time = argc > 1 && strcmp(argv[1], "time") == 0;
+    if (!is_check && !is_time) {
+        fputs("bench check [BYTES [SEED]]\nbench time [TURNS]\n", stderr);
+        return 2;
+    }
+    if (has_v3()) {
+        machine.levels[machine.level_count++] = &library_v3;
+    } else {
+        puts("not run: the build for x86-64-v3, which this processor doesn't have");
+    }
+    machine.other_count = find_others(machine.others);
+    if (is_time) return time_all(&machine, argc > 2 ? atoi(argv[2]) : 101);
+    return check(&machine, argc > 3 ? strtoull(argv[3], NULL, 10) : 20260101,
+                 argc > 2 ? strtoull(argv[2], NULL, 10) : 1000000000);
+}

@@ -1,0 +1,23 @@
+/* The two uses of the program. */
+
+#ifndef BENCH_H
+#define BENCH_H
+
+#include "library.h"
+#include "others.h"
+
+/* What this machine can run: builds of the library, and other implementations. */
+struct machine {
+    const struct library *levels[2];
+    int level_count;
+    struct other others[MOST_OTHERS];
+    int other_count;
+};
+
+/* Compares until so many bytes were compared with what was found; answers the exit status. */
+int check(const struct machine *machine, uint64_t seed, uint64_t bytes);
+
+/* Prints tables of times; answers the exit status. */
+int time_all(const struct machine *machine, int turns);
+
+#endif

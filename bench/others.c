@@ -1,0 +1,226 @@
+#include "others.h"
+
+#include <dlfcn.h>
+#include <stdio.h>
+#include <stdlib.h>
+#include <string.h>
+
+/* The first of these libraries that the machine has. */
+static void *open_first(const char *const *names) {
+    for (; *names; names++) {
+        void *handle = dlopen(*names, RTLD_NOW | RTLD_LOCAL);
+        if (handle) return handle;
+    }
+    return NULL;
+}
+
+/* ISO C has no cast from an object's pointer to a function's. */
+static int look_up(void *handle, const char *name, void *function) {
+    void *found = dlsym(handle, name);
+    memcpy(function, &found, sizeof found);
+    return found != NULL;
+}
+
+static void store_le(uint8_t *bytes, uint64_t number, int count) {
+    for (int i = 0; i < count; i++) bytes[i] = (uint8_t)(number >> (8 * i));
+}
+
+/* OpenSSL: the counter stands in front of the nonce, in 16 bytes together, and the carry goes on past 32 bits. */
+
+static void *(*evp_new)(void);
+static void *(*evp_chacha20)(void);
+static int (*evp_init)(void *, void *, void *, const uint8_t *, const uint8_t *);
+static int (*evp_update)(void *, uint8_t *, int *, const uint8_t *, int);
+static void *evp_context;
+
+static void openssl_xor(const uint8_t *key, const uint8_t iv[16], uint8_t *data, size_t len) {
+    int done = evp_init(evp_context, NULL, NULL, key, iv);
+    while (done && len > 0) {
+        int part = len < 1 << 30 ? (int)len : 1 << 30, out = 0;
+        done = evp_update(evp_context, data, &out, data, part) && out == part;
+        data += part;
+        len -= (size_t)part;
+    }
+    if (!done) {
+        puts("OpenSSL refused a call");
+        exit(2);
+    }
+}
+
+static void openssl_ietf(int rounds, const uint8_t *key, const uint8_t *nonce, uint64_t block, uint8_t *data,
+                         size_t len) {
+    uint8_t iv[16];
+    (void)rounds;
+    store_le(iv, block, 4);
+    memcpy(iv + 4, nonce, 12);
+    openssl_xor(key, iv, data, len);
+}
+
+static void openssl_legacy(int rounds, const uint8_t *key, const uint8_t *nonce, uint64_t block, uint8_t *data,
+                           size_t len) {
+    uint8_t iv[16];
+    (void)rounds;
+    store_le(iv, block, 8);
+    memcpy(iv + 8, nonce, 8);
+    openssl_xor(key, iv, data, len);
+}
+
+static int find_openssl(struct other *found) {
+    static const char *const names[] = {"libcrypto.so.3", "libcrypto.so.1.1", "libcrypto.so", NULL};
+    const char *(*version)(int) = NULL;
+    void *handle = open_first(names);
+    if (!handle || !look_up(handle, "EVP_CIPHER_CTX_new", &evp_new) ||
+        !look_up(handle, "EVP_chacha20", &evp_chacha20) || !look_up(handle, "EVP_EncryptInit_ex", &evp_init) ||
+        !look_up(handle, "EVP_EncryptUpdate", &evp_update) || !look_up(handle, "OpenSSL_version", &version)) {
+        puts("not found: OpenSSL (libcrypto.so)");
+        return 0;
+    }
+    evp_context = evp_new();
+    if (!evp_context || !evp_init(evp_context, evp_chacha20(), NULL, NULL, NULL)) {
+        puts("found without ChaCha20: OpenSSL");
+        return 0;
+    }
+    printf("found: %s\n", version(0));
+    *found = (struct other){.name = "OpenSSL",
+                            .xor_from_block = {[IETF] = openssl_ietf, [LEGACY] = openssl_legacy}};
+    return 1;
+}
+
+/* libsodium */
+
+static int (*sodium_ietf_ic)(uint8_t *, const uint8_t *, unsigned long long, const uint8_t *, uint32_t,
+                             const uint8_t *);
+static int (*sodium_legacy_ic)(uint8_t *, const uint8_t *, unsigned long long, const uint8_t *, uint64_t,
+                               const uint8_t *);
+static int (*sodium_xchacha_ic)(uint8_t *, const uint8_t *, unsigned long long, const uint8_t *, uint64_t,
+                                const uint8_t *);
+static int (*sodium_hchacha)(uint8_t *, const uint8_t *, const uint8_t *, const uint8_t *);
+
+static void sodium_ietf(int rounds, const uint8_t *key, const uint8_t *nonce, uint64_t block, uint8_t *data,
+                        size_t len) {
+    (void)rounds;
+    sodium_ietf_ic(data, data, len, nonce, (uint32_t)block, key);
+}
+
+static void sodium_xchacha(int rounds, const uint8_t *key, const uint8_t *nonce, uint64_t block, uint8_t *data,
+                           size_t len) {
+    (void)rounds;
+    sodium_xchacha_ic(data, data, len, nonce, block, key);
+}
+
+static void sodium_legacy(int rounds, const uint8_t *key, const uint8_t *nonce, uint64_t block, uint8_t *data,
+                          size_t len) {
+    (void)rounds;
+    sodium_legacy_ic(data, data, len, nonce, block, key);
+}
+
+static void sodium_hchacha20(const uint8_t *key, const uint8_t *input, uint8_t *subkey) {
+    sodium_hchacha(subkey, input, key, NULL);
+}
+
+static int find_sodium(struct other *found) {
+    static const char *const names[] = {"libsodium.so.23", "libsodium.so.26", "libsodium.so", NULL};
+    int (*init)(void) = NULL;
+    const char *(*version)(void) = NULL;
+    void *handle = open_first(names);
+    if (!handle || !look_up(handle, "sodium_init", &init) || !look_up(handle, "sodium_version_string", &version) ||
+        !look_up(handle, "crypto_stream_chacha20_ietf_xor_ic", &sodium_ietf_ic) ||
+        !look_up(handle, "crypto_stream_chacha20_xor_ic", &sodium_legacy_ic) ||
+        !look_up(handle, "crypto_stream_xchacha20_xor_ic", &sodium_xchacha_ic) ||
+        !look_up(handle, "crypto_core_hchacha20", &sodium_hchacha) || init() < 0) {
+        puts("not found: libsodium");
+        return 0;
+    }
+    printf("found: libsodium %s\n", version());
+    *found = (struct other){
+        .name = "libsodium",
+        .xor_from_block = {[IETF] = sodium_ietf, [XCHACHA] = sodium_xchacha, [LEGACY] = sodium_legacy},
+        .hchacha20 = sodium_hchacha20};
+    return 1;
+}
+
+int find_others(struct other found[MOST_OTHERS]) {
+    int count = find_openssl(found);
+    count += find_sodium(found + count);
+    puts("not found: the Rust crate chacha20; another implementation of 8 and 12 rounds (plain C of bench/ stands in)");
+    return count;
+}
+
+/* Plain C */
+
+static uint32_t load_32(const uint8_t *b) {
+    return (uint32_t)b[0] | (uint32_t)b[1] << 8 | (uint32_t)b[2] << 16 | (uint32_t)b[3] << 24;
+}
+
+static uint32_t rotated(uint32_t x, int by) { return x << by | x >> (32 - by); }
+
+static void quarter_round(uint32_t *x, int a, int b, int c, int d) {
+    x[a] += x[b], x[d] = rotated(x[d] ^ x[a], 16);
+    x[c] += x[d], x[b] = rotated(x[b] ^ x[c], 12);
+    x[a] += x[b], x[d] = rotated(x[d] ^ x[a], 8);
+    x[c] += x[d], x[b] = rotated(x[b] ^ x[c], 7);
+}
+
+static void all_rounds(uint32_t *x, int rounds) {
+    for (int i = 0; i < rounds; i += 2) {
+        for (int j = 0; j < 4; j++) quarter_round(x, j, 4 + j, 8 + j, 12 + j);
+        for (int j = 0; j < 4; j++) quarter_round(x, j, 4 + (j + 1) % 4, 8 + (j + 2) % 4, 12 + (j + 3) % 4);
+    }
+}
+
+/* Constants, a key, and 16 bytes more. */
+static void start(uint32_t *x, const uint8_t *key, const uint8_t *last) {
+    static const char constants[] = "expand 32-byte k";
+    for (int i = 0; i < 4; i++) x[i] = load_32((const uint8_t *)constants + 4 * i);
+    for (int i = 0; i < 8; i++) x[4 + i] = load_32(key + 4 * i);
+    for (int i = 0; i < 4; i++) x[12 + i] = load_32(last + 4 * i);
+}
+
+static void plain_hchacha(int rounds, const uint8_t *key, const uint8_t *input, uint8_t *subkey) {
+    uint32_t x[16];
+    start(x, key, input);
+    all_rounds(x, rounds);
+    for (int i = 0; i < 4; i++) store_le(subkey + 4 * i, x[i], 4), store_le(subkey + 16 + 4 * i, x[12 + i], 4);
+}
+
+static void plain_xor(int rounds, int counter_bytes, const uint8_t *key, const uint8_t *nonce, uint64_t block,
+                      uint8_t *data, size_t len) {
+    uint8_t last[16], made[64];
+    uint32_t first[16], x[16];
+    memcpy(last + counter_bytes, nonce, (size_t)(16 - counter_bytes));
+    for (size_t at = 0; at < len; at += 64, block++) {
+        store_le(last, block, counter_bytes);
+        start(first, key, last);
+        memcpy(x, first, sizeof x);
+        all_rounds(x, rounds);
+        for (int i = 0; i < 16; i++) store_le(made + 4 * i, x[i] + first[i], 4);
+        for (size_t i = 0; i < 64 && at + i < len; i++) data[at + i] ^= made[i];
+    }
+}
+
+static void plain_ietf(int rounds, const uint8_t *key, const uint8_t *nonce, uint64_t block, uint8_t *data,
+                       size_t len) {
+    plain_xor(rounds, 4, key, nonce, block, data, len);
+}
+
+static void plain_legacy(int rounds, const uint8_t *key, const uint8_t *nonce, uint64_t block, uint8_t *data,
+                         size_t len) {
+    plain_xor(rounds, 8, key, nonce, block, data, len);
+}
+
+static void plain_xchacha(int rounds, const uint8_t *key, const uint8_t *nonce, uint64_t block, uint8_t *data,
+                          size_t len) {
+    uint8_t subkey[32], subnonce[12] = {0};
+    plain_hchacha(rounds, key, nonce, subkey);
+    memcpy(subnonce + 4, nonce + 16, 8);
+    plain_xor(rounds, 4, subkey, subnonce, block, data, len);
+}
+
+static void plain_hchacha20(const uint8_t *key, const uint8_t *input, uint8_t *subkey) {
+    plain_hchacha(20, key, input, subkey);
+}
+
+const struct other plain_c = {
+    .name = "plain C",
+    .xor_from_block = {[IETF] = plain_ietf, [XCHACHA] = plain_xchacha, [LEGACY] = plain_legacy},
+    .hchacha20 = plain_hchacha20};
