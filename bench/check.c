@@ -191,7 +191,6 @@ static void one_generator(struct run *run) {
     random_bytes(run, seed, sizeof seed);
     random_bytes(run, state, sizeof state);
     for (int i = 0; i < 8; i++) nonce[i] = (uint8_t)(stream >> (8 * i));
-    memset(input, 0, 4 * (words + 16));
     const struct other *other = any_other(run, LEGACY, rounds_of[at_rounds], 4 * words);
     memset(expected, 0, 4 * (words + in_block));
     other->xor_from_block[LEGACY](rounds_of[at_rounds], seed, nonce, block, expected, 4 * (words + in_block));

@@ -138,7 +138,7 @@ fn refused(rt: HostRuntime) {
         chacha20_xchacha20_xor_b2b(&[0; 32], &X_NONCE, 0, b"Hello", &mut bytes),
         chacha20_ietf20_xor_over(5, &[0; 32], &[0; 12], 0, &mut bytes),
         chacha20_ietf_check(274877906944, 1),
-        chacha20_ietf_check(274877906870, 10),
+        chacha20_ietf_check(274877906934, 10),
         chacha20_ietf_check(u64::MAX, usize::MAX),
         chacha20_legacy_check(u64::MAX, usize::MAX),
     ];
