@@ -26,8 +26,8 @@ use std::marker::Model;
 /// The seed of a generator: a key of 32 bytes.
 pub type Seed = [u8; 32];
 
-/// The state of a generator: 32 bytes of seed, then the stream and the word position, which are 8 and 9 bytes with the
-/// low byte first. The upper half of the last byte is 0 where it is written, and says nothing where it is read.
+/// The state of a generator: 32 bytes of seed, then 8 bytes of stream and 9 of word position, the low byte first. The
+/// upper half of the last byte is written as 0 and ignored when read.
 pub type SerializedRngState = [u8; 49];
 
 /// A generator with four double rounds.
@@ -46,7 +46,7 @@ const POSITIONS: u128 = 1 << 68;
 ///
 /// Clauses see it as a seed, a stream and a word position (`Generator`). Word w of a stream is word w mod 16 of the
 /// block whose key is the seed, whose nonce is the stream's 8 bytes, the low byte first, and whose counter is w div 16.
-/// Behind the last of a stream's 2^68 words (1 ZiB) comes its first one again. A stream's number has 64 bits. `R` is the
+/// After the last of a stream's 2^68 words (1 ZiB) comes its first one again. A stream's number has 64 bits. `R` is the
 /// number of double rounds, `B` the backend that makes the words. No call is refused.
 pub struct ChaChaRng<R: Rounds, B> {
     core: ChaChaCore<R, Legacy, B>,
@@ -84,7 +84,7 @@ impl<R: Rounds, B: RngBackend<R>> ChaChaRng<R, B> {
         Self::new(&seed)
     }
 
-    /// Takes the next word.
+    /// Takes the next word, of 32 bits.
     #[inline]
     pub fn next_u32(&mut self) -> u32
         ensures value { (result, self.new) ≡ next_u32 R.COUNT self.old }
@@ -184,7 +184,7 @@ impl<R: Rounds, B: RngBackend<R>> ChaChaRng<R, B> {
         self.core.seed()
     }
 
-    /// The state as bytes, which give the generator again.
+    /// The state as 49 bytes, which give the generator again.
     #[tactic(auto, using(crate::proofs::StateBytesLemmas::two_written_length))]
     pub fn serialize_state(&self) -> SerializedRngState
         ensures value { result ≡ state_bytes self.now }
@@ -201,7 +201,7 @@ impl<R: Rounds, B: RngBackend<R>> ChaChaRng<R, B> {
         state
     }
 
-    /// The generator of a state. Any bytes are a state: the upper half of the last one is ignored.
+    /// The generator of a state. Any 49 bytes are a state: the upper half of the last one is ignored.
     pub fn deserialize_state(state: &SerializedRngState) -> Self
         ensures value { result ≡ of_state_bytes state.now }
         ensures stored { state_bytes result ≡ take 48 state.now
@@ -379,7 +379,7 @@ impl<R: Rounds, B: RngBackend<R>> Eq for ChaChaRng<R, B> {
     ghost laws = { Prim.search (comparing, rules) };
 }
 
-/// A text that says nothing of seed, stream and position.
+/// A text that shows nothing of seed, stream and position.
 impl<B> fmt::Debug for ChaChaRng<R8, B> {
     ghost debug_output = { λ _. Some (codes "ChaCha8Rng { ... }") };
 
@@ -388,7 +388,7 @@ impl<B> fmt::Debug for ChaChaRng<R8, B> {
     }
 }
 
-/// A text that says nothing of seed, stream and position.
+/// A text that shows nothing of seed, stream and position.
 impl<B> fmt::Debug for ChaChaRng<R12, B> {
     ghost debug_output = { λ _. Some (codes "ChaCha12Rng { ... }") };
 
@@ -397,7 +397,7 @@ impl<B> fmt::Debug for ChaChaRng<R12, B> {
     }
 }
 
-/// A text that says nothing of seed, stream and position.
+/// A text that shows nothing of seed, stream and position.
 impl<B> fmt::Debug for ChaChaRng<R20, B> {
     ghost debug_output = { λ _. Some (codes "ChaCha20Rng { ... }") };
 

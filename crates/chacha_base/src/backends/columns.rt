@@ -232,7 +232,8 @@ impl<V: Vector> States for Columns<V> {
     }
 }
 
-/// So many double rounds of the sixteen words in each lane, of eight vector quarter rounds each (RFC 8439, section 2.3).
+/// `count` double rounds of the sixteen words in each lane, of eight vector quarter rounds each (RFC 8439, section
+/// 2.3).
 #[inline(always)]
 pub fn double_rounds<V: Vector>(start: Columns<V>, count: usize, steps: &mut Steps) -> Columns<V>
     ensures lanes { (j : ℕ) → j < V.LANES

@@ -28,7 +28,7 @@ pub trait States: Copy {
         ensures steps { steps.new ≡ record steps.old { rounds = steps.old.rounds + ROUND_STEPS } };
 }
 
-/// So many double rounds of each state.
+/// `count` double rounds of each state.
 #[inline(always)]
 pub fn round_by_round<S: States>(start: S, count: usize, steps: &mut Steps) -> S
     ensures blocks { (g : ℕ) → g < S.BLOCKS
@@ -51,7 +51,7 @@ pub trait Group: States {
         ensures { (g : ℕ) → g < Self.BLOCKS → Self.words_of result g
             ≡ with_last_words state.now (slice_index_or last_words.now g []) };
 
-    /// So many double rounds of each state.
+    /// `count` double rounds of each state.
     fn double_rounds(self, count: usize, steps: &mut Steps) -> Self
         ensures blocks { (g : ℕ) → g < Self.BLOCKS
             → Self.words_of result g ≡ rounds count (Self.words_of self g) }

@@ -89,7 +89,7 @@ pub fn next_all<R: Rounds, V: Variant, G: Group, const W: usize>(
     advance::<V>(state, W);
 }
 
-/// At most as many blocks as a group has, none included. Where there are any, the group is made once, and counts as one
+/// At most as many blocks as a group has, also none. Where there are any, the group is made once, and counts as one
 /// other call; where there are none, nothing is made.
 #[inline(always)]
 pub fn next_tail<R: Rounds, V: Variant, G: Group, const W: usize>(

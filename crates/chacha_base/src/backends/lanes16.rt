@@ -14,8 +14,8 @@ use crate::rounds::{Rounds, Steps};
 use crate::variants::Variant;
 use std::simd::prelude::*;
 
-/// Sixteen blocks in a parallel call, with a vector of sixteen words for each word of a state. A tail is made in rows, by
-/// the narrowest kernel that holds it; a single block in vectors of four words. This crate's own name.
+/// Sixteen blocks in a parallel call, with a vector of sixteen words for each word of a state. A tail is made in rows,
+/// by the narrowest group that holds it, a single block in vectors of four words. This crate's own name.
 #[derive(Clone, Copy, Debug)]
 pub struct Lanes16;
 

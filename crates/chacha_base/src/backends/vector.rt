@@ -17,7 +17,7 @@ pub trait Vector: Copy {
     /// Words in a vector.
     const LANES: usize;
 
-    /// The vector of the first of these words.
+    /// The vector of the first of these words, as many as it has lanes.
     fn from_words(words: &[u32; 16]) -> Self
         ensures { (j : ℕ) → j < LANES → lane result j ≡ slice_index words.now j };
 
@@ -25,7 +25,7 @@ pub trait Vector: Copy {
     fn plus(self, other: Self) -> Self
         ensures { (j : ℕ) → j < LANES → lane result j ≡ add (lane self j) (lane other j) };
 
-    /// The words in each lane combined by exclusive or and rotated to the left.
+    /// The words in each lane XORed and rotated to the left.
     fn xor_rotated(self, other: Self, by: u32) -> Self
         requires some { 0 < by }
         requires most { by < 32 }
@@ -100,7 +100,7 @@ fn lanes_plus<const N: usize>(one: Simd<u32, N>, other: Simd<u32, N>) -> Simd<u3
     one + other
 }
 
-// The lanes of two vectors of any width, combined by exclusive or and rotated to the left.
+// The lanes of two vectors of any width, XORed and rotated to the left.
 #[inline(always)]
 fn lanes_xor_rotated<const N: usize>(
     one: Simd<u32, N>,
