@@ -12,11 +12,6 @@
 
 #include "bench.h"
 
-/* The end of the stream with nonces of 12 and of 24 bytes. */
-#ifndef STREAM_END
-#define STREAM_END CHACHA20_STREAM_BYTES
-#endif
-
 enum { LONGEST = 1 << 18, MOST_CUTS = 40, CONTROLS = 200 };
 
 static const int rounds_of[ROUNDS] = {8, 12, 20};
@@ -107,7 +102,7 @@ static size_t random_length(struct run *run) {
 
 /* A position from which so many bytes can be taken, and after which each of them still has a position of 64 bits. */
 static uint64_t random_position(struct run *run, enum layout layout, size_t len) {
-    uint64_t last = (layout == LEGACY ? UINT64_MAX : STREAM_END) - len;
+    uint64_t last = (layout == LEGACY ? UINT64_MAX : CHACHA20_STREAM_BYTES) - len;
     switch (below(run, 7)) {
         case 0: return 0;
         case 1: return below(run, 5000);
@@ -240,8 +235,8 @@ static void one_generator(struct run *run) {
 static void one_refusal(struct run *run) {
     enum layout layout = (enum layout)below(run, 2);
     size_t len = 1 + below(run, 300), other_len = below(run, 300);
-    uint64_t past = below(run, 2) ? below(run, len) : below(run, UINT64_MAX - STREAM_END);
-    uint64_t position = STREAM_END - len + 1 + past;
+    uint64_t past = below(run, 2) ? below(run, len) : below(run, UINT64_MAX - CHACHA20_STREAM_BYTES);
+    uint64_t position = CHACHA20_STREAM_BYTES - len + 1 + past;
     const struct library *library = any_level(run);
     int at_rounds = (int)below(run, ROUNDS);
     uint8_t key[32], nonce[24];
@@ -257,7 +252,7 @@ static void one_refusal(struct run *run) {
     holds(run, library->xor_over((uint32_t)(5 + below(run, UINT32_MAX - 5)), key, nonce, 0, made, len) == 2,
           "taken over no backend");
     holds(run, library->check[layout](position, len) == 1, "a check past the end");
-    holds(run, library->check[layout](STREAM_END - len, len) == 0, "a check up to the end");
+    holds(run, library->check[layout](CHACHA20_STREAM_BYTES - len, len) == 0, "a check up to the end");
     if (other_len != len) {
         enum layout any = (enum layout)below(run, LAYOUTS);
         holds(run, library->xor_b2b[any][2](key, nonce, 0, expected, len, made, other_len) == 1, "unequal lengths");
