@@ -1,6 +1,6 @@
 /* Times, all contestants by turns: each combines a buffer in place under a fixed key and nonce, from position 0 on, the
-   making of the cipher included. The figure is the median of the turns, in processor time, so that what else runs on the
-   machine disturbs it less. */
+   making of the cipher included. The figure is the median of the turns, in processor time, so that what else runs on
+   the machine disturbs it less. */
 
 #define _POSIX_C_SOURCE 200809L
 
