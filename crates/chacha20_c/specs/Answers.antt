@@ -1,5 +1,5 @@
--- What calls on a cipher from a position on answer, and what they leave: 0 exactly where the bytes end at
--- the limit or before it, and else 1, and then nothing is written (this crate).
+-- What calls on a cipher from a position on answer, and what they leave: 0 exactly where the bytes
+-- end at the limit or before it, and else 1, and then nothing is written (this crate).
 use Rattle.std.specs.Prelude.{ℕ, List, ◌≡◌, ◌↔◌, ◌⊎◌, ◌≤◌, ◌+◌, length}
 use Rattle.chacha20.specs.Keystream.{xor_stream}
 

@@ -11,8 +11,10 @@ fn encrypt_and_decrypt(rt: HostRuntime) -> Result<(), Fail> {
     let nonce = [0x24; 12];
     let mut message = *b"attack at dawn";
 
+    // What `openssl enc -chacha20` makes of it.
+    let ciphertext: [u8; 14] = [133, 112, 20, 12, 40, 124, 16, 213, 27, 39, 138, 66, 72, 77];
     ChaCha20::new(&key, &nonce).try_apply_keystream(&mut message)?;
-    assert_ne!(rt; message, *b"attack at dawn");
+    assert_eq!(rt; message, ciphertext);
 
     ChaCha20::new(&key, &nonce).try_apply_keystream(&mut message)?;
     assert_eq!(rt; message, *b"attack at dawn");
