@@ -1,4 +1,4 @@
-use Rattle.std.proofs.Common.{◌≡◌, ◌<◌, ◌*◌, ◌%◌, length, ap, ◌∙◌, arith}
+use Rattle.std.proofs.Common.{◌≡◌, ◌<◌, ◌*◌, length, ap, ◌∙◌, arith}
 use Rattle.chacha_base.proofs.BufferedLemmas.{counter-at_front, xor_stream-front}
 use Rattle.chacha_base.proofs.wrapper.StreamCipherCoreWrapper.apply_last.Goals as goal
 
