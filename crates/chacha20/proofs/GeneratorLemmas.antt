@@ -10,7 +10,6 @@ use Rattle.chacha_base.specs.Layout.{legacy}
 use Rattle.chacha_base.specs.State.{state_counter, fixed_words}
 use Rattle.chacha_base.proofs.BytesLemmas.{length-words}
 use Rattle.chacha_base.proofs.ListLemmas.{each}
-use Rattle.chacha_base.proofs.StateLemmas.{halves}
 use Rattle.chacha20.specs.Generator.{Generator}
 use Rattle.chacha20.specs.Unread.{seed_of, stream_of, IsStart, generator_of, IsUnread}
 
@@ -79,7 +78,7 @@ stream_of-start : (seed : List ℕ) (x : ℕ) → length seed ≡ 32 → x < 2 ^
 stream_of-start seed x long fits =
     ap (λ ws. from_le_bytes w64 (bytes ws)) (drop_at (words seed) (words (to_le_bytes w64 x)) 8 (length-words 8 seed long) ∙ words-to_le_bytes x fits)
     ∙ from_le_bytes-bytes (x % 2 ^ 32) (x / 2 ^ 32) (omega arith) (omega arith)
-    ∙ halves x
+    ∙ omega arith
 
 pub length-seed_of : (core : List ℕ) → length core ≡ 16 → length (seed_of (fixed_words legacy core)) ≡ 32
 length-seed_of = each 16 (λ s. length (seed_of (fixed_words legacy s)) ≡ 32) (λ x0 x1 x2 x3 x4 x5 x6 x7 x8 x9 x10 x11 x12 x13 x14 x15. refl)

@@ -10,10 +10,10 @@ abbrev pub hchacha : ℕ → List ℕ → List ℕ → List ℕ
 hchacha n key input =
     let r = rounds n (constants ++ words key ++ words input) in bytes (take 4 r ++ drop 12 r)
 
--- the key of XChaCha's blocks: HChaCha of bytes 0 to 15 of the nonce
+-- the key of XChaCha's blocks, from the first 16 bytes of the nonce
 abbrev pub subkey : ℕ → List ℕ → List ℕ → List ℕ
 subkey n key nonce = hchacha n key (take 16 nonce)
 
--- the nonce of its blocks: four zero bytes, and bytes 16 to 23
+-- the nonce of its blocks: four zeros, and then what the subkey has not used
 abbrev pub subnonce : List ℕ → List ℕ
 subnonce nonce = replicate 4 0 ++ drop 16 nonce

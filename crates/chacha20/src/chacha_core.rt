@@ -105,6 +105,8 @@ impl<R: Rounds, V: Variant, B> Keystream for ChaChaCore<R, V, B> {
     ghost block_at = { state_block R.COUNT V.layout };
 
     ghost position = { λ core. 64 * state_counter V.layout core };
+
+    ghost first_position = { 0 };
 }
 
 impl<R: Rounds, V: Variant, B> BlockSizeUser for ChaChaCore<R, V, B> {

@@ -21,7 +21,7 @@
 //!
 //! The clauses of a call say what it does. For ciphers they stand in `cipher::StreamCipher` and
 //! `cipher::StreamCipherSeek`, for generators at the calls of `ChaChaRng`. Most tests stand in the crate `vectors`,
-//! since a crate with tests is proved twice.
+//! where they do not cost a second proof of this one.
 #![tactic(auto)]
 
 mod chacha;

@@ -80,6 +80,8 @@ impl<R: Rounds, B> Keystream for XChaChaCore<R, B> {
     ghost block_at = { state_block R.COUNT ietf };
 
     ghost position = { λ core. 64 * state_counter ietf core };
+
+    ghost first_position = { 0 };
 }
 
 impl<R: Rounds, B> BlockSizeUser for XChaChaCore<R, B> {

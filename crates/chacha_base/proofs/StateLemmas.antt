@@ -1,7 +1,7 @@
 -- States of sixteen words: the counter, and the words that stay.
 use Rattle.std.proofs.Common.{◌≡◌, ℕ, ◌+◌, ◌*◌, ◌/◌, ◌%◌, ◌^◌, ◌<◌, ◌≤◌, List, ◌++◌, length, take, drop, slice_index, arith, refl, ap, ap₂, ◌∙◌}
 use Rattle.std.proofs.Math.ListN.{set}
-use Rattle.std.proofs.Math.Nat.{mod-add-mod, mod-eq_of_lt}
+use Rattle.std.proofs.Math.Nat.{mod-add-mod, mod-eq_of_lt, mod-mod}
 use Rattle.std.proofs.lemmas.List.{take_at, drop_at}
 use Rattle.std.proofs.lemmas.List.FromFn.{length-map-range_with_len, get_or-map-range_with_len, fill_by_all}
 use Rattle.std.proofs.lemmas.Option.{slice_get-get_or, get_or_from_slice_get}
@@ -19,9 +19,17 @@ use Rattle.chacha_base.proofs.ListLemmas.{each, one_more, written_more}
 abbrev pub Words : List ℕ → Type 0
 Words s = (i : ℕ) → slice_index s i < 2 ^ 32
 
--- the two halves of a counter
-pub halves : (c : ℕ) → c % 2 ^ 32 + 2 ^ 32 * (c / 2 ^ 32) ≡ c
+-- the two words of a counter
+halves : (c : ℕ) → c % 2 ^ 32 + 2 ^ 32 * (c / 2 ^ 32 % 2 ^ 32) ≡ c % 2 ^ 64
 halves c = omega arith
+
+-- a counter that has wrapped has the same words
+pub start-wrapped : (layout : Layout) (key nonce : List ℕ) (c : ℕ) → start layout key nonce (c % modulus layout) ≡ start layout key nonce c
+start-wrapped ietf key nonce c =
+    let word : c % 2 ^ 32 % 2 ^ 32 ≡ c % 2 ^ 32 = omega arith in rw word refl
+start-wrapped legacy key nonce c =
+    let low : c % 2 ^ 64 % 2 ^ 32 ≡ c % 2 ^ 32 = omega arith in
+    let high : c % 2 ^ 64 / 2 ^ 32 % 2 ^ 32 ≡ c / 2 ^ 32 % 2 ^ 32 = omega arith in rw (low, high) refl
 
 pub state_counter-below : (layout : Layout) (s : List ℕ) → length s ≡ 16 → Words s → state_counter layout s < modulus layout
 state_counter-below ietf =
@@ -32,11 +40,11 @@ state_counter-below legacy =
     let low : x12 < 2 ^ 32 = fits 12 in let high : x13 < 2 ^ 32 = fits 13 in omega arith)
 
 -- another counter, and the same other words
-pub state_counter-state_at : (layout : Layout) (c : ℕ) (s : List ℕ) → length s ≡ 16 → state_counter layout (state_at layout c s) ≡ c
+pub state_counter-state_at : (layout : Layout) (c : ℕ) (s : List ℕ) → length s ≡ 16 → state_counter layout (state_at layout c s) ≡ c % modulus layout
 state_counter-state_at ietf c =
-    each 16 (λ s. state_counter ietf (state_at ietf c s) ≡ c) (λ x0 x1 x2 x3 x4 x5 x6 x7 x8 x9 x10 x11 x12 x13 x14 x15. refl)
+    each 16 (λ s. state_counter ietf (state_at ietf c s) ≡ c % modulus ietf) (λ x0 x1 x2 x3 x4 x5 x6 x7 x8 x9 x10 x11 x12 x13 x14 x15. refl)
 state_counter-state_at legacy c =
-    each 16 (λ s. state_counter legacy (state_at legacy c s) ≡ c) (λ x0 x1 x2 x3 x4 x5 x6 x7 x8 x9 x10 x11 x12 x13 x14 x15. halves c)
+    each 16 (λ s. state_counter legacy (state_at legacy c s) ≡ c % modulus legacy) (λ x0 x1 x2 x3 x4 x5 x6 x7 x8 x9 x10 x11 x12 x13 x14 x15. halves c)
 
 pub fixed_words-state_at : (layout : Layout) (c : ℕ) (s : List ℕ) → length s ≡ 16 → fixed_words layout (state_at layout c s) ≡ fixed_words layout s
 fixed_words-state_at ietf c =
@@ -56,13 +64,15 @@ state_at-written legacy c s row h same =
 -- the state at its own counter
 state_at-own : (layout : Layout) (s : List ℕ) → length s ≡ 16 → Words s → state_at layout (state_counter layout s) s ≡ s
 state_at-own ietf =
-    each 16 (λ s. Words s → state_at ietf (state_counter ietf s) s ≡ s) (λ x0 x1 x2 x3 x4 x5 x6 x7 x8 x9 x10 x11 x12 x13 x14 x15 fits. refl)
+    each 16 (λ s. Words s → state_at ietf (state_counter ietf s) s ≡ s)
+    (λ x0 x1 x2 x3 x4 x5 x6 x7 x8 x9 x10 x11 x12 x13 x14 x15 fits. rw (mod-eq_of_lt (fits 12)) refl)
 state_at-own legacy =
     each 16 (λ s. Words s → state_at legacy (state_counter legacy s) s ≡ s)
     (λ x0 x1 x2 x3 x4 x5 x6 x7 x8 x9 x10 x11 x12 x13 x14 x15 fits.
     let low : x12 < 2 ^ 32 = fits 12 in
     let same_low : (x12 + 2 ^ 32 * x13) % 2 ^ 32 ≡ x12 = omega arith in
-    let same_high : (x12 + 2 ^ 32 * x13) / 2 ^ 32 ≡ x13 = omega arith in rw (same_low, same_high) refl)
+    let high : x13 < 2 ^ 32 = fits 13 in
+    let same_high : (x12 + 2 ^ 32 * x13) / 2 ^ 32 % 2 ^ 32 ≡ x13 = omega arith in rw (same_low, same_high) refl)
 
 pub length-state_at : (layout : Layout) (c : ℕ) (s : List ℕ) → length s ≡ 16 → length (state_at layout c s) ≡ 16
 length-state_at ietf c =
@@ -76,7 +86,8 @@ fixed_words-state_after layout i s t h moved = ap (fixed_words layout) moved ∙
 
 pub state_counter-state_after : (layout : Layout) (i : ℕ) (s t : List ℕ) → length s ≡ 16 → t ≡ state_after layout i s
     → state_counter layout t ≡ (state_counter layout s + i) % modulus layout
-state_counter-state_after layout i s t h moved = ap (state_counter layout) moved ∙ state_counter-state_at layout (counter_after layout s i) s h
+state_counter-state_after layout i s t h moved =
+    ap (state_counter layout) moved ∙ state_counter-state_at layout (counter_after layout s i) s h ∙ mod-mod (state_counter layout s + i) (modulus layout)
 
 -- no blocks on
 pub state_after-zero : (layout : Layout) (s : List ℕ) → length s ≡ 16 → Words s → state_after layout 0 s ≡ s
@@ -118,11 +129,12 @@ state_of-start layout key nonce c long =
     let front : length (constants ++ words key) ≡ 12 = omega arith in
     ap₂ (λ a b. a ++ counter_words layout c ++ b) (take_at (constants ++ words key) (words nonce) 12 front) (drop_at (constants ++ words key) (words nonce) 12 front)
 
-pub state_counter-start : (layout : Layout) (key nonce : List ℕ) (c : ℕ) → length (words key) ≡ 8 → state_counter layout (start layout key nonce c) ≡ c
+pub state_counter-start : (layout : Layout) (key nonce : List ℕ) (c : ℕ) → length (words key) ≡ 8
+    → state_counter layout (start layout key nonce c) ≡ c % modulus layout
 state_counter-start ietf key nonce c =
-    each 8 (λ k. state_counter ietf (constants ++ k ++ counter_words ietf c ++ words nonce) ≡ c) (λ x0 x1 x2 x3 x4 x5 x6 x7. refl) (words key)
+    each 8 (λ k. state_counter ietf (constants ++ k ++ counter_words ietf c ++ words nonce) ≡ c % modulus ietf) (λ x0 x1 x2 x3 x4 x5 x6 x7. refl) (words key)
 state_counter-start legacy key nonce c =
-    each 8 (λ k. state_counter legacy (constants ++ k ++ counter_words legacy c ++ words nonce) ≡ c) (λ x0 x1 x2 x3 x4 x5 x6 x7. halves c) (words key)
+    each 8 (λ k. state_counter legacy (constants ++ k ++ counter_words legacy c ++ words nonce) ≡ c % modulus legacy) (λ x0 x1 x2 x3 x4 x5 x6 x7. halves c) (words key)
 
 length-mix : (n : ℕ) (s : List ℕ) → length (mix n s) ≡ 16
 unfolding add_states

@@ -1,7 +1,8 @@
 -- The keystream, and bytes XORed (exclusive or) with it (RFC 8439, 2.4).
 use Rattle.std.specs.Prelude.{ℕ, zero, suc, ◌+◌, ◌/◌, ◌%◌, List, [], ◌∷◌, bit_xor, slice_index}
 
--- byte p of the stream of 64-byte blocks: byte p mod 64 of the block whose counter is p div 64
+-- byte p of a stream of blocks of 64 bytes, in order of counter: after the block with the greatest
+-- counter comes block 0 again
 abbrev pub keystream : ℕ → (ℕ → List ℕ) → ℕ → ℕ
 keystream modulus block p = slice_index (block (p / 64 % modulus)) (p % 64)
 

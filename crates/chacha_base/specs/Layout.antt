@@ -11,10 +11,10 @@ abbrev pub modulus : Layout → ℕ
 modulus ietf = 2 ^ 32
 modulus legacy = 2 ^ 64
 
--- the words of a counter below the modulus, the low word first
+-- the words of a counter, which wraps, the low word first
 abbrev pub counter_words : Layout → ℕ → List ℕ
-counter_words ietf c = c ∷ []
-counter_words legacy c = c % 2 ^ 32 ∷ c / 2 ^ 32 ∷ []
+counter_words ietf c = c % 2 ^ 32 ∷ []
+counter_words legacy c = c % 2 ^ 32 ∷ c / 2 ^ 32 % 2 ^ 32 ∷ []
 
 -- how many words a counter has
 abbrev pub counter_len : Layout → ℕ

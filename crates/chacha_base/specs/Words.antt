@@ -1,4 +1,4 @@
--- Words of 32 bits (RFC 8439, 2.1). A word is a number below 2 ^ 32.
+-- Words of 32 bits, as numbers from 0 to 2 ^ 32 - 1 (RFC 8439, 2.1).
 use Rattle.std.specs.Prelude.{ℕ, ◌+◌, ◌-◌, ◌*◌, ◌/◌, ◌%◌, ◌^◌}
 
 -- the sum modulo 2 ^ 32

@@ -78,6 +78,9 @@ pub trait Keystream {
 
     // The position of the next byte, in bytes from the first one.
     ghost position: { Self → ℕ };
+
+    // The position of what `new` makes: 0 of a cipher, and anything of a core.
+    ghost first_position: { ℕ };
 }
 
 /// A core or a cipher that is made from a key and a nonce.
@@ -93,11 +96,12 @@ pub trait KeyIvInit: Keystream {
 
     ghost blocks_of: { Self.Key → Self.Iv → ℕ → List ℕ };
 
-    /// The core or cipher of a key and a nonce, at position 0: no block and no byte is taken yet. Nothing is refused.
+    /// The core or cipher of a key and a nonce. A cipher is at position 0: no byte is taken yet. A core may stand at any
+    /// block, since a cipher over it begins at block 0 by itself. Nothing is refused.
     fn new(key: &Self::Key, iv: &Self::Iv) -> Self
         ensures value { result ≡ init key.now iv.now }
         ensures blocks { Self.block_at (Self.fixed result) ≡ blocks_of key.now iv.now }
-        ensures first { Self.position result ≡ 0 };
+        ensures first { Self.position result ≡ Self.first_position };
 }
 
 /// Makes the blocks of a state one after another (RFC 8439, section 2.3), 64 bytes each. The functions have no
@@ -422,6 +426,8 @@ pub trait StreamCipher: Keystream {
     {
         self.try_apply_keystream_b2b(input, output).unwrap()
     }
+
+    ghost first_is: { Self.first_position ≡ 0 };
 
     ghost limit_is: { limit ≡ limit_of Self.modulus };
 

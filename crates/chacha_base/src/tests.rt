@@ -3,7 +3,7 @@ mod words;
 
 use crate::cipher::{
     KeyIvInit, StreamCipher, StreamCipherCore, StreamCipherCoreWrapper, StreamCipherError,
-    StreamCipherSeek,
+    StreamCipherSeek, StreamCipherSeekCore,
 };
 use crate::rounds::{Steps, quarter_round};
 use toy::Toy;
@@ -59,6 +59,18 @@ fn toy_in_one_piece(rt: HostRuntime) {
     assert_eq!(rt; buf, APPLIED);
 }
 
+// The core's `new` stands at block 5, and a cipher over it begins at block 0.
+#[test]
+fn toy_from_block_0(rt: HostRuntime) {
+    assert_eq!(rt; Toy::new(&7, &()).get_block_pos(), 5);
+    let mut cipher = StreamCipherCoreWrapper::<Toy>::new(&7, &());
+    let mut bytes = [0; 66];
+    assert_eq!(rt; cipher.try_current_pos(), Ok(0u32));
+    assert_eq!(rt; cipher.try_write_keystream(&mut bytes), Ok(()));
+    assert_eq!(rt; &bytes[..3], [7, 8, 9].as_slice());
+    assert_eq!(rt; &bytes[63..], [70, 107, 108].as_slice());
+}
+
 #[test]
 fn toy_in_pieces(rt: HostRuntime) {
     let mut cipher = StreamCipherCoreWrapper::<Toy>::new(&7, &());
@@ -77,6 +89,7 @@ fn toy_in_blocks(rt: HostRuntime) {
     let mut stream = [0; 704];
     assert_eq!(rt; cipher.try_apply_keystream(&mut stream), Ok(()));
     let mut core = Toy::new(&7, &());
+    core.set_block_pos(0);
     let mut blocks = [[0; 64]; 9];
     core.apply_keystream_blocks(&mut blocks);
     for i in 0..9usize {

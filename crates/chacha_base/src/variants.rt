@@ -125,7 +125,8 @@ pub trait Variant: Sealed {
     /// Puts a counter at the front of a row. The other words stay.
     fn set_block_pos(row: &mut [u32], pos: Self::Counter)
         requires { counter_len layout ≤ length row.old }
-        ensures { row.new ≡ row_at layout (Self.Counter.value pos) row.old };
+        ensures row { row.new ≡ row_at layout (Self.Counter.value pos) row.old }
+        ensures below { Self.Counter.value pos < modulus layout };
 
     /// How many blocks a cipher may still take where its next block has this counter: that one and all after it. `None`
     /// where a `usize` cannot represent that number: only at counter 0 of 64 bits.

@@ -9,10 +9,9 @@ ghost use Rattle.chacha_base.specs.Counts.{Grows, for_bytes, for_blocks, for_cal
 use crate::bytes::xor_bytes;
 use crate::cipher::{
     IvSizeUser, KeyIvInit, KeySizeUser, Keystream, OverflowError, SeekNum, StreamCipher,
-    StreamCipherError, StreamCipherSeek, StreamCipherSeekCore,
+    StreamCipherCounter, StreamCipherError, StreamCipherSeek, StreamCipherSeekCore,
 };
 use crate::rounds::Steps;
-use crate::variants::StreamCipherCounter;
 use std::marker::Model;
 
 /// A cipher over bytes, made of a core that hands out blocks.
@@ -53,6 +52,8 @@ impl<C: StreamCipherSeekCore> Keystream for StreamCipherCoreWrapper<C> {
     ghost block_at = { C.block_at };
 
     ghost position = { λ w. w.position };
+
+    ghost first_position = { 0 };
 }
 
 impl<C: StreamCipherSeekCore + KeySizeUser> KeySizeUser for StreamCipherCoreWrapper<C> {
@@ -77,8 +78,10 @@ impl<C: StreamCipherSeekCore + KeyIvInit> KeyIvInit for StreamCipherCoreWrapper<
     ghost blocks_of = { C.blocks_of };
 
     fn new(key: &C::Key, iv: &C::Iv) -> Self {
+        let mut core = C::new(key, iv);
+        core.set_block_pos(C::Counter::from_u64(0));
         StreamCipherCoreWrapper {
-            core: C::new(key, iv),
+            core,
             buffer: [0; 64],
             left: 0,
             past: false,
@@ -96,6 +99,8 @@ impl<C: StreamCipherSeekCore> StreamCipher for StreamCipherCoreWrapper<C> {
     ghost stream = { λ w p. keystream C.modulus (C.block_at w.fixed) p };
 
     ghost cost = { for_bytes C.PAR_BLOCKS C.par_cost C.one_cost };
+
+    ghost first_is = { refl };
 
     ghost limit_is = { refl };
 

@@ -15,7 +15,8 @@ use crate::variants::Variant;
 use std::simd::prelude::*;
 
 /// Sixteen blocks in a parallel call, with a vector of sixteen words for each word of a state. A tail is made in rows,
-/// by the narrowest group that holds it, a single block in vectors of four words. This crate's own name.
+/// by the narrowest group that holds it: one block alone takes a vector of four words for each row. This crate's own
+/// name.
 #[derive(Clone, Copy, Debug)]
 pub struct Lanes16;
 

@@ -8,7 +8,7 @@ ghost use Rattle.chacha_base.specs.RowShifts.{bcd_shifted, bcd_back, bcd_diagona
 use crate::backends::quad::Quad;
 use crate::backends::vector::RowVector;
 
-/// Which rows move before the diagonal step of a double round, and back after it.
+/// Which rows move, so that each diagonal becomes a column, and back.
 pub trait RowShift: Copy {
     // A state with its rows moved, and one with its rows moved back.
     ghost shifted: { List ℕ → List ℕ };

@@ -1,4 +1,5 @@
-//! A core that only tests use: byte i of its block with counter c is (seed + 100 * c + i) mod 256.
+//! A core that only tests use: byte i of its block with counter c is (seed + 100 * c + i) mod 256. Its `new` makes it at
+//! block 5, where a cipher does not begin.
 
 ghost use Rattle.std.specs.Prelude.{◌≡◌, ◌<◌, ◌+◌, ◌*◌, ◌%◌};
 
@@ -34,6 +35,8 @@ impl Keystream for Toy {
         (range_with_len 0 64) };
 
     ghost position = { λ t. 64 * t.counter };
+
+    ghost first_position = { 320 };
 }
 
 impl BlockSizeUser for Toy {
@@ -74,14 +77,14 @@ impl KeyIvInit for Toy {
 
     type Iv = ();
 
-    ghost init = { λ key iv. record { seed = key; counter = 0 } };
+    ghost init = { λ key iv. record { seed = key; counter = 5 } };
 
     ghost blocks_of = { λ key iv c. map (λ i. (key + 100 * c + i) % 256) (range_with_len 0 64) };
 
     fn new(key: &u8, _iv: &()) -> Toy {
         Toy {
             seed: *key,
-            counter: 0,
+            counter: 5,
         }
     }
 }
