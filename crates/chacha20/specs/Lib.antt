@@ -1,7 +1,4 @@
-pub mod Blocks
-pub mod Runs
-pub mod XChaCha
-pub mod Text
+-- What clauses of public calls rest on; first what `chacha_base` defines.
 pub use Rattle.chacha_base.specs.Words
 pub use Rattle.chacha_base.specs.QuarterRound
 pub use Rattle.chacha_base.specs.Rounds
@@ -13,7 +10,13 @@ pub use Rattle.chacha_base.specs.Keystream
 pub use Rattle.chacha_base.specs.Cipher
 pub use Rattle.chacha_base.specs.Limit
 pub use Rattle.chacha_base.specs.Counts
+pub mod XChaCha
 pub mod Generator
 pub mod StateBytes
-pub mod Unread
+pub mod Runs
 pub mod GeneratorRuns
+pub mod Text
+
+-- What clauses of inner functions alone use.
+pub mod Blocks
+pub mod Unread

@@ -1,3 +1,4 @@
+-- What clauses of public calls rest on.
 pub mod Words
 pub mod QuarterRound
 pub mod Rounds
@@ -6,12 +7,14 @@ pub mod Layout
 pub mod Block
 pub mod State
 pub mod Keystream
-pub mod Counts
-pub mod Number
 pub mod Cipher
 pub mod Limit
-pub mod Buffered
 pub mod SeekNum
+pub mod Counts
+
+-- What clauses of inner functions alone use.
+pub mod Number
+pub mod Buffered
 pub mod Lanes
 pub mod Quads
 pub mod RowVectors

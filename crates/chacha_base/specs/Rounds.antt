@@ -1,33 +1,28 @@
 -- Rounds on a state of sixteen words, read as four rows of four (RFC 8439, 2.3).
-use Rattle.std.specs.Prelude.{ℕ, zero, suc, ◌+◌, ◌-◌, ◌/◌, ◌%◌, List, map, slice_index}
+use Rattle.std.specs.Prelude.{ℕ, zero, suc, List, [], ◌∷◌, map, slice_index}
 use Rattle.std.specs.List.{range_with_len}
 use Rattle.chacha_base.specs.Words.{add}
 use Rattle.chacha_base.specs.QuarterRound.{quarter_of}
 
--- entry r of four
-abbrev pub entry : ℕ → ℕ × ℕ × ℕ × ℕ → ℕ
-entry zero q = q.0
-entry (suc zero) q = q.1
-entry (suc (suc zero)) q = q.2
-entry (suc (suc (suc r))) q = q.3
-
--- the quarter round of column i, which has place i of each row
-abbrev pub column : List ℕ → ℕ → ℕ × ℕ × ℕ × ℕ
-column s i = quarter_of s i (4 + i) (8 + i) (12 + i)
-
--- the quarter round of diagonal i, which has place i of row 0, and in each row below it the next
--- place to the right, or place 0 after the last: diagonal 1 is words 1, 6, 11 and 12
-abbrev pub diagonal : List ℕ → ℕ → ℕ × ℕ × ℕ × ℕ
-diagonal s i = quarter_of s i (4 + (i + 1) % 4) (8 + (i + 2) % 4) (12 + (i + 3) % 4)
-
--- place i of row r lies in column i, and is entry r of its quarter round
+-- the state after a quarter round of each column
 unfoldable pub columns : List ℕ → List ℕ
-columns s = map (λ w. entry (w / 4) (column s (w % 4))) (range_with_len 0 16)
+columns s =
+    let p = quarter_of s 0 4 8 12 in let q = quarter_of s 1 5 9 13 in
+    let r = quarter_of s 2 6 10 14 in let t = quarter_of s 3 7 11 15 in
+    p.0 ∷ q.0 ∷ r.0 ∷ t.0
+    ∷ p.1 ∷ q.1 ∷ r.1 ∷ t.1
+    ∷ p.2 ∷ q.2 ∷ r.2 ∷ t.2
+    ∷ p.3 ∷ q.3 ∷ r.3 ∷ t.3 ∷ []
 
--- place i of row r lies in diagonal (i - r) mod 4, and is entry r of its quarter round: word
--- 12, place 0 of row 3, lies in diagonal 1
+-- the state after a quarter round of each diagonal
 unfoldable pub diagonals : List ℕ → List ℕ
-diagonals s = map (λ w. entry (w / 4) (diagonal s ((w % 4 + 4 - w / 4) % 4))) (range_with_len 0 16)
+diagonals s =
+    let p = quarter_of s 0 5 10 15 in let q = quarter_of s 1 6 11 12 in
+    let r = quarter_of s 2 7 8 13 in let t = quarter_of s 3 4 9 14 in
+    p.0 ∷ q.0 ∷ r.0 ∷ t.0
+    ∷ t.1 ∷ p.1 ∷ q.1 ∷ r.1
+    ∷ r.2 ∷ t.2 ∷ p.2 ∷ q.2
+    ∷ q.3 ∷ r.3 ∷ t.3 ∷ p.3 ∷ []
 
 -- the state after n double rounds, each of the columns and then of the diagonals
 unfoldable pub rounds : ℕ → List ℕ → List ℕ
