@@ -1,6 +1,6 @@
 /* The library beside other implementations: random messages, cut at random places, whose parts are combined in random
-   order, in place or between buffers, by builds for different levels and over different backends; words of generators;
-   refusals; buffers at the ends of mapped pages. */
+   order, in place or between buffers, by builds for different levels; words of generators; refusals; buffers at the ends
+   of mapped pages. */
 
 #define _DEFAULT_SOURCE
 
@@ -114,18 +114,14 @@ static uint64_t random_position(struct run *run, enum layout layout, size_t len)
     }
 }
 
-/* Combines one part of a message, in any of the ways there are. */
+/* Combines one part of a message, in place or between buffers. */
 static uint32_t combine_part(struct run *run, enum layout layout, int at_rounds, const uint8_t *key,
                              const uint8_t *nonce, uint64_t position, size_t from, size_t len) {
     const struct library *library = any_level(run);
-    int way = (int)below(run, layout == IETF && rounds_of[at_rounds] == 20 ? 2 + BACKENDS : 2);
     if (run->spoilt == ONE_POSITION) position += position < 64 ? 1 : (uint64_t)-1;
-    if (way == 0) return library->xor_in_place[layout][at_rounds](key, nonce, position, made + from, len);
-    if (way == 1) {
-        memset(made + from, 0x55, len);
-        return library->xor_b2b[layout][at_rounds](key, nonce, position, input + from, len, made + from, len);
-    }
-    return library->xor_over((uint32_t)way - 2, key, nonce, position, made + from, len);
+    if (below(run, 2)) return library->xor_in_place[layout][at_rounds](key, nonce, position, made + from, len);
+    memset(made + from, 0x55, len);
+    return library->xor_b2b[layout][at_rounds](key, nonce, position, input + from, len, made + from, len);
 }
 
 /* A message whole by another implementation, and in parts by the library. */
@@ -247,10 +243,6 @@ static void one_refusal(struct run *run) {
     holds(run, library->xor_in_place[layout][at_rounds](key, nonce, position, made, len) == 1, "taken past the end");
     holds(run, library->xor_b2b[layout][at_rounds](key, nonce, position, expected, len, made, len) == 1,
           "taken past the end between buffers");
-    holds(run, library->xor_over((uint32_t)below(run, BACKENDS), key, nonce, position, made, len) == 1,
-          "taken past the end over a backend");
-    holds(run, library->xor_over((uint32_t)(5 + below(run, UINT32_MAX - 5)), key, nonce, 0, made, len) == 2,
-          "taken over no backend");
     holds(run, library->check[layout](position, len) == 1, "a check past the end");
     holds(run, library->check[layout](CHACHA20_STREAM_BYTES - len, len) == 0, "a check up to the end");
     if (other_len != len) {
@@ -318,11 +310,6 @@ static void at_edges(struct run *run, const struct library *library) {
                     same_bytes(run, output, right, len, "bytes at an edge, in place");
                     library->xor_b2b[layout][i](key, nonce, position, from, len, output, len);
                     same_bytes(run, output, right, len, "bytes at an edge, between buffers");
-                    for (uint32_t backend = 0; layout == IETF && i == 2 && backend < BACKENDS; backend++) {
-                        memcpy(output, from, len);
-                        library->xor_over(backend, key, nonce, position, output, len);
-                        same_bytes(run, output, right, len, "bytes at an edge, over a backend");
-                    }
                 }
             }
             for (int i = 0; i < ROUNDS; i++) {

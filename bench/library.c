@@ -18,7 +18,6 @@ const struct library LIBRARY = {
             [LEGACY] = {NULL, NULL, chacha20_legacy20_xor_b2b},
         },
     .check = {chacha20_ietf_check, chacha20_ietf_check, chacha20_legacy_check},
-    .xor_over = chacha20_ietf20_xor_over,
     .hchacha20 = chacha20_hchacha20,
     .next_u32 = {chacha20_rng8_next_u32, chacha20_rng12_next_u32, chacha20_rng20_next_u32},
     .next_u64 = {chacha20_rng8_next_u64, chacha20_rng12_next_u64, chacha20_rng20_next_u64},

@@ -5,7 +5,7 @@
 
 #include "../include/chacha20.h"
 
-enum { LAYOUTS = 3, ROUNDS = 3, BACKENDS = 5 };
+enum { LAYOUTS = 3, ROUNDS = 3 };
 
 /* Nonces of 12, of 24 and of 8 bytes, and 8, 12 and 20 rounds. Of the legacy layout 20 rounds alone are there. */
 enum layout { IETF, XCHACHA, LEGACY };
@@ -20,8 +20,6 @@ struct library {
     xor_in_place xor_in_place[LAYOUTS][ROUNDS];
     xor_b2b xor_b2b[LAYOUTS][ROUNDS];
     uint32_t (*check[LAYOUTS])(uint64_t position, size_t len);
-    uint32_t (*xor_over)(uint32_t backend, const uint8_t *key, const uint8_t *nonce, uint64_t position,
-                         uint8_t *data, size_t len);
     void (*hchacha20)(const uint8_t *key, const uint8_t *input, uint8_t *subkey);
     uint32_t (*next_u32[ROUNDS])(uint8_t *state);
     uint64_t (*next_u64[ROUNDS])(uint8_t *state);

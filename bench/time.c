@@ -11,13 +11,12 @@
 
 #include "bench.h"
 
-enum { MOST_CONTESTANTS = 2 * BACKENDS, MOST_TURNS = 999 };
+enum { MOST_CONTESTANTS = 2 + MOST_OTHERS, MOST_TURNS = 999 };
 
-/* A build of the library, over its own choice of backend or over a given one, or another implementation. */
+/* A build of the library, or another implementation. */
 struct contestant {
     char name[64];
     const struct library *library;
-    int backend;
     const struct other *other;
 };
 
@@ -26,10 +25,8 @@ static const uint8_t key[32] = {1, 2, 3}, nonce[12] = {4, 5, 6};
 static void call(const struct contestant *it, uint8_t *data, size_t len) {
     if (it->other) {
         it->other->xor_from_block[IETF](20, key, nonce, 0, data, len);
-    } else if (it->backend < 0) {
-        it->library->xor_in_place[IETF][2](key, nonce, 0, data, len);
     } else {
-        it->library->xor_over((uint32_t)it->backend, key, nonce, 0, data, len);
+        it->library->xor_in_place[IETF][2](key, nonce, 0, data, len);
     }
 }
 
@@ -70,8 +67,8 @@ static void medians(const struct contestant *all, int count, uint8_t *data, size
     }
 }
 
-static void print_head(const char *first, const struct contestant *all, int count) {
-    printf("\n| %s |", first);
+static void print_head(const struct contestant *all, int count) {
+    printf("\n| |");
     for (int i = 0; i < count; i++) printf(" %s |", all[i].name);
 }
 
@@ -89,7 +86,7 @@ static void time_levels(const struct machine *machine, uint8_t *data, int turns)
     struct contestant all[MOST_CONTESTANTS];
     int count = 0, ours = machine->level_count;
     for (int i = 0; i < ours; i++) {
-        all[count] = (struct contestant){.library = machine->levels[i], .backend = -1};
+        all[count] = (struct contestant){.library = machine->levels[i]};
         snprintf(all[count++].name, sizeof all[0].name, "chacha20_c, %s", machine->levels[i]->level);
     }
     for (int i = 0; i < machine->other_count; i++) {
@@ -97,7 +94,7 @@ static void time_levels(const struct machine *machine, uint8_t *data, int turns)
         snprintf(all[count++].name, sizeof all[0].name, "%s", machine->others[i].name);
     }
     printf("\nChaCha20 in place, nanoseconds a call (medians), and the library's time divided by another's:\n");
-    print_head("", all, count);
+    print_head(all, count);
     for (int i = 0; i < ours; i++) {
         for (int j = ours; j < count; j++) printf(" %s / %s |", all[i].library->level, all[j].name);
     }
@@ -111,28 +108,6 @@ static void time_levels(const struct machine *machine, uint8_t *data, int turns)
         for (int i = 0; i < ours; i++) {
             for (int j = ours; j < count; j++) printf(" %.2f |", median[i] / median[j]);
         }
-        putchar('\n');
-        fflush(stdout);
-    }
-}
-
-/* The backends at one level. */
-static void time_backends(const struct library *library, uint8_t *data, int turns) {
-    static const char *const names[BACKENDS] = {"Soft", "Lanes4", "Lanes8", "Rows8", "Lanes16"};
-    struct contestant all[BACKENDS];
-    for (int i = 0; i < BACKENDS; i++) {
-        all[i] = (struct contestant){.library = library, .backend = i};
-        snprintf(all[i].name, sizeof all[i].name, "%s", names[i]);
-    }
-    printf("\nBackends, %s, nanoseconds a call (medians):\n", library->level);
-    print_head("", all, BACKENDS);
-    putchar('\n');
-    print_rule(1 + BACKENDS);
-    for (int size = 0; size < 3; size++) {
-        double median[MOST_CONTESTANTS];
-        medians(all, BACKENDS, data, sizes[size], turns, median);
-        printf("| %s |", sizes_in_words[size]);
-        for (int i = 0; i < BACKENDS; i++) printf(" %.0f |", median[i]);
         putchar('\n');
         fflush(stdout);
     }
@@ -156,7 +131,6 @@ int time_all(const struct machine *machine, int turns) {
     memset(data, 0, sizes[3]);
     print_processor();
     time_levels(machine, data, turns);
-    for (int i = 0; i < machine->level_count; i++) time_backends(machine->levels[i], data, turns);
     free(data);
     return 0;
 }

@@ -94,18 +94,6 @@ uint32_t chacha20_legacy20_xor_b2b(const uint8_t key[32], const uint8_t nonce[8]
                                    const uint8_t *input, size_t input_len, uint8_t *output, size_t output_len);
 uint32_t chacha20_legacy_check(uint64_t position, size_t len);
 
-/* chacha20_ietf20_xor over a backend. The bytes are the same over each, and only the speed
-   differs; the functions above stand on CHACHA20_LANES16. The answers are those above and
-
-     2  refused, and nothing is written: there is no such backend */
-#define CHACHA20_SOFT 0u
-#define CHACHA20_LANES4 1u
-#define CHACHA20_LANES8 2u
-#define CHACHA20_ROWS8 3u
-#define CHACHA20_LANES16 4u
-uint32_t chacha20_ietf20_xor_over(uint32_t backend, const uint8_t key[32], const uint8_t nonce[12],
-                                  uint64_t position, uint8_t *data, size_t len);
-
 /* HChaCha20 (draft-irtf-cfrg-xchacha, section 2.2): writes the 32 bytes that it makes of a key
    and of 16 bytes more. Nothing is refused. */
 void chacha20_hchacha20(const uint8_t key[32], const uint8_t input[16], uint8_t subkey[32]);

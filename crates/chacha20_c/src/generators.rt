@@ -8,8 +8,8 @@ ghost use Rattle.std.specs.Prelude.{◌≡◌, ◌<◌, ◌+◌, ◌*◌, ◌/�
 ghost use Rattle.chacha20.specs.Generator.{of_seed, at_word_pos, next_u32, next_u64, fill};
 ghost use Rattle.chacha20.specs.StateBytes.{state_bytes, of_state_bytes};
 
-use chacha20::backends::Lanes8;
-use chacha20::{ChaCha20Rng, ChaChaRng, R8, R12, R20, Rounds, Seed, SerializedRngState};
+use chacha20::cipher::RngBackend;
+use chacha20::{ChaCha8Rng, ChaCha12Rng, ChaCha20Rng, ChaChaRng, Rounds, Seed, SerializedRngState};
 
 /// Writes the state of a seed: the start of stream 0 (this crate). `state` and `seed` do not overlap.
 #[unsafe(no_mangle)]
@@ -27,7 +27,7 @@ pub extern "C" fn chacha20_rng8_next_u32(state: &mut SerializedRngState) -> u32
         ≡ next_u32 4 (of_state_bytes state.old) }
     ensures stored { state.new ≡ state_bytes (of_state_bytes state.new) }
 {
-    next_u32::<R8>(state)
+    next_u32(ChaCha8Rng::deserialize_state(state), state)
 }
 
 /// Takes the next two words of the generator with 8 rounds; the first is the low half of the answer (this crate).
@@ -37,7 +37,7 @@ pub extern "C" fn chacha20_rng8_next_u64(state: &mut SerializedRngState) -> u64
         ≡ next_u64 4 (of_state_bytes state.old) }
     ensures stored { state.new ≡ state_bytes (of_state_bytes state.new) }
 {
-    next_u64::<R8>(state)
+    next_u64(ChaCha8Rng::deserialize_state(state), state)
 }
 
 /// Fills `dst` with the bytes of the next words of the generator with 8 rounds, the low byte of each first (this
@@ -49,7 +49,7 @@ pub extern "C" fn chacha20_rng8_fill_bytes(state: &mut SerializedRngState, dst: 
         ≡ fill 4 (of_state_bytes state.old) (length dst.old) }
     ensures stored { state.new ≡ state_bytes (of_state_bytes state.new) }
 {
-    fill_bytes::<R8>(state, dst);
+    fill_bytes(ChaCha8Rng::deserialize_state(state), state, dst);
 }
 
 /// Takes the next word of the generator with 12 rounds (this crate).
@@ -59,7 +59,7 @@ pub extern "C" fn chacha20_rng12_next_u32(state: &mut SerializedRngState) -> u32
         ≡ next_u32 6 (of_state_bytes state.old) }
     ensures stored { state.new ≡ state_bytes (of_state_bytes state.new) }
 {
-    next_u32::<R12>(state)
+    next_u32(ChaCha12Rng::deserialize_state(state), state)
 }
 
 /// Takes the next two words of the generator with 12 rounds; the first is the low half of the answer (this crate).
@@ -69,7 +69,7 @@ pub extern "C" fn chacha20_rng12_next_u64(state: &mut SerializedRngState) -> u64
         ≡ next_u64 6 (of_state_bytes state.old) }
     ensures stored { state.new ≡ state_bytes (of_state_bytes state.new) }
 {
-    next_u64::<R12>(state)
+    next_u64(ChaCha12Rng::deserialize_state(state), state)
 }
 
 /// Fills `dst` with the bytes of the next words of the generator with 12 rounds, the low byte of each first (this
@@ -81,7 +81,7 @@ pub extern "C" fn chacha20_rng12_fill_bytes(state: &mut SerializedRngState, dst:
         ≡ fill 6 (of_state_bytes state.old) (length dst.old) }
     ensures stored { state.new ≡ state_bytes (of_state_bytes state.new) }
 {
-    fill_bytes::<R12>(state, dst);
+    fill_bytes(ChaCha12Rng::deserialize_state(state), state, dst);
 }
 
 /// Takes the next word of the generator with 20 rounds (this crate).
@@ -91,7 +91,7 @@ pub extern "C" fn chacha20_rng20_next_u32(state: &mut SerializedRngState) -> u32
         ≡ next_u32 10 (of_state_bytes state.old) }
     ensures stored { state.new ≡ state_bytes (of_state_bytes state.new) }
 {
-    next_u32::<R20>(state)
+    next_u32(ChaCha20Rng::deserialize_state(state), state)
 }
 
 /// Takes the next two words of the generator with 20 rounds; the first is the low half of the answer (this crate).
@@ -101,7 +101,7 @@ pub extern "C" fn chacha20_rng20_next_u64(state: &mut SerializedRngState) -> u64
         ≡ next_u64 10 (of_state_bytes state.old) }
     ensures stored { state.new ≡ state_bytes (of_state_bytes state.new) }
 {
-    next_u64::<R20>(state)
+    next_u64(ChaCha20Rng::deserialize_state(state), state)
 }
 
 /// Fills `dst` with the bytes of the next words of the generator with 20 rounds, the low byte of each first (this
@@ -113,7 +113,7 @@ pub extern "C" fn chacha20_rng20_fill_bytes(state: &mut SerializedRngState, dst:
         ≡ fill 10 (of_state_bytes state.old) (length dst.old) }
     ensures stored { state.new ≡ state_bytes (of_state_bytes state.new) }
 {
-    fill_bytes::<R20>(state, dst);
+    fill_bytes(ChaCha20Rng::deserialize_state(state), state, dst);
 }
 
 /// The word position (this crate): writes its low 64 bits and, below 16, the rest. The three do not overlap.
@@ -183,34 +183,40 @@ pub extern "C" fn chacha20_rng_set_stream(state: &mut SerializedRngState, stream
     *state = rng.serialize_state();
 }
 
-fn next_u32<R: Rounds>(state: &mut SerializedRngState) -> u32
-    ensures value { (result, of_state_bytes state.new)
-        ≡ next_u32 R.COUNT (of_state_bytes state.old) }
+// The reads of a generator, which is then stored.
+
+fn next_u32<R: Rounds, B: RngBackend<R>>(
+    mut rng: ChaChaRng<R, B>,
+    state: &mut SerializedRngState,
+) -> u32
+    ensures value { (result, of_state_bytes state.new) ≡ next_u32 R.COUNT rng }
     ensures stored { state.new ≡ state_bytes (of_state_bytes state.new) }
 {
-    let mut rng = ChaChaRng::<R, Lanes8>::deserialize_state(state);
     let word = rng.next_u32();
     *state = rng.serialize_state();
     word
 }
 
-fn next_u64<R: Rounds>(state: &mut SerializedRngState) -> u64
-    ensures value { (result, of_state_bytes state.new)
-        ≡ next_u64 R.COUNT (of_state_bytes state.old) }
+fn next_u64<R: Rounds, B: RngBackend<R>>(
+    mut rng: ChaChaRng<R, B>,
+    state: &mut SerializedRngState,
+) -> u64
+    ensures value { (result, of_state_bytes state.new) ≡ next_u64 R.COUNT rng }
     ensures stored { state.new ≡ state_bytes (of_state_bytes state.new) }
 {
-    let mut rng = ChaChaRng::<R, Lanes8>::deserialize_state(state);
     let words = rng.next_u64();
     *state = rng.serialize_state();
     words
 }
 
-fn fill_bytes<R: Rounds>(state: &mut SerializedRngState, dst: &mut [u8])
-    ensures value { (dst.new, of_state_bytes state.new)
-        ≡ fill R.COUNT (of_state_bytes state.old) (length dst.old) }
+fn fill_bytes<R: Rounds, B: RngBackend<R>>(
+    mut rng: ChaChaRng<R, B>,
+    state: &mut SerializedRngState,
+    dst: &mut [u8],
+)
+    ensures value { (dst.new, of_state_bytes state.new) ≡ fill R.COUNT rng (length dst.old) }
     ensures stored { state.new ≡ state_bytes (of_state_bytes state.new) }
 {
-    let mut rng = ChaChaRng::<R, Lanes8>::deserialize_state(state);
     rng.fill_bytes(dst);
     *state = rng.serialize_state();
 }

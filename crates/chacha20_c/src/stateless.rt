@@ -6,13 +6,10 @@ ghost use Rattle.chacha20.specs.Keystream.{keystream, xor_stream};
 ghost use Rattle.chacha20.specs.Limit.{limit_of};
 ghost use Rattle.chacha20_c.specs.Answers.{Xored, XoredInto};
 
-use chacha20::StreamCipherCoreWrapper;
-use chacha20::cipher::{
-    KeyIvInit, StreamCipher, StreamCipherError, StreamCipherSeek, StreamCipherSeekCore,
-};
+use chacha20::cipher::{KeyIvInit, StreamCipher, StreamCipherError, StreamCipherSeek};
 
 /// Combines bytes with the keystream from a position on.
-pub(crate) fn xor<C: KeyIvInit + StreamCipherSeekCore + Drop>(
+pub(crate) fn xor<C: KeyIvInit + StreamCipherSeek + Drop>(
     key: &C::Key,
     nonce: &C::Iv,
     position: u64,
@@ -27,7 +24,7 @@ pub(crate) fn xor<C: KeyIvInit + StreamCipherSeekCore + Drop>(
     }
 }
 
-fn try_xor<C: KeyIvInit + StreamCipherSeekCore + Drop>(
+fn try_xor<C: KeyIvInit + StreamCipherSeek + Drop>(
     key: &C::Key,
     nonce: &C::Iv,
     position: u64,
@@ -38,13 +35,13 @@ fn try_xor<C: KeyIvInit + StreamCipherSeekCore + Drop>(
         ≡ xor_stream (keystream C.modulus (C.blocks_of key.now nonce.now)) position «data».old) }
     ensures refused { OnErr result («data».new ≡ «data».old) }
 {
-    let mut cipher = StreamCipherCoreWrapper::<C>::new(key, nonce);
+    let mut cipher = C::new(key, nonce);
     cipher.try_seek(position)?;
     cipher.try_apply_keystream(data)
 }
 
 /// Combines an input with the keystream from a position on into an output.
-pub(crate) fn xor_b2b<C: KeyIvInit + StreamCipherSeekCore + Drop>(
+pub(crate) fn xor_b2b<C: KeyIvInit + StreamCipherSeek + Drop>(
     key: &C::Key,
     nonce: &C::Iv,
     position: u64,
@@ -60,7 +57,7 @@ pub(crate) fn xor_b2b<C: KeyIvInit + StreamCipherSeekCore + Drop>(
     }
 }
 
-fn try_xor_b2b<C: KeyIvInit + StreamCipherSeekCore + Drop>(
+fn try_xor_b2b<C: KeyIvInit + StreamCipherSeek + Drop>(
     key: &C::Key,
     nonce: &C::Iv,
     position: u64,
@@ -73,7 +70,7 @@ fn try_xor_b2b<C: KeyIvInit + StreamCipherSeekCore + Drop>(
         ≡ xor_stream (keystream C.modulus (C.blocks_of key.now nonce.now)) position input.now) }
     ensures refused { OnErr result (output.new ≡ output.old) }
 {
-    let mut cipher = StreamCipherCoreWrapper::<C>::new(key, nonce);
+    let mut cipher = C::new(key, nonce);
     cipher.try_seek(position)?;
     cipher.try_apply_keystream_b2b(input, output)
 }

@@ -9,9 +9,7 @@ ghost use Rattle.chacha20.specs.XChaCha.{hchacha, subkey, subnonce};
 ghost use Rattle.chacha20_c.specs.Answers.{Xored, XoredInto};
 
 use crate::stateless;
-use chacha20::backends::Lanes16;
-use chacha20::cipher::StreamCipherBackend;
-use chacha20::{Ietf, Key, R8, R12, R20, Rounds, XChaChaCore, XNonce, hchacha};
+use chacha20::{Key, R20, XChaCha8, XChaCha12, XChaCha20, XNonce, hchacha};
 
 /// XChaCha with 8 rounds (this crate's own number):
 /// combines `data` in place, by exclusive or, with the keystream from byte `position` on.
@@ -28,7 +26,7 @@ pub extern "C" fn chacha20_xchacha8_xor(
         (block 4 ietf (subkey 4 key.now nonce.now) (subnonce nonce.now)))
         position result «data».old «data».new }
 {
-    xor::<R8, Lanes16>(key, nonce, position, data)
+    stateless::xor::<XChaCha8>(key, nonce, position, data)
 }
 
 /// `chacha20_xchacha8_xor` from `input` to `output`, which overlaps no other argument.
@@ -45,7 +43,7 @@ pub extern "C" fn chacha20_xchacha8_xor_b2b(
         (block 4 ietf (subkey 4 key.now nonce.now) (subnonce nonce.now)))
         position result input.now output.old output.new }
 {
-    xor_b2b::<R8, Lanes16>(key, nonce, position, input, output)
+    stateless::xor_b2b::<XChaCha8>(key, nonce, position, input, output)
 }
 
 /// XChaCha with 12 rounds (this crate's own number):
@@ -63,7 +61,7 @@ pub extern "C" fn chacha20_xchacha12_xor(
         (block 6 ietf (subkey 6 key.now nonce.now) (subnonce nonce.now)))
         position result «data».old «data».new }
 {
-    xor::<R12, Lanes16>(key, nonce, position, data)
+    stateless::xor::<XChaCha12>(key, nonce, position, data)
 }
 
 /// `chacha20_xchacha12_xor` from `input` to `output`, which overlaps no other argument.
@@ -80,7 +78,7 @@ pub extern "C" fn chacha20_xchacha12_xor_b2b(
         (block 6 ietf (subkey 6 key.now nonce.now) (subnonce nonce.now)))
         position result input.now output.old output.new }
 {
-    xor_b2b::<R12, Lanes16>(key, nonce, position, input, output)
+    stateless::xor_b2b::<XChaCha12>(key, nonce, position, input, output)
 }
 
 /// XChaCha20 (draft-irtf-cfrg-xchacha, section 2.3):
@@ -98,7 +96,7 @@ pub extern "C" fn chacha20_xchacha20_xor(
         (block 10 ietf (subkey 10 key.now nonce.now) (subnonce nonce.now)))
         position result «data».old «data».new }
 {
-    xor::<R20, Lanes16>(key, nonce, position, data)
+    stateless::xor::<XChaCha20>(key, nonce, position, data)
 }
 
 /// `chacha20_xchacha20_xor` from `input` to `output`, which overlaps no other argument.
@@ -115,7 +113,7 @@ pub extern "C" fn chacha20_xchacha20_xor_b2b(
         (block 10 ietf (subkey 10 key.now nonce.now) (subnonce nonce.now)))
         position result input.now output.old output.new }
 {
-    xor_b2b::<R20, Lanes16>(key, nonce, position, input, output)
+    stateless::xor_b2b::<XChaCha20>(key, nonce, position, input, output)
 }
 
 /// HChaCha20 (draft-irtf-cfrg-xchacha, section 2.2): writes the 32 bytes that it makes of a key and of 16 bytes more.
@@ -125,31 +123,4 @@ pub extern "C" fn chacha20_hchacha20(key: &Key, input: &[u8; 16], subkey: &mut K
     ensures { subkey.new ≡ hchacha 10 key.now input.now }
 {
     *subkey = hchacha::<R20>(key, input);
-}
-
-fn xor<R: Rounds, B: StreamCipherBackend<R, Ietf>>(
-    key: &Key,
-    nonce: &XNonce,
-    position: u64,
-    data: &mut [u8],
-) -> u32
-    ensures { Xored (limit_of (modulus ietf)) (keystream (modulus ietf)
-        (block R.COUNT ietf (subkey R.COUNT key.now nonce.now) (subnonce nonce.now)))
-        position result «data».old «data».new }
-{
-    stateless::xor::<XChaChaCore<R, B>>(key, nonce, position, data)
-}
-
-fn xor_b2b<R: Rounds, B: StreamCipherBackend<R, Ietf>>(
-    key: &Key,
-    nonce: &XNonce,
-    position: u64,
-    input: &[u8],
-    output: &mut [u8],
-) -> u32
-    ensures { XoredInto (limit_of (modulus ietf)) (keystream (modulus ietf)
-        (block R.COUNT ietf (subkey R.COUNT key.now nonce.now) (subnonce nonce.now)))
-        position result input.now output.old output.new }
-{
-    stateless::xor_b2b::<XChaChaCore<R, B>>(key, nonce, position, input, output)
 }
