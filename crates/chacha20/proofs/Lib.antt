@@ -1,4 +1,6 @@
 pub use Rattle.chacha_base.proofs.BackendLaws
+pub use Rattle.chacha_base.proofs.CipherLemmas
+pub use Rattle.chacha_base.proofs.PieceLemmas
 pub mod BlocksLemmas
 pub mod StartLemmas
 pub mod RunLemmas

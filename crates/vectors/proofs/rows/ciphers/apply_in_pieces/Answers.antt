@@ -3,8 +3,8 @@ use Rattle.std.proofs.Math.Seq.{drop-drop}
 use Rattle.std.proofs.lemmas.Grind.{common_steps}
 use Rattle.std.proofs.lemmas.Slice.{drop-put_mid}
 use borrow.Rule.Slice.PartMut.{put_mid}
-use Rattle.chacha_base.proofs.CipherLemmas.{position_is, moved_on}
-use Rattle.chacha_base.proofs.PieceLemmas.{xor_stream-written}
+use Rattle.chacha20.proofs.CipherLemmas.{position_is, moved_on}
+use Rattle.chacha20.proofs.PieceLemmas.{xor_stream-written}
 use Rattle.vectors.proofs.rows.ciphers.apply_in_pieces.Goals as goal
 
 -- what stands behind a piece stays when the piece is written
