@@ -88,21 +88,20 @@ fn slices_at_the_limit<K: StreamCipherSeekCore>(cipher: &mut Cipher<K>) -> Verdi
 }
 
 // Numbers below 0, and the greatest of two types, are no positions: the cipher stays where it is.
-fn far_seeks<K: StreamCipherSeekCore>(cipher: &mut Cipher<K>) -> Verdict {
+fn far_seeks<K: StreamCipherSeekCore>(cipher: &mut Cipher<K>, place: u32) -> Verdict {
     failed(&[
-        cipher.try_seek(70u32).is_ok(),
-        cipher.try_seek(-1i32).is_err(),
         cipher.try_seek(i32::MIN).is_err(),
         cipher.try_seek(u128::MAX).is_err(),
         cipher.try_seek(usize::MAX).is_err(),
-        cipher.try_current_pos() == Ok(70u32),
+        cipher.try_seek(-1i32).is_err(),
+        cipher.try_current_pos() == Ok(place),
     ])
 }
 
 // The greatest position of 31 bits, and the one after it.
-fn past_31_bits<K: StreamCipherSeekCore>(cipher: &mut Cipher<K>) -> Verdict {
+fn past_31_bits<K: StreamCipherSeekCore<Counter = u32>>(cipher: &mut Cipher<K>) -> Verdict {
+    cipher.seek(2147483647i32);
     failed(&[
-        cipher.try_seek(2147483647i32).is_ok(),
         cipher.try_current_pos() == Ok(2147483647i32),
         cipher.try_apply_keystream(&mut [0]).is_ok(),
         cipher.try_current_pos::<i32>() == Err(OverflowError),
@@ -125,10 +124,10 @@ fn last_block<K: StreamCipherSeekCore>(
 }
 
 // A position that is the greatest of 64 bits, and the one after it.
-fn past_64_bits<K: StreamCipherSeekCore>(cipher: &mut Cipher<K>) -> Verdict {
+fn past_64_bits<K: StreamCipherSeekCore<Counter = u64>>(cipher: &mut Cipher<K>) -> Verdict {
+    cipher.seek(usize::MAX);
     failed(&[
-        cipher.try_seek(usize::MAX).is_ok(),
-        cipher.try_current_pos() == Ok(u64::MAX),
+        cipher.try_current_pos() == Ok(18446744073709551615u64),
         cipher.try_apply_keystream(&mut [0]).is_ok(),
         cipher.try_current_pos::<u64>() == Err(OverflowError),
         cipher.try_current_pos::<usize>() == Err(OverflowError),
@@ -334,10 +333,12 @@ fn wrong_zero_groups<K: SeekCore<Nonce, u32>>() -> [Verdict; 5] {
     )
 }
 
-fn wrong_ietf_ends<K: SeekCore<Nonce, u32>>() -> [Verdict; 3] {
+fn wrong_ietf_ends<K: SeekCore<Nonce, u32>>() -> [Verdict; 5] {
     let mut cipher = Cipher::<K>::new(&COUNTING, &[0; 12]);
     [
-        far_seeks(&mut cipher),
+        far_seeks(&mut cipher, 0),
+        failed(&[cipher.try_seek(70u32).is_ok()]),
+        far_seeks(&mut cipher, 70),
         past_31_bits(&mut cipher),
         last_block(&mut cipher, LIMIT - 64, LAST_BLOCK),
     ]
@@ -371,7 +372,7 @@ where
         wrong_zero_ends::<Nonce, ChaChaCore<R0, Ietf, B>>(&[0; 12]) == [None; 5],
         wrong_zero_ends::<XNonce, XChaChaCore<R0, B>>(&[0; 24]) == [None; 5],
         wrong_zero_groups::<ChaChaCore<R0, Ietf, B>>() == [None; 5],
-        wrong_ietf_ends::<ChaChaCore<R20, Ietf, B>>() == [None; 3],
+        wrong_ietf_ends::<ChaChaCore<R20, Ietf, B>>() == [None; 5],
         wrong_legacy_ends::<ChaChaCore<R20, Legacy, B>>() == [None; 4],
         wrong_legacy_groups::<ChaChaCore<R20, Legacy, B>>() == [None; 5],
     ])
@@ -476,12 +477,16 @@ fn at_the_limit_as_a_list<K: StreamCipherSeekCore>(cipher: &mut Cipher<K>) -> Ve
     failed(&[answers == expected, data == [5; 4]])
 }
 
-// At the start of the stream no calls, calls for no bytes at the end of the data, and far seeks; and the greatest
+// At the start of the stream no calls, far seeks, and calls for no bytes at the end of the data; and the greatest
 // position of 31 bits, and the one after it.
 fn from_the_start_as_a_list<K: StreamCipherSeekCore>(cipher: &mut Cipher<K>) -> Verdict {
     let mut data = [5];
     run_cipher(cipher, &[], &mut data, &[], &mut []);
     let calls = [
+        CipherCall::SeekI32(i32::MIN),
+        CipherCall::Seek(u128::MAX),
+        CipherCall::Seek(usize::MAX as u128),
+        CipherCall::Pos,
         CipherCall::Apply { at: 1, len: 0 },
         CipherCall::Write { at: 1, len: 0 },
         CipherCall::ApplyFrom {
@@ -490,9 +495,6 @@ fn from_the_start_as_a_list<K: StreamCipherSeekCore>(cipher: &mut Cipher<K>) -> 
             at: 1,
             len: 0,
         },
-        CipherCall::SeekI32(i32::MIN),
-        CipherCall::Seek(u128::MAX),
-        CipherCall::Seek(usize::MAX as u128),
         CipherCall::Pos,
         CipherCall::SeekI32(2147483647),
         CipherCall::PosI32,
@@ -500,15 +502,16 @@ fn from_the_start_as_a_list<K: StreamCipherSeekCore>(cipher: &mut Cipher<K>) -> 
         CipherCall::PosI32,
     ];
     let untouched = data == [5];
-    let mut answers = [CipherAnswer::Refused; 11];
+    let mut answers = [CipherAnswer::PositionI32(7); 12];
     run_cipher(cipher, &[], &mut data, &calls, &mut answers);
     let expected = [
-        CipherAnswer::Done,
-        CipherAnswer::Done,
-        CipherAnswer::Done,
         CipherAnswer::Refused,
         CipherAnswer::Refused,
         CipherAnswer::Refused,
+        CipherAnswer::Position(0),
+        CipherAnswer::Done,
+        CipherAnswer::Done,
+        CipherAnswer::Done,
         CipherAnswer::Position(0),
         CipherAnswer::Done,
         CipherAnswer::PositionI32(2147483647),
