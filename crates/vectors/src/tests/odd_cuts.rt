@@ -65,47 +65,78 @@ fn wrong_cut<C: StreamCipherSeekCore>(cipher: &mut StreamCipherCoreWrapper<C>) -
     None
 }
 
-// A seek and an application as a list of calls, and whether both were done.
-fn listed<C: StreamCipherSeekCore>(
+// A seek as a list of calls, and whether it was done.
+fn listed_seek<C: StreamCipherSeekCore>(
+    cipher: &mut StreamCipherCoreWrapper<C>,
+    place: usize,
+) -> bool {
+    let mut answers = [CipherAnswer::Refused];
+    run_cipher(
+        cipher,
+        &[],
+        &mut [],
+        &[CipherCall::Seek(place as u128)],
+        &mut answers,
+    );
+    answers == [CipherAnswer::Done]
+}
+
+// A piece and an empty one after it, from where the cipher stands, as a list of calls, and whether both were done.
+fn listed_piece<C: StreamCipherSeekCore>(
     cipher: &mut StreamCipherCoreWrapper<C>,
     data: &mut [u8],
-    seek: usize,
     at: usize,
     len: usize,
 ) -> bool
     requires { at + len ≤ length «data».old }
 {
     let calls = [
-        CipherCall::Seek(seek as u128),
         CipherCall::Apply { at, len },
-        CipherCall::Apply { at, len: 0 },
+        CipherCall::Apply {
+            at: at + len,
+            len: 0,
+        },
     ];
-    let mut answers = [CipherAnswer::Refused; 3];
+    let mut answers = [CipherAnswer::Refused; 2];
     run_cipher(cipher, &[], data, &calls, &mut answers);
-    answers == [CipherAnswer::Done; 3]
+    answers == [CipherAnswer::Done; 2]
+}
+
+// The first place of a piece of a size that isn't done, of pieces that go on from list to list after one seek.
+fn refused_piece<C: StreamCipherSeekCore>(
+    cipher: &mut StreamCipherCoreWrapper<C>,
+    data: &mut [u8; LENGTH],
+    size: usize,
+) -> Option<usize> {
+    if !listed_seek(cipher, 0) {
+        return Some(LENGTH);
+    }
+    for at in 0..LENGTH {
+        if at % size.max(1) == 0 && !listed_piece(cipher, data, at, size.min(LENGTH - at)) {
+            return Some(at);
+        }
+    }
+    None
 }
 
 // The same as `wrong_cut`, by lists of calls.
 fn wrong_list<C: StreamCipherSeekCore>(cipher: &mut StreamCipherCoreWrapper<C>) -> Option<usize> {
     let mut whole = [0; LENGTH];
-    if !listed(cipher, &mut whole, 0, 0, LENGTH) {
+    if !listed_seek(cipher, 0) || !listed_piece(cipher, &mut whole, 0, LENGTH) {
         return Some(LENGTH);
     }
     for size in SIZES {
         let mut data = [0; LENGTH];
-        for at in 0..LENGTH {
-            if at % size.max(1) == 0 && !listed(cipher, &mut data, at, at, size.min(LENGTH - at)) {
-                return Some(at);
-            }
-        }
-        if data != whole {
+        if refused_piece(cipher, &mut data, size).is_some() || data != whole {
             return Some(size);
         }
     }
     for place in 0..34usize {
         let from = 61 * place;
         let mut data = [0; LENGTH];
-        if !listed(cipher, &mut data, from, from, LENGTH - from) || data[from..] != whole[from..] {
+        let done = listed_seek(cipher, from)
+            && listed_piece(cipher, &mut data, from, LENGTH - from);
+        if !done || data[from..] != whole[from..] {
             return Some(from);
         }
     }
