@@ -2,7 +2,6 @@
 //! nothing. The status is 0 if each line says ok and could be written, and else 1.
 #![tactic(auto)]
 
-mod own_backend;
 mod rows;
 #[cfg(test)]
 mod tests;

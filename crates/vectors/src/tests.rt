@@ -20,5 +20,6 @@ mod rfc8439;
 mod runs;
 mod streams;
 mod users;
+mod width3;
 mod wraps;
 mod xchacha;

@@ -4,7 +4,7 @@
 ghost use Rattle.std.specs.Prelude.{◌≤◌};
 
 use super::streams;
-use crate::own_backend::Width3;
+use super::width3::Width3;
 use crate::rows::{COUNTING, R0, Verdict, ciphers, cores, failed, generators};
 use chacha20::backends::{Lanes4, Lanes8, Lanes16, Rows8, Soft};
 use chacha20::cipher::{

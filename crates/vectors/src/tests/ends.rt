@@ -2,7 +2,7 @@
 
 ghost use Rattle.std.specs.Prelude.{◌≤◌, ◌^◌, length};
 
-use crate::own_backend::Width3;
+use super::width3::Width3;
 use crate::rows::ciphers::SeekCore;
 use crate::rows::{COUNTING, FROM_1, LEGACY_NONCE, R0, Verdict, failed};
 use chacha20::backends::{Lanes4, Lanes8, Lanes16, Rows8, Soft};

@@ -1,8 +1,8 @@
-//! A backend of a user's own beside the plain one. The worked rows over it stand with those over the others.
+//! A backend of a user's own beside the plain one. The worked rows and streams over it stand with those over the others.
 
 ghost use Rattle.std.specs.Prelude.{◌≤◌, length};
 
-use crate::own_backend::Width3;
+use super::width3::Width3;
 use crate::rows::ciphers::SeekCore;
 use crate::rows::{COUNTING, LEGACY_NONCE};
 use chacha20::backends::Soft;

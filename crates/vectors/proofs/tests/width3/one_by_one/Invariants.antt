@@ -1,7 +1,7 @@
 use Rattle.std.proofs.Common.{◌≡◌, ℕ, ◌<◌}
 use Rattle.std.specs.Prelude.{slice_get, Some}
 use Rattle.chacha20.specs.State.{state_after, next_block}
-use Rattle.vectors.proofs.own_backend.one_by_one.Given as goal
+use Rattle.vectors.proofs.tests.width3.one_by_one.Given as goal
 
 abbrev pub invariant-each : goal.invariant-each
 invariant-each g l = record {

@@ -1,5 +1,5 @@
-//! A backend of a user's own, over the public names of `chacha20` alone: a pattern to copy. The tests run the rows over
-//! it; it stands here, since no edit in must-fail reads a test.
+//! A backend of a user's own, over the public names of `chacha20` alone: a pattern to copy. Other tests run rows and
+//! streams over it.
 
 ghost use Rattle.std.specs.Prelude.{◌≡◌, ◌<◌, ℕ, length, slice_get, Some};
 ghost use Rattle.chacha20.specs.State.{state_after, next_block};
