@@ -1,5 +1,4 @@
-//! Every worked row and every published stream over each backend, the rows over a user's own as well, and wide backends
-//! beside the plain one.
+//! Every worked row and every published stream over each backend and a user's own, and wide backends beside the plain one.
 
 ghost use Rattle.std.specs.Prelude.{◌≤◌};
 
@@ -108,8 +107,9 @@ fn cipher_streams(rt: HostRuntime) {
         wrong_cipher_stream::<Lanes8>(17),
         wrong_cipher_stream::<Rows8>(17),
         wrong_cipher_stream::<Lanes16>(17),
+        wrong_cipher_stream::<Width3>(17),
     ];
-    assert_eq!(rt; verdicts, [None; 5]);
+    assert_eq!(rt; verdicts, [None; 6]);
 }
 
 fn wrong_generator_stream<B: RngBackend<R20>>() -> Verdict {
@@ -129,8 +129,9 @@ fn generator_streams(rt: HostRuntime) {
         wrong_generator_stream::<Lanes8>(),
         wrong_generator_stream::<Rows8>(),
         wrong_generator_stream::<Lanes16>(),
+        wrong_generator_stream::<Width3>(),
     ];
-    assert_eq!(rt; verdicts, [None; 5]);
+    assert_eq!(rt; verdicts, [None; 6]);
 }
 
 // So many blocks from a counter on, the single block after them, and the position after the many.

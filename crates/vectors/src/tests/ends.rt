@@ -1,4 +1,4 @@
-//! Ends of streams and greatest values, over each backend: called directly, and as lists of calls.
+//! Ends of streams and greatest values, over each backend and a user's own: called directly, and as lists of calls.
 
 ghost use Rattle.std.specs.Prelude.{◌≤◌, ◌^◌, length};
 
@@ -644,8 +644,9 @@ fn as_lists(rt: HostRuntime) {
         lists_over::<Lanes8>(),
         lists_over::<Rows8>(),
         lists_over::<Lanes16>(),
+        lists_over::<Width3>(),
     ];
-    assert_eq!(rt; verdicts, [None; 5]);
+    assert_eq!(rt; verdicts, [None; 6]);
 }
 
 // Last blocks as OpenSSL 3.0.19 makes them: `openssl enc -chacha20` of zeros, under the key 00 to 1f with the iv ffffffff

@@ -1,5 +1,7 @@
-//! A run on the generator without rounds, and rows of generators as lists of calls, over each backend.
+//! A run on the generator without rounds, and rows of generators as lists of calls, over each backend; the lists over a
+//! user's own as well.
 
+use super::width3::Width3;
 use crate::rows::{R0, Verdict, failed};
 use chacha20::backends::{Lanes4, Lanes8, Lanes16, Rows8, Soft};
 use chacha20::cipher::RngBackend;
@@ -136,8 +138,9 @@ fn as_lists(rt: HostRuntime) {
         all_as_lists::<Lanes8>(),
         all_as_lists::<Rows8>(),
         all_as_lists::<Lanes16>(),
+        all_as_lists::<Width3>(),
     ];
-    assert_eq!(rt; verdicts, [[None; 3]; 5]);
+    assert_eq!(rt; verdicts, [[None; 3]; 6]);
 }
 
 // The calls that the run above doesn't make.

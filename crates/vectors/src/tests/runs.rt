@@ -1,5 +1,7 @@
-//! A run on the cipher without rounds, and rows of ciphers as lists of calls, over each backend.
+//! A run on the cipher without rounds, and rows of ciphers as lists of calls, over each backend; the lists over a user's
+//! own as well.
 
+use super::width3::Width3;
 use crate::rows::ciphers::SeekCore;
 use crate::rows::{COUNTING, R0, Verdict, failed};
 use chacha20::backends::{Lanes4, Lanes8, Lanes16, Rows8, Soft};
@@ -248,6 +250,7 @@ fn as_lists(rt: HostRuntime) {
         all_as_lists::<Lanes8>(),
         all_as_lists::<Rows8>(),
         all_as_lists::<Lanes16>(),
+        all_as_lists::<Width3>(),
     ];
-    assert_eq!(rt; verdicts, [(None, [None; 3]); 5]);
+    assert_eq!(rt; verdicts, [(None, [None; 3]); 6]);
 }
