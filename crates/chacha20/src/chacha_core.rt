@@ -12,8 +12,6 @@ ghost use Rattle.chacha20.specs.Text.{core_text};
 
 mod generator;
 
-use crate::chacha::{Key, Nonce};
-use crate::legacy::LegacyNonce;
 use chacha_base::bytes::{read_words, xor_bytes};
 use chacha_base::cipher::{
     BlockSizeUser, IvSizeUser, KeyIvInit, KeySizeUser, Keystream, ParBlocksSizeUser,
@@ -138,15 +136,15 @@ impl<R: Rounds, B> IvSizeUser for ChaChaCore<R, Ietf, B> {
 }
 
 impl<R: Rounds, B> KeyIvInit for ChaChaCore<R, Ietf, B> {
-    type Key = Key;
+    type Key = [u8; 32];
 
-    type Iv = Nonce;
+    type Iv = [u8; 12];
 
     ghost init = { λ key iv. start ietf key iv 0 };
 
     ghost blocks_of = { block R.COUNT ietf };
 
-    fn new(key: &Key, iv: &Nonce) -> Self {
+    fn new(key: &[u8; 32], iv: &[u8; 12]) -> Self {
         let mut last_row = [0; 4];
         read_words(iv, &mut last_row[1..]);
         ChaChaCore {
@@ -171,15 +169,15 @@ impl<B> IvSizeUser for ChaChaCore<R20, Legacy, B> {
 }
 
 impl<B> KeyIvInit for ChaChaCore<R20, Legacy, B> {
-    type Key = Key;
+    type Key = [u8; 32];
 
-    type Iv = LegacyNonce;
+    type Iv = [u8; 8];
 
     ghost init = { λ key iv. start legacy key iv 0 };
 
     ghost blocks_of = { block 10 legacy };
 
-    fn new(key: &Key, iv: &LegacyNonce) -> Self {
+    fn new(key: &[u8; 32], iv: &[u8; 8]) -> Self {
         let mut last_row = [0; 4];
         read_words(iv, &mut last_row[2..]);
         ChaChaCore {
@@ -192,7 +190,7 @@ impl<B> KeyIvInit for ChaChaCore<R20, Legacy, B> {
 }
 
 // The state of a key and a last row.
-pub(crate) fn start_state(key: &Key, last_row: &[u32; 4]) -> [u32; 16]
+pub(crate) fn start_state(key: &[u8; 32], last_row: &[u32; 4]) -> [u32; 16]
     ensures { result ≡ constants ++ words key.now ++ last_row.now }
 {
     let mut state = [0; 16];

@@ -10,7 +10,6 @@ ghost use Rattle.chacha_base.specs.State.{fixed_words, state_after, next_words};
 ghost use Rattle.chacha20.specs.Unread.{seed_of, stream_of};
 
 use super::{ChaChaCore, start_state};
-use crate::rng::Seed;
 use chacha_base::bytes::write_bytes;
 use chacha_base::cipher::RngBackend;
 use chacha_base::rounds::{Rounds, Steps};
@@ -51,13 +50,13 @@ impl<R: Rounds, B: RngBackend<R>> Generator for ChaChaCore<R, Legacy, B> {
 /// The key is the seed of 32 bytes, the nonce is zero, and the first block is block 0. `seed_from_u64` makes the seed
 /// as `rand_core` does.
 impl<R: Rounds, B: RngBackend<R>> SeedableRng for ChaChaCore<R, Legacy, B> {
-    type Seed = Seed;
+    type Seed = [u8; 32];
 
     ghost of_seed = { λ seed. start legacy seed (replicate 8 0) 0 };
 
     ghost seed_of_u64 = { pcg32_seed 32 };
 
-    fn from_seed(seed: Seed) -> Self {
+    fn from_seed(seed: [u8; 32]) -> Self {
         ChaChaCore {
             state: start_state(&seed, &[0; 4]),
             rounds: PhantomData,
@@ -73,7 +72,7 @@ impl<R: Rounds, B: RngBackend<R>> SeedableRng for ChaChaCore<R, Legacy, B> {
 
 impl<R: Rounds, B> ChaChaCore<R, Legacy, B> {
     // The key.
-    pub(crate) fn seed(&self) -> Seed
+    pub(crate) fn seed(&self) -> [u8; 32]
         ensures { result ≡ seed_of (fixed_words legacy self.now) }
     {
         let mut seed = [0; 32];
