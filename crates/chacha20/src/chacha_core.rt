@@ -289,6 +289,23 @@ fn apply_groups<R: Rounds, V: Variant, B: StreamCipherBackend<R, V>>(
     }
 }
 
+// Writes the blocks of a tail. A plain call in a function of its own, which is not marked to be inlined: so the compiler
+// first simplifies the tail itself, and then a tail of one block is small enough to stand where it is called.
+fn write_tail<R: Rounds, V: Variant, B: StreamCipherBackend<R, V>>(
+    state: &mut [u32; 16],
+    blocks: &mut [[u8; 64]],
+    steps: &mut Steps,
+)
+    requires { length blocks.old < B.PAR_BLOCKS }
+    ensures blocks { (i : ℕ) → i < length blocks.old
+        → slice_get blocks.new i ≡ Some (next_block R.COUNT V.layout state.old i) }
+    ensures state { state.new ≡ state_after V.layout (length blocks.old) state.old }
+    ensures steps { Grows
+        (for_tail (B.ONE_STEPS * R.COUNT) (length blocks.old)) steps.old steps.new }
+{
+    B::gen_tail_blocks(state, blocks, steps);
+}
+
 // XORs bytes with fewer blocks than a parallel call makes.
 #[inline(always)]
 fn apply_tail<R: Rounds, V: Variant, B: StreamCipherBackend<R, V>>(
@@ -299,7 +316,7 @@ fn apply_tail<R: Rounds, V: Variant, B: StreamCipherBackend<R, V>>(
 )
     requires whole { length «data».old % 64 ≡ 0 }
     requires few { length «data».old < 64 * B.PAR_BLOCKS }
-    requires room { B.PAR_BLOCKS ≤ length blocks.old }
+    requires room { length «data».old / 64 ≤ length blocks.old }
     ensures data { «data».new
         ≡ xor_stream (keystream (modulus V.layout)
         (state_block R.COUNT V.layout (fixed_words V.layout state.old)))
@@ -309,31 +326,8 @@ fn apply_tail<R: Rounds, V: Variant, B: StreamCipherBackend<R, V>>(
         (for_tail (B.ONE_STEPS * R.COUNT) (length «data».old / 64)) steps.old steps.new }
 {
     let made = &mut blocks[..data.len() / 64];
-    B::gen_tail_blocks(state, made, steps);
+    write_tail::<R, V, B>(state, made, steps);
     xor_blocks(data, made);
-}
-
-// XORs bytes with one block, where a parallel call makes more.
-#[inline(always)]
-fn apply_one<R: Rounds, V: Variant, B: StreamCipherBackend<R, V>>(
-    state: &mut [u32; 16],
-    data: &mut [u8],
-    steps: &mut Steps,
-)
-    requires block { length «data».old ≡ 64 }
-    requires wide { 1 < B.PAR_BLOCKS }
-    ensures data { «data».new
-        ≡ xor_stream (keystream (modulus V.layout)
-        (state_block R.COUNT V.layout (fixed_words V.layout state.old)))
-        (64 * state_counter V.layout state.old) «data».old }
-    ensures state { state.new ≡ state_after V.layout 1 state.old }
-    ensures steps { Grows
-        (for_blocks B.PAR_BLOCKS (B.PAR_STEPS * R.COUNT) (B.ONE_STEPS * R.COUNT)
-        1 0) steps.old steps.new }
-{
-    let mut block = [0; 64];
-    write_block::<R, V, B>(state, &mut block, steps);
-    xor_bytes(data, &block);
 }
 
 // XORs bytes with any number of blocks, which are made in a buffer that has room for those of a parallel call.
@@ -407,7 +401,7 @@ fn apply_many<R: Rounds, V: Variant, B: StreamCipherBackend<R, V>>(
     }
 }
 
-// XORs bytes with whole blocks. A single block goes through a buffer of its own, where a parallel call makes more.
+// XORs bytes with whole blocks. A single block is a tail where a parallel call makes more, and has a buffer of its own.
 #[inline(always)]
 fn apply_blocks<R: Rounds, V: Variant, B: StreamCipherBackend<R, V>>(
     state: &mut [u32; 16],
@@ -427,7 +421,7 @@ fn apply_blocks<R: Rounds, V: Variant, B: StreamCipherBackend<R, V>>(
     if B::PAR_BLOCKS == 1 {
         apply_each::<R, V, B>(state, data, steps);
     } else if data.len() == 64 {
-        apply_one::<R, V, B>(state, data, steps);
+        apply_tail::<R, V, B>(state, &mut [[0; 64]; 1], data, steps);
     } else {
         apply_many::<R, V, B>(state, data, steps);
     }

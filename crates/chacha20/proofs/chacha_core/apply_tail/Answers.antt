@@ -9,6 +9,6 @@ returns-clause-data g c =
     let layout = g.V.Variant.layout in
     let made = length-take-le (length c.args.data.now / 64) c.args.blocks.now (omega arith) in
     c.xor_blocks.ensures
-    ∙ xor_stream-next g.R.Rounds.COUNT layout c.args.state.now _ 0 _ c.gen_tail_blocks.new.blocks _ c.told-state
+    ∙ xor_stream-next g.R.Rounds.COUNT layout c.args.state.now _ 0 _ c.write_tail.new.blocks _ c.told-state
     (sym (state_after-zero layout _ c.told-state c.fits-state)) (omega arith) (omega arith)
-    (λ j less. c.gen_tail_blocks.ensures.blocks j (omega arith))
+    (λ j less. c.write_tail.ensures.blocks j (omega arith))
