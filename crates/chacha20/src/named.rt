@@ -1,7 +1,7 @@
 //! What the names of ciphers and generators stand for: facts that hold by computation. A named type with a wrong number
-//! of rounds, layout or size would break one of them.
+//! of rounds, layout, size or text would break one of them.
 
-ghost use Rattle.std.specs.Prelude.{◌≡◌, length};
+ghost use Rattle.std.specs.Prelude.{◌≡◌, length, Some, codes};
 ghost use Rattle.rand_core.specs.Steps.{stream_of};
 ghost use Rattle.chacha_base.specs.Block.{block};
 ghost use Rattle.chacha_base.specs.Layout.{ietf, legacy};
@@ -14,6 +14,7 @@ use crate::rng::{ChaCha8Rng, ChaCha12Rng, ChaCha20Rng};
 use crate::xchacha::{XChaCha8, XChaCha12, XChaCha20};
 use chacha_base::cipher::{IvSizeUser, KeyIvInit, KeySizeUser};
 use rand_core::Rng;
+use std::fmt;
 
 // The blocks that a key and a nonce define.
 fn ciphers()
@@ -34,6 +35,16 @@ fn generators()
     ensures chacha8_rng { ⟦<ChaCha8Rng as Rng>⟧.stream ≡ stream_of (reads 4) }
     ensures chacha12_rng { ⟦<ChaCha12Rng as Rng>⟧.stream ≡ stream_of (reads 6) }
     ensures chacha20_rng { ⟦<ChaCha20Rng as Rng>⟧.stream ≡ stream_of (reads 10) }
+{}
+
+// The texts of `Debug`, the same for every seed, stream and position.
+fn texts()
+    ensures chacha8_rng { ⟦<ChaCha8Rng as fmt::Debug>⟧.debug_output
+        ≡ (λ _. Some (codes "ChaCha8Rng { ... }")) }
+    ensures chacha12_rng { ⟦<ChaCha12Rng as fmt::Debug>⟧.debug_output
+        ≡ (λ _. Some (codes "ChaCha12Rng { ... }")) }
+    ensures chacha20_rng { ⟦<ChaCha20Rng as fmt::Debug>⟧.debug_output
+        ≡ (λ _. Some (codes "ChaCha20Rng { ... }")) }
 {}
 
 // The sizes that the types name, and the types of keys and nonces.
