@@ -16,7 +16,6 @@ pub mod StateBytes
 pub mod Runs
 pub mod GeneratorRuns
 pub mod Text
-
 -- What clauses of inner functions alone use.
 pub mod Blocks
 pub mod Unread

@@ -12,7 +12,7 @@ use crate::chacha::{ChaCha8, ChaCha12, ChaCha20};
 use crate::legacy::ChaCha20Legacy;
 use crate::rng::{ChaCha8Rng, ChaCha12Rng, ChaCha20Rng};
 use crate::xchacha::{XChaCha8, XChaCha12, XChaCha20};
-use chacha_base::cipher::{IvSizeUser, KeyIvInit, KeySizeUser};
+use chacha_base::cipher::{IvSizeUser, KeyIvInit, KeySizeUser, Keystream};
 use rand_core::Rng;
 use std::fmt;
 
@@ -28,6 +28,17 @@ fn ciphers()
         ≡ (λ key nonce. block 6 ietf (subkey 6 key nonce) (subnonce nonce)) }
     ensures xchacha20 { ⟦<XChaCha20 as KeyIvInit>⟧.blocks_of
         ≡ (λ key nonce. block 10 ietf (subkey 10 key nonce) (subnonce nonce)) }
+{}
+
+// The position of what `new` makes.
+fn positions()
+    ensures chacha8 { ⟦<ChaCha8 as Keystream>⟧.first_position ≡ 0 }
+    ensures chacha12 { ⟦<ChaCha12 as Keystream>⟧.first_position ≡ 0 }
+    ensures chacha20 { ⟦<ChaCha20 as Keystream>⟧.first_position ≡ 0 }
+    ensures chacha20_legacy { ⟦<ChaCha20Legacy as Keystream>⟧.first_position ≡ 0 }
+    ensures xchacha8 { ⟦<XChaCha8 as Keystream>⟧.first_position ≡ 0 }
+    ensures xchacha12 { ⟦<XChaCha12 as Keystream>⟧.first_position ≡ 0 }
+    ensures xchacha20 { ⟦<XChaCha20 as Keystream>⟧.first_position ≡ 0 }
 {}
 
 // The words that a seed, a stream and a word position define, as all reads take them.

@@ -11,7 +11,6 @@ pub mod Cipher
 pub mod Limit
 pub mod SeekNum
 pub mod Counts
-
 -- What clauses of inner functions alone use.
 pub mod Number
 pub mod Buffered
