@@ -1,10 +1,14 @@
 -- Lanes of vectors.
-use Rattle.std.proofs.Common.{◌≡◌, ℕ, ◌<◌, ◌-◌, ◌*◌, ◌/◌, ◌%◌, ◌^◌, List, length, slice_index, replicate, bit_or, bit_xor, arith, ◌∙◌}
-use Rattle.std.specs.Simd.Lanes.{zip2, Each1}
+use Rattle.std.proofs.Common.{◌≡◌, ℕ, zero, suc, ◌<◌, ◌+◌, ◌-◌, ◌*◌, ◌/◌, ◌%◌, ◌^◌, List, [], ◌∷◌, length, map, slice_index, replicate, bit_or, bit_xor, arith, refl, sym, ap, ◌∙◌}
+use Rattle.std.specs.Simd.Lanes.{zip2, Each1, pick_l, number_l, digits_l}
+use Rattle.std.proofs.lemmas.List.{get_or-map}
 use Rattle.std.proofs.lemmas.Nat.{xor_lt}
 use Rattle.std.proofs.lemmas.Simd.{Each1-get_or, get_or-zip2, get_or-replicate, length-zip2, length-replicate}
 use Rattle.chacha_base.specs.Words.{rotl}
+use Rattle.chacha_base.specs.Lanes.{turned}
+use Rattle.chacha_base.specs.Bytes.{bytes}
 use Rattle.chacha_base.proofs.WordLemmas.{rotate_left_is}
+use Rattle.chacha_base.proofs.BytesLemmas.{digits-bytes}
 
 -- lane j of an operation on two vectors
 lane_of : (f : ℕ → ℕ → ℕ) (n : ℕ) (a b : List ℕ) → length a ≡ n → length b ≡ n → (j : ℕ) → j < n
@@ -42,3 +46,54 @@ xor_shifted-is-rotl n k some most a b la lb fa fb j h =
       get_or-replicate n j k 0 h,
       get_or-replicate n j (32 - k) 0 h,
     ) turned
+
+-- the bytes of each word, the last one first
+abbrev pub last_first : List ℕ → List ℕ
+last_first [] = []
+last_first (x ∷ xs) = x / 256 ^ 3 % 256 ∷ x % 256 ∷ x / 256 % 256 ∷ x / 256 ^ 2 % 256 ∷ last_first xs
+
+-- where they stand among the bytes of n words, of which the first is byte k
+abbrev pub last_first_places : (n k : ℕ) → List ℕ
+last_first_places zero k = []
+last_first_places (suc n) k = (k + 3) ∷ k ∷ (k + 1) ∷ (k + 2) ∷ last_first_places n (k + 4)
+
+-- they are the bytes of the words rotated by 8
+last_first-words : (xs : List ℕ) → Each1 (λ x. x < 2 ^ 32) xs → digits_l (2 ^ 32) (length xs) (number_l 256 (last_first xs)) ≡ map (λ x. rotl x 8) xs
+last_first-words [] words = refl
+last_first-words (x ∷ xs) words =
+    let n = number_l 256 (last_first xs) in
+    let front : (x / 256 ^ 3 % 256 + 256 * (x % 256 + 256 * (x / 256 % 256 + 256 * (x / 256 ^ 2 % 256 + 256 * n)))) % 2 ^ 32 ≡ rotl x 8 = omega (arith, words.0) in
+    let rest : (x / 256 ^ 3 % 256 + 256 * (x % 256 + 256 * (x / 256 % 256 + 256 * (x / 256 ^ 2 % 256 + 256 * n)))) / 2 ^ 32 ≡ n = omega arith in
+    rw (front, rest) (ap (λ t. rotl x 8 ∷ t) (last_first-words xs words.1))
+
+words-xor : (a b : List ℕ) → Each1 (λ x. x < 2 ^ 32) a → Each1 (λ x. x < 2 ^ 32) b → Each1 (λ x. x < 2 ^ 32) (zip2 bit_xor a b)
+words-xor [] b fa fb = tt
+words-xor (x ∷ xs) [] fa fb = tt
+words-xor (x ∷ xs) (y ∷ ys) fa fb = (xor_lt 32 x y fa.0 fb.0, words-xor xs ys fa.1 fb.1)
+
+-- the words of a lane, combined and their bytes moved, are their exclusive or rotated by 8
+pub xor_moved-is-rotl : (n : ℕ) (a b : List ℕ) → length a ≡ n → length b ≡ n → Each1 (λ x. x < 2 ^ 32) a → Each1 (λ x. x < 2 ^ 32) b
+    → ((xs : List ℕ) → length xs ≡ n → pick_l 0 (bytes xs) (last_first_places n 0) ≡ last_first xs)
+    → (j : ℕ) → j < n
+    → slice_index (digits_l (2 ^ 32) n (number_l 256 (pick_l 0 (digits_l 256 (4 * n) (number_l (2 ^ 32) (zip2 bit_xor a b))) (last_first_places n 0)))) j
+    ≡ rotl (bit_xor (slice_index a j) (slice_index b j)) 8
+xor_moved-is-rotl n a b la lb fa fb moved j h =
+    let xs = zip2 bit_xor a b in
+    let lx : length xs ≡ n = length-zip2 bit_xor a b (omega arith) ∙ la in
+    let words = words-xor a b fa fb in
+    let all = ap (λ m. digits_l 256 (4 * m) (number_l (2 ^ 32) xs)) (sym lx) ∙ digits-bytes xs words in
+    ap (λ bs. slice_index (digits_l (2 ^ 32) n (number_l 256 (pick_l 0 bs (last_first_places n 0)))) j) all
+    ∙ ap (λ ys. slice_index (digits_l (2 ^ 32) n (number_l 256 ys)) j) (moved xs lx)
+    ∙ ap (λ m. slice_index (digits_l (2 ^ 32) m (number_l 256 (last_first xs))) j) (sym lx)
+    ∙ ap (λ ys. slice_index ys j) (last_first-words xs words)
+    ∙ get_or-map (λ x. rotl x 8) xs j 0 0 (omega arith)
+    ∙ ap (λ x. rotl x 8) (lane_of bit_xor n a b la lb j h)
+
+-- turns by a number of places and by what is left of it after whole turns
+pub turned-rest : (k m : ℕ) (x : List ℕ) → k % 4 ≡ m → turned k x ≡ turned m x
+turned-rest k m x rest =
+    let first : k % 4 ≡ m % 4 = omega arith in
+    let second : (k + 1) % 4 ≡ (m + 1) % 4 = omega arith in
+    let third : (k + 2) % 4 ≡ (m + 2) % 4 = omega arith in
+    let fourth : (k + 3) % 4 ≡ (m + 3) % 4 = omega arith in
+    rw (first, second, third, fourth) refl

@@ -1,12 +1,12 @@
 -- Blocks in the rows of vectors.
-use Rattle.std.proofs.Common.{◌≡◌, ℕ, ◌<◌, ◌+◌, ◌*◌, List, [], ◌∷◌, ◌++◌, length, drop, slice_index, refl, ap, ◌∙◌, arith}
-use Rattle.chacha_base.specs.declared.backends.quad.Quad.{Quad}
+use Rattle.std.proofs.Common.{◌≡◌, ℕ, zero, suc, ◌<◌, ◌+◌, ◌-◌, ◌*◌, ◌%◌, List, [], ◌∷◌, ◌++◌, length, drop, slice_index, refl, ap, ◌∙◌, arith}
+use Rattle.chacha_base.specs.declared.backends.vector.FourVectors.{FourVectors}
 use Rattle.chacha_base.specs.Layout.{Layout, ietf, legacy}
-use Rattle.chacha_base.specs.Lanes.{row, with_last_words}
+use Rattle.chacha_base.specs.Lanes.{state_row, with_last_row}
+use Rattle.chacha_base.specs.Shifts.{rows_turned, shifted, shifted_back}
 use Rattle.chacha_base.specs.QuarterRound.{quarter}
-use Rattle.chacha_base.specs.Rounds.{columns, add_states, mix}
-use Rattle.chacha_base.specs.Quads.{lanes_at, sums_at}
-use Rattle.chacha_base.specs.RowVectors.{block_in_rows}
+use Rattle.chacha_base.specs.Rounds.{columns, diagonals, rounds, add_states, mix}
+use Rattle.chacha_base.specs.Vectors.{lanes_at, sums_at, block_in_rows}
 use Rattle.chacha_base.specs.State.{state_after}
 use Rattle.chacha_base.proofs.ListLemmas.{each}
 
@@ -20,46 +20,59 @@ of_columns-same {a} {b} {c} {d} {p} {q} {r} {s} ea eb ec ed =
     ap (λ x. of_columns x q r s) ea ∙ ap (λ x. of_columns a x r s) eb ∙ ap (λ x. of_columns a b x s) ec ∙ ap (λ x. of_columns a b c x) ed
 
 -- the quarter round of each lane is a round of the columns of each block
-pub columns-of-lanes : {V : Type 0} (n lanes : ℕ) (lane : V → ℕ → ℕ) (x y : Quad V) → lanes ≡ 4 * n
-    → ((j : ℕ) → j < lanes → lanes_at lane y j ≡ quarter (lane x.a j) (lane x.b j) (lane x.c j) (lane x.d j))
+pub columns-of-lanes : {V : Type 0} (n : ℕ) (lane : V → ℕ → ℕ) (x y : FourVectors V)
+    → ((j : ℕ) → j < 4 * n → lanes_at lane y j ≡ quarter (lane x.0 j) (lane x.1 j) (lane x.2 j) (lane x.3 j))
     → (g : ℕ) → g < n → block_in_rows lane y g ≡ columns (block_in_rows lane x g)
 unfolding columns
-columns-of-lanes n lanes lane x y four e g h =
+columns-of-lanes n lane x y e g h =
     of_columns-same (e (4 * g) (omega arith)) (e (4 * g + 1) (omega arith)) (e (4 * g + 2) (omega arith)) (e (4 * g + 3) (omega arith))
 
 -- the sums of each lane are the sums of each block
-pub sums-of-lanes : {V : Type 0} (n lanes : ℕ) (lane : V → ℕ → ℕ) (x y z : Quad V) → lanes ≡ 4 * n
-    → ((j : ℕ) → j < lanes → lanes_at lane z j ≡ sums_at lane x y j)
+pub sums-of-lanes : {V : Type 0} (n : ℕ) (lane : V → ℕ → ℕ) (x y z : FourVectors V)
+    → ((j : ℕ) → j < 4 * n → lanes_at lane z j ≡ sums_at lane x y j)
     → (g : ℕ) → g < n → block_in_rows lane z g ≡ add_states (block_in_rows lane x g) (block_in_rows lane y g)
 unfolding add_states
-sums-of-lanes n lanes lane x y z four e g h =
+sums-of-lanes n lane x y z e g h =
     of_columns-same (e (4 * g) (omega arith)) (e (4 * g + 1) (omega arith)) (e (4 * g + 2) (omega arith)) (e (4 * g + 3) (omega arith))
 
+-- the columns of a state with its rows moved are its diagonals, whichever row stays
+turned_by : (k : ℕ) → k < 4 → (s : List ℕ)
+    → rows_turned (4 + k) (4 + k - 1) (4 + k - 2) (4 + k - 3) (columns (rows_turned (4 - k) (4 - k + 1) (4 - k + 2) (4 - k + 3) s)) ≡ diagonals s
+unfolding columns diagonals
+turned_by zero h s = refl
+turned_by (suc zero) h s = refl
+turned_by (suc (suc zero)) h s = refl
+turned_by (suc (suc (suc zero))) h s = refl
+turned_by (suc (suc (suc (suc k)))) h s = absurd (omega arith)
+
+pub shifted-columns : (stays : ℕ) (s : List ℕ) → shifted_back stays (columns (shifted stays s)) ≡ diagonals s
+shifted-columns stays s = turned_by (stays % 4) (omega arith) s
+
 -- a state with the last row of one of the next states is that state
-with_last_words-state_after : (layout : Layout) (i : ℕ) (s : List ℕ) → length s ≡ 16
-    → with_last_words s (drop 12 (state_after layout i s)) ≡ state_after layout i s
-with_last_words-state_after ietf i =
-    each 16 (λ s. with_last_words s (drop 12 (state_after ietf i s)) ≡ state_after ietf i s)
+with_last_row-state_after : (layout : Layout) (i : ℕ) (s : List ℕ) → length s ≡ 16
+    → with_last_row s (drop 12 (state_after layout i s)) ≡ state_after layout i s
+with_last_row-state_after ietf i =
+    each 16 (λ s. with_last_row s (drop 12 (state_after ietf i s)) ≡ state_after ietf i s)
     (λ x0 x1 x2 x3 x4 x5 x6 x7 x8 x9 x10 x11 x12 x13 x14 x15. refl)
-with_last_words-state_after legacy i =
-    each 16 (λ s. with_last_words s (drop 12 (state_after legacy i s)) ≡ state_after legacy i s)
+with_last_row-state_after legacy i =
+    each 16 (λ s. with_last_row s (drop 12 (state_after legacy i s)) ≡ state_after legacy i s)
     (λ x0 x1 x2 x3 x4 x5 x6 x7 x8 x9 x10 x11 x12 x13 x14 x15. refl)
 
 -- the last row of one of the next states
-pub last_words-state_after : (layout : Layout) (i : ℕ) (s t : List ℕ) → length s ≡ 16 → t ≡ state_after layout i s
-    → row (slice_index t) 3 ≡ drop 12 (state_after layout i s)
-last_words-state_after ietf i s t h moved =
+pub last_row-state_after : (layout : Layout) (i : ℕ) (s t : List ℕ) → length s ≡ 16 → t ≡ state_after layout i s
+    → state_row t 3 ≡ drop 12 (state_after layout i s)
+last_row-state_after ietf i s t h moved =
     rw moved
-    (each 16 (λ s. row (slice_index (state_after ietf i s)) 3 ≡ drop 12 (state_after ietf i s))
+    (each 16 (λ s. state_row (state_after ietf i s) 3 ≡ drop 12 (state_after ietf i s))
     (λ x0 x1 x2 x3 x4 x5 x6 x7 x8 x9 x10 x11 x12 x13 x14 x15. refl) s h)
-last_words-state_after legacy i s t h moved =
+last_row-state_after legacy i s t h moved =
     rw moved
-    (each 16 (λ s. row (slice_index (state_after legacy i s)) 3 ≡ drop 12 (state_after legacy i s))
+    (each 16 (λ s. state_row (state_after legacy i s) 3 ≡ drop 12 (state_after legacy i s))
     (λ x0 x1 x2 x3 x4 x5 x6 x7 x8 x9 x10 x11 x12 x13 x14 x15. refl) s h)
 
--- what is stored of a group that starts at the next states is their blocks
-pub stored-next : (n count : ℕ) (layout : Layout) (i : ℕ) (s last start mixed stored : List ℕ) → length s ≡ 16 → count ≡ n
-    → last ≡ drop 12 (state_after layout i s) → start ≡ with_last_words s last → mixed ≡ mix count start → stored ≡ mixed
-    → stored ≡ mix n (state_after layout i s)
-stored-next n count layout i s last start mixed stored h same row started made kept =
-    rw (kept, made, same, started, row) (ap (mix n) (with_last_words-state_after layout i s h))
+-- a state of a group that starts at the next states, mixed
+pub mixed-next : (n count : ℕ) (layout : Layout) (i : ℕ) (s last start made sum : List ℕ) → length s ≡ 16 → count ≡ n
+    → last ≡ drop 12 (state_after layout i s) → start ≡ with_last_row s last → made ≡ rounds count start → sum ≡ add_states made start
+    → sum ≡ mix n (state_after layout i s)
+mixed-next n count layout i s last start made sum h same row started rounded summed =
+    rw (summed, rounded, same, started, row) (ap (mix n) (with_last_row-state_after layout i s h))

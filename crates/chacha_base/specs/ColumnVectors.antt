@@ -1,16 +1,10 @@
 -- Sixteen vectors that hold the words of blocks, one block in each lane (this crate).
 use Rattle.std.specs.Prelude.{ℕ, List, ◌++◌}
-use Rattle.chacha_base.specs.declared.backends.quad.Quad.{Quad}
 use Rattle.chacha_base.specs.declared.backends.columns.Columns.{Columns}
-use Rattle.chacha_base.specs.Lanes.{words_at}
-
--- lane j of one vector of each column
-abbrev pub four_at : {V : Type 0} → (V → ℕ → ℕ) → Columns V → (Quad V → V) → ℕ → List ℕ
-four_at lane x vector =
-    words_at lane (vector x.first) (vector x.second) (vector x.third) (vector x.fourth)
+use Rattle.chacha_base.specs.Vectors.{words_at}
 
 -- the sixteen words of the block in lane j
 abbrev pub block_in_columns : {V : Type 0} → (V → ℕ → ℕ) → Columns V → ℕ → List ℕ
 block_in_columns lane x j =
-    four_at lane x (λ q. q.a) j ++ four_at lane x (λ q. q.b) j
-    ++ four_at lane x (λ q. q.c) j ++ four_at lane x (λ q. q.d) j
+    words_at lane x.0.0 x.1.0 x.2.0 x.3.0 j ++ words_at lane x.0.1 x.1.1 x.2.1 x.3.1 j
+    ++ words_at lane x.0.2 x.1.2 x.2.2 x.3.2 j ++ words_at lane x.0.3 x.1.3 x.2.3 x.3.3 j

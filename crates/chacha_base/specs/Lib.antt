@@ -15,7 +15,6 @@ pub mod Counts
 pub mod Number
 pub mod Buffered
 pub mod Lanes
-pub mod Quads
-pub mod RowVectors
-pub mod RowShifts
+pub mod Shifts
+pub mod Vectors
 pub mod ColumnVectors

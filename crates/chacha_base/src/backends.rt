@@ -1,17 +1,13 @@
 //! Backends: markers whose functions make the blocks of a state.
 
 mod columns;
-mod counter;
 mod group;
 mod kernel;
 mod lanes16;
 mod lanes4;
 mod lanes8;
-mod place;
-mod quad;
 mod rows;
 mod rows8;
-mod shift;
 mod soft;
 mod vector;
 

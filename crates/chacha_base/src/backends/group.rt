@@ -1,11 +1,14 @@
-//! Groups of blocks whose states are worked on together.
+//! What the kernel needs of a group of blocks, in rows or in columns, and two groups side by side.
 
-ghost use Rattle.std.specs.Prelude.{◌≡◌, ◌<◌, ℕ, ◌+◌, ◌-◌, ◌*◌, nat_lt, if◌then◌else◌, List, [], length, slice_get, slice_index_or, Some};
-ghost use Rattle.chacha_base.specs.Rounds.{columns, diagonals, rounds, add_states, mix};
-ghost use Rattle.chacha_base.specs.Lanes.{with_last_words};
+ghost use Rattle.std.specs.Prelude.{◌≡◌, ◌<◌, ℕ, ◌+◌, ◌-◌, ◌*◌, nat_lt, if◌then◌else◌, List, [], length, slice_get, slice_index, slice_index_or, Some};
+ghost use Rattle.chacha_base.specs.Bytes.{bytes};
+ghost use Rattle.chacha_base.specs.Rounds.{columns, diagonals, rounds, add_states};
+ghost use Rattle.chacha_base.specs.Lanes.{row, with_last_row};
+ghost use Rattle.chacha_base.specs.Vectors.{block_in_rows};
 
-use crate::backends::place::Place;
+use crate::backends::vector::{FourVectors, Vector};
 use crate::rounds::Steps;
+use std::simd::prelude::*;
 
 /// The states of some blocks, one after another, and the rounds on them.
 pub trait States: Copy {
@@ -26,33 +29,33 @@ pub trait States: Copy {
     fn diagonal_round(self, steps: &mut Steps) -> Self
         ensures blocks { (g : ℕ) → g < BLOCKS → words_of result g ≡ diagonals (words_of self g) }
         ensures steps { steps.new ≡ record steps.old { rounds = steps.old.rounds + ROUND_STEPS } };
-}
 
-/// `count` double rounds of each state.
-#[inline(always)]
-pub fn round_by_round<S: States>(start: S, count: usize, steps: &mut Steps) -> S
-    ensures blocks { (g : ℕ) → g < S.BLOCKS
-        → S.words_of result g ≡ rounds count (S.words_of start g) }
-    ensures steps { steps.new
-        ≡ record steps.old { rounds = steps.old.rounds + 2 * S.ROUND_STEPS * count } }
-{
-    let mut states = start;
-    'rounds: for _round in 0..count {
-        states = states.column_round(steps).diagonal_round(steps);
+    /// `count` double rounds of each state (RFC 8439, section 2.3).
+    #[inline(always)]
+    final fn double_rounds(self, count: usize, steps: &mut Steps) -> Self
+        ensures blocks { (g : ℕ) → g < BLOCKS
+            → words_of result g ≡ rounds count (words_of self g) }
+        ensures steps { steps.new
+            ≡ record steps.old { rounds = steps.old.rounds + 2 * ROUND_STEPS * count } }
+    {
+        let mut states = self;
+        'rounds: for _round in 0..count {
+            states = states.column_round(steps).diagonal_round(steps);
+        }
+        states
     }
-    states
 }
 
 /// States that become blocks.
 pub trait Group: States {
-    /// States that differ in the last four words alone.
-    fn start(state: &[u32; 16], last_words: &[[u32; 4]]) -> Self
-        requires { length last_words.now ≡ Self.BLOCKS }
+    /// States that differ in the last row alone.
+    fn start(state: &[u32; 16], last_rows: &[[u32; 4]]) -> Self
+        requires { length last_rows.now ≡ Self.BLOCKS }
         ensures { (g : ℕ) → g < Self.BLOCKS → Self.words_of result g
-            ≡ with_last_words state.now (slice_index_or last_words.now g []) };
+            ≡ with_last_row state.now (slice_index_or last_rows.now g []) };
 
     /// `count` double rounds of each state.
-    fn double_rounds(self, count: usize, steps: &mut Steps) -> Self
+    fn rounds(self, count: usize, steps: &mut Steps) -> Self
         ensures blocks { (g : ℕ) → g < Self.BLOCKS
             → Self.words_of result g ≡ rounds count (Self.words_of self g) }
         ensures steps { steps.new
@@ -63,84 +66,114 @@ pub trait Group: States {
         ensures { (g : ℕ) → g < Self.BLOCKS → Self.words_of result g
             ≡ add_states (Self.words_of self g) (Self.words_of other g) };
 
-    /// Puts the words of each state in its place.
-    fn store<P: Place>(self, places: &mut [P])
-        requires { length places.old ≡ Self.BLOCKS }
+    /// Writes the words of each state into its buffer.
+    fn store<B: BlockBuffer>(self, buffers: &mut [B])
+        requires { length buffers.old ≡ Self.BLOCKS }
         ensures { (g : ℕ) → g < Self.BLOCKS
-            → slice_get places.new g ≡ Some (P.holding (Self.words_of self g)) };
-
-    /// Each state after so many double rounds, added to the state before them (RFC 8439, section 2.3).
-    #[inline(always)]
-    final fn mixed(self, count: usize, steps: &mut Steps) -> Self
-        ensures blocks { (g : ℕ) → g < Self.BLOCKS
-            → Self.words_of result g ≡ mix count (Self.words_of self g) }
-        ensures steps { steps.new
-            ≡ record steps.old { rounds = steps.old.rounds + 2 * Self.ROUND_STEPS * count } }
-    {
-        self.double_rounds(count, steps).sums(self)
-    }
+            → slice_get buffers.new g ≡ Some (B.of_words (Self.words_of self g)) };
 }
 
-/// Two groups, one after the other.
+/// Two groups, one after the other. The rounds of both are made side by side.
 #[derive(Clone, Copy)]
-pub struct Two<G> {
-    first: G,
-    second: G,
-}
+pub struct Twice<G>(G, G);
 
-impl<G: States> States for Two<G> {
+impl<G: States> States for Twice<G> {
     ghost BLOCKS = { G.BLOCKS + G.BLOCKS };
 
     ghost ROUND_STEPS = { G.ROUND_STEPS + G.ROUND_STEPS };
 
     ghost words_of = { λ x g.
-        if nat_lt g G.BLOCKS then G.words_of x.first g else G.words_of x.second (g - G.BLOCKS) };
+        if nat_lt g G.BLOCKS then G.words_of x.0 g else G.words_of x.1 (g - G.BLOCKS) };
 
     #[inline(always)]
-    fn column_round(self, steps: &mut Steps) -> Two<G> {
-        Two {
-            first: self.first.column_round(steps),
-            second: self.second.column_round(steps),
-        }
+    fn column_round(self, steps: &mut Steps) -> Twice<G> {
+        Twice(self.0.column_round(steps), self.1.column_round(steps))
     }
 
     #[inline(always)]
-    fn diagonal_round(self, steps: &mut Steps) -> Two<G> {
-        Two {
-            first: self.first.diagonal_round(steps),
-            second: self.second.diagonal_round(steps),
-        }
+    fn diagonal_round(self, steps: &mut Steps) -> Twice<G> {
+        Twice(self.0.diagonal_round(steps), self.1.diagonal_round(steps))
     }
 }
 
-/// The rounds of both halves are made side by side.
-impl<G: Group> Group for Two<G> {
+impl<G: Group> Group for Twice<G> {
     #[inline(always)]
-    fn start(state: &[u32; 16], last_words: &[[u32; 4]]) -> Two<G> {
-        let half = last_words.len() / 2;
-        Two {
-            first: G::start(state, &last_words[..half]),
-            second: G::start(state, &last_words[half..]),
-        }
+    fn start(state: &[u32; 16], last_rows: &[[u32; 4]]) -> Twice<G> {
+        let (front, back) = last_rows.split_at(last_rows.len() / 2);
+        Twice(G::start(state, front), G::start(state, back))
     }
 
     #[inline(always)]
-    fn double_rounds(self, count: usize, steps: &mut Steps) -> Two<G> {
-        round_by_round(self, count, steps)
+    fn rounds(self, count: usize, steps: &mut Steps) -> Twice<G> {
+        self.double_rounds(count, steps)
     }
 
     #[inline(always)]
-    fn sums(self, other: Two<G>) -> Two<G> {
-        Two {
-            first: self.first.sums(other.first),
-            second: self.second.sums(other.second),
-        }
+    fn sums(self, other: Twice<G>) -> Twice<G> {
+        Twice(self.0.sums(other.0), self.1.sums(other.1))
     }
 
     #[inline(always)]
-    fn store<P: Place>(self, places: &mut [P]) {
-        let half = places.len() / 2;
-        self.first.store(&mut places[..half]);
-        self.second.store(&mut places[half..]);
+    fn store<B: BlockBuffer>(self, buffers: &mut [B]) {
+        let half = buffers.len() / 2;
+        self.0.store(&mut buffers[..half]);
+        self.1.store(&mut buffers[half..]);
     }
+}
+
+/// What takes the words of a block, as words or as bytes.
+pub trait BlockBuffer {
+    // The buffer that holds these words.
+    ghost of_words: { List ℕ → Self };
+
+    /// Writes the words of a state, a row in each vector.
+    fn write_rows(&mut self, rows: FourVectors<u32x4>)
+        ensures { self.new ≡ of_words (block_in_rows slice_index rows 0) };
+}
+
+impl BlockBuffer for [u32; 16] {
+    ghost of_words = { λ words. words };
+
+    #[inline(always)]
+    fn write_rows(&mut self, rows: FourVectors<u32x4>) {
+        // One write of sixteen words: with four writes of a row, small fills took 2 percent longer.
+        let [a0, a1, a2, a3] = rows.0.to_array();
+        let [b0, b1, b2, b3] = rows.1.to_array();
+        let [c0, c1, c2, c3] = rows.2.to_array();
+        let [d0, d1, d2, d3] = rows.3.to_array();
+        *self = [
+            a0, a1, a2, a3, b0, b1, b2, b3, c0, c1, c2, c3, d0, d1, d2, d3,
+        ];
+    }
+}
+
+impl BlockBuffer for [u8; 64] {
+    ghost of_words = { bytes };
+
+    #[inline(always)]
+    fn write_rows(&mut self, rows: FourVectors<u32x4>) {
+        write_row(rows.0, &mut self[0..16]);
+        write_row(rows.1, &mut self[16..32]);
+        write_row(rows.2, &mut self[32..48]);
+        write_row(rows.3, &mut self[48..64]);
+    }
+}
+
+// Writes a row of words as bytes.
+#[inline(always)]
+fn write_row(words: u32x4, output: &mut [u8])
+    requires { length output.old ≡ 16 }
+    ensures { output.new ≡ bytes (row (slice_index words) 0) }
+{
+    words.to_le_bytes().copy_to_slice(output);
+}
+
+/// Writes one of the states of which four vectors hold the rows.
+#[inline(always)]
+pub fn write_block<V: Vector, B: BlockBuffer>(rows: FourVectors<V>, g: usize, buffer: &mut B)
+    requires { g < V.FOURS }
+    ensures { buffer.new ≡ B.of_words (block_in_rows V.lane rows g) }
+{
+    let FourVectors(a, b, c, d) = rows;
+    buffer.write_rows(FourVectors(a.four(g), b.four(g), c.four(g), d.four(g)));
 }

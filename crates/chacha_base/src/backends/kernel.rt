@@ -1,20 +1,41 @@
-//! The wide kernel: it makes a whole group of blocks from a state on, of which a caller takes what it needs.
+//! From a state to its next blocks: a whole group is made, of which a caller takes what it needs.
 
-ghost use Rattle.std.specs.Prelude.{◌≡◌, ◌≤◌, ◌<◌, ◌≢◌, ℕ, ◌+◌, ◌*◌, min, [], length, slice_get, slice_index_or, Some};
+ghost use Rattle.std.specs.Prelude.{◌≡◌, ◌≤◌, ◌<◌, ◌≢◌, ℕ, ◌+◌, ◌*◌, min, [], length, drop, slice_get, slice_index_or, Some};
 ghost use Rattle.chacha_base.specs.Layout.{legacy};
 ghost use Rattle.chacha_base.specs.Rounds.{mix};
 ghost use Rattle.chacha_base.specs.State.{state_after, next_block, next_words};
 ghost use Rattle.chacha_base.specs.Counts.{Grows, for_tail};
 
-use crate::backends::counter::{advance, last_words};
 use crate::backends::group::Group;
 use crate::bytes::write_bytes;
 use crate::rounds::{Rounds, Steps};
-use crate::variants::{Legacy, Variant};
+use crate::variants::{Legacy, StreamCipherCounter, Variant};
 
-/// The group of the next blocks. The state stays.
+/// Moves the counter of a state on by so many blocks.
 #[inline(always)]
-fn next_group<R: Rounds, V: Variant, G: Group, const W: usize>(
+pub fn advance<V: Variant>(state: &mut [u32; 16], blocks: usize)
+    ensures { state.new ≡ state_after V.layout blocks state.old }
+{
+    let pos = V::get_block_pos(&state[12..]);
+    V::set_block_pos(&mut state[12..], pos.advanced_by(blocks));
+}
+
+// Writes the last rows of the next states, each with its own counter.
+#[inline(always)]
+fn write_last_rows<V: Variant>(state: &[u32; 16], rows: &mut [[u32; 4]])
+    ensures { (g : ℕ) → g < length rows.old
+        → slice_index_or rows.new g [] ≡ drop 12 (state_after V.layout g state.now) }
+{
+    'each: for g in 0..rows.len() {
+        let mut next = *state;
+        advance::<V>(&mut next, g);
+        rows[g] = [next[12], next[13], next[14], next[15]];
+    }
+}
+
+// The group of the next blocks. The state stays.
+#[inline(always)]
+fn mixed_group<R: Rounds, V: Variant, G: Group, const W: usize>(
     state: &[u32; 16],
     steps: &mut Steps,
 ) -> G
@@ -25,14 +46,15 @@ fn next_group<R: Rounds, V: Variant, G: Group, const W: usize>(
     ensures steps { steps.new
         ≡ record steps.old { rounds = steps.old.rounds + 2 * G.ROUND_STEPS * R.COUNT } }
 {
-    let mut words = [[0; 4]; W];
-    last_words::<V>(state, &mut words);
-    G::start(state, &words).mixed(R::COUNT, steps)
+    let mut rows = [[0; 4]; W];
+    write_last_rows::<V>(state, &mut rows);
+    let start = G::start(state, &rows);
+    start.rounds(R::COUNT, steps).sums(start)
 }
 
-/// The words of the next blocks, as many as a group has. The state stays.
+// The words of the next blocks, as many as a group has. The state stays.
 #[inline(always)]
-fn group_words<R: Rounds, V: Variant, G: Group, const W: usize>(
+fn mixed_words<R: Rounds, V: Variant, G: Group, const W: usize>(
     state: &[u32; 16],
     steps: &mut Steps,
 ) -> [[u32; 16]; W]
@@ -44,13 +66,13 @@ fn group_words<R: Rounds, V: Variant, G: Group, const W: usize>(
         ≡ record steps.old { rounds = steps.old.rounds + 2 * G.ROUND_STEPS * R.COUNT } }
 {
     let mut words = [[0; 16]; W];
-    next_group::<R, V, G, W>(state, steps).store(&mut words);
+    mixed_group::<R, V, G, W>(state, steps).store(&mut words);
     words
 }
 
-/// The next block. The counter moves on by one, whatever else the group makes.
+/// Writes the next block. The counter moves on by one, whatever else the group makes.
 #[inline(always)]
-pub fn next_one<R: Rounds, V: Variant, G: Group, const W: usize>(
+pub fn write_one<R: Rounds, V: Variant, G: Group, const W: usize>(
     state: &mut [u32; 16],
     block: &mut [u8; 64],
     steps: &mut Steps,
@@ -63,15 +85,15 @@ pub fn next_one<R: Rounds, V: Variant, G: Group, const W: usize>(
     ensures steps { steps.new
         ≡ record steps.old { rounds = steps.old.rounds + 2 * G.ROUND_STEPS * R.COUNT } }
 {
-    let words = group_words::<R, V, G, W>(state, steps);
+    let words = mixed_words::<R, V, G, W>(state, steps);
     let made = &words[..];
     write_bytes(&made[0], block);
     advance::<V>(state, 1);
 }
 
-/// The next blocks, exactly as many as a group has, which are put in place at once. The counter moves on past them.
+/// Writes the next blocks, exactly as many as a group has, each at once where it lies. The counter moves on past them.
 #[inline(always)]
-pub fn next_all<R: Rounds, V: Variant, G: Group, const W: usize>(
+pub fn write_group<R: Rounds, V: Variant, G: Group, const W: usize>(
     state: &mut [u32; 16],
     blocks: &mut [[u8; 64]],
     steps: &mut Steps,
@@ -85,14 +107,14 @@ pub fn next_all<R: Rounds, V: Variant, G: Group, const W: usize>(
     ensures steps { steps.new
         ≡ record steps.old { rounds = steps.old.rounds + 2 * G.ROUND_STEPS * R.COUNT } }
 {
-    next_group::<R, V, G, W>(state, steps).store(blocks);
+    mixed_group::<R, V, G, W>(state, steps).store(blocks);
     advance::<V>(state, W);
 }
 
-/// At most as many blocks as a group has, also none. Where there are any, the group is made once, and counts as one
-/// other call; where there are none, nothing is made.
+/// Writes at most as many blocks as a group has, also none. Where there are any, the group is made once, and counts as
+/// one other call; where there are none, nothing is made.
 #[inline(always)]
-pub fn next_tail<R: Rounds, V: Variant, G: Group, const W: usize>(
+pub fn write_tail<R: Rounds, V: Variant, G: Group, const W: usize>(
     state: &mut [u32; 16],
     blocks: &mut [[u8; 64]],
     steps: &mut Steps,
@@ -110,7 +132,7 @@ pub fn next_tail<R: Rounds, V: Variant, G: Group, const W: usize>(
 {
     if !blocks.is_empty() {
         steps.add_other();
-        let words = group_words::<R, V, G, W>(state, steps);
+        let words = mixed_words::<R, V, G, W>(state, steps);
         let made = &words[..];
         'each: for g in 0..blocks.len() {
             write_bytes(&made[g], &mut blocks[g]);
@@ -119,9 +141,9 @@ pub fn next_tail<R: Rounds, V: Variant, G: Group, const W: usize>(
     }
 }
 
-/// The words of the next four blocks, in the layout with a counter of 64 bits. The counter moves on past them.
+/// Writes the words of the next four blocks, in the layout with a counter of 64 bits. The counter moves on past them.
 #[inline(always)]
-pub fn next_four<R: Rounds, G: Group>(
+pub fn write_buffer<R: Rounds, G: Group>(
     state: &mut [u32; 16],
     buffer: &mut [u32; 64],
     steps: &mut Steps,
@@ -132,7 +154,7 @@ pub fn next_four<R: Rounds, G: Group>(
     ensures steps { steps.new
         ≡ record steps.old { rounds = steps.old.rounds + 2 * G.ROUND_STEPS * R.COUNT } }
 {
-    let words = group_words::<R, Legacy, G, 4>(state, steps);
+    let words = mixed_words::<R, Legacy, G, 4>(state, steps);
     'four: for i in 0..4usize {
         buffer[16 * i..16 * i + 16].copy_from_slice(&words[i]);
     }

@@ -5,10 +5,9 @@ ghost use Rattle.chacha_base.specs.Counts.{Grows, for_tail, tail_of_16};
 ghost use Rattle.chacha_base.specs.State.{state_after, next_block};
 
 use crate::backends::columns::Columns;
-use crate::backends::group::{Group, Two};
-use crate::backends::kernel::{next_all, next_four, next_one, next_tail};
+use crate::backends::group::{Group, Twice};
+use crate::backends::kernel::{write_buffer, write_group, write_one, write_tail};
 use crate::backends::rows::Rows;
-use crate::backends::shift::ShiftCda;
 use crate::cipher::{ParBlocksSizeUser, RngBackend, StreamCipherBackend};
 use crate::rounds::{Rounds, Steps};
 use crate::variants::Variant;
@@ -21,15 +20,15 @@ use std::simd::prelude::*;
 pub struct Lanes16;
 
 // One block in vectors of four words, two in vectors of eight, and four, eight and sixteen in vectors of sixteen.
-type One = Rows<u32x4, ShiftCda>;
+type One = Rows<u32x4, 1>;
 
-type Pair = Rows<u32x8, ShiftCda>;
+type Two = Rows<u32x8, 1>;
 
-type Four = Rows<u32x16, ShiftCda>;
+type Four = Rows<u32x16, 1>;
 
-type Eight = Two<Four>;
+type Eight = Twice<Four>;
 
-type Sixteen = Two<Eight>;
+type Sixteen = Twice<Eight>;
 
 // A tail by the narrowest group that holds it.
 #[inline(always)]
@@ -50,7 +49,7 @@ fn tail_by<R: Rounds, V: Variant, G: Group, const W: usize>(
     ensures rounds { steps.new.rounds
         ≡ steps.old.rounds + tail_of_16 (length blocks.old) * R.COUNT }
 {
-    next_tail::<R, V, G, W>(state, blocks, steps);
+    write_tail::<R, V, G, W>(state, blocks, steps);
 }
 
 impl ParBlocksSizeUser for Lanes16 {
@@ -76,12 +75,12 @@ impl<R: Rounds, V: Variant> StreamCipherBackend<R, V> for Lanes16 {
 
     fn gen_ks_block(state: &mut [u32; 16], block: &mut [u8; 64], steps: &mut Steps) {
         steps.add_other();
-        next_one::<R, V, One, 1>(state, block, steps);
+        write_one::<R, V, One, 1>(state, block, steps);
     }
 
     fn gen_par_ks_blocks(state: &mut [u32; 16], blocks: &mut [[u8; 64]], steps: &mut Steps) {
         steps.add_par();
-        next_all::<R, V, Columns<u32x16>, 16>(state, blocks, steps);
+        write_group::<R, V, Columns<u32x16>, 16>(state, blocks, steps);
     }
 
     fn gen_tail_blocks(state: &mut [u32; 16], blocks: &mut [[u8; 64]], steps: &mut Steps)
@@ -95,7 +94,7 @@ impl<R: Rounds, V: Variant> StreamCipherBackend<R, V> for Lanes16 {
     {
         match blocks.len() {
             0 | 1 => tail_by::<R, V, One, 1>(state, blocks, steps),
-            2 => tail_by::<R, V, Pair, 2>(state, blocks, steps),
+            2 => tail_by::<R, V, Two, 2>(state, blocks, steps),
             3 | 4 => tail_by::<R, V, Four, 4>(state, blocks, steps),
             5..=8 => tail_by::<R, V, Eight, 8>(state, blocks, steps),
             _ => tail_by::<R, V, Sixteen, 16>(state, blocks, steps),
@@ -109,6 +108,6 @@ impl<R: Rounds> RngBackend<R> for Lanes16 {
     const RNG_STEPS: usize = 2;
 
     fn gen_ks_blocks(state: &mut [u32; 16], buffer: &mut [u32; 64], steps: &mut Steps) {
-        next_four::<R, Four>(state, buffer, steps);
+        write_buffer::<R, Four>(state, buffer, steps);
     }
 }

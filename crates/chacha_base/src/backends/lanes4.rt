@@ -5,10 +5,9 @@ ghost use Rattle.chacha_base.specs.Counts.{Grows, for_tail};
 ghost use Rattle.chacha_base.specs.State.{state_after, next_block};
 
 use crate::backends::columns::Columns;
-use crate::backends::group::Two;
-use crate::backends::kernel::{next_all, next_four, next_one, next_tail};
+use crate::backends::group::Twice;
+use crate::backends::kernel::{write_buffer, write_group, write_one, write_tail};
 use crate::backends::rows::Rows;
-use crate::backends::shift::ShiftCda;
 use crate::cipher::{ParBlocksSizeUser, RngBackend, StreamCipherBackend};
 use crate::rounds::{Rounds, Steps};
 use crate::variants::Variant;
@@ -20,7 +19,7 @@ use std::simd::prelude::*;
 pub struct Lanes4;
 
 // Four blocks, with a vector for each row of each.
-type Four = Two<Two<Rows<u32x4, ShiftCda>>>;
+type Four = Twice<Twice<Rows<u32x4, 1>>>;
 
 impl ParBlocksSizeUser for Lanes4 {
     ghost use Rattle.std.proofs.Common.{lit≤};
@@ -45,12 +44,12 @@ impl<R: Rounds, V: Variant> StreamCipherBackend<R, V> for Lanes4 {
 
     fn gen_ks_block(state: &mut [u32; 16], block: &mut [u8; 64], steps: &mut Steps) {
         steps.add_other();
-        next_one::<R, V, Four, 4>(state, block, steps);
+        write_one::<R, V, Four, 4>(state, block, steps);
     }
 
     fn gen_par_ks_blocks(state: &mut [u32; 16], blocks: &mut [[u8; 64]], steps: &mut Steps) {
         steps.add_par();
-        next_all::<R, V, Columns<u32x4>, 4>(state, blocks, steps);
+        write_group::<R, V, Columns<u32x4>, 4>(state, blocks, steps);
     }
 
     fn gen_tail_blocks(state: &mut [u32; 16], blocks: &mut [[u8; 64]], steps: &mut Steps)
@@ -62,7 +61,7 @@ impl<R: Rounds, V: Variant> StreamCipherBackend<R, V> for Lanes4 {
         ensures rounds { steps.new.rounds
             ≡ steps.old.rounds + min 1 (length blocks.old) * 8 * R.COUNT }
     {
-        next_tail::<R, V, Four, 4>(state, blocks, steps);
+        write_tail::<R, V, Four, 4>(state, blocks, steps);
     }
 }
 
@@ -72,6 +71,6 @@ impl<R: Rounds> RngBackend<R> for Lanes4 {
     const RNG_STEPS: usize = 8;
 
     fn gen_ks_blocks(state: &mut [u32; 16], buffer: &mut [u32; 64], steps: &mut Steps) {
-        next_four::<R, Four>(state, buffer, steps);
+        write_buffer::<R, Four>(state, buffer, steps);
     }
 }

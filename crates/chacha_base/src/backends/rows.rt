@@ -1,27 +1,23 @@
-//! Groups of blocks with a vector for each row of a state, as many states as a vector holds rows.
+//! Groups of blocks with a vector for each row of a state, as many states as a vector has fours.
 
 ghost use Rattle.std.specs.Prelude.{◌≡◌, ◌<◌, ℕ, ◌*◌, [], ◌∷◌, slice_index};
-ghost use Rattle.chacha_base.specs.Lanes.{row};
-ghost use Rattle.chacha_base.specs.RowVectors.{block_in_rows};
+ghost use Rattle.chacha_base.specs.Lanes.{row, state_row};
+ghost use Rattle.chacha_base.specs.Shifts.{rows_turned};
+ghost use Rattle.chacha_base.specs.Vectors.{block_in_rows};
 
-use crate::backends::group::{Group, States, round_by_round};
-use crate::backends::place::{Place, put_block};
-use crate::backends::quad::{Quad, quarter_round, sums};
-use crate::backends::shift::RowShift;
-use crate::backends::vector::RowVector;
+use crate::backends::group::{BlockBuffer, Group, States, write_block};
+use crate::backends::vector::{FourVectors, Vector, quarter_round, sums};
 use crate::rounds::Steps;
-use std::marker::PhantomData;
 
-/// The states of as many blocks as a vector holds rows, and how their rows move.
+/// States in rows. So that each diagonal becomes a column, row `STAYS` stays, and the rows after it, in a circle, move
+/// to the left by 1, 2 and 3 places. Where row b (1) stays, which a quarter round needs first and writes last, the
+/// moves wait for nothing.
 #[derive(Clone, Copy)]
-pub struct Rows<V, S> {
-    rows: Quad<V>,
-    shift: PhantomData<S>,
-}
+pub struct Rows<V, const STAYS: usize>(FourVectors<V>);
 
 // A row of four words, the same for each block.
 #[inline(always)]
-fn repeated<V: RowVector>(w0: u32, w1: u32, w2: u32, w3: u32) -> V
+fn repeated<V: Vector>(w0: u32, w1: u32, w2: u32, w3: u32) -> V
     ensures { (g : ℕ) → g < V.FOURS → row (V.lane result) g ≡ w0 ∷ w1 ∷ w2 ∷ w3 ∷ [] }
 {
     V::from_words(&[
@@ -33,9 +29,9 @@ fn repeated<V: RowVector>(w0: u32, w1: u32, w2: u32, w3: u32) -> V
 #[inline(always)]
 fn set_row(words: &mut [u32; 16], g: usize, values: &[u32; 4])
     requires { g < 4 }
-    ensures here { row (slice_index words.new) g ≡ row (slice_index values.now) 0 }
+    ensures here { state_row words.new g ≡ state_row values.now 0 }
     ensures elsewhere { (h : ℕ) → h < 4 → ¬ (h ≡ g)
-        → row (slice_index words.new) h ≡ row (slice_index words.old) h }
+        → state_row words.new h ≡ state_row words.old h }
 {
     words[4 * g] = values[0];
     words[4 * g + 1] = values[1];
@@ -43,66 +39,78 @@ fn set_row(words: &mut [u32; 16], g: usize, values: &[u32; 4])
     words[4 * g + 3] = values[3];
 }
 
-impl<V: RowVector, S: RowShift> States for Rows<V, S> {
+// Turns the rows of each block to the left, each by its own number of places.
+#[inline(always)]
+fn rows_turned<V: Vector>(
+    rows: FourVectors<V>,
+    a: usize,
+    b: usize,
+    c: usize,
+    d: usize,
+) -> FourVectors<V>
+    ensures { (g : ℕ) → g < V.FOURS
+        → block_in_rows V.lane result g ≡ rows_turned a b c d (block_in_rows V.lane rows g) }
+{
+    FourVectors(
+        rows.0.turned(a),
+        rows.1.turned(b),
+        rows.2.turned(c),
+        rows.3.turned(d),
+    )
+}
+
+impl<V: Vector, const STAYS: usize> States for Rows<V, STAYS> {
     ghost BLOCKS = { V.FOURS };
 
     ghost ROUND_STEPS = { 1 };
 
-    ghost words_of = { λ x g. block_in_rows V.lane x.rows g };
+    ghost words_of = { λ x g. block_in_rows V.lane x.0 g };
 
     #[inline(always)]
-    fn column_round(self, steps: &mut Steps) -> Rows<V, S> {
-        Rows {
-            rows: quarter_round(self.rows, steps),
-            shift: PhantomData,
-        }
+    fn column_round(self, steps: &mut Steps) -> Rows<V, STAYS> {
+        Rows(quarter_round::<V, false>(self.0, steps))
     }
 
     #[inline(always)]
-    fn diagonal_round(self, steps: &mut Steps) -> Rows<V, S> {
-        Rows {
-            rows: S::shift_back(quarter_round(S::shift(self.rows), steps)),
-            shift: PhantomData,
-        }
+    fn diagonal_round(self, steps: &mut Steps) -> Rows<V, STAYS> {
+        let left = 4 - STAYS % 4;
+        let moved = rows_turned(self.0, left, left + 1, left + 2, left + 3);
+        let mixed = quarter_round::<V, false>(moved, steps);
+        let right = 4 + STAYS % 4;
+        Rows(rows_turned(mixed, right, right - 1, right - 2, right - 3))
     }
 }
 
-impl<V: RowVector, S: RowShift> Group for Rows<V, S> {
+impl<V: Vector, const STAYS: usize> Group for Rows<V, STAYS> {
     #[inline(always)]
-    fn start(state: &[u32; 16], last_words: &[[u32; 4]]) -> Rows<V, S> {
+    fn start(state: &[u32; 16], last_rows: &[[u32; 4]]) -> Rows<V, STAYS> {
         let [w0, w1, w2, w3, w4, w5, w6, w7, w8, w9, w10, w11, _, _, _, _] = *state;
         let mut d = [0; 16];
         'each: for g in 0..V::FOURS {
-            set_row(&mut d, g, &last_words[g]);
+            set_row(&mut d, g, &last_rows[g]);
         }
-        Rows {
-            rows: Quad {
-                a: repeated(w0, w1, w2, w3),
-                b: repeated(w4, w5, w6, w7),
-                c: repeated(w8, w9, w10, w11),
-                d: V::from_words(&d),
-            },
-            shift: PhantomData,
-        }
+        Rows(FourVectors(
+            repeated(w0, w1, w2, w3),
+            repeated(w4, w5, w6, w7),
+            repeated(w8, w9, w10, w11),
+            V::from_words(&d),
+        ))
     }
 
     #[inline(always)]
-    fn double_rounds(self, count: usize, steps: &mut Steps) -> Rows<V, S> {
-        round_by_round(self, count, steps)
+    fn rounds(self, count: usize, steps: &mut Steps) -> Rows<V, STAYS> {
+        self.double_rounds(count, steps)
     }
 
     #[inline(always)]
-    fn sums(self, other: Rows<V, S>) -> Rows<V, S> {
-        Rows {
-            rows: sums(self.rows, other.rows),
-            shift: PhantomData,
-        }
+    fn sums(self, other: Rows<V, STAYS>) -> Rows<V, STAYS> {
+        Rows(sums(self.0, other.0))
     }
 
     #[inline(always)]
-    fn store<P: Place>(self, places: &mut [P]) {
+    fn store<B: BlockBuffer>(self, buffers: &mut [B]) {
         'each: for g in 0..V::FOURS {
-            put_block(self.rows, g, &mut places[g]);
+            write_block(self.0, g, &mut buffers[g]);
         }
     }
 }

@@ -4,10 +4,9 @@ ghost use Rattle.std.specs.Prelude.{◌≡◌, ◌<◌, ℕ, ◌+◌, ◌*◌, m
 ghost use Rattle.chacha_base.specs.Counts.{Grows, for_tail};
 ghost use Rattle.chacha_base.specs.State.{state_after, next_block};
 
-use crate::backends::group::Two;
-use crate::backends::kernel::{next_all, next_four, next_one, next_tail};
+use crate::backends::group::Twice;
+use crate::backends::kernel::{write_buffer, write_group, write_one, write_tail};
 use crate::backends::rows::Rows;
-use crate::backends::shift::ShiftBcd;
 use crate::cipher::{ParBlocksSizeUser, RngBackend, StreamCipherBackend};
 use crate::rounds::{Rounds, Steps};
 use crate::variants::Variant;
@@ -19,9 +18,9 @@ use std::simd::prelude::*;
 pub struct Rows8;
 
 // Four blocks, a vector for each row of each, and eight.
-type Four = Two<Two<Rows<u32x4, ShiftBcd>>>;
+type Four = Twice<Twice<Rows<u32x4, 0>>>;
 
-type Eight = Two<Four>;
+type Eight = Twice<Four>;
 
 impl ParBlocksSizeUser for Rows8 {
     ghost use Rattle.std.proofs.Common.{lit≤};
@@ -46,12 +45,12 @@ impl<R: Rounds, V: Variant> StreamCipherBackend<R, V> for Rows8 {
 
     fn gen_ks_block(state: &mut [u32; 16], block: &mut [u8; 64], steps: &mut Steps) {
         steps.add_other();
-        next_one::<R, V, Eight, 8>(state, block, steps);
+        write_one::<R, V, Eight, 8>(state, block, steps);
     }
 
     fn gen_par_ks_blocks(state: &mut [u32; 16], blocks: &mut [[u8; 64]], steps: &mut Steps) {
         steps.add_par();
-        next_all::<R, V, Eight, 8>(state, blocks, steps);
+        write_group::<R, V, Eight, 8>(state, blocks, steps);
     }
 
     fn gen_tail_blocks(state: &mut [u32; 16], blocks: &mut [[u8; 64]], steps: &mut Steps)
@@ -63,7 +62,7 @@ impl<R: Rounds, V: Variant> StreamCipherBackend<R, V> for Rows8 {
         ensures rounds { steps.new.rounds
             ≡ steps.old.rounds + min 1 (length blocks.old) * 16 * R.COUNT }
     {
-        next_tail::<R, V, Eight, 8>(state, blocks, steps);
+        write_tail::<R, V, Eight, 8>(state, blocks, steps);
     }
 }
 
@@ -73,6 +72,6 @@ impl<R: Rounds> RngBackend<R> for Rows8 {
     const RNG_STEPS: usize = 8;
 
     fn gen_ks_blocks(state: &mut [u32; 16], buffer: &mut [u32; 64], steps: &mut Steps) {
-        next_four::<R, Four>(state, buffer, steps);
+        write_buffer::<R, Four>(state, buffer, steps);
     }
 }

@@ -6,7 +6,7 @@ ghost use Rattle.chacha_base.specs.Bytes.{bytes};
 ghost use Rattle.chacha_base.specs.Counts.{Grows, for_tail};
 ghost use Rattle.chacha_base.specs.State.{state_after, next_block};
 
-use crate::backends::counter::advance;
+use crate::backends::kernel::advance;
 use crate::bytes::write_bytes;
 use crate::cipher::{ParBlocksSizeUser, RngBackend, StreamCipherBackend};
 use crate::rounds::{Rounds, Steps, double_rounds};

@@ -1,103 +1,131 @@
-//! Vectors of words: what every engine needs of them, what leads from vectors to blocks, and what rows of states need
-//! besides.
+//! Vectors of words, and the quarter round of four of them.
 
-ghost use Rattle.std.specs.Prelude.{◌≡◌, ◌≤◌, ◌<◌, ℕ, ◌*◌, bit_xor, slice_index};
+ghost use Rattle.std.specs.Prelude.{◌≡◌, ◌≤◌, ◌<◌, ℕ, ◌+◌, ◌*◌, bit_xor, slice_index};
 ghost use Rattle.chacha_base.specs.Words.{add, rotl};
-ghost use Rattle.chacha_base.specs.Lanes.{row, low_words, high_words, turned_1, turned_2, turned_3};
+ghost use Rattle.chacha_base.specs.QuarterRound.{quarter};
+ghost use Rattle.chacha_base.specs.Lanes.{row, interleaved_low, interleaved_high, turned};
+ghost use Rattle.chacha_base.specs.Vectors.{lanes_at, sums_at};
 
+use crate::rounds::Steps;
 use std::simd::prelude::*;
 
-/// A vector of words, one in each lane. The operations work lane by lane.
+/// A vector of words, one in each lane. The lanes lie in fours.
 pub trait Vector: Copy {
     // The word in a lane.
     ghost lane: { Self → ℕ → ℕ };
 
-    ghost LANES: { ℕ };
-
-    /// Words in a vector.
-    const LANES: usize;
-
-    /// The vector of the first of these words, as many as it has lanes.
-    fn from_words(words: &[u32; 16]) -> Self
-        ensures { (j : ℕ) → j < LANES → lane result j ≡ slice_index words.now j };
-
-    /// The sums of the words in each lane.
-    fn plus(self, other: Self) -> Self
-        ensures { (j : ℕ) → j < LANES → lane result j ≡ add (lane self j) (lane other j) };
-
-    /// The words in each lane XORed and rotated to the left.
-    fn xor_rotated(self, other: Self, by: u32) -> Self
-        requires some { 0 < by }
-        requires most { by < 32 }
-        ensures { (j : ℕ) → j < LANES
-            → lane result j ≡ rotl (bit_xor (lane self j) (lane other j)) by };
-
-    ghost lanes_to: { LANES ≤ 16 };
-}
-
-/// A vector whose lanes lie in fours.
-pub trait Fours: Vector {
     ghost FOURS: { ℕ };
 
     /// Fours in a vector.
     const FOURS: usize;
 
+    /// The vector of the first of these words, as many as it has lanes.
+    fn from_words(words: &[u32; 16]) -> Self
+        ensures { (j : ℕ) → j < 4 * FOURS → lane result j ≡ slice_index words.now j };
+
+    /// The sums of the words in each lane.
+    fn plus(self, other: Self) -> Self
+        ensures { (j : ℕ) → j < 4 * FOURS → lane result j ≡ add (lane self j) (lane other j) };
+
+    /// The words in each lane XORed and rotated to the left.
+    fn xor_rotated(self, other: Self, by: u32) -> Self
+        requires some { 0 < by }
+        requires most { by < 32 }
+        ensures { (j : ℕ) → j < 4 * FOURS
+            → lane result j ≡ rotl (bit_xor (lane self j) (lane other j)) by };
+
+    /// The words in each lane XORed and rotated to the left by 8, as a permutation of bytes.
+    fn xor_rotated_8(self, other: Self) -> Self
+        ensures { (j : ℕ) → j < 4 * FOURS
+            → lane result j ≡ rotl (bit_xor (lane self j) (lane other j)) 8 };
+
+    /// Each four turned to the left by one place.
+    fn turned_1(self) -> Self
+        ensures { (g : ℕ) → g < FOURS → row (lane result) g ≡ turned 1 (row (lane self) g) };
+
+    /// Each four turned to the left by so many places.
+    #[inline(always)]
+    final fn turned(self, by: usize) -> Self
+        ensures { (g : ℕ) → g < FOURS → row (lane result) g ≡ turned by (row (lane self) g) }
+    {
+        match by % 4 {
+            0 => self,
+            1 => self.turned_1(),
+            2 => self.turned_1().turned_1(),
+            _ => self.turned_1().turned_1().turned_1(),
+        }
+    }
+
+    /// The first two words of each four by turns with those of another vector, and the last two.
+    fn interleaved(self, other: Self) -> (Self, Self)
+        ensures low { (g : ℕ) → g < FOURS → row (lane result.0) g
+            ≡ interleaved_low (row (lane self) g) (row (lane other) g) }
+        ensures high { (g : ℕ) → g < FOURS → row (lane result.1) g
+            ≡ interleaved_high (row (lane self) g) (row (lane other) g) };
+
     /// The words of one four.
     fn four(self, g: usize) -> u32x4
         requires { g < FOURS }
-        ensures { row (slice_index result) 0 ≡ row (Self.lane self) g };
+        ensures { row (slice_index result) 0 ≡ row (lane self) g };
 
-    ghost lanes: { Self.LANES ≡ 4 * FOURS };
+    ghost fours_at_most: { FOURS ≤ 4 };
 }
 
-/// A vector that holds the same word of some states, a state in each lane, and what brings four words of one state
-/// together.
-pub trait WordVector: Fours {
-    /// The first two words of each four, by turns with those of another vector.
-    fn low_words(self, other: Self) -> Self
-        ensures { (g : ℕ) → g < Self.FOURS → row (Self.lane result) g
-            ≡ low_words (row (Self.lane self) g) (row (Self.lane other) g) };
+/// Words a, b, c and d of a quarter round in each lane: the four rows of some states, or a column or diagonal of one
+/// state in each lane.
+#[derive(Clone, Copy)]
+pub struct FourVectors<V>(pub V, pub V, pub V, pub V);
 
-    /// The last two words of each four, by turns with those of another vector.
-    fn high_words(self, other: Self) -> Self
-        ensures { (g : ℕ) → g < Self.FOURS → row (Self.lane result) g
-            ≡ high_words (row (Self.lane self) g) (row (Self.lane other) g) };
-}
-
-/// A vector that holds the same row of some states, four lanes a state, in order of counter.
-pub trait RowVector: Fours {
-    /// The row of each state turned to the left by one place.
-    fn turned_1(self) -> Self
-        ensures { (g : ℕ) → g < Self.FOURS
-            → row (Self.lane result) g ≡ turned_1 (row (Self.lane self) g) };
-
-    /// The row of each state turned to the left by two places.
-    fn turned_2(self) -> Self
-        ensures { (g : ℕ) → g < Self.FOURS
-            → row (Self.lane result) g ≡ turned_2 (row (Self.lane self) g) };
-
-    /// The row of each state turned to the left by three places.
-    fn turned_3(self) -> Self
-        ensures { (g : ℕ) → g < Self.FOURS
-            → row (Self.lane result) g ≡ turned_3 (row (Self.lane self) g) };
-}
-
-// The vector of the first of these words, at any width.
+// The words in each lane XORed and rotated to the left by 8, as a permutation of bytes or by shifts.
 #[inline(always)]
-fn lanes_from<const N: usize>(words: &[u32; 16]) -> Simd<u32, N>
-    requires { N ≤ 16 }
-    ensures { (j : ℕ) → j < N → slice_index result j ≡ slice_index words.now j }
+fn xor_rotated_8<V: Vector, const BYTES: bool>(one: V, other: V) -> V
+    ensures { (j : ℕ) → j < 4 * V.FOURS
+        → V.lane result j ≡ rotl (bit_xor (V.lane one j) (V.lane other j)) 8 }
 {
-    Simd::from_slice(words)
+    if BYTES {
+        one.xor_rotated_8(other)
+    } else {
+        one.xor_rotated(other, 8)
+    }
 }
 
-// The sums of the lanes of two vectors of any width.
+/// The quarter round of each lane (RFC 8439, section 2.1). It counts as one. `BYTES` says how words are rotated by 8: as
+/// a permutation of bytes, which is faster in columns, or by shifts, which is in rows.
 #[inline(always)]
-fn lanes_plus<const N: usize>(one: Simd<u32, N>, other: Simd<u32, N>) -> Simd<u32, N>
-    ensures { (j : ℕ) → j < N
-        → slice_index result j ≡ add (slice_index one.entry j) (slice_index other.entry j) }
+pub fn quarter_round<V: Vector, const BYTES: bool>(
+    start: FourVectors<V>,
+    steps: &mut Steps,
+) -> FourVectors<V>
+    ensures lanes { (j : ℕ) → j < 4 * V.FOURS → lanes_at V.lane result j
+        ≡ quarter (V.lane start.0 j) (V.lane start.1 j) (V.lane start.2 j) (V.lane start.3 j) }
+    ensures steps { steps.new ≡ record steps.old { rounds = steps.old.rounds + 1 } }
 {
-    one + other
+    let FourVectors(a, b, c, d) = start;
+    let a1 = a.plus(b);
+    let d1 = d.xor_rotated(a1, 16);
+    let c1 = c.plus(d1);
+    let b1 = b.xor_rotated(c1, 12);
+    let a2 = a1.plus(b1);
+    let d2 = xor_rotated_8::<V, BYTES>(d1, a2);
+    let c2 = c1.plus(d2);
+    let b2 = b1.xor_rotated(c2, 7);
+    steps.add_round();
+    FourVectors(a2, b2, c2, d2)
+}
+
+/// The sums of the words in each lane.
+#[inline(always)]
+pub fn sums<V: Vector>(one: FourVectors<V>, other: FourVectors<V>) -> FourVectors<V>
+    ensures { (j : ℕ) → j < 4 * V.FOURS
+        → lanes_at V.lane result j ≡ sums_at V.lane one other j }
+{
+    let FourVectors(a, b, c, d) = one;
+    FourVectors(
+        a.plus(other.0),
+        b.plus(other.1),
+        c.plus(other.2),
+        d.plus(other.3),
+    )
 }
 
 // The lanes of two vectors of any width, XORed and rotated to the left.
@@ -122,69 +150,48 @@ impl Vector for u32x4 {
 
     ghost lane = { λ vector j. slice_index vector j };
 
-    ghost LANES = { 4 };
+    ghost FOURS = { 1 };
 
-    const LANES: usize = 4;
+    const FOURS: usize = 1;
 
-    ghost lanes_to = { lit≤ tt };
+    ghost fours_at_most = { lit≤ tt };
 
     #[inline(always)]
     fn from_words(words: &[u32; 16]) -> u32x4 {
-        lanes_from(words)
+        Simd::from_slice(words)
     }
 
     #[inline(always)]
     fn plus(self, other: u32x4) -> u32x4 {
-        lanes_plus(self, other)
+        self + other
     }
 
     #[inline(always)]
     fn xor_rotated(self, other: u32x4, by: u32) -> u32x4 {
         lanes_xor_rotated(self, other, by)
     }
-}
-
-impl Fours for u32x4 {
-    ghost use Rattle.std.specs.Prelude.{refl};
-
-    ghost FOURS = { 1 };
-
-    const FOURS: usize = 1;
-
-    ghost lanes = { refl };
 
     #[inline(always)]
-    fn four(self, _g: usize) -> u32x4 {
-        self
-    }
-}
-
-impl WordVector for u32x4 {
-    #[inline(always)]
-    fn low_words(self, other: u32x4) -> u32x4 {
-        self.shuffle(other, [0, 4, 1, 5])
+    fn xor_rotated_8(self, other: u32x4) -> u32x4 {
+        let bytes = (self ^ other).to_le_bytes();
+        u32x4::from_le_bytes(bytes.swizzle([3, 0, 1, 2, 7, 4, 5, 6, 11, 8, 9, 10, 15, 12, 13, 14]))
     }
 
-    #[inline(always)]
-    fn high_words(self, other: u32x4) -> u32x4 {
-        self.shuffle(other, [2, 6, 3, 7])
-    }
-}
-
-impl RowVector for u32x4 {
     #[inline(always)]
     fn turned_1(self) -> u32x4 {
         self.swizzle([1, 2, 3, 0])
     }
 
     #[inline(always)]
-    fn turned_2(self) -> u32x4 {
-        self.swizzle([2, 3, 0, 1])
+    fn interleaved(self, other: u32x4) -> (u32x4, u32x4) {
+        let low = self.shuffle(other, [0, 4, 1, 5]);
+        let high = self.shuffle(other, [2, 6, 3, 7]);
+        (low, high)
     }
 
     #[inline(always)]
-    fn turned_3(self) -> u32x4 {
-        self.swizzle([3, 0, 1, 2])
+    fn four(self, _g: usize) -> u32x4 {
+        self
     }
 }
 
@@ -193,36 +200,47 @@ impl Vector for u32x8 {
 
     ghost lane = { λ vector j. slice_index vector j };
 
-    ghost LANES = { 8 };
+    ghost FOURS = { 2 };
 
-    const LANES: usize = 8;
+    const FOURS: usize = 2;
 
-    ghost lanes_to = { lit≤ tt };
+    ghost fours_at_most = { lit≤ tt };
 
     #[inline(always)]
     fn from_words(words: &[u32; 16]) -> u32x8 {
-        lanes_from(words)
+        Simd::from_slice(words)
     }
 
     #[inline(always)]
     fn plus(self, other: u32x8) -> u32x8 {
-        lanes_plus(self, other)
+        self + other
     }
 
     #[inline(always)]
     fn xor_rotated(self, other: u32x8, by: u32) -> u32x8 {
         lanes_xor_rotated(self, other, by)
     }
-}
 
-impl Fours for u32x8 {
-    ghost use Rattle.std.specs.Prelude.{refl};
+    #[inline(always)]
+    fn xor_rotated_8(self, other: u32x8) -> u32x8 {
+        let bytes = (self ^ other).to_le_bytes();
+        u32x8::from_le_bytes(bytes.swizzle([
+            3, 0, 1, 2, 7, 4, 5, 6, 11, 8, 9, 10, 15, 12, 13, 14, 19, 16, 17, 18, 23, 20, 21, 22,
+            27, 24, 25, 26, 31, 28, 29, 30,
+        ]))
+    }
 
-    ghost FOURS = { 2 };
+    #[inline(always)]
+    fn turned_1(self) -> u32x8 {
+        self.swizzle([1, 2, 3, 0, 5, 6, 7, 4])
+    }
 
-    const FOURS: usize = 2;
-
-    ghost lanes = { refl };
+    #[inline(always)]
+    fn interleaved(self, other: u32x8) -> (u32x8, u32x8) {
+        let low = self.shuffle(other, [0, 8, 1, 9, 4, 12, 5, 13]);
+        let high = self.shuffle(other, [2, 10, 3, 11, 6, 14, 7, 15]);
+        (low, high)
+    }
 
     #[inline(always)]
     fn four(self, g: usize) -> u32x4 {
@@ -233,58 +251,59 @@ impl Fours for u32x8 {
     }
 }
 
-impl RowVector for u32x8 {
-    #[inline(always)]
-    fn turned_1(self) -> u32x8 {
-        self.swizzle([1, 2, 3, 0, 5, 6, 7, 4])
-    }
-
-    #[inline(always)]
-    fn turned_2(self) -> u32x8 {
-        self.swizzle([2, 3, 0, 1, 6, 7, 4, 5])
-    }
-
-    #[inline(always)]
-    fn turned_3(self) -> u32x8 {
-        self.swizzle([3, 0, 1, 2, 7, 4, 5, 6])
-    }
-}
-
 impl Vector for u32x16 {
     ghost use Rattle.std.proofs.Common.{lit≤};
 
     ghost lane = { λ vector j. slice_index vector j };
 
-    ghost LANES = { 16 };
+    ghost FOURS = { 4 };
 
-    const LANES: usize = 16;
+    const FOURS: usize = 4;
 
-    ghost lanes_to = { lit≤ tt };
+    ghost fours_at_most = { lit≤ tt };
 
     #[inline(always)]
     fn from_words(words: &[u32; 16]) -> u32x16 {
-        lanes_from(words)
+        Simd::from_slice(words)
     }
 
     #[inline(always)]
     fn plus(self, other: u32x16) -> u32x16 {
-        lanes_plus(self, other)
+        self + other
     }
 
     #[inline(always)]
     fn xor_rotated(self, other: u32x16, by: u32) -> u32x16 {
         lanes_xor_rotated(self, other, by)
     }
-}
 
-impl Fours for u32x16 {
-    ghost use Rattle.std.specs.Prelude.{refl};
+    #[inline(always)]
+    fn xor_rotated_8(self, other: u32x16) -> u32x16 {
+        let bytes = (self ^ other).to_le_bytes();
+        u32x16::from_le_bytes(bytes.swizzle([
+            3, 0, 1, 2, 7, 4, 5, 6, 11, 8, 9, 10, 15, 12, 13, 14, 19, 16, 17, 18, 23, 20, 21, 22,
+            27, 24, 25, 26, 31, 28, 29, 30, 35, 32, 33, 34, 39, 36, 37, 38, 43, 40, 41, 42, 47, 44,
+            45, 46, 51, 48, 49, 50, 55, 52, 53, 54, 59, 56, 57, 58, 63, 60, 61, 62,
+        ]))
+    }
 
-    ghost FOURS = { 4 };
+    #[inline(always)]
+    fn turned_1(self) -> u32x16 {
+        self.swizzle([1, 2, 3, 0, 5, 6, 7, 4, 9, 10, 11, 8, 13, 14, 15, 12])
+    }
 
-    const FOURS: usize = 4;
-
-    ghost lanes = { refl };
+    #[inline(always)]
+    fn interleaved(self, other: u32x16) -> (u32x16, u32x16) {
+        let low = self.shuffle(
+            other,
+            [0, 16, 1, 17, 4, 20, 5, 21, 8, 24, 9, 25, 12, 28, 13, 29],
+        );
+        let high = self.shuffle(
+            other,
+            [2, 18, 3, 19, 6, 22, 7, 23, 10, 26, 11, 27, 14, 30, 15, 31],
+        );
+        (low, high)
+    }
 
     #[inline(always)]
     fn four(self, g: usize) -> u32x4 {
@@ -294,40 +313,5 @@ impl Fours for u32x16 {
             2 => self.swizzle([8, 9, 10, 11]),
             _ => self.swizzle([12, 13, 14, 15]),
         }
-    }
-}
-
-impl WordVector for u32x16 {
-    #[inline(always)]
-    fn low_words(self, other: u32x16) -> u32x16 {
-        self.shuffle(
-            other,
-            [0, 16, 1, 17, 4, 20, 5, 21, 8, 24, 9, 25, 12, 28, 13, 29],
-        )
-    }
-
-    #[inline(always)]
-    fn high_words(self, other: u32x16) -> u32x16 {
-        self.shuffle(
-            other,
-            [2, 18, 3, 19, 6, 22, 7, 23, 10, 26, 11, 27, 14, 30, 15, 31],
-        )
-    }
-}
-
-impl RowVector for u32x16 {
-    #[inline(always)]
-    fn turned_1(self) -> u32x16 {
-        self.swizzle([1, 2, 3, 0, 5, 6, 7, 4, 9, 10, 11, 8, 13, 14, 15, 12])
-    }
-
-    #[inline(always)]
-    fn turned_2(self) -> u32x16 {
-        self.swizzle([2, 3, 0, 1, 6, 7, 4, 5, 10, 11, 8, 9, 14, 15, 12, 13])
-    }
-
-    #[inline(always)]
-    fn turned_3(self) -> u32x16 {
-        self.swizzle([3, 0, 1, 2, 7, 4, 5, 6, 11, 8, 9, 10, 15, 12, 13, 14])
     }
 }

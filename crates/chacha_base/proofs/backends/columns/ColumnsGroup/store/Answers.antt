@@ -1,18 +1,21 @@
 use Rattle.std.proofs.Common.{◌+◌, ◌*◌, ◌<◌, ap, ◌∙◌, arith, length}
 use Rattle.chacha_base.specs.ColumnVectors.{block_in_columns}
-use Rattle.chacha_base.proofs.ListLemmas.{four_more}
+use Rattle.chacha_base.proofs.ListLemmas.{four_more, four_joined}
 use Rattle.chacha_base.proofs.backends.columns.ColumnsGroup.store.Goals as goal
 
 pub each-preserved : goal.each-preserved
 each-preserved g c h less =
-    let holding = g.P.Place.holding in
+    let of_words = g.B.BlockBuffer.of_words in
     let k = c.each.g in
-    let inside : k < g.V.Fours.FOURS = omega arith in
-    let room : 4 * k + 3 < length c.each.places = omega (arith, g.met.V.Fours.lanes, c.requires, c.each.auto.places) in
-    let rows = c.in_rows.ensures in
-    four_more (λ j. holding (block_in_columns g.V.Vector.lane c.args.self j)) (4 * k) c.each.places _ _ _ _ room
-    (c.put_block.ensures ∙ ap holding (rows.first k inside))
-    (c.put_block-in-each.ensures ∙ ap holding (rows.second k inside))
-    (c.put_block-in-each-2.ensures ∙ ap holding (rows.third k inside))
-    (c.put_block-in-each-3.ensures ∙ ap holding (rows.fourth k inside))
+    let inside : k < g.V.Vector.FOURS = omega arith in
+    let room : 4 * k + 3 < length c.each.buffers = omega (arith, c.requires, c.each.auto.buffers) in
+    let a = c.transposed-a.ensures in
+    let b = c.transposed-b.ensures in
+    let x = c.transposed-c.ensures in
+    let d = c.transposed-d.ensures in
+    four_more (λ j. of_words (block_in_columns g.V.Vector.lane c.args.self j)) (4 * k) c.each.buffers _ _ _ _ room
+    (c.write_block.ensures ∙ ap of_words (four_joined (a.first k inside) (b.first k inside) (x.first k inside) (d.first k inside)))
+    (c.write_block-in-each.ensures ∙ ap of_words (four_joined (a.second k inside) (b.second k inside) (x.second k inside) (d.second k inside)))
+    (c.write_block-in-each-2.ensures ∙ ap of_words (four_joined (a.third k inside) (b.third k inside) (x.third k inside) (d.third k inside)))
+    (c.write_block-in-each-3.ensures ∙ ap of_words (four_joined (a.fourth k inside) (b.fourth k inside) (x.fourth k inside) (d.fourth k inside)))
     c.each.invariant h (omega arith)

@@ -5,4 +5,4 @@ use Rattle.chacha_base.proofs.backends.columns.ColumnsGroup.sums.Goals as goal
 pub returns : goal.returns
 unfolding add_states
 returns g c j h =
-    of_columns-same (c.sums-first.ensures j h) (c.sums-second.ensures j h) (c.sums-third.ensures j h) (c.sums-fourth.ensures j h)
+    of_columns-same (c.sums.ensures j h) (c.sums-2.ensures j h) (c.sums-3.ensures j h) (c.sums-4.ensures j h)

@@ -5,5 +5,5 @@ use Rattle.chacha_base.proofs.backends.columns.ColumnsStates.column_round.Goals 
 pub returns-clause-blocks : goal.returns-clause-blocks
 unfolding columns
 returns-clause-blocks g c j h =
-    of_columns-same (c.quarter_round-first.ensures.lanes j h) (c.quarter_round-second.ensures.lanes j h)
-    (c.quarter_round-third.ensures.lanes j h) (c.quarter_round-fourth.ensures.lanes j h)
+    of_columns-same (c.quarter_round.ensures.lanes j h) (c.quarter_round-2.ensures.lanes j h)
+    (c.quarter_round-3.ensures.lanes j h) (c.quarter_round-4.ensures.lanes j h)

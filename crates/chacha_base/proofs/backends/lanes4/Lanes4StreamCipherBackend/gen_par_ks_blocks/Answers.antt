@@ -2,7 +2,7 @@ use Rattle.chacha_base.proofs.backends.lanes4.Lanes4StreamCipherBackend.gen_par_
 
 -- the search finds these too, but not soon that a wrong body has none
 pub returns-clause-blocks : goal.returns-clause-blocks
-returns-clause-blocks g c = c.next_all.ensures.blocks
+returns-clause-blocks g c = c.write_group.ensures.blocks
 
 pub returns-clause-state : goal.returns-clause-state
-returns-clause-state g c = c.next_all.ensures.state
+returns-clause-state g c = c.write_group.ensures.state

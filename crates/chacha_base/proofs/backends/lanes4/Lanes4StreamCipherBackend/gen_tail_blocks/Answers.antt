@@ -2,10 +2,10 @@ use Rattle.chacha_base.proofs.backends.lanes4.Lanes4StreamCipherBackend.gen_tail
 
 -- the search finds these too, but not soon that a wrong body has none
 pub returns-clause-blocks : goal.returns-clause-blocks
-returns-clause-blocks g c = c.next_tail.ensures.blocks
+returns-clause-blocks g c = c.write_tail.ensures.blocks
 
 pub returns-clause-state : goal.returns-clause-state
-returns-clause-state g c = c.next_tail.ensures.state
+returns-clause-state g c = c.write_tail.ensures.state
 
 pub returns-clause-steps : goal.returns-clause-steps
-returns-clause-steps g c = c.next_tail.ensures.steps
+returns-clause-steps g c = c.write_tail.ensures.steps

@@ -5,5 +5,5 @@ use Rattle.chacha_base.proofs.backends.rows.RowsGroup.start.Given as goal
 abbrev pub invariant-each : goal.invariant-each
 invariant-each g l = record {
   sixteen : length l.d ≡ 16;
-  done : (h : ℕ) → h < l.g → row (slice_index l.d) h ≡ row (slice_index (slice_index_or l.last_words h [])) 0;
+  done : (h : ℕ) → h < l.g → row (slice_index l.d) h ≡ row (slice_index (slice_index_or l.last_rows h [])) 0;
 }

@@ -1,7 +1,7 @@
 use Rattle.std.proofs.Common.{◌≡◌, ℕ, ◌<◌}
 use Rattle.std.specs.Prelude.{slice_get, Some}
-use Rattle.chacha_base.specs.RowVectors.{block_in_rows}
+use Rattle.chacha_base.specs.Vectors.{block_in_rows}
 use Rattle.chacha_base.proofs.backends.rows.RowsGroup.store.Given as goal
 
 abbrev pub invariant-each : goal.invariant-each
-invariant-each g l = (h : ℕ) → h < l.g → slice_get l.places h ≡ Some (g.P.Place.holding (block_in_rows g.V.Vector.lane l.fn.self.rows h))
+invariant-each g l = (h : ℕ) → h < l.g → slice_get l.buffers h ≡ Some (g.B.BlockBuffer.of_words (block_in_rows g.V.Vector.lane l.fn.self.0 h))

@@ -1,0 +1,17 @@
+use Rattle.std.proofs.Common.{◌≡◌, ◌*◌, ◌^◌, refl, sym, ap, ◌∙◌, slice_index}
+use Rattle.std.specs.Int.{w32}
+use Rattle.std.specs.Simd.Lanes.{number_l, digits_l}
+use Rattle.std.proofs.lemmas.Simd.{put_chunk_whole, below_from_Fits}
+use Rattle.chacha_base.specs.Bytes.{bytes}
+use Rattle.chacha_base.specs.Lanes.{row}
+use Rattle.chacha_base.proofs.BytesLemmas.{digits-bytes}
+use Rattle.chacha_base.proofs.ListLemmas.{each}
+use Rattle.chacha_base.proofs.backends.group.write_row.Goals as goal
+
+pub returns : goal.returns
+returns c =
+    let x = c.args.words in
+    put_chunk_whole c.args.output.now (digits_l 256 16 (number_l (2 ^ 32) x)) (c.requires)
+    ∙ ap (λ n. digits_l 256 (4 * n) (number_l (2 ^ 32) x)) (sym c.fits-words.0)
+    ∙ digits-bytes x (below_from_Fits w32 x c.fits-words.1)
+    ∙ ap bytes (each 4 (λ x. x ≡ row (slice_index x) 0) (λ x0 x1 x2 x3. refl) x c.fits-words.0)

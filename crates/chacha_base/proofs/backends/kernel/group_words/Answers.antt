@@ -1,8 +1,0 @@
-use Rattle.std.proofs.Common.{◌<◌, [], ◌∙◌, arith}
-use Rattle.std.proofs.lemmas.Option.{get_or_from_slice_get}
-use Rattle.chacha_base.proofs.backends.kernel.group_words.Goals as goal
-
-pub returns-clause-words : goal.returns-clause-words
-returns-clause-words g c b h =
-    let inside : b < g.G.States.BLOCKS = omega arith in
-    get_or_from_slice_get _ b _ [] (c.store.ensures b inside) ∙ c.next_group.ensures.blocks b h

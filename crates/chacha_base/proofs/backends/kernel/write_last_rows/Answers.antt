@@ -1,0 +1,14 @@
+use Rattle.std.proofs.Common.{◌≡◌, [], ◌∙◌, drop, slice_index_or, slice_set, below_more, arith}
+use Rattle.std.proofs.lemmas.List.{get_or-set_same, get_or-set_other}
+use Rattle.chacha_base.specs.State.{state_after}
+use Rattle.chacha_base.proofs.RowLemmas.{last_row-state_after}
+use Rattle.chacha_base.proofs.backends.kernel.write_last_rows.Goals as goal
+
+pub each-preserved : goal.each-preserved
+each-preserved g c =
+    let i = c.each.g in
+    let s = c.args.state.now in
+    below_more (λ h. slice_index_or (slice_set c.each.rows i _) h [] ≡ drop 12 (state_after g.V.Variant.layout h s)) i
+    (λ h less. get_or-set_other c.each.rows i h _ [] (omega arith) ∙ c.each.invariant h less)
+    (get_or-set_same c.each.rows i _ [] (omega arith)
+    ∙ last_row-state_after g.V.Variant.layout i s c.advance.new.state c.told-state c.advance.ensures)

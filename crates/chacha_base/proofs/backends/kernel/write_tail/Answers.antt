@@ -1,0 +1,31 @@
+use Rattle.std.proofs.Common.{◌≡◌, ◌*◌, ◌<◌, [], min, length, slice_index_or, sym, ap, ◌∙◌, arith}
+use Rattle.std.proofs.lemmas.Grind.{common_steps}
+use Rattle.std.specs.Prelude.{Some}
+use Rattle.chacha_base.specs.Bytes.{bytes}
+use Rattle.chacha_base.specs.State.{state_after}
+use Rattle.chacha_base.proofs.CountsLemmas.{grows-tail}
+use Rattle.chacha_base.proofs.ListLemmas.{one_more}
+use Rattle.chacha_base.proofs.StateLemmas.{state_after-zero}
+use Rattle.chacha_base.proofs.backends.kernel.write_tail.Goals as goal
+
+pub each-preserved : goal.each-preserved
+each-preserved g c =
+    one_more (λ h. bytes (slice_index_or c.mixed_words-words.result h [])) c.each.g c.each.blocks _ (omega arith) c.write_bytes.ensures c.each.invariant
+
+pub returns-after-each-clause-blocks : goal.returns-after-each-clause-blocks
+returns-after-each-clause-blocks g c i h =
+    let done : i < c.each.g = omega arith in
+    let made : i < g.row.W = omega arith in
+    c.each.invariant i done ∙ ap (λ s. Some (bytes s)) (c.mixed_words-words.ensures.words i made)
+
+pub returns-after-each-clause-steps : goal.returns-after-each-clause-steps
+returns-after-each-clause-steps g c =
+    let some : min 1 (length c.args.blocks.now) ≡ 1 = grind (arith, common_steps) in
+    grows-tail (2 * g.G.States.ROUND_STEPS * g.R.Rounds.COUNT) (length c.args.blocks.now) c.args.steps.now c.add_other.new.self c.mixed_words-words.new.steps some
+    c.add_other.ensures c.mixed_words-words.ensures.steps
+
+pub returns-else-not-is_empty-clause-state : goal.returns-else-not-is_empty-clause-state
+returns-else-not-is_empty-clause-state g c =
+    let s = c.args.state.now in
+    let none : 0 ≡ length c.args.blocks.now = grind (arith, common_steps) in
+    sym (state_after-zero g.V.Variant.layout s c.told-state c.fits-state) ∙ ap (λ k. state_after g.V.Variant.layout k s) none
