@@ -43,6 +43,14 @@ pub trait Vector: Copy {
     fn turned_1(self) -> Self
         ensures { (g : ℕ) → g < FOURS → row (lane result) g ≡ turned 1 (row (lane self) g) };
 
+    /// Each four turned to the left by two places.
+    fn turned_2(self) -> Self
+        ensures { (g : ℕ) → g < FOURS → row (lane result) g ≡ turned 2 (row (lane self) g) };
+
+    /// Each four turned to the left by three places.
+    fn turned_3(self) -> Self
+        ensures { (g : ℕ) → g < FOURS → row (lane result) g ≡ turned 3 (row (lane self) g) };
+
     /// Each four turned to the left by so many places.
     #[inline(always)]
     final fn turned(self, by: usize) -> Self
@@ -51,8 +59,8 @@ pub trait Vector: Copy {
         match by % 4 {
             0 => self,
             1 => self.turned_1(),
-            2 => self.turned_1().turned_1(),
-            _ => self.turned_1().turned_1().turned_1(),
+            2 => self.turned_2(),
+            _ => self.turned_3(),
         }
     }
 
@@ -183,6 +191,16 @@ impl Vector for u32x4 {
     }
 
     #[inline(always)]
+    fn turned_2(self) -> u32x4 {
+        self.swizzle([2, 3, 0, 1])
+    }
+
+    #[inline(always)]
+    fn turned_3(self) -> u32x4 {
+        self.swizzle([3, 0, 1, 2])
+    }
+
+    #[inline(always)]
     fn interleaved(self, other: u32x4) -> (u32x4, u32x4) {
         let low = self.shuffle(other, [0, 4, 1, 5]);
         let high = self.shuffle(other, [2, 6, 3, 7]);
@@ -233,6 +251,16 @@ impl Vector for u32x8 {
     #[inline(always)]
     fn turned_1(self) -> u32x8 {
         self.swizzle([1, 2, 3, 0, 5, 6, 7, 4])
+    }
+
+    #[inline(always)]
+    fn turned_2(self) -> u32x8 {
+        self.swizzle([2, 3, 0, 1, 6, 7, 4, 5])
+    }
+
+    #[inline(always)]
+    fn turned_3(self) -> u32x8 {
+        self.swizzle([3, 0, 1, 2, 7, 4, 5, 6])
     }
 
     #[inline(always)]
@@ -290,6 +318,16 @@ impl Vector for u32x16 {
     #[inline(always)]
     fn turned_1(self) -> u32x16 {
         self.swizzle([1, 2, 3, 0, 5, 6, 7, 4, 9, 10, 11, 8, 13, 14, 15, 12])
+    }
+
+    #[inline(always)]
+    fn turned_2(self) -> u32x16 {
+        self.swizzle([2, 3, 0, 1, 6, 7, 4, 5, 10, 11, 8, 9, 14, 15, 12, 13])
+    }
+
+    #[inline(always)]
+    fn turned_3(self) -> u32x16 {
+        self.swizzle([3, 0, 1, 2, 7, 4, 5, 6, 11, 8, 9, 10, 15, 12, 13, 14])
     }
 
     #[inline(always)]

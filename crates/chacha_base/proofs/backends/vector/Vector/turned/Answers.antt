@@ -1,5 +1,5 @@
-use Rattle.std.proofs.Common.{◌≡◌, ◌%◌, sym, ap, ◌∙◌, arith}
-use Rattle.chacha_base.specs.Lanes.{row, turned}
+use Rattle.std.proofs.Common.{sym, ◌∙◌, arith}
+use Rattle.chacha_base.specs.Lanes.{row}
 use Rattle.chacha_base.proofs.LaneLemmas.{turned-rest}
 use Rattle.chacha_base.proofs.backends.vector.Vector.turned.Goals as goal
 
@@ -10,11 +10,8 @@ pub returns-in-1 : goal.returns-in-1
 returns-in-1 g c k h = c.turned_1.ensures k h ∙ sym (turned-rest c.args.by 1 (row (g.Self.Vector.lane c.args.self) k) c.in-1.is)
 
 pub returns-in-2 : goal.returns-in-2
-returns-in-2 g c k h =
-    c.turned_1-in-2-2.ensures k h ∙ ap (turned 1) (c.turned_1-in-2.ensures k h)
-    ∙ sym (turned-rest c.args.by 2 (row (g.Self.Vector.lane c.args.self) k) c.in-2.is)
+returns-in-2 g c k h = c.turned_2.ensures k h ∙ sym (turned-rest c.args.by 2 (row (g.Self.Vector.lane c.args.self) k) c.in-2.is)
 
 pub returns-in_default : goal.returns-in_default
 returns-in_default g c k h =
-    c.turned_1-in_default-3.ensures k h ∙ ap (turned 1) (c.turned_1-in_default-2.ensures k h ∙ ap (turned 1) (c.turned_1-in_default.ensures k h))
-    ∙ sym (turned-rest c.args.by 3 (row (g.Self.Vector.lane c.args.self) k) (omega (arith, c.in_default)))
+    c.turned_3.ensures k h ∙ sym (turned-rest c.args.by 3 (row (g.Self.Vector.lane c.args.self) k) (omega (arith, c.in_default)))
