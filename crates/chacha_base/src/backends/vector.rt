@@ -34,7 +34,7 @@ pub trait Vector: Copy {
         ensures { (j : ℕ) → j < 4 * FOURS
             → lane result j ≡ rotl (bit_xor (lane self j) (lane other j)) by };
 
-    /// The words in each lane XORed and rotated to the left by 8, as a permutation of bytes.
+    /// The words in each lane XORed and rotated to the left by 8, in the way that is the fastest in columns.
     fn xor_rotated_8(self, other: Self) -> Self
         ensures { (j : ℕ) → j < 4 * FOURS
             → lane result j ≡ rotl (bit_xor (lane self j) (lane other j)) 8 };
@@ -241,11 +241,8 @@ impl Vector for u32x8 {
 
     #[inline(always)]
     fn xor_rotated_8(self, other: u32x8) -> u32x8 {
-        let bytes = (self ^ other).to_le_bytes();
-        u32x8::from_le_bytes(bytes.swizzle([
-            3, 0, 1, 2, 7, 4, 5, 6, 11, 8, 9, 10, 15, 12, 13, 14, 19, 16, 17, 18, 23, 20, 21, 22,
-            27, 24, 25, 26, 31, 28, 29, 30,
-        ]))
+        // No columns of eight stand, so a permutation of bytes would gain nothing.
+        lanes_xor_rotated(self, other, 8)
     }
 
     #[inline(always)]
