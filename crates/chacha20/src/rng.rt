@@ -7,8 +7,6 @@ ghost use Rattle.rand_core.specs.Steps.{stream_of};
 ghost use Rattle.rand_core.specs.Pcg32Seed.{pcg32_seed};
 ghost use Rattle.chacha_base.specs.Bytes.{bytes};
 ghost use Rattle.chacha_base.specs.Keystream.{stream_part};
-ghost use Rattle.chacha_base.specs.Layout.{legacy};
-ghost use Rattle.chacha_base.specs.State.{state_after, next_words};
 ghost use Rattle.chacha20.specs.Generator.{at_word_pos, word, next_u32, next_u64, fill, reads, of_seed, same_generator};
 ghost use Rattle.chacha20.specs.StateBytes.{state_bytes, of_state_bytes};
 ghost use Rattle.chacha20.specs.Unread.{generator_of, IsUnread};
@@ -81,7 +79,11 @@ impl<R: Rounds, B: RngBackend<R>> ChaChaRng<R, B> {
     pub fn from_seed(seed: Seed) -> Self
         ensures { result ≡ of_seed seed }
     {
-        Self::new(&seed)
+        ChaChaRng {
+            core: ChaChaCore::from_seed(seed),
+            buffer: [0; 64],
+            index: 64,
+        }
     }
 
     /// Takes the next word, of 32 bits.
@@ -131,7 +133,8 @@ impl<R: Rounds, B: RngBackend<R>> ChaChaRng<R, B> {
         ensures value { result ≡ self.now.word_pos }
         ensures below { result < 2 ^ 68 }
     {
-        let first = first_block(self.core.get_block_pos());
+        // The core has moved four blocks past the front of the buffer.
+        let first = self.core.get_block_pos().wrapping_sub(4);
         (16 * u128::from(first) + self.index as u128) % POSITIONS
     }
 
@@ -140,10 +143,10 @@ impl<R: Rounds, B: RngBackend<R>> ChaChaRng<R, B> {
         ensures value { self.new ≡ at_word_pos self.old word_pos }
         ensures position { self.new.word_pos ≡ word_pos % 2 ^ 68 }
     {
-        let place = word_pos % POSITIONS;
-        self.core.set_block_pos((place / 16) as u64);
+        let position = word_pos % POSITIONS;
+        self.core.set_block_pos((position / 16) as u64);
         self.core.generate(&mut self.buffer);
-        self.index = (place % 16) as usize;
+        self.index = (position % 16) as usize;
     }
 
     /// The number of the block that the next word lies in.
@@ -216,17 +219,6 @@ impl<R: Rounds, B: RngBackend<R>> ChaChaRng<R, B> {
         rng
     }
 
-    // The generator of a seed.
-    fn new(seed: &Seed) -> Self
-        ensures { result ≡ of_seed seed.now }
-    {
-        ChaChaRng {
-            core: ChaChaCore::from_seed(*seed),
-            buffer: [0; 64],
-            index: 64,
-        }
-    }
-
     // Takes the next two words one after the other, where they need not stand in one buffer.
     #[inline(never)]
     fn next_u64_across(&mut self) -> u64
@@ -259,13 +251,6 @@ impl<R: Rounds, B: RngBackend<R>> ChaChaRng<R, B> {
     }
 }
 
-// The number of the buffer's first block, where the core's next one has this number.
-fn first_block(next: u64) -> u64
-    ensures { result ≡ (next + (2 ^ 64 - 4)) % 2 ^ 64 }
-{
-    next.wrapping_sub(4)
-}
-
 // The number whose halves are two words.
 #[inline(always)]
 fn joined(low: u32, high: u32) -> u64
@@ -288,21 +273,9 @@ fn refill<R: Rounds, B: RngBackend<R>>(
     ensures same { generator_of core.new index.new ≡ generator_of core.old index.old }
 {
     if *index == 64 {
-        make_words(core, buffer);
+        core.generate(buffer);
         *index = 0;
     }
-}
-
-// Makes the words of a whole buffer.
-#[inline(never)]
-fn make_words<R: Rounds, B: RngBackend<R>>(
-    core: &mut ChaChaCore<R, Legacy, B>,
-    buffer: &mut [u32; 64],
-)
-    ensures words { buffer.new ≡ next_words R.COUNT legacy core.old }
-    ensures moved { core.new ≡ state_after legacy 4 core.old }
-{
-    core.generate(buffer);
 }
 
 // The number of 8 bytes, the low byte first.

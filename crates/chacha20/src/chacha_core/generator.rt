@@ -42,6 +42,8 @@ impl<R: Rounds, B: RngBackend<R>> Generator for ChaChaCore<R, Legacy, B> {
 
     ghost after = { state_after legacy 4 };
 
+    // Not inlined: the reads of a generator hold a test and this call.
+    #[inline(never)]
     fn generate(&mut self, output: &mut [u32; 64]) {
         B::gen_ks_blocks(&mut self.state, output, &mut Steps::new());
     }

@@ -10,20 +10,20 @@ use Rattle.chacha20.proofs.rng.ChaChaRng.set_word_pos.Goals as goal
 pub invariant_of-self : goal.invariant_of-self
 invariant_of-self g c =
     let n = g.R.Rounds.COUNT in
-    let place = c.args.word_pos % positions in
-    let sixteen = ap length c.set_block_pos.ensures.state ∙ length-state_at legacy (place / 16) c.self.inside.core c.self.invariant.sixteen in
-    taken n _ _ 0 (place % 16) _
+    let position = c.args.word_pos % positions in
+    let sixteen = ap length c.set_block_pos.ensures.state ∙ length-state_at legacy (position / 16) c.self.inside.core c.self.invariant.sixteen in
+    taken n _ _ 0 (position % 16) _
     (refilled n c.set_block_pos.new.self _ _ sixteen (subst IsStart (sym c.set_block_pos.ensures.fixed) c.self.invariant.start) c.generate.ensures.moved
     c.generate.ensures.output) (omega arith) (omega arith)
 
 pub returns-clause-value : goal.returns-clause-value
 returns-clause-value g c =
-    let place = c.args.word_pos % positions in
-    let sixteen = ap length c.set_block_pos.ensures.state ∙ length-state_at legacy (place / 16) c.self.inside.core c.self.invariant.sixteen in
-    generator_of-taken c.generate.new.self 0 (place % 16) _ (omega arith)
-    ∙ ap (λ (h : Generator). at_word_pos h (h.word_pos + place % 16))
+    let position = c.args.word_pos % positions in
+    let sixteen = ap length c.set_block_pos.ensures.state ∙ length-state_at legacy (position / 16) c.self.inside.core c.self.invariant.sixteen in
+    generator_of-taken c.generate.new.self 0 (position % 16) _ (omega arith)
+    ∙ ap (λ (h : Generator). at_word_pos h (h.word_pos + position % 16))
     (generator_of-refilled c.set_block_pos.new.self _ sixteen c.generate.ensures.moved
-    ∙ generator_of-recounted c.self.inside.core _ c.self.inside.index (place / 16) _ c.set_block_pos.ensures.fixed c.set_block_pos.ensures.counter (omega arith)
+    ∙ generator_of-recounted c.self.inside.core _ c.self.inside.index (position / 16) _ c.set_block_pos.ensures.fixed c.set_block_pos.ensures.counter (omega arith)
     c.self.view_is)
     ∙ at-same c.args.self.now _ _ (omega arith)
 
