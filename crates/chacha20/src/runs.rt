@@ -1,16 +1,18 @@
 //! Lists of calls. This crate's own: one contract that speaks of any list of calls on a cipher, from any state on, and
 //! one that speaks of any list of calls on a generator.
 
-ghost use Rattle.std.specs.Prelude.{◌≡◌, ◌≤◌, ◌+◌, ℕ, List, [], ◌∷◌, All, length, sum};
+ghost use Rattle.std.specs.Prelude.{◌≡◌, ◌≤◌, ◌+◌, ℕ, List, [], ◌∷◌, All, length, sum, OnOk, OnErr};
 ghost use Rattle.chacha_base.specs.Keystream.{keystream};
 ghost use Rattle.chacha_base.specs.Limit.{limit_of};
 ghost use Rattle.chacha20.specs.declared.runs.CipherCall.TheVariants.{Apply, Seek};
-ghost use Rattle.chacha20.specs.declared.runs.CipherAnswer.TheVariants.{Done};
+ghost use Rattle.chacha20.specs.declared.runs.CipherAnswer.TheVariants.{Done, Refused};
 ghost use Rattle.chacha20.specs.Runs.{setting, cipher_outcome, cipher_run, InSlices, pieces};
 
 mod rng;
 
-use chacha_base::cipher::{StreamCipher, StreamCipherSeek, StreamCipherSeekCore};
+use chacha_base::cipher::{
+    StreamCipher, StreamCipherError, StreamCipherSeek, StreamCipherSeekCore,
+};
 use chacha_base::wrapper::StreamCipherCoreWrapper;
 pub use rng::{RngAnswer, RngCall, run_rng};
 
@@ -61,6 +63,17 @@ pub enum CipherAnswer {
     Overflow,
 }
 
+// The answer to a call that is accepted or refused.
+fn answer(outcome: Result<(), StreamCipherError>) -> CipherAnswer
+    ensures done { OnOk outcome (result ≡ Done) }
+    ensures refused { OnErr outcome (result ≡ Refused) }
+{
+    match outcome {
+        Ok(()) => CipherAnswer::Done,
+        Err(_) => CipherAnswer::Refused,
+    }
+}
+
 // Makes one call.
 fn call_cipher<C: StreamCipherSeekCore>(
     cipher: &mut StreamCipherCoreWrapper<C>,
@@ -73,44 +86,30 @@ fn call_cipher<C: StreamCipherSeekCore>(
         ≡ record { answer = result; cipher = cipher.new; bytes = «data».new } }
 {
     match call {
-        CipherCall::CheckRemaining(len) => match cipher.check_remaining(len) {
-            Ok(()) => CipherAnswer::Done,
-            Err(_) => CipherAnswer::Refused,
-        },
-        CipherCall::Apply { at, len } => match cipher.try_apply_keystream(&mut data[at..at + len]) {
-            Ok(()) => CipherAnswer::Done,
-            Err(_) => CipherAnswer::Refused,
-        },
-        CipherCall::Write { at, len } => match cipher.try_write_keystream(&mut data[at..at + len]) {
-            Ok(()) => CipherAnswer::Done,
-            Err(_) => CipherAnswer::Refused,
-        },
+        CipherCall::CheckRemaining(len) => answer(cipher.check_remaining(len)),
+        CipherCall::Apply { at, len } => answer(cipher.try_apply_keystream(
+            &mut data[at..at + len],
+        )),
+        CipherCall::Write { at, len } => answer(cipher.try_write_keystream(
+            &mut data[at..at + len],
+        )),
         CipherCall::ApplyFrom {
             from,
             from_len,
             at,
             len,
-        } => match cipher.try_apply_keystream_b2b(
+        } => answer(cipher.try_apply_keystream_b2b(
             &input[from..from + from_len],
             &mut data[at..at + len],
-        ) {
-            Ok(()) => CipherAnswer::Done,
-            Err(_) => CipherAnswer::Refused,
-        },
-        CipherCall::Seek(place) => match cipher.try_seek(place) {
-            Ok(()) => CipherAnswer::Done,
-            Err(_) => CipherAnswer::Refused,
-        },
-        CipherCall::SeekI32(place) => match cipher.try_seek(place) {
-            Ok(()) => CipherAnswer::Done,
-            Err(_) => CipherAnswer::Refused,
-        },
+        )),
+        CipherCall::Seek(position) => answer(cipher.try_seek(position)),
+        CipherCall::SeekI32(position) => answer(cipher.try_seek(position)),
         CipherCall::Pos => match cipher.try_current_pos() {
-            Ok(place) => CipherAnswer::Position(place),
+            Ok(position) => CipherAnswer::Position(position),
             Err(_) => CipherAnswer::Overflow,
         },
         CipherCall::PosI32 => match cipher.try_current_pos() {
-            Ok(place) => CipherAnswer::PositionI32(place),
+            Ok(position) => CipherAnswer::PositionI32(position),
             Err(_) => CipherAnswer::Overflow,
         },
     }

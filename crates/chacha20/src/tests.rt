@@ -37,12 +37,8 @@ fn cores(rt: HostRuntime) -> Result<(), Fail> {
     cores_over::<Rows8>(&rt, rt.alloc())?;
     cores_over::<Lanes16>(&rt, rt.alloc())?;
     let legacy = ChaCha20LegacyCore::new(&[0; 32], &[0; 8]);
-    has_text(
-        &rt,
-        rt.alloc(),
-        &legacy,
-        "ChaChaCore<R: 10, V: 64-bit)> { ... }",
-    )
+    let text = "ChaChaCore<R: 10, V: 64-bit)> { ... }";
+    has_text(&rt, rt.alloc(), &legacy, text)
 }
 
 fn generators_over<B>(rt: &impl Abort, alloc: Global) -> Result<(), Fail>
@@ -64,22 +60,10 @@ fn generators(rt: HostRuntime) -> Result<(), Fail> {
     generators_over::<Lanes8>(&rt, rt.alloc())?;
     generators_over::<Rows8>(&rt, rt.alloc())?;
     generators_over::<Lanes16>(&rt, rt.alloc())?;
-    has_text(
-        &rt,
-        rt.alloc(),
-        &ChaCha8Rng::from_seed([0; 32]),
-        "ChaCha8Rng { ... }",
-    )?;
-    has_text(
-        &rt,
-        rt.alloc(),
-        &ChaCha12Rng::from_seed([0; 32]),
-        "ChaCha12Rng { ... }",
-    )?;
-    has_text(
-        &rt,
-        rt.alloc(),
-        &ChaCha20Rng::from_seed([0; 32]),
-        "ChaCha20Rng { ... }",
-    )
+    let of_8 = ChaCha8Rng::from_seed([0; 32]);
+    let of_12 = ChaCha12Rng::from_seed([0; 32]);
+    let of_20 = ChaCha20Rng::from_seed([0; 32]);
+    has_text(&rt, rt.alloc(), &of_8, "ChaCha8Rng { ... }")?;
+    has_text(&rt, rt.alloc(), &of_12, "ChaCha12Rng { ... }")?;
+    has_text(&rt, rt.alloc(), &of_20, "ChaCha20Rng { ... }")
 }
