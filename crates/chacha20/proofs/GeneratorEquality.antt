@@ -5,30 +5,30 @@ use Rattle.std.specs.Bool.{IsTrue}
 use Rattle.std.specs.Cmp.Lexicographic.{pointwise, pointwise_decides}
 use Rattle.std.proofs.lemmas.Bool.{cases_Bool, eq-eqb}
 use Rattle.std.proofs.lemmas.Bool.Decides.{Decides-and, Decides-eqb}
-use Rattle.chacha20.specs.Generator.{Generator, same_generator}
+use Rattle.chacha20.specs.Generator.{GeneratorState, same_generator}
 use Rattle.chacha20.proofs.GeneratorLemmas.{generator_is}
 
 -- they are equal exactly where each of their fields is
-same-Decides : (a b : Generator) → Decides (same_generator a b) ((a.word_pos ≡ b.word_pos) × ((a.stream ≡ b.stream) × (a.seed ≡ b.seed)))
+same-Decides : (a b : GeneratorState) → Decides (same_generator a b) ((a.word_pos ≡ b.word_pos) × ((a.stream ≡ b.stream) × (a.seed ≡ b.seed)))
 same-Decides a b =
     Decides-and _ _ (Decides-eqb a.word_pos b.word_pos)
     (Decides-and _ _ (Decides-eqb a.stream b.stream) (pointwise_decides Decides-eqb a.seed b.seed))
 
-pub same-is : (a b : Generator) → IsTrue (same_generator a b) → a ≡ b
+pub same-is : (a b : GeneratorState) → IsTrue (same_generator a b) → a ≡ b
 same-is a b equal =
     let fields = (same-Decides a b).0 equal in
     generator_is a b fields.1.1 fields.1.0 fields.0
 
-same-own : (a : Generator) → IsTrue (same_generator a a)
+same-own : (a : GeneratorState) → IsTrue (same_generator a a)
 same-own a = (same-Decides a a).1 (refl, (refl, refl))
 
 -- an answer that is `same` says whether they are one generator
-pub same-answer : (a b : Generator) (r : Bool) → r ≡ same_generator a b → IsTrue r ↔ (a ≡ b)
+pub same-answer : (a b : GeneratorState) (r : Bool) → r ≡ same_generator a b → IsTrue r ↔ (a ≡ b)
 same-answer a b r is = (λ equal. same-is a b (sym is ∙ equal), λ one. is ∙ ap (same_generator a) (sym one) ∙ same-own a)
 
 -- what is left to test where positions and streams are known
-pub same-rest : (a b : Generator) → a.word_pos ≡ b.word_pos → a.stream ≡ b.stream → same_generator a b ≡ pointwise ◌==◌ a.seed b.seed
+pub same-rest : (a b : GeneratorState) → a.word_pos ≡ b.word_pos → a.stream ≡ b.stream → same_generator a b ≡ pointwise ◌==◌ a.seed b.seed
 same-rest a b positions streams = rw (eq-eqb a.word_pos b.word_pos positions, eq-eqb a.stream b.stream streams) refl
 
-pub same-not : (a b : Generator) → (a ≡ b → ⊥) → same_generator a b ≡ false
+pub same-not : (a b : GeneratorState) → (a ≡ b → ⊥) → same_generator a b ≡ false
 same-not a b apart = elim (cases_Bool (same_generator a b)) [ inl equal ↦ absurd (apart (same-is a b equal)) | inr unequal ↦ unequal ]

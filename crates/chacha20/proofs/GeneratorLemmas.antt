@@ -10,8 +10,8 @@ use Rattle.chacha_base.specs.Layout.{legacy}
 use Rattle.chacha_base.specs.State.{state_counter, fixed_words}
 use Rattle.chacha_base.proofs.BytesLemmas.{length-words}
 use Rattle.chacha_base.proofs.ListLemmas.{each}
-use Rattle.chacha20.specs.Generator.{Generator}
-use Rattle.chacha20.specs.Unread.{seed_of, stream_of, IsStart, generator_of, IsUnread}
+use Rattle.chacha20.specs.Generator.{GeneratorState}
+use Rattle.chacha20.specs.Unread.{seed_in, stream_in, IsStart, generator_of, IsUnread}
 
 -- each byte is below 256
 abbrev pub Bytes : List ℕ → Type 0
@@ -70,27 +70,27 @@ nonce_written s x long fits =
     ∙ ap (λ ws. take 14 s ++ ws) (ap (λ l. l ∷ x / 2 ^ 32 ∷ []) (and_mask x 32) ∙ sym (words-to_le_bytes x fits))
 
 -- the seed and the stream of the fixed words of a start state
-seed_of-start : (seed nonce : List ℕ) → length seed ≡ 32 → Bytes seed → seed_of (constants ++ words seed ++ words nonce) ≡ seed
-seed_of-start seed nonce long fits =
+seed_in-start : (seed nonce : List ℕ) → length seed ≡ 32 → Bytes seed → seed_in (constants ++ words seed ++ words nonce) ≡ seed
+seed_in-start seed nonce long fits =
     ap bytes (take_at (words seed) (words nonce) 8 (length-words 8 seed long)) ∙ bytes-words 8 seed long fits
 
-stream_of-start : (seed : List ℕ) (x : ℕ) → length seed ≡ 32 → x < 2 ^ 64 → stream_of (constants ++ words seed ++ words (to_le_bytes w64 x)) ≡ x
-stream_of-start seed x long fits =
+stream_in-start : (seed : List ℕ) (x : ℕ) → length seed ≡ 32 → x < 2 ^ 64 → stream_in (constants ++ words seed ++ words (to_le_bytes w64 x)) ≡ x
+stream_in-start seed x long fits =
     ap (λ ws. from_le_bytes w64 (bytes ws)) (drop_at (words seed) (words (to_le_bytes w64 x)) 8 (length-words 8 seed long) ∙ words-to_le_bytes x fits)
     ∙ from_le_bytes-bytes (x % 2 ^ 32) (x / 2 ^ 32) (omega arith) (omega arith)
     ∙ omega arith
 
-pub length-seed_of : (core : List ℕ) → length core ≡ 16 → length (seed_of (fixed_words legacy core)) ≡ 32
-length-seed_of = each 16 (λ s. length (seed_of (fixed_words legacy s)) ≡ 32) (λ x0 x1 x2 x3 x4 x5 x6 x7 x8 x9 x10 x11 x12 x13 x14 x15. refl)
+pub length-seed_in : (core : List ℕ) → length core ≡ 16 → length (seed_in (fixed_words legacy core)) ≡ 32
+length-seed_in = each 16 (λ s. length (seed_in (fixed_words legacy s)) ≡ 32) (λ x0 x1 x2 x3 x4 x5 x6 x7 x8 x9 x10 x11 x12 x13 x14 x15. refl)
 
 -- the fixed words with another nonce
 pub fixed_words-renonced : (core next : List ℕ) (stream : ℕ) → length core ≡ 16 → IsStart (fixed_words legacy core)
     → next ≡ take 14 core ++ words (to_le_bytes w64 stream)
-    → fixed_words legacy next ≡ constants ++ words (seed_of (fixed_words legacy core)) ++ words (to_le_bytes w64 stream)
+    → fixed_words legacy next ≡ constants ++ words (seed_in (fixed_words legacy core)) ++ words (to_le_bytes w64 stream)
 fixed_words-renonced core next stream long own moved =
     let nonce = words (to_le_bytes w64 stream) in
-    let front = constants ++ words (seed_of (fixed_words legacy core)) in
-    let twelve : length front ≡ 12 = omega (arith, length-words 8 (seed_of (fixed_words legacy core)) (length-seed_of core long)) in
+    let front = constants ++ words (seed_in (fixed_words legacy core)) in
+    let twelve : length front ≡ 12 = omega (arith, length-words 8 (seed_in (fixed_words legacy core)) (length-seed_in core long)) in
     ap (fixed_words legacy) moved
     ∙ each 16 (λ s. fixed_words legacy (take 14 s ++ nonce) ≡ take 12 (fixed_words legacy s) ++ nonce)
     (λ x0 x1 x2 x3 x4 x5 x6 x7 x8 x9 x10 x11 x12 x13 x14 x15. refl) core long
@@ -105,8 +105,8 @@ pub length-start : (seed nonce : List ℕ) (c : ℕ) → length (words seed) ≡
 length-start seed nonce c eight two = simp length-append (omega arith)
 
 -- generators with the same parts are one
-pub generator_is : (g h : Generator) → g.seed ≡ h.seed → g.stream ≡ h.stream → g.word_pos ≡ h.word_pos → g ≡ h
-generator_is g h seeds streams places = λ i. record { seed = seeds i; stream = streams i; word_pos = places i }
+pub generator_is : (g h : GeneratorState) → g.seed ≡ h.seed → g.stream ≡ h.stream → g.word_pos ≡ h.word_pos → g ≡ h
+generator_is g h seeds streams positions = λ i. record { seed = seeds i; stream = streams i; word_pos = positions i }
 
 -- a core at whose buffer no word is left
 pub unread-none : (n : ℕ) (core buffer : List ℕ) → length core ≡ 16 → IsStart (fixed_words legacy core) → IsUnread n core buffer 64
@@ -118,10 +118,10 @@ unread-none n core buffer long own = record {
 }
 
 -- the core with another counter: the same seed and stream
-pub generator_of-recounted : (core next : List ℕ) (used c : ℕ) (g : Generator) → fixed_words legacy next ≡ fixed_words legacy core
+pub generator_of-recounted : (core next : List ℕ) (used c : ℕ) (g : GeneratorState) → fixed_words legacy next ≡ fixed_words legacy core
     → state_counter legacy next ≡ c → c < 2 ^ 64 → generator_of core used ≡ g → generator_of next 64 ≡ record g { word_pos = 16 * c }
 generator_of-recounted core next used c g fixed counter less same =
-    generator_is _ _ (ap seed_of fixed ∙ ap (λ (h : Generator). h.seed) same) (ap stream_of fixed ∙ ap (λ (h : Generator). h.stream) same)
+    generator_is _ _ (ap seed_in fixed ∙ ap (λ (h : GeneratorState). h.seed) same) (ap stream_in fixed ∙ ap (λ (h : GeneratorState). h.stream) same)
     (omega (arith, counter))
 
 -- the core of a seed and a stream, at its start
@@ -130,11 +130,11 @@ pub unread-start : (n : ℕ) (core buffer seed : List ℕ) (stream : ℕ) → le
 unread-start n core buffer seed stream long long_seed fits below same =
     unread-none n core buffer long
     (subst IsStart (sym same)
-    (sym (ap₂ (λ k t. constants ++ words k ++ words (to_le_bytes w64 t)) (seed_of-start seed (to_le_bytes w64 stream) long_seed fits) (stream_of-start seed stream long_seed below))))
+    (sym (ap₂ (λ k t. constants ++ words k ++ words (to_le_bytes w64 t)) (seed_in-start seed (to_le_bytes w64 stream) long_seed fits) (stream_in-start seed stream long_seed below))))
 
 pub generator_of-start : (core seed : List ℕ) (stream : ℕ) → length seed ≡ 32 → Bytes seed → stream < 2 ^ 64
     → fixed_words legacy core ≡ constants ++ words seed ++ words (to_le_bytes w64 stream) → state_counter legacy core ≡ 0
     → generator_of core 64 ≡ record { seed = seed; stream = stream; word_pos = 0 }
 generator_of-start core seed stream long fits below same counter =
-    generator_is _ _ (ap seed_of same ∙ seed_of-start seed (to_le_bytes w64 stream) long fits) (ap stream_of same ∙ stream_of-start seed stream long below)
+    generator_is _ _ (ap seed_in same ∙ seed_in-start seed (to_le_bytes w64 stream) long fits) (ap stream_in same ∙ stream_in-start seed stream long below)
     (omega (arith, counter))

@@ -4,7 +4,7 @@ use Rattle.std.proofs.Common.{◌≡◌, ℕ, ◌-◌, ◌*◌, ◌^◌, List, [
 use Rattle.chacha_base.specs.Keystream.{stream_part}
 use Rattle.chacha_base.specs.QuarterRound.{quarter}
 use Rattle.chacha_base.specs.Rounds.{columns, diagonals, rounds, add_states}
-use Rattle.chacha20.specs.Generator.{Generator, next_u32, next_u64, fill, word, at_word_pos}
+use Rattle.chacha20.specs.Generator.{GeneratorState, next_u32, next_u64, fill, word, at_word_pos}
 use Rattle.chacha20.specs.StateBytes.{state_bytes, of_state_bytes}
 
 -- the seed 01 to 20
@@ -13,10 +13,10 @@ seed =
     0x01 ∷ 0x02 ∷ 0x03 ∷ 0x04 ∷ 0x05 ∷ 0x06 ∷ 0x07 ∷ 0x08 ∷ 0x09 ∷ 0x0a ∷ 0x0b ∷ 0x0c ∷ 0x0d ∷ 0x0e ∷ 0x0f ∷ 0x10
     ∷ 0x11 ∷ 0x12 ∷ 0x13 ∷ 0x14 ∷ 0x15 ∷ 0x16 ∷ 0x17 ∷ 0x18 ∷ 0x19 ∷ 0x1a ∷ 0x1b ∷ 0x1c ∷ 0x1d ∷ 0x1e ∷ 0x1f ∷ 0x20 ∷ []
 
-abbrev pub of_seed : Generator
+abbrev pub of_seed : GeneratorState
 of_seed = record { seed = seed; stream = 0; word_pos = 0 }
 
-abbrev pub of_zeros : Generator
+abbrev pub of_zeros : GeneratorState
 of_zeros = record { seed = replicate 32 0; stream = 0; word_pos = 0 }
 
 -- 13 bytes take four words

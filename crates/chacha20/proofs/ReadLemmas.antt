@@ -16,17 +16,17 @@ use Rattle.chacha_base.specs.Layout.{legacy}
 use Rattle.chacha_base.specs.Rounds.{mix}
 use Rattle.chacha_base.specs.State.{fixed_words, state_of, state_at, counter_after, state_after, next_words}
 use Rattle.chacha_base.proofs.StateLemmas.{length-state_at, fixed_words-state_after, state_counter-state_after, state_of-start, next_words-at}
-use Rattle.chacha20.proofs.GeneratorLemmas.{length-bytes, length-seed_of, generator_is}
-use Rattle.chacha20.specs.Generator.{Generator, positions, at_word_pos, word, next_u32, next_u64, fill}
-use Rattle.chacha20.specs.Unread.{seed_of, stream_of, IsStart, generator_of, IsUnread}
+use Rattle.chacha20.proofs.GeneratorLemmas.{length-bytes, length-seed_in, generator_is}
+use Rattle.chacha20.specs.Generator.{GeneratorState, positions, at_word_pos, word, next_u32, next_u64, fill}
+use Rattle.chacha20.specs.Unread.{seed_in, stream_in, IsStart, generator_of, IsUnread}
 
 -- positions that are the same when they wrap have the same word
-word-same : (n : ℕ) (g : Generator) (v w : ℕ) → v % positions ≡ w % positions → word n g v ≡ word n g w
+word-same : (n : ℕ) (g : GeneratorState) (v w : ℕ) → v % positions ≡ w % positions → word n g v ≡ word n g w
 word-same n g v w same =
     let place : v % 16 ≡ w % 16 = omega (arith, same) in
     ap₂ (λ p i. slice_index (mix n (start legacy g.seed (to_le_bytes w64 g.stream) (p / 16))) i) same place
 
-stream_part-word : (n : ℕ) (g : Generator) (v w k : ℕ) → v % positions ≡ w % positions → stream_part (word n g) v k ≡ stream_part (word n g) w k
+stream_part-word : (n : ℕ) (g : GeneratorState) (v w k : ℕ) → v % positions ≡ w % positions → stream_part (word n g) v k ≡ stream_part (word n g) w k
 stream_part-word n g v w k same =
     stream_part-same (word n g) (word n g) v w k (λ i less.
     let here : (v + i) % positions ≡ (w + i) % positions = omega (arith, same) in word-same n g _ _ here)
@@ -83,8 +83,8 @@ refilled n core next made long own moved words =
     let g = generator_of next 0 in
     let again : (c : ℕ) → state_at legacy c core ≡ start legacy g.seed (to_le_bytes w64 g.stream) c =
     λ c. ap (λ f. state_of legacy f c) own
-    ∙ state_of-start legacy (seed_of (fixed_words legacy core)) (to_le_bytes w64 (stream_of (fixed_words legacy core))) c (length-words 8 _ (length-seed_of core long))
-    ∙ ap (λ f. start legacy (seed_of f) (to_le_bytes w64 (stream_of f)) c) (sym fixed) in
+    ∙ state_of-start legacy (seed_in (fixed_words legacy core)) (to_le_bytes w64 (stream_in (fixed_words legacy core))) c (length-words 8 _ (length-seed_in core long))
+    ∙ ap (λ f. start legacy (seed_in f) (to_le_bytes w64 (stream_in f)) c) (sym fixed) in
     record {
       sixteen = ap length moved ∙ length-state_at legacy (counter_after legacy core 4) core long;
       start = subst IsStart (sym fixed) own;
@@ -103,31 +103,31 @@ refilled n core next made long own moved words =
 pub generator_of-refilled : (core next : List ℕ) → length core ≡ 16 → next ≡ state_after legacy 4 core → generator_of next 0 ≡ generator_of core 64
 generator_of-refilled core next long moved =
     let fixed = fixed_words-state_after legacy 4 core next long moved in
-    generator_is _ _ (ap seed_of fixed) (ap stream_of fixed) (omega (arith, state_counter-state_after legacy 4 core next long moved))
+    generator_is _ _ (ap seed_in fixed) (ap stream_in fixed) (omega (arith, state_counter-state_after legacy 4 core next long moved))
 
 -- positions that are the same when they wrap
-pub at-same : (g : Generator) (v w : ℕ) → v % positions ≡ w % positions → at_word_pos g v ≡ at_word_pos g w
+pub at-same : (g : GeneratorState) (v w : ℕ) → v % positions ≡ w % positions → at_word_pos g v ≡ at_word_pos g w
 at-same g v w same = ap (λ p. record g { word_pos = p }) same
 
 -- two words as the halves of a number, and read one after the other
 pub halves_joined : (low high : ℕ) → low < 2 ^ 32 → high < 2 ^ 32 → bit_or (high * 2 ^ 32 % 2 ^ 64) low ≡ low + 2 ^ 32 * high
 halves_joined low high low_fits high_fits = or_after_shift high (2 ^ 32) (2 ^ 64) low refl low_fits (omega arith) ∙ omega arith
 
-pub two_reads : (n : ℕ) (g h i : Generator) (low high : ℕ) → (low, h) ≡ next_u32 n g → (high, i) ≡ next_u32 n h
+pub two_reads : (n : ℕ) (g h i : GeneratorState) (low high : ℕ) → (low, h) ≡ next_u32 n g → (high, i) ≡ next_u32 n h
     → (low + 2 ^ 32 * high, i) ≡ next_u64 n g
 two_reads n g h i low high first then =
     let w = g.word_pos in
-    let moved : h ≡ at_word_pos g (w + 1) = ap (λ (p : ℕ × Generator). p.1) first in
+    let moved : h ≡ at_word_pos g (w + 1) = ap (λ (p : ℕ × GeneratorState). p.1) first in
     let second : (high, i) ≡ next_u32 n (at_word_pos g (w + 1)) = then ∙ ap (next_u32 n) moved in
     let wrapped : (w + 1) % positions % positions ≡ (w + 1) % positions = omega arith in
     let after : ((w + 1) % positions + 1) % positions ≡ (w + 2) % positions = omega arith in
     ap₂ (λ x y. (x, y))
-    (ap₂ (λ x y. x + 2 ^ 32 * y) (ap (λ (p : ℕ × Generator). p.0) first)
-    (ap (λ (p : ℕ × Generator). p.0) second ∙ word-same n g _ _ wrapped))
-    (ap (λ (p : ℕ × Generator). p.1) second ∙ at-same g _ _ after)
+    (ap₂ (λ x y. x + 2 ^ 32 * y) (ap (λ (p : ℕ × GeneratorState). p.0) first)
+    (ap (λ (p : ℕ × GeneratorState). p.0) second ∙ word-same n g _ _ wrapped))
+    (ap (λ (p : ℕ × GeneratorState). p.1) second ∙ at-same g _ _ after)
 
 -- k words more are written, behind those before them
-pub words-written : (n : ℕ) (rng : Generator) (core buffer : List ℕ) (i k done : ℕ) (dst part : List ℕ) → IsUnread n core buffer i → i + k ≤ 64 → length buffer ≡ 64
+pub words-written : (n : ℕ) (rng : GeneratorState) (core buffer : List ℕ) (i k done : ℕ) (dst part : List ℕ) → IsUnread n core buffer i → i + k ≤ 64 → length buffer ≡ 64
     → generator_of core i ≡ at_word_pos rng (rng.word_pos + done) → 4 * (done + k) ≤ length dst
     → take (4 * done) dst ≡ bytes (stream_part (word n rng) rng.word_pos done) → part ≡ bytes (take k (drop i buffer))
     → take (4 * (done + k)) (put_mid (4 * done) (4 * (done + k) - 4 * done) dst part) ≡ bytes (stream_part (word n rng) rng.word_pos (done + k))
@@ -136,7 +136,7 @@ words-written n rng core buffer i k done dst part held room long moved fits befo
     let wrapped : (w + done) % positions % positions ≡ (w + done) % positions = omega arith in
     let next : take k (drop i buffer) ≡ stream_part (word n rng) (w + done) k =
     next_unread n core buffer i k held room long
-    ∙ ap (λ (h : Generator). stream_part (word n h) h.word_pos k) moved
+    ∙ ap (λ (h : GeneratorState). stream_part (word n h) h.word_pos k) moved
     ∙ stream_part-word n rng _ _ k wrapped in
     let size : length part ≡ 4 * k =
     ap length made ∙ length-bytes (take k (drop i buffer)) ∙ ap (λ x. 4 * x) (ap length next ∙ length-stream_part (word n rng) (w + done) k) in
@@ -145,7 +145,7 @@ words-written n rng core buffer i k done dst part held room long moved fits befo
     ∙ sym (ap bytes (stream_part-add (word n rng) w done k) ∙ bytes-append (stream_part (word n rng) w done) (stream_part (word n rng) (w + done) k))
 
 -- a fill that ends with a word's last byte
-pub filled-whole : (n : ℕ) (g h : Generator) (q len : ℕ) (dst : List ℕ) → len ≡ 4 * q → dst ≡ bytes (stream_part (word n g) g.word_pos q) → h ≡ at_word_pos g (g.word_pos + q)
+pub filled-whole : (n : ℕ) (g h : GeneratorState) (q len : ℕ) (dst : List ℕ) → len ≡ 4 * q → dst ≡ bytes (stream_part (word n g) g.word_pos q) → h ≡ at_word_pos g (g.word_pos + q)
     → (dst, h) ≡ fill n g len
 filled-whole n g h q len dst size made moved =
     let words : (len + 3) / 4 ≡ q = omega (arith, size) in
@@ -161,7 +161,7 @@ take-behind xs ys r e same =
     ∙ ap₂ (λ a b. a ++ take r b) (take_at xs ys (length xs) refl) (drop_at xs ys (length xs) refl)
 
 -- a fill that ends with the front of a word
-pub filled-over : (n : ℕ) (g h i : Generator) (q r len x : ℕ) (front last : List ℕ) → len ≡ 4 * q + r → 0 < r → r < 4
+pub filled-over : (n : ℕ) (g h i : GeneratorState) (q r len x : ℕ) (front last : List ℕ) → len ≡ 4 * q + r → 0 < r → r < 4
     → front ≡ bytes (stream_part (word n g) g.word_pos q) → h ≡ at_word_pos g (g.word_pos + q) → (x, i) ≡ next_u32 n h → last ≡ take r (word_bytes x)
     → (front ++ last, i) ≡ fill n g len
 filled-over n g h i q r len x front last size some part made moved read cut =
@@ -170,11 +170,13 @@ filled-over n g h i q r len x front last size some part made moved read cut =
     let here : (x, i) ≡ next_u32 n (at_word_pos g (w + q)) = read ∙ ap (next_u32 n) moved in
     let wrapped : (w + q) % positions % positions ≡ (w + q) % positions = omega arith in
     let after : ((w + q) % positions + 1) % positions ≡ (w + (q + 1)) % positions = omega arith in
-    let word_is : x ≡ word n g (w + q) = ap (λ (p : ℕ × Generator). p.0) here ∙ word-same n g _ _ wrapped in
+    let word_is : x ≡ word n g (w + q) = ap (λ (p : ℕ × GeneratorState). p.0) here ∙ word-same n g _ _ wrapped in
     let all : bytes (stream_part (word n g) w (q + 1)) ≡ bytes (stream_part (word n g) w q) ++ word_bytes x =
     ap bytes (stream_part-add (word n g) w q 1) ∙ bytes-append (stream_part (word n g) w q) (word n g (w + q) ∷ []) ∙ ap (λ v. bytes (stream_part (word n g) w q) ++ word_bytes v) (sym word_is) in
     let long : len ≡ length (bytes (stream_part (word n g) w q)) + r = omega (arith, size, length-bytes (stream_part (word n g) w q), length-stream_part (word n g) w q) in
-    ap₂ (λ y z. (y, z))
+    let filled : ℕ → List ℕ × GeneratorState = λ k. (take len (bytes (stream_part (word n g) w k)), at_word_pos g (w + k)) in
+    ◌∙◌ {b = filled (q + 1)}
+    (ap₂ (λ y z. (y, z))
     (ap₂ ◌++◌ made cut ∙ sym (ap (take len) all ∙ take-behind (bytes (stream_part (word n g) w q)) (word_bytes x) r len long))
-    (ap (λ (p : ℕ × Generator). p.1) here ∙ at-same g _ _ after)
-    ∙ ap (λ k. (take len (bytes (stream_part (word n g) w k)), at_word_pos g (w + k))) (sym words)
+    (ap (λ (p : ℕ × GeneratorState). p.1) here ∙ at-same g _ _ after))
+    (ap filled (sym words))

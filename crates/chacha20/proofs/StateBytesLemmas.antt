@@ -8,7 +8,7 @@ use Rattle.std.proofs.Math.Seq.{take-add}
 use Rattle.std.specs.Int.{w64, to_le_bytes, from_le_bytes}
 use Rattle.std.specs.Int.Bits.{bit_or}
 use borrow.Rule.Slice.PartMut.{put_mid}
-use Rattle.chacha20.specs.Generator.{Generator, positions, at_word_pos}
+use Rattle.chacha20.specs.Generator.{GeneratorState, positions, at_word_pos}
 use Rattle.chacha20.specs.StateBytes.{state_bytes, of_state_bytes}
 use Rattle.chacha20.proofs.GeneratorLemmas.{Bytes, generator_is}
 
@@ -36,7 +36,7 @@ state_written seed stream low top long eight eight' =
     ∙ append_assoc seed stream (low ++ top ∷ [])
 
 -- what is written of a generator
-pub state_is : (g : Generator) (seed stream low : List ℕ) (s l w : ℕ) → length seed ≡ 32 → seed ≡ g.seed
+pub state_is : (g : GeneratorState) (seed stream low : List ℕ) (s l w : ℕ) → length seed ≡ 32 → seed ≡ g.seed
     → stream ≡ to_le_bytes w64 s → s ≡ g.stream → low ≡ to_le_bytes w64 l → l ≡ w % 2 ^ 64 → w ≡ g.word_pos
     → set (put_mid 40 8 (put_mid 32 8 (seed ++ replicate 17 0) stream) low) 48 (w / 2 ^ 64) ≡ state_bytes g
 state_is g seed stream low s l w long seed_is stream_is s_is low_is l_is w_is =
@@ -46,7 +46,7 @@ state_is g seed stream low s l w long seed_is stream_is s_is low_is l_is w_is =
     ∙ ap (λ v. g.seed ++ (to_le_bytes w64 g.stream ++ (to_le_bytes w64 (v % 2 ^ 64) ++ v / 2 ^ 64 ∷ []))) w_is
 
 -- out and in again
-pub of_state_bytes-state_bytes : (g : Generator) → length g.seed ≡ 32 → g.stream < 2 ^ 64 → g.word_pos < positions → of_state_bytes (state_bytes g) ≡ g
+pub of_state_bytes-state_bytes : (g : GeneratorState) → length g.seed ≡ 32 → g.stream < 2 ^ 64 → g.word_pos < positions → of_state_bytes (state_bytes g) ≡ g
 of_state_bytes-state_bytes g long below less =
     let w = g.word_pos in
     let all = state_bytes g in

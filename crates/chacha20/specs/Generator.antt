@@ -10,7 +10,7 @@ use Rattle.chacha_base.specs.Keystream.{stream_part}
 use Rattle.chacha_base.specs.Layout.{legacy}
 use Rattle.chacha_base.specs.Rounds.{mix}
 
-pub record Generator : Type 0 where
+pub record GeneratorState : Type 0 where
   pub seed : List ℕ
   pub stream : ℕ
   pub word_pos : ℕ
@@ -20,43 +20,43 @@ abbrev pub positions : ℕ
 positions = 2 ^ 68
 
 -- the generator of a seed, at the start of stream 0
-abbrev pub of_seed : List ℕ → Generator
+abbrev pub of_seed : List ℕ → GeneratorState
 of_seed seed = record { seed = seed; stream = 0; word_pos = 0 }
 
 -- the generator at a position
-abbrev pub at_word_pos : Generator → ℕ → Generator
+abbrev pub at_word_pos : GeneratorState → ℕ → GeneratorState
 at_word_pos g w = record g { word_pos = w % positions }
 
 -- the word at a position, after n double rounds: that of the block whose key is the seed and whose
 -- nonce is the stream's 8 bytes, the low byte first
-abbrev pub word : ℕ → Generator → ℕ → ℕ
+abbrev pub word : ℕ → GeneratorState → ℕ → ℕ
 word n g w =
     let nonce = to_le_bytes w64 g.stream in
     slice_index (mix n (start legacy g.seed nonce (w % positions / 16))) (w % 16)
 
 -- reads: the answer, and the generator after it
-abbrev pub next_u32 : ℕ → Generator → ℕ × Generator
+abbrev pub next_u32 : ℕ → GeneratorState → ℕ × GeneratorState
 next_u32 n g = (word n g g.word_pos, at_word_pos g (g.word_pos + 1))
 
-abbrev pub next_u64 : ℕ → Generator → ℕ × Generator
+abbrev pub next_u64 : ℕ → GeneratorState → ℕ × GeneratorState
 next_u64 n g = (
   word n g g.word_pos + 2 ^ 32 * word n g (g.word_pos + 1),
   at_word_pos g (g.word_pos + 2),
 )
 
 -- a read of so many bytes takes whole words, and drops what is left of the last
-abbrev pub fill : ℕ → Generator → ℕ → List ℕ × Generator
+abbrev pub fill : ℕ → GeneratorState → ℕ → List ℕ × GeneratorState
 fill n g len =
     let k = (len + 3) / 4 in
     (take len (bytes (stream_part (word n g) g.word_pos k)), at_word_pos g (g.word_pos + k))
 
 -- the three reads, by the names that the crate rand_core gives them
-abbrev pub reads : ℕ → Steps Generator
+abbrev pub reads : ℕ → Steps GeneratorState
 reads n =
     record { next_u32 = next_u32 n; next_u64 = next_u64 n; fill_bytes = λ len g. fill n g len }
 
 -- the same seed, stream and position
-abbrev pub same_generator : Generator → Generator → Bool
+abbrev pub same_generator : GeneratorState → GeneratorState → Bool
 same_generator =
     eq_of_both (on (λ g. g.word_pos) ◌==◌)
     (eq_of_both (on (λ g. g.stream) ◌==◌) (on (λ g. g.seed) (pointwise ◌==◌)))

@@ -5,26 +5,26 @@ use Rattle.chacha_base.specs.Bytes.{bytes, words}
 use Rattle.chacha_base.specs.Block.{constants}
 use Rattle.chacha_base.specs.Layout.{legacy}
 use Rattle.chacha_base.specs.State.{state_counter, fixed_words}
-use Rattle.chacha20.specs.Generator.{Generator, positions, word}
+use Rattle.chacha20.specs.Generator.{GeneratorState, positions, word}
 
 -- the seed that the fixed words of a core hold, which is its key
-abbrev pub seed_of : List ℕ → List ℕ
-seed_of fixed = bytes (take 8 (drop 4 fixed))
+abbrev pub seed_in : List ℕ → List ℕ
+seed_in fixed = bytes (take 8 (drop 4 fixed))
 
 -- the stream that they hold, which is the number of its nonce, the low byte first
-abbrev pub stream_of : List ℕ → ℕ
-stream_of fixed = from_le_bytes w64 (bytes (drop 12 fixed))
+abbrev pub stream_in : List ℕ → ℕ
+stream_in fixed = from_le_bytes w64 (bytes (drop 12 fixed))
 
 -- they are the words of a start state, but for the counter
 abbrev pub IsStart : List ℕ → Type 0
 IsStart fixed =
-    fixed ≡ constants ++ words (seed_of fixed) ++ words (to_le_bytes w64 (stream_of fixed))
+    fixed ≡ constants ++ words (seed_in fixed) ++ words (to_le_bytes w64 (stream_in fixed))
 
 -- the core is four blocks past the front of the buffer, of which so many words are used
-abbrev pub generator_of : List ℕ → ℕ → Generator
+abbrev pub generator_of : List ℕ → ℕ → GeneratorState
 generator_of core used = record {
-  seed = seed_of (fixed_words legacy core);
-  stream = stream_of (fixed_words legacy core);
+  seed = seed_in (fixed_words legacy core);
+  stream = stream_in (fixed_words legacy core);
   word_pos = (16 * state_counter legacy core + (positions - 64) + used) % positions;
 }
 

@@ -16,7 +16,7 @@ use chacha_base::cipher::{IvSizeUser, KeyIvInit, KeySizeUser, Keystream};
 use rand_core::Rng;
 use std::fmt;
 
-// The blocks that a key and a nonce define.
+// The blocks that a key and a nonce define, and the position of what `new` makes.
 fn ciphers()
     ensures chacha8 { ⟦<ChaCha8 as KeyIvInit>⟧.blocks_of ≡ block 4 ietf }
     ensures chacha12 { ⟦<ChaCha12 as KeyIvInit>⟧.blocks_of ≡ block 6 ietf }
@@ -28,33 +28,26 @@ fn ciphers()
         ≡ (λ key nonce. block 6 ietf (subkey 6 key nonce) (subnonce nonce)) }
     ensures xchacha20 { ⟦<XChaCha20 as KeyIvInit>⟧.blocks_of
         ≡ (λ key nonce. block 10 ietf (subkey 10 key nonce) (subnonce nonce)) }
+    ensures chacha8_starts { ⟦<ChaCha8 as Keystream>⟧.first_position ≡ 0 }
+    ensures chacha12_starts { ⟦<ChaCha12 as Keystream>⟧.first_position ≡ 0 }
+    ensures chacha20_starts { ⟦<ChaCha20 as Keystream>⟧.first_position ≡ 0 }
+    ensures chacha20_legacy_starts { ⟦<ChaCha20Legacy as Keystream>⟧.first_position ≡ 0 }
+    ensures xchacha8_starts { ⟦<XChaCha8 as Keystream>⟧.first_position ≡ 0 }
+    ensures xchacha12_starts { ⟦<XChaCha12 as Keystream>⟧.first_position ≡ 0 }
+    ensures xchacha20_starts { ⟦<XChaCha20 as Keystream>⟧.first_position ≡ 0 }
 {}
 
-// The position of what `new` makes.
-fn positions()
-    ensures chacha8 { ⟦<ChaCha8 as Keystream>⟧.first_position ≡ 0 }
-    ensures chacha12 { ⟦<ChaCha12 as Keystream>⟧.first_position ≡ 0 }
-    ensures chacha20 { ⟦<ChaCha20 as Keystream>⟧.first_position ≡ 0 }
-    ensures chacha20_legacy { ⟦<ChaCha20Legacy as Keystream>⟧.first_position ≡ 0 }
-    ensures xchacha8 { ⟦<XChaCha8 as Keystream>⟧.first_position ≡ 0 }
-    ensures xchacha12 { ⟦<XChaCha12 as Keystream>⟧.first_position ≡ 0 }
-    ensures xchacha20 { ⟦<XChaCha20 as Keystream>⟧.first_position ≡ 0 }
-{}
-
-// The words that a seed, a stream and a word position define, as all reads take them.
+// The words that a seed, a stream and a word position define, as all reads take them, and the texts of `Debug`, the same
+// for every seed, stream and position.
 fn generators()
     ensures chacha8_rng { ⟦<ChaCha8Rng as Rng>⟧.stream ≡ stream_of (reads 4) }
     ensures chacha12_rng { ⟦<ChaCha12Rng as Rng>⟧.stream ≡ stream_of (reads 6) }
     ensures chacha20_rng { ⟦<ChaCha20Rng as Rng>⟧.stream ≡ stream_of (reads 10) }
-{}
-
-// The texts of `Debug`, the same for every seed, stream and position.
-fn texts()
-    ensures chacha8_rng { ⟦<ChaCha8Rng as fmt::Debug>⟧.debug_output
+    ensures chacha8_rng_text { ⟦<ChaCha8Rng as fmt::Debug>⟧.debug_output
         ≡ (λ _. Some (codes "ChaCha8Rng { ... }")) }
-    ensures chacha12_rng { ⟦<ChaCha12Rng as fmt::Debug>⟧.debug_output
+    ensures chacha12_rng_text { ⟦<ChaCha12Rng as fmt::Debug>⟧.debug_output
         ≡ (λ _. Some (codes "ChaCha12Rng { ... }")) }
-    ensures chacha20_rng { ⟦<ChaCha20Rng as fmt::Debug>⟧.debug_output
+    ensures chacha20_rng_text { ⟦<ChaCha20Rng as fmt::Debug>⟧.debug_output
         ≡ (λ _. Some (codes "ChaCha20Rng { ... }")) }
 {}
 

@@ -42,7 +42,7 @@ const POSITIONS: u128 = 1 << 68;
 
 /// A generator of random words.
 ///
-/// Clauses see it as a seed, a stream and a word position (`Generator`). Word w of a stream is word w mod 16 of the
+/// Clauses see it as a seed, a stream and a word position (`GeneratorState`). Word w of a stream is word w mod 16 of the
 /// block whose key is the seed, whose nonce is the stream's 8 bytes, the low byte first, and whose counter is w div 16.
 /// After the last of a stream's 2^68 words (1 ZiB) comes its first one again. A stream's number has 64 bits. `R` is the
 /// number of double rounds, `B` the backend that makes the words. No call is refused.
@@ -64,10 +64,10 @@ impl<R: Rounds, B> Drop for ChaChaRng<R, B> {
 }
 
 impl<R: Rounds, B> Model for ChaChaRng<R, B> {
-    ghost use Rattle.chacha20.specs.Generator.{Generator};
+    ghost use Rattle.chacha20.specs.Generator.{GeneratorState};
     ghost use Rattle.chacha20.specs.Unread.{generator_of, IsUnread};
 
-    ghost Value = { Generator };
+    ghost Value = { GeneratorState };
 
     ghost view = { λ rng. generator_of rng.core rng.index };
 

@@ -7,7 +7,7 @@ ghost use Rattle.chacha_base.specs.Bytes.{words};
 ghost use Rattle.chacha_base.specs.Layout.{legacy};
 ghost use Rattle.chacha_base.specs.Block.{start};
 ghost use Rattle.chacha_base.specs.State.{fixed_words, state_after, next_words};
-ghost use Rattle.chacha20.specs.Unread.{seed_of, stream_of};
+ghost use Rattle.chacha20.specs.Unread.{seed_in, stream_in};
 
 use super::{ChaChaCore, start_state};
 use chacha_base::bytes::write_bytes;
@@ -75,7 +75,7 @@ impl<R: Rounds, B: RngBackend<R>> SeedableRng for ChaChaCore<R, Legacy, B> {
 impl<R: Rounds, B> ChaChaCore<R, Legacy, B> {
     // The key.
     pub(crate) fn seed(&self) -> [u8; 32]
-        ensures { result ≡ seed_of (fixed_words legacy self.now) }
+        ensures { result ≡ seed_in (fixed_words legacy self.now) }
     {
         let mut seed = [0; 32];
         write_bytes(&self.state[4..12], &mut seed);
@@ -84,7 +84,7 @@ impl<R: Rounds, B> ChaChaCore<R, Legacy, B> {
 
     // The nonce, as a number.
     pub(crate) fn stream(&self) -> u64
-        ensures { result ≡ stream_of (fixed_words legacy self.now) }
+        ensures { result ≡ stream_in (fixed_words legacy self.now) }
     {
         (u64::from(self.state[15]) << 32) | u64::from(self.state[14])
     }

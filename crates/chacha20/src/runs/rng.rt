@@ -1,7 +1,7 @@
 //! Lists of calls on a generator.
 
 ghost use Rattle.std.specs.Prelude.{◌≡◌, IsTrue, All, length};
-ghost use Rattle.chacha20.specs.Generator.{Generator, same_generator};
+ghost use Rattle.chacha20.specs.Generator.{GeneratorState, same_generator};
 ghost use Rattle.chacha20.specs.GeneratorRuns.{rng_outcome, rng_run, InData};
 
 use crate::rng::{ChaChaRng, Seed, SerializedRngState};
@@ -110,7 +110,7 @@ pub fn run_rng<R: Rounds, B: RngBackend<R>>(
         ≡ rng_run R.COUNT rng.old «data».old calls.now }
 
     // An equal generator answers alike, whatever its buffer holds.
-    ensures equality { (other : Generator) → IsTrue (same_generator rng.old other)
+    ensures equality { (other : GeneratorState) → IsTrue (same_generator rng.old other)
         → (answers.new, rng.new, «data».new) ≡ rng_run R.COUNT other «data».old calls.now }
 {
     'calls: for i in 0..calls.len() {

@@ -1,5 +1,5 @@
 use Rattle.std.proofs.Common.{◌≡◌, slice_index, refl, ap, arith, ◌∙◌}
-use Rattle.chacha20.specs.Generator.{Generator}
+use Rattle.chacha20.specs.Generator.{GeneratorState}
 use Rattle.chacha20.specs.StateBytes.{state_bytes}
 use Rattle.chacha20.proofs.StateBytesLemmas.{read_back, state_bytes-of_state_bytes}
 use Rattle.chacha20.proofs.rng.ChaChaRng.deserialize_state.Goals as goal
@@ -7,7 +7,7 @@ use Rattle.chacha20.proofs.rng.ChaChaRng.deserialize_state.Goals as goal
 pub returns-clause-value : goal.returns-clause-value
 returns-clause-value g c =
     let made : c.set_stream.new.self ≡ record { seed = c.copy_from_slice.new.self; stream = c.read_u64.result; word_pos = 0 } =
-    c.set_stream.ensures ∙ ap (λ (v : Generator). record v { stream = c.read_u64.result; word_pos = 0 }) c.from_seed-rng.ensures in
+    c.set_stream.ensures ∙ ap (λ (v : GeneratorState). record v { stream = c.read_u64.result; word_pos = 0 }) c.from_seed-rng.ensures in
     let top = slice_index c.args.state.now 48 in
     let read =
     read_back c.args.state.now c.copy_from_slice.new.self c.read_u64.result c.read_u64-low.result top (omega arith) (c.fits-state 48)

@@ -3,7 +3,7 @@ use Rattle.std.proofs.lemmas.List.{take_all}
 use borrow.Rule.Slice.PartMut.{mid_of}
 use Rattle.chacha_base.specs.Bytes.{bytes}
 use Rattle.chacha_base.specs.Keystream.{stream_part}
-use Rattle.chacha20.specs.Generator.{Generator, at_word_pos, word}
+use Rattle.chacha20.specs.Generator.{GeneratorState, at_word_pos, word}
 use Rattle.chacha20.proofs.ReadLemmas.{taken, generator_of-taken, at-same, words-written}
 use Rattle.chacha20.proofs.rng.ChaChaRng.fill_words.Goals as goal
 
@@ -12,7 +12,7 @@ words-init g c = record {
   unread = c.self.invariant;
   long = c.self.told;
   moved =
-      generator_of-taken c.self.inside.core c.self.inside.index 0 _ (omega arith) ∙ ap (λ (h : Generator). at_word_pos h (h.word_pos + 0)) c.self.view_is;
+      generator_of-taken c.self.inside.core c.self.inside.index 0 _ (omega arith) ∙ ap (λ (h : GeneratorState). at_word_pos h (h.word_pos + 0)) c.self.view_is;
   within = omega arith;
   dst = refl;
 }
@@ -32,7 +32,7 @@ words-preserved g c =
       long = c.refill.ensures.long;
       moved =
           generator_of-taken c.refill.new.core i k _ refl
-          ∙ ap (λ (h : Generator). at_word_pos h (h.word_pos + k)) moved
+          ∙ ap (λ (h : GeneratorState). at_word_pos h (h.word_pos + k)) moved
           ∙ at-same rng _ _ (omega arith);
       within = omega arith;
       dst = words-written n rng c.refill.new.core c.refill.new.buffer i k c.words.done c.words.dst _ c.refill.ensures.unread room c.refill.ensures.long moved

@@ -1,7 +1,7 @@
 use Rattle.std.proofs.Common.{◌+◌, ◌/◌, ◌%◌, ◌∙◌, length, ap, subst, sym, arith}
 use Rattle.chacha_base.specs.Layout.{legacy}
 use Rattle.chacha_base.proofs.StateLemmas.{length-state_at}
-use Rattle.chacha20.specs.Generator.{Generator, at_word_pos, positions}
+use Rattle.chacha20.specs.Generator.{GeneratorState, at_word_pos, positions}
 use Rattle.chacha20.specs.Unread.{IsStart}
 use Rattle.chacha20.proofs.GeneratorLemmas.{generator_of-recounted}
 use Rattle.chacha20.proofs.ReadLemmas.{taken, generator_of-taken, refilled, generator_of-refilled, at-same}
@@ -21,11 +21,11 @@ returns-clause-value g c =
     let position = c.args.word_pos % positions in
     let sixteen = ap length c.set_block_pos.ensures.state ∙ length-state_at legacy (position / 16) c.self.inside.core c.self.invariant.sixteen in
     generator_of-taken c.generate.new.self 0 (position % 16) _ (omega arith)
-    ∙ ap (λ (h : Generator). at_word_pos h (h.word_pos + position % 16))
+    ∙ ap (λ (h : GeneratorState). at_word_pos h (h.word_pos + position % 16))
     (generator_of-refilled c.set_block_pos.new.self _ sixteen c.generate.ensures.moved
     ∙ generator_of-recounted c.self.inside.core _ c.self.inside.index (position / 16) _ c.set_block_pos.ensures.fixed c.set_block_pos.ensures.counter (omega arith)
     c.self.view_is)
     ∙ at-same c.args.self.now _ _ (omega arith)
 
 pub returns-clause-position : goal.returns-clause-position
-returns-clause-position g c = ap (λ (h : Generator). h.word_pos) (returns-clause-value g c)
+returns-clause-position g c = ap (λ (h : GeneratorState). h.word_pos) (returns-clause-value g c)
