@@ -1,13 +1,13 @@
 //! A state of sixteen words, and the engine that hands out its blocks.
 
-ghost use Rattle.std.specs.Prelude.{◌≡◌, ◌≤◌, ◌<◌, ℕ, ◌+◌, ◌*◌, ◌/◌, ◌%◌, List, ◌++◌, length, replicate, slice_get, Some};
+ghost use Rattle.std.specs.Prelude.{◌≡◌, ◌≤◌, ◌<◌, ℕ, ◌+◌, ◌*◌, ◌/◌, ◌%◌, List, ◌++◌, length, replicate, min, slice_get, Some};
 ghost use Rattle.chacha_base.specs.Layout.{ietf, legacy, modulus};
 ghost use Rattle.chacha_base.specs.Block.{constants, start, block};
 ghost use Rattle.chacha_base.specs.Bytes.{words};
 ghost use Rattle.chacha_base.specs.State.{state_counter, fixed_words, state_at, state_block, state_after, next_block};
-ghost use Rattle.chacha_base.specs.Keystream.{keystream, xor_stream};
+ghost use Rattle.chacha_base.specs.Keystream.{xor_stream};
 ghost use Rattle.chacha_base.specs.Counts.{Grows, for_call, for_tail, for_blocks};
-ghost use Rattle.chacha20.specs.Blocks.{byte_of};
+ghost use Rattle.chacha20.specs.Blocks.{byte_of, applied};
 ghost use Rattle.chacha20.specs.Text.{core_text};
 
 mod generator;
@@ -217,20 +217,6 @@ fn counter_of<V: Variant>(state: &[u32; 16]) -> V::Counter
     V::get_block_pos(&state[12..])
 }
 
-// Writes the block of a state, and moves its counter.
-fn write_block<R: Rounds, V: Variant, B: StreamCipherBackend<R, V>>(
-    state: &mut [u32; 16],
-    block: &mut [u8; 64],
-    steps: &mut Steps,
-)
-    ensures block { block.new ≡ state_block R.COUNT V.layout (fixed_words V.layout state.old)
-        (state_counter V.layout state.old) }
-    ensures state { state.new ≡ state_after V.layout 1 state.old }
-    ensures steps { Grows (for_call 0 1 (B.ONE_STEPS * R.COUNT)) steps.old steps.new }
-{
-    B::gen_ks_block(state, block, steps);
-}
-
 // Writes the blocks of a state, and moves its counter.
 fn write_blocks<R: Rounds, V: Variant, B: StreamCipherBackend<R, V>>(
     state: &mut [u32; 16],
@@ -261,34 +247,6 @@ fn xor_blocks(data: &mut [u8], blocks: &[[u8; 64]])
     }
 }
 
-// XORs bytes with the blocks of parallel calls alone.
-#[inline(always)]
-fn apply_groups<R: Rounds, V: Variant, B: StreamCipherBackend<R, V>>(
-    state: &mut [u32; 16],
-    blocks: &mut [[u8; 64]],
-    data: &mut [u8],
-    groups: usize,
-    steps: &mut Steps,
-)
-    requires whole { length «data».old ≡ 64 * (B.PAR_BLOCKS * groups) }
-    requires room { B.PAR_BLOCKS ≤ length blocks.old }
-    ensures data { «data».new
-        ≡ xor_stream (keystream (modulus V.layout)
-        (state_block R.COUNT V.layout (fixed_words V.layout state.old)))
-        (64 * state_counter V.layout state.old) «data».old }
-    ensures state { state.new ≡ state_after V.layout (B.PAR_BLOCKS * groups) state.old }
-    ensures steps { Grows
-        (for_call groups 0 (groups * (B.PAR_STEPS * R.COUNT))) steps.old steps.new }
-{
-    let width = B::PAR_BLOCKS;
-    let made = &mut blocks[..width];
-    'groups: for group in 0..groups {
-        B::gen_par_ks_blocks(state, made, steps);
-        let at = 64 * (width * group);
-        xor_blocks(&mut data[at..at + 64 * made.len()], made);
-    }
-}
-
 // Writes the blocks of a tail. A plain call in a function of its own, which is not marked to be inlined: so the compiler
 // first simplifies the tail itself, and then a tail of one block is small enough to stand where it is called.
 fn write_tail<R: Rounds, V: Variant, B: StreamCipherBackend<R, V>>(
@@ -306,102 +264,36 @@ fn write_tail<R: Rounds, V: Variant, B: StreamCipherBackend<R, V>>(
     B::gen_tail_blocks(state, blocks, steps);
 }
 
-// XORs bytes with fewer blocks than a parallel call makes.
-#[inline(always)]
-fn apply_tail<R: Rounds, V: Variant, B: StreamCipherBackend<R, V>>(
-    state: &mut [u32; 16],
-    blocks: &mut [[u8; 64]],
-    data: &mut [u8],
-    steps: &mut Steps,
-)
-    requires whole { length «data».old % 64 ≡ 0 }
-    requires few { length «data».old < 64 * B.PAR_BLOCKS }
-    requires room { length «data».old / 64 ≤ length blocks.old }
-    ensures data { «data».new
-        ≡ xor_stream (keystream (modulus V.layout)
-        (state_block R.COUNT V.layout (fixed_words V.layout state.old)))
-        (64 * state_counter V.layout state.old) «data».old }
-    ensures state { state.new ≡ state_after V.layout (length «data».old / 64) state.old }
-    ensures steps { Grows
-        (for_tail (B.ONE_STEPS * R.COUNT) (length «data».old / 64)) steps.old steps.new }
-{
-    let made = &mut blocks[..data.len() / 64];
-    write_tail::<R, V, B>(state, made, steps);
-    xor_blocks(data, made);
-}
-
-// XORs bytes with any number of blocks, which are made in a buffer that has room for those of a parallel call.
+// XORs bytes with whole blocks, which are made in `room`: in groups as a parallel call makes them, and then the rest.
 #[inline(always)]
 fn apply_through<R: Rounds, V: Variant, B: StreamCipherBackend<R, V>>(
     state: &mut [u32; 16],
-    blocks: &mut [[u8; 64]],
+    room: &mut [[u8; 64]],
     data: &mut [u8],
     steps: &mut Steps,
 )
     requires whole { length «data».old % 64 ≡ 0 }
-    requires room { B.PAR_BLOCKS ≤ length blocks.old }
-    ensures data { «data».new
-        ≡ xor_stream (keystream (modulus V.layout)
-        (state_block R.COUNT V.layout (fixed_words V.layout state.old)))
-        (64 * state_counter V.layout state.old) «data».old }
+    requires room { min B.PAR_BLOCKS (length «data».old / 64) ≤ length room.old }
+    ensures data { «data».new ≡ applied R.COUNT V.layout state.old «data».old }
     ensures state { state.new ≡ state_after V.layout (length «data».old / 64) state.old }
     ensures steps { Grows
         (for_blocks B.PAR_BLOCKS (B.PAR_STEPS * R.COUNT) (B.ONE_STEPS * R.COUNT)
         (length «data».old / 64) 0) steps.old steps.new }
 {
     let width = B::PAR_BLOCKS;
-    let groups = data.len() / 64 / width;
-    let (whole, tail) = data.split_at_mut(64 * (width * groups));
-    apply_groups::<R, V, B>(state, blocks, whole, groups, steps);
-    apply_tail::<R, V, B>(state, blocks, tail, steps);
-}
-
-// XORs bytes with any number of blocks, where a parallel call makes one. It is not inlined: in its caller the compiler
-// made slower code of plain rounds.
-#[inline(never)]
-fn apply_each<R: Rounds, V: Variant, B: StreamCipherBackend<R, V>>(
-    state: &mut [u32; 16],
-    data: &mut [u8],
-    steps: &mut Steps,
-)
-    requires whole { length «data».old % 64 ≡ 0 }
-    requires narrow { B.PAR_BLOCKS ≡ 1 }
-    ensures data { «data».new
-        ≡ xor_stream (keystream (modulus V.layout)
-        (state_block R.COUNT V.layout (fixed_words V.layout state.old)))
-        (64 * state_counter V.layout state.old) «data».old }
-    ensures state { state.new ≡ state_after V.layout (length «data».old / 64) state.old }
-    ensures steps { Grows
-        (for_blocks B.PAR_BLOCKS (B.PAR_STEPS * R.COUNT) (B.ONE_STEPS * R.COUNT)
-        (length «data».old / 64) 0) steps.old steps.new }
-{
-    apply_through::<R, V, B>(state, &mut [[0; 64]; 1], data, steps);
-}
-
-// XORs bytes with any number of blocks, through a buffer of four blocks for narrow backends and of sixteen for others.
-fn apply_many<R: Rounds, V: Variant, B: StreamCipherBackend<R, V>>(
-    state: &mut [u32; 16],
-    data: &mut [u8],
-    steps: &mut Steps,
-)
-    requires { length «data».old % 64 ≡ 0 }
-    ensures data { «data».new
-        ≡ xor_stream (keystream (modulus V.layout)
-        (state_block R.COUNT V.layout (fixed_words V.layout state.old)))
-        (64 * state_counter V.layout state.old) «data».old }
-    ensures state { state.new ≡ state_after V.layout (length «data».old / 64) state.old }
-    ensures steps { Grows
-        (for_blocks B.PAR_BLOCKS (B.PAR_STEPS * R.COUNT) (B.ONE_STEPS * R.COUNT)
-        (length «data».old / 64) 0) steps.old steps.new }
-{
-    if B::PAR_BLOCKS <= 4 {
-        apply_through::<R, V, B>(state, &mut [[0; 64]; 4], data, steps);
-    } else {
-        apply_through::<R, V, B>(state, &mut [[0; 64]; 16], data, steps);
+    let count = data.len() / 64;
+    'groups: for group in 0..count / width {
+        let made = &mut room[..width];
+        B::gen_par_ks_blocks(state, made, steps);
+        let front = 64 * (width * group);
+        xor_blocks(&mut data[front..front + 64 * width], made);
     }
+    let made = &mut room[..count % width];
+    write_tail::<R, V, B>(state, made, steps);
+    xor_blocks(&mut data[64 * (width * (count / width))..], made);
 }
 
-// XORs bytes with whole blocks. A single block is a tail where a parallel call makes more, and has a buffer of its own.
+// XORs bytes with whole blocks. The room for them is as wide as the backend needs, and a single block has its own.
 #[inline(always)]
 fn apply_blocks<R: Rounds, V: Variant, B: StreamCipherBackend<R, V>>(
     state: &mut [u32; 16],
@@ -409,21 +301,18 @@ fn apply_blocks<R: Rounds, V: Variant, B: StreamCipherBackend<R, V>>(
     steps: &mut Steps,
 )
     requires { length «data».old % 64 ≡ 0 }
-    ensures data { «data».new
-        ≡ xor_stream (keystream (modulus V.layout)
-        (state_block R.COUNT V.layout (fixed_words V.layout state.old)))
-        (64 * state_counter V.layout state.old) «data».old }
+    ensures data { «data».new ≡ applied R.COUNT V.layout state.old «data».old }
     ensures state { state.new ≡ state_after V.layout (length «data».old / 64) state.old }
     ensures steps { Grows
         (for_blocks B.PAR_BLOCKS (B.PAR_STEPS * R.COUNT) (B.ONE_STEPS * R.COUNT)
         (length «data».old / 64) 0) steps.old steps.new }
 {
-    if B::PAR_BLOCKS == 1 {
-        apply_each::<R, V, B>(state, data, steps);
-    } else if data.len() == 64 {
-        apply_tail::<R, V, B>(state, &mut [[0; 64]; 1], data, steps);
+    if B::PAR_BLOCKS == 1 || data.len() == 64 {
+        apply_through::<R, V, B>(state, &mut [[0; 64]; 1], data, steps);
+    } else if B::PAR_BLOCKS <= 4 {
+        apply_through::<R, V, B>(state, &mut [[0; 64]; 4], data, steps);
     } else {
-        apply_many::<R, V, B>(state, data, steps);
+        apply_through::<R, V, B>(state, &mut [[0; 64]; 16], data, steps);
     }
 }
 
@@ -449,7 +338,7 @@ impl<R: Rounds, V: Variant, B: StreamCipherBackend<R, V>> StreamCipherCore for C
     }
 
     fn write_block_counted(&mut self, block: &mut [u8; 64], steps: &mut Steps) {
-        write_block::<R, V, B>(&mut self.state, block, steps);
+        B::gen_ks_block(&mut self.state, block, steps);
     }
 
     fn apply_blocks_counted(&mut self, data: &mut [u8], steps: &mut Steps) {

@@ -2,8 +2,46 @@
 use Rattle.std.proofs.Common.{◌≡◌, ℕ, ◌+◌, ◌-◌, ◌*◌, ◌/◌, ◌%◌, ◌≤◌, min, ap, ◌∙◌, arith, subst}
 use Rattle.std.proofs.lemmas.Grind.{common_steps}
 use Rattle.std.proofs.Math.Nat.{add-mul, mul_assoc, mul-le-mul_right}
-use Rattle.chacha_base.specs.Counts.{Counts, Grows, for_call, for_tail, tail_of_16, for_blocks, for_bytes}
+use Rattle.chacha_base.specs.Counts.{Counts, Bounds, Grows, for_call, for_tail, tail_of_16, for_blocks, for_bytes}
 use Rattle.chacha_base.specs.Buffered.{left_at}
+
+-- nothing more
+pub grows-none : (a : Counts) → Grows (for_call 0 0 0) a a
+grows-none a = record {
+  par_from = omega arith;
+  par_to = omega arith;
+  other_from = omega arith;
+  other_to = omega arith;
+  rounds_from = omega arith;
+  rounds_to = omega arith;
+}
+
+-- one after another
+pub grows-then : {x y z : Bounds} {a b c : Counts} → Grows x a b → Grows y b c → x.par + y.par ≤ z.par → x.other + y.other ≤ z.other
+    → z.least ≤ x.least + y.least → x.most + y.most ≤ z.most → Grows z a c
+grows-then first then par other least most = record {
+  par_from = omega (arith, first.par_from, then.par_from);
+  par_to = omega (arith, first.par_to, then.par_to, par);
+  other_from = omega (arith, first.other_from, then.other_from);
+  other_to = omega (arith, first.other_to, then.other_to, other);
+  rounds_from = omega (arith, first.rounds_from, then.rounds_from, least);
+  rounds_to = omega (arith, first.rounds_to, then.rounds_to, most);
+}
+
+-- one group more
+pub grows-group : {k cost : ℕ} {a b c : Counts} → Grows (for_call k 0 (k * cost)) a b → Grows (for_call 1 0 cost) b c
+    → Grows (for_call (k + 1) 0 ((k + 1) * cost)) a c
+grows-group {k} {cost} groups group =
+    let sum = add-mul k 1 cost in
+    grows-then groups group (omega arith) (omega arith) (omega (arith, sum)) (omega (arith, sum))
+
+-- groups, and then the rest
+pub grows-blocks : (w par one m : ℕ) {a b c : Counts} → Grows (for_call (m / w) 0 (m / w * par)) a b → Grows (for_tail one (m % w)) b c
+    → Grows (for_blocks w par one m 0) a c
+grows-blocks w par one m groups tail =
+    let least = add-mul (min 1 (m % w)) 0 one in
+    let most = add-mul (m % w) 0 one in
+    grows-then groups tail (omega arith) (omega arith) (omega (arith, least)) (omega (arith, most))
 
 -- k single blocks after the others
 grows-more : (w par one m k : ℕ) (a b c : Counts) → Grows (for_blocks w par one m 0) a b → Grows (for_call 0 k (k * one)) b c
@@ -13,14 +51,7 @@ grows-more w par one m k a b c first then =
     let most = add-mul (m % w) k one in
     let zero_least = add-mul (min 1 (m % w)) 0 one in
     let zero_most = add-mul (m % w) 0 one in
-    record {
-      par_from = omega (arith, first.par_from, then.par_from);
-      par_to = omega (arith, first.par_to, then.par_to);
-      other_from = omega (arith, first.other_from, then.other_from);
-      other_to = omega (arith, first.other_to, then.other_to);
-      rounds_from = omega (arith, first.rounds_from, then.rounds_from, least, zero_least);
-      rounds_to = omega (arith, first.rounds_to, then.rounds_to, most, zero_most);
-    }
+    grows-then first then (omega arith) (omega arith) (omega (arith, least, zero_least)) (omega (arith, most, zero_most))
 
 -- whole blocks and a last part, after what was left of a block
 pub grows-bytes : (w par one p len begun whole last : ℕ) (a b c : Counts) → begun ≡ min len (left_at p) → whole ≡ (len - begun) / 64 * 64

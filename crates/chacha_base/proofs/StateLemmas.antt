@@ -12,7 +12,7 @@ use Rattle.chacha_base.specs.Bytes.{bytes, words}
 use Rattle.chacha_base.specs.Block.{constants, start}
 use Rattle.chacha_base.specs.Rounds.{rounds, add_states, mix}
 use Rattle.chacha_base.specs.Words.{add}
-use Rattle.chacha_base.specs.State.{state_counter, fixed_words, state_of, state_at, counter_after, state_after, next_block, next_word, next_words}
+use Rattle.chacha_base.specs.State.{state_counter, fixed_words, state_of, state_at, counter_after, state_after, state_block, next_block, next_word, next_words}
 use Rattle.chacha_base.proofs.ListLemmas.{each, one_more, written_more}
 
 -- each word is below 2 ^ 32
@@ -24,12 +24,23 @@ halves : (c : ℕ) → c % 2 ^ 32 + 2 ^ 32 * (c / 2 ^ 32 % 2 ^ 32) ≡ c % 2 ^ 6
 halves c = omega arith
 
 -- a counter that has wrapped has the same words
-pub start-wrapped : (layout : Layout) (key nonce : List ℕ) (c : ℕ) → start layout key nonce (c % modulus layout) ≡ start layout key nonce c
-start-wrapped ietf key nonce c =
+counter_words-wrapped : (layout : Layout) (c : ℕ) → counter_words layout (c % modulus layout) ≡ counter_words layout c
+counter_words-wrapped ietf c =
     let word : c % 2 ^ 32 % 2 ^ 32 ≡ c % 2 ^ 32 = omega arith in rw word refl
-start-wrapped legacy key nonce c =
+counter_words-wrapped legacy c =
     let low : c % 2 ^ 64 % 2 ^ 32 ≡ c % 2 ^ 32 = omega arith in
     let high : c % 2 ^ 64 / 2 ^ 32 % 2 ^ 32 ≡ c / 2 ^ 32 % 2 ^ 32 = omega arith in rw (low, high) refl
+
+pub start-wrapped : (layout : Layout) (key nonce : List ℕ) (c : ℕ) → start layout key nonce (c % modulus layout) ≡ start layout key nonce c
+start-wrapped layout key nonce c = ap (λ row. constants ++ words key ++ row ++ words nonce) (counter_words-wrapped layout c)
+
+-- the next block is the one at the state's own counter
+pub next_block-zero : (n : ℕ) (layout : Layout) (s : List ℕ) → next_block n layout s 0 ≡ state_block n layout (fixed_words layout s) (state_counter layout s)
+next_block-zero n layout s =
+    let c = state_counter layout s in
+    let none : c + 0 ≡ c = omega arith in
+    let fixed = fixed_words layout s in
+    ap (λ row. bytes (mix n (take 12 fixed ++ row ++ drop 12 fixed))) (counter_words-wrapped layout (c + 0) ∙ ap (counter_words layout) none)
 
 pub state_counter-below : (layout : Layout) (s : List ℕ) → length s ≡ 16 → Words s → state_counter layout s < modulus layout
 state_counter-below ietf =
