@@ -1,15 +1,16 @@
 -- Start states: written part by part, and the blocks from one on.
-use Rattle.std.proofs.Common.{◌≡◌, ℕ, List, [], ◌∷◌, ◌++◌, length, replicate, refl, sym, ap, ◌∙◌}
+use Rattle.std.proofs.Common.{◌≡◌, ℕ, ◌*◌, List, [], ◌∷◌, ◌++◌, length, replicate, refl, sym, ap, ◌∙◌}
+use Rattle.std.proofs.Math.Nat.{zero-mod}
 use Rattle.std.proofs.Math.Path.{fun_ext}
 use borrow.Rule.Slice.PartMut.{put_mid}
 use Rattle.chacha_base.specs.Block.{constants, start, block}
 use Rattle.chacha_base.specs.Bytes.{bytes}
-use Rattle.chacha_base.specs.Layout.{Layout}
+use Rattle.chacha_base.specs.Layout.{Layout, modulus}
 use Rattle.chacha_base.specs.Rounds.{mix}
-use Rattle.chacha_base.specs.State.{state_block, fixed_words}
+use Rattle.chacha_base.specs.State.{state_counter, state_block, fixed_words}
 use Rattle.chacha_base.proofs.BytesLemmas.{length-words}
 use Rattle.chacha_base.proofs.ListLemmas.{each}
-use Rattle.chacha_base.proofs.StateLemmas.{fixed_words-start, start-wrapped, state_of-start}
+use Rattle.chacha_base.proofs.StateLemmas.{state_counter-start, fixed_words-start, start-wrapped, state_of-start}
 
 -- the constants and twelve zeros, with a key of eight and a row of four written over these
 pub written : (key row : List ℕ) → length key ≡ 8 → length row ≡ 4 → put_mid 12 4 (put_mid 4 8 (constants ++ replicate 12 0) key) row ≡ constants ++ key ++ row
@@ -35,3 +36,8 @@ blocks-of-start n layout key nonce s long same =
     fun_ext (λ c.
     ap (λ f. state_block n layout f c) (ap (fixed_words layout) same ∙ fixed_words-start layout key nonce 0 eight)
     ∙ ap (λ t. bytes (mix n t)) (state_of-start layout key nonce c eight ∙ sym (start-wrapped layout key nonce c)))
+
+-- and its counter
+pub first-of-start : (layout : Layout) (key nonce s : List ℕ) → length key ≡ 32 → s ≡ start layout key nonce 0 → 64 * state_counter layout s ≡ 0
+first-of-start layout key nonce s long same =
+    ap (λ t. 64 * state_counter layout t) same ∙ ap (λ c. 64 * c) (state_counter-start layout key nonce 0 (length-words 8 key long) ∙ zero-mod (modulus layout))

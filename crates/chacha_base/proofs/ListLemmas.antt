@@ -1,9 +1,9 @@
 -- Lists of known length.
-use Rattle.std.proofs.Common.{◌≡◌, inl, inr, ℕ, zero, suc, ◌+◌, ◌-◌, ◌*◌, ◌<◌, ◌≤◌, List, [], ◌∷◌, ◌++◌, length, drop, slice_index_or, refl, sym, ap, ap₂, ◌∙◌, append_assoc, length-append, arith, below_more}
+use Rattle.std.proofs.Common.{◌≡◌, inl, inr, ℕ, zero, suc, ◌+◌, ◌-◌, ◌*◌, ◌<◌, ◌≤◌, List, [], ◌∷◌, ◌++◌, length, take, drop, slice_index_or, refl, sym, ap, ap₂, ◌∙◌, append_assoc, length-append, length-drop, arith, below_more}
 use Rattle.std.proofs.Math.ListN.{set}
 use Rattle.std.specs.Prelude.{slice_get, Some}
 use Rattle.std.proofs.lemmas.Bool.{cases_lt}
-use Rattle.std.proofs.lemmas.List.{length-set, get_or-drop, take_at, drop_at, drop_all, drop-drop, append-nil}
+use Rattle.std.proofs.lemmas.List.{length-set, length-take-le, get_or-drop, take_at, drop_at, drop_all, drop-drop, append-nil}
 use Rattle.std.proofs.lemmas.Slice.{drop-put_mid}
 use borrow.Rule.Slice.PartMut.{put_mid}
 
@@ -82,6 +82,10 @@ slice_index_or-put_mid_above a k i xs ys d h room same =
     (sym (get_or-drop (a + k) (put_mid a k xs ys) (i - (a + k)) d)
     ∙ ap (λ l. slice_index_or l (i - (a + k)) d) (drop-put_mid a k xs ys (a + k) (omega arith) room same)
     ∙ get_or-drop (a + k) xs (i - (a + k)) d)
+
+-- the part of k elements from place a on
+pub part_long : {X : Type 0} (a k : ℕ) (xs : List X) → a + k ≤ length xs → length (take k (drop a xs)) ≡ k
+part_long a k xs inside = length-take-le k (drop a xs) (omega (arith, length-drop a xs))
 
 -- a list that is written from its front on, part by part: element i is to be f i
 pub written_more : {X : Type 0} (f : ℕ → X) (a k : ℕ) (xs ys : List X) → a ≤ length xs → length ys ≡ k

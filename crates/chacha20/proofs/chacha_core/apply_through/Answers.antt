@@ -1,4 +1,4 @@
-use Rattle.std.proofs.Common.{◌≡◌, ◌<◌, ◌≤◌, ◌*◌, ◌+◌, ◌-◌, ◌/◌, ◌%◌, ◌∙◌, length, take, drop, ap, sym, refl, arith, length-drop}
+use Rattle.std.proofs.Common.{◌≡◌, ℕ, List, min, ◌<◌, ◌≤◌, ◌*◌, ◌+◌, ◌-◌, ◌/◌, ◌%◌, ◌∙◌, length, take, drop, ap, sym, refl, arith, length-drop}
 use Rattle.std.proofs.Math.Nat.{mul-add, mul-div-le, div-add-mod, mod-lt, mod-le}
 use Rattle.std.proofs.lemmas.Nat.{column_fits}
 use Rattle.std.proofs.lemmas.List.{length-take-le}
@@ -9,6 +9,9 @@ use Rattle.chacha_base.proofs.KeystreamLemmas.{xor_stream-whole}
 use Rattle.chacha20.specs.Blocks.{stream_of_state}
 use Rattle.chacha20.proofs.BlocksLemmas.{applied-more}
 use Rattle.chacha20.proofs.chacha_core.apply_through.Goals as goal
+
+rest_fits : (w m : ℕ) (room : List (List ℕ)) → 1 ≤ w → min w m ≤ length room → length (take (m % w) room) ≡ m % w
+rest_fits w m room some fits = length-take-le (m % w) room (omega (arith, fits, mod-lt m some, mod-le m w))
 
 pub groups-init : goal.groups-init
 groups-init g c =
@@ -47,8 +50,7 @@ xor_blocks-requires-2 g c =
     let w = c.PAR_BLOCKS-width.result in
     let m = length c.args.data.now / 64 in
     let front = 64 * (w * (m / w)) in
-    let some : 1 ≤ w = omega (arith, g.B.ParBlocksSizeUser.par_blocks_from) in
-    let made = length-take-le (m % w) c.groups.room (omega (arith, mod-lt m some, mod-le m w)) in
+    let made = rest_fits w m c.groups.room (omega (arith, g.B.ParBlocksSizeUser.par_blocks_from)) (omega arith) in
     let all = div-add-mod m w in
     let left : length c.groups.data - front ≡ 64 * length c.write_tail.new.blocks = omega (arith, made, all) in
     length-take-le _ (drop front c.groups.data) (omega (arith, length-drop front c.groups.data)) ∙ left
@@ -61,8 +63,7 @@ returns-clause-data g c =
     let w = c.PAR_BLOCKS-width.result in
     let m = length c.args.data.now / 64 in
     let i = w * (m / w) in
-    let some : 1 ≤ w = omega (arith, g.B.ParBlocksSizeUser.par_blocks_from) in
-    let made = length-take-le (m % w) c.groups.room (omega (arith, mod-lt m some, mod-le m w)) in
+    let made = rest_fits w m c.groups.room (omega (arith, g.B.ParBlocksSizeUser.par_blocks_from)) (omega arith) in
     let done : c.groups.group ≡ m / w = omega arith in
     let all = div-add-mod m w in
     let count : length c.write_tail.new.blocks ≡ m % w = omega (arith, made) in
@@ -75,8 +76,7 @@ pub returns-clause-state : goal.returns-clause-state
 returns-clause-state g c =
     let w = c.PAR_BLOCKS-width.result in
     let m = length c.args.data.now / 64 in
-    let some : 1 ≤ w = omega (arith, g.B.ParBlocksSizeUser.par_blocks_from) in
-    let made = length-take-le (m % w) c.groups.room (omega (arith, mod-lt m some, mod-le m w)) in
+    let made = rest_fits w m c.groups.room (omega (arith, g.B.ParBlocksSizeUser.par_blocks_from)) (omega arith) in
     let done : c.groups.group ≡ m / w = omega arith in
     state_after-more g.V.Variant.layout c.args.state.now c.groups.state _ (w * (m / w)) _ m c.told-state (rw done at c.groups.invariant.state) (rw made at c.write_tail.ensures.state)
     (div-add-mod m w)
@@ -85,7 +85,6 @@ pub returns-clause-steps : goal.returns-clause-steps
 returns-clause-steps g c =
     let w = c.PAR_BLOCKS-width.result in
     let m = length c.args.data.now / 64 in
-    let some : 1 ≤ w = omega (arith, g.B.ParBlocksSizeUser.par_blocks_from) in
-    let made = length-take-le (m % w) c.groups.room (omega (arith, mod-lt m some, mod-le m w)) in
+    let made = rest_fits w m c.groups.room (omega (arith, g.B.ParBlocksSizeUser.par_blocks_from)) (omega arith) in
     let done : c.groups.group ≡ m / w = omega arith in
     rw (← c.PAR_BLOCKS-width.ensures) (grows-blocks w _ _ m (rw done at c.groups.invariant.steps) (rw made at c.write_tail.ensures.steps))

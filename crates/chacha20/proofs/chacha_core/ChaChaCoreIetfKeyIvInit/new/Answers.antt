@@ -2,10 +2,8 @@ use Rattle.std.proofs.Common.{◌≡◌, ◌∙◌, ◌*◌, ◌++◌, [], ◌�
 use Rattle.chacha_base.specs.Bytes.{words}
 use Rattle.chacha_base.specs.Layout.{ietf}
 use Rattle.chacha_base.specs.Block.{constants}
-use Rattle.chacha_base.specs.State.{state_counter}
 use Rattle.chacha_base.proofs.BytesLemmas.{length-words}
-use Rattle.chacha_base.proofs.StateLemmas.{state_counter-start}
-use Rattle.chacha20.proofs.StartLemmas.{row_written, blocks-of-start}
+use Rattle.chacha20.proofs.StartLemmas.{row_written, blocks-of-start, first-of-start}
 use Rattle.chacha20.proofs.chacha_core.ChaChaCoreIetfKeyIvInit.new.Goals as goal
 
 pub returns-clause-value : goal.returns-clause-value
@@ -20,6 +18,4 @@ pub returns-clause-blocks : goal.returns-clause-blocks
 returns-clause-blocks g c = blocks-of-start g.R.Rounds.COUNT ietf c.args.key.now c.args.iv.now _ c.told-key (returns-clause-value g c)
 
 pub returns-clause-first : goal.returns-clause-first
-returns-clause-first g c =
-    ap (λ s. 64 * state_counter ietf s) (returns-clause-value g c)
-    ∙ ap (λ k. 64 * k) (state_counter-start ietf c.args.key.now c.args.iv.now 0 (length-words 8 _ c.told-key))
+returns-clause-first g c = first-of-start ietf c.args.key.now c.args.iv.now _ c.told-key (returns-clause-value g c)

@@ -1,22 +1,11 @@
-use Rattle.std.proofs.Common.{◌*◌, ◌+◌, ◌/◌, ◌%◌, ◌∙◌, length, ap}
-use Rattle.chacha_base.specs.Layout.{modulus}
-use Rattle.chacha_base.specs.State.{state_counter, fixed_words, state_block}
-use Rattle.chacha_base.specs.Keystream.{keystream, xor_stream}
 use Rattle.chacha_base.proofs.StateLemmas.{fixed_words-state_after, state_counter-state_after}
 use Rattle.chacha20.proofs.chacha_core.ChaChaCoreStreamCipherCore.apply_blocks_counted.Goals as goal
 
 pub returns-clause-data : goal.returns-clause-data
-returns-clause-data g c =
-    let layout = g.V.Variant.layout in
-    c.apply_blocks.ensures.data
-    ∙ ap (λ s. xor_stream (keystream (modulus layout) (state_block g.R.Rounds.COUNT layout (fixed_words layout s))) (64 * state_counter layout s) c.args.data.now) c.self.view_is
+returns-clause-data g c = rw (← c.self.view_is) c.apply_blocks.ensures.data
 
 pub returns-clause-fixed : goal.returns-clause-fixed
-returns-clause-fixed g c =
-    fixed_words-state_after g.V.Variant.layout _ _ _ c.self.told c.apply_blocks.ensures.state ∙ ap (fixed_words g.V.Variant.layout) c.self.view_is
+returns-clause-fixed g c = rw (← c.self.view_is) (fixed_words-state_after g.V.Variant.layout _ _ _ c.self.told c.apply_blocks.ensures.state)
 
 pub returns-clause-counter : goal.returns-clause-counter
-returns-clause-counter g c =
-    let layout = g.V.Variant.layout in
-    state_counter-state_after layout (length c.args.data.now / 64) _ _ c.self.told c.apply_blocks.ensures.state
-    ∙ ap (λ s. (state_counter layout s + length c.args.data.now / 64) % modulus layout) c.self.view_is
+returns-clause-counter g c = rw (← c.self.view_is) (state_counter-state_after g.V.Variant.layout _ _ _ c.self.told c.apply_blocks.ensures.state)

@@ -1,15 +1,8 @@
-use Rattle.std.proofs.Common.{◌+◌, ◌%◌, ◌∙◌, length, ap}
-use Rattle.chacha_base.specs.Layout.{modulus}
-use Rattle.chacha_base.specs.State.{state_counter, fixed_words}
 use Rattle.chacha_base.proofs.StateLemmas.{fixed_words-state_after, state_counter-state_after}
 use Rattle.chacha20.proofs.chacha_core.ChaChaCoreStreamCipherCore.write_keystream_blocks.Goals as goal
 
 pub returns-clause-fixed : goal.returns-clause-fixed
-returns-clause-fixed g c =
-    fixed_words-state_after g.V.Variant.layout _ _ _ c.self.told c.write_blocks.ensures.state ∙ ap (fixed_words g.V.Variant.layout) c.self.view_is
+returns-clause-fixed g c = rw (← c.self.view_is) (fixed_words-state_after g.V.Variant.layout _ _ _ c.self.told c.write_blocks.ensures.state)
 
 pub returns-clause-counter : goal.returns-clause-counter
-returns-clause-counter g c =
-    let layout = g.V.Variant.layout in
-    state_counter-state_after layout (length c.args.blocks.now) _ _ c.self.told c.write_blocks.ensures.state
-    ∙ ap (λ s. (state_counter layout s + length c.args.blocks.now) % modulus layout) c.self.view_is
+returns-clause-counter g c = rw (← c.self.view_is) (state_counter-state_after g.V.Variant.layout _ _ _ c.self.told c.write_blocks.ensures.state)
