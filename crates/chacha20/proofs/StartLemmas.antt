@@ -1,8 +1,9 @@
 -- Start states: written part by part, and the blocks from one on.
-use Rattle.std.proofs.Common.{◌≡◌, ℕ, ◌*◌, List, [], ◌∷◌, ◌++◌, length, replicate, refl, sym, ap, ◌∙◌}
+use Rattle.std.proofs.Common.{◌≡◌, ℕ, ◌*◌, List, [], ◌∷◌, ◌++◌, length, take, drop, replicate, refl, sym, ap, ◌∙◌}
 use Rattle.std.proofs.Math.Nat.{zero-mod}
 use Rattle.std.proofs.Math.Path.{fun_ext}
 use borrow.Rule.Slice.PartMut.{put_mid}
+use lib.Lanes.{chunk, put_chunk}
 use Rattle.chacha_base.specs.Block.{constants, start, block}
 use Rattle.chacha_base.specs.Bytes.{bytes}
 use Rattle.chacha_base.specs.Layout.{Layout, modulus}
@@ -12,14 +13,18 @@ use Rattle.chacha_base.proofs.BytesLemmas.{length-words}
 use Rattle.chacha_base.proofs.ListLemmas.{each}
 use Rattle.chacha_base.proofs.StateLemmas.{state_counter-start, fixed_words-start, start-wrapped, state_of-start}
 
--- the constants and twelve zeros, with a key of eight and a row of four written over these
-pub written : (key row : List ℕ) → length key ≡ 8 → length row ≡ 4 → put_mid 12 4 (put_mid 4 8 (constants ++ replicate 12 0) key) row ≡ constants ++ key ++ row
+-- the constants and twelve zeros, with a key of eight written over these
+abbrev keyed : List ℕ → List ℕ
+keyed key = put_mid 4 8 (constants ++ replicate 12 0) key
+
+-- and then a row of four, as one vector
+pub written : (key row : List ℕ) → length key ≡ 8 → length row ≡ 4
+    → put_mid 12 4 (keyed key) (put_chunk 0 (take 4 (drop 12 (keyed key))) (chunk 0 4 row)) ≡ constants ++ key ++ row
 written key row eight four =
-    each 8 (λ ks. put_mid 12 4 (put_mid 4 8 (constants ++ replicate 12 0) ks) row ≡ constants ++ ks ++ row)
+    each 8 (λ k. put_mid 12 4 (keyed k) (put_chunk 0 (take 4 (drop 12 (keyed k))) (chunk 0 4 row)) ≡ constants ++ k ++ row)
     (λ x0 x1 x2 x3 x4 x5 x6 x7.
-    each 4 (λ r. put_mid 12 4 (put_mid 4 8 (constants ++ replicate 12 0) (x0 ∷ x1 ∷ x2 ∷ x3 ∷ x4 ∷ x5 ∷ x6 ∷ x7 ∷ [])) r
-    ≡ constants ++ (x0 ∷ x1 ∷ x2 ∷ x3 ∷ x4 ∷ x5 ∷ x6 ∷ x7 ∷ []) ++ r)
-    (λ y0 y1 y2 y3. refl) row four) key eight
+    let k = x0 ∷ x1 ∷ x2 ∷ x3 ∷ x4 ∷ x5 ∷ x6 ∷ x7 ∷ [] in
+    each 4 (λ r. put_mid 12 4 (keyed k) (put_chunk 0 (take 4 (drop 12 (keyed k))) (chunk 0 4 r)) ≡ constants ++ k ++ r) (λ y0 y1 y2 y3. refl) row four) key eight
 
 -- four zeros with their last three words written, or their last two
 pub row_written : (nonce : List ℕ) → length nonce ≡ 3 → put_mid 1 3 (replicate 4 0) nonce ≡ 0 ∷ nonce

@@ -189,24 +189,16 @@ impl<B> KeyIvInit for ChaChaCore<R20, Legacy, B> {
     }
 }
 
-// The state of a key and a last row.
+// The state of a key and a last row, which is written as one vector: a backend that reads it as a vector would wait for
+// words written one by one.
 pub(crate) fn start_state(key: &[u8; 32], last_row: &[u32; 4]) -> [u32; 16]
     ensures { result ≡ constants ++ words key.now ++ last_row.now }
 {
     let mut state = [0; 16];
     state[..4].copy_from_slice(&CONSTANTS);
     read_words(key, &mut state[4..12]);
-    write_row(last_row, &mut state[12..]);
+    u32x4::from_slice(last_row).copy_to_slice(&mut state[12..]);
     state
-}
-
-// Writes a row as one vector. A backend that reads the row as a vector would wait for words written one by one.
-#[inline(always)]
-fn write_row(row: &[u32; 4], output: &mut [u32])
-    requires { length output.old ≡ 4 }
-    ensures { output.new ≡ row.now }
-{
-    u32x4::from_slice(row).copy_to_slice(output);
 }
 
 // The counter of a state.

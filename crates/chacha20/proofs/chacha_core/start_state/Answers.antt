@@ -5,4 +5,5 @@ use Rattle.chacha20.proofs.chacha_core.start_state.Goals as goal
 
 pub returns : goal.returns
 returns c =
-    let whole = written (words c.args.key.now) c.args.last_row.now (length-words 8 _ c.told-key) c.told-last_row in cc
+    rw (c.copy_from_slice.ensures.after, c.read_words.ensures)
+    (written (words c.args.key.now) c.args.last_row.now (length-words 8 _ c.told-key) c.told-last_row)
