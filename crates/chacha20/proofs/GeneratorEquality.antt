@@ -1,9 +1,8 @@
 -- Generators that are equal are one generator.
-use Rattle.std.proofs.Common.{◌≡◌, inl, inr, Bool, false, Decides, refl, sym, ap, ◌∙◌}
-use Rattle.std.specs.Prelude.{◌↔◌, ◌==◌}
+use Rattle.std.proofs.Common.{◌≡◌, Bool, Decides, refl, sym, ap, ◌∙◌}
+use Rattle.std.specs.Prelude.{◌↔◌}
 use Rattle.std.specs.Bool.{IsTrue}
-use Rattle.std.specs.Cmp.Lexicographic.{pointwise, pointwise_decides}
-use Rattle.std.proofs.lemmas.Bool.{cases_Bool, eq-eqb}
+use Rattle.std.specs.Cmp.Lexicographic.{pointwise_decides}
 use Rattle.std.proofs.lemmas.Bool.Decides.{Decides-and, Decides-eqb}
 use Rattle.chacha20.specs.Generator.{GeneratorState, same_generator}
 use Rattle.chacha20.proofs.GeneratorLemmas.{generator_is}
@@ -25,10 +24,3 @@ same-own a = (same-Decides a a).1 (refl, (refl, refl))
 -- an answer that is `same` says whether they are one generator
 pub same-answer : (a b : GeneratorState) (r : Bool) → r ≡ same_generator a b → IsTrue r ↔ (a ≡ b)
 same-answer a b r is = (λ equal. same-is a b (sym is ∙ equal), λ one. is ∙ ap (same_generator a) (sym one) ∙ same-own a)
-
--- what is left to test where positions and streams are known
-pub same-rest : (a b : GeneratorState) → a.word_pos ≡ b.word_pos → a.stream ≡ b.stream → same_generator a b ≡ pointwise ◌==◌ a.seed b.seed
-same-rest a b positions streams = rw (eq-eqb a.word_pos b.word_pos positions, eq-eqb a.stream b.stream streams) refl
-
-pub same-not : (a b : GeneratorState) → (a ≡ b → ⊥) → same_generator a b ≡ false
-same-not a b apart = elim (cases_Bool (same_generator a b)) [ inl equal ↦ absurd (apart (same-is a b equal)) | inr unequal ↦ unequal ]

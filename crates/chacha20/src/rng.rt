@@ -339,9 +339,10 @@ impl<R: Rounds, B: RngBackend<R>> PartialEq for ChaChaRng<R, B> {
         ensures value { result ≡ same_generator self.now other.now }
         ensures same { IsTrue result ↔ (self.now ≡ other.now) }
     {
-        self.get_word_pos() == other.get_word_pos()
-            && self.get_stream() == other.get_stream()
-            && self.get_seed() == other.get_seed()
+        // All three tests are made, whatever the first ones say: one equation proves it.
+        (self.get_word_pos() == other.get_word_pos())
+            & (self.get_stream() == other.get_stream())
+            & (self.get_seed() == other.get_seed())
     }
 }
 
