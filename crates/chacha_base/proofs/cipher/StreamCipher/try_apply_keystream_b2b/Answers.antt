@@ -52,3 +52,9 @@ pub returns-clause-moved : goal.returns-clause-moved
 returns-clause-moved g c =
     let all : c.pieces.done ≡ length c.args.input.now = omega arith in
     rw (← all) c.pieces.invariant.moved
+
+pub returns-in_err-check_remaining-clause-refused : goal.returns-in_err-check_remaining-clause-refused
+returns-in_err-check_remaining-clause-refused g c = grind (arith, common_steps)
+
+pub returns-then-input-output-clause-refused : goal.returns-then-input-output-clause-refused
+returns-then-input-output-clause-refused g c = (refl, refl)

@@ -1,4 +1,5 @@
 use Rattle.std.proofs.Common.{◌≡◌, ◌<◌, ◌*◌, length, ap, ◌∙◌, arith}
+use Rattle.std.proofs.lemmas.Grind.{common_steps}
 use Rattle.chacha_base.proofs.BufferedLemmas.{counter-at_front, xor_stream-front}
 use Rattle.chacha_base.proofs.wrapper.StreamCipherCoreWrapper.apply_last.Goals as goal
 
@@ -13,3 +14,6 @@ returns-then-not-is_empty-clause-bytes g c =
     counter-at_front modulus c.self.inside.past counter c.self.inside.left _ _ c.self.invariant.part (ap (λ v. v.position) c.self.view_is) (c.requires.front some) some c.requires.fits
     in
     xor_stream-front modulus (block c.args.self.now.fixed) counter _ _ _ _ c.self.invariant.below made place (omega arith) (omega arith) c.xor_bytes.ensures
+
+pub returns-then-not-is_empty-clause-steps : goal.returns-then-not-is_empty-clause-steps
+returns-then-not-is_empty-clause-steps g c = grind (arith, common_steps)

@@ -1,4 +1,5 @@
 use Rattle.std.proofs.Common.{length, arith, refl}
+use Rattle.std.proofs.lemmas.Grind.{common_steps}
 use Rattle.chacha_base.specs.Keystream.{keystream}
 use Rattle.chacha_base.proofs.KeystreamLemmas.{xor_stream-parts}
 use Rattle.chacha_base.proofs.CountsLemmas.{grows-bytes}
@@ -20,3 +21,9 @@ returns-clause-steps g c =
     let whole = c.split_at_mut-blocks.ensures.front_len in
     grows-bytes _ _ _ c.args.self.now.position (length c.args.buf.now) c.min-begun.result (length c.split_at_mut-blocks.result.0.now) (length c.split_at_mut-blocks.result.1.now) _ _ _
     (omega (arith, c.left.ensures, c.min-begun.ensures)) whole (omega arith) c.apply_whole.ensures.steps c.apply_last.ensures.steps
+
+pub returns-in_err-check_remaining-clause-accepted : goal.returns-in_err-check_remaining-clause-accepted
+returns-in_err-check_remaining-clause-accepted g c = grind (arith, common_steps)
+
+pub returns-in_err-check_remaining-clause-refused : goal.returns-in_err-check_remaining-clause-refused
+returns-in_err-check_remaining-clause-refused g c = grind (arith, common_steps)

@@ -1,0 +1,10 @@
+use Rattle.chacha_base.proofs.cipher.StreamCipher.try_apply_keystream.Goals as goal
+
+pub returns-clause-accepted : goal.returns-clause-accepted
+returns-clause-accepted g c = c.try_apply_keystream_counted.ensures.accepted
+
+pub returns-clause-bytes : goal.returns-clause-bytes
+returns-clause-bytes g c = c.try_apply_keystream_counted.ensures.bytes
+
+pub returns-clause-moved : goal.returns-clause-moved
+returns-clause-moved g c = c.try_apply_keystream_counted.ensures.moved
