@@ -29,3 +29,8 @@ returns-else-not-is_empty-clause-state g c =
     let s = c.args.state.now in
     let none : 0 ≡ length c.args.blocks.now = grind (arith, common_steps) in
     sym (state_after-zero g.V.Variant.layout s c.told-state c.fits-state) ∙ ap (λ k. state_after g.V.Variant.layout k s) none
+
+pub returns-after-each-clause-state : goal.returns-after-each-clause-state
+returns-after-each-clause-state g c =
+    let same : length c.each.blocks ≡ length c.args.blocks.now = omega arith in
+    rw (← same) c.advance.ensures
