@@ -4,6 +4,7 @@
 pub mod ciphers;
 pub mod cores;
 pub mod generators;
+pub mod steps;
 
 use chacha20::backends::{Lanes8, Lanes16};
 use chacha20::variants::{Ietf, Legacy};
@@ -34,18 +35,51 @@ impl Rounds for R0 {
     const COUNT: usize = 0;
 }
 
-/// What fails in a row: the place of the first check that does, and nothing where the row is right.
-pub type Verdict = Option<usize>;
+/// A check that fails: its name, and in a loop the number for which it does, else 0.
+#[derive(Clone, Copy)]
+pub struct Failure {
+    pub check: &'static str,
+    pub number: usize,
+}
 
-/// The place of the first check that fails.
-pub fn failed(checks: &[bool]) -> Verdict {
-    for (place, right) in checks.iter().enumerate() {
+/// The first check that fails; nothing where all are right.
+pub type Verdict = Option<Failure>;
+
+/// A failure of the check of this name.
+pub fn failed_check(check: &'static str) -> Verdict {
+    Some(Failure { check, number: 0 })
+}
+
+/// The first check that fails, of names and whether what they say holds.
+pub fn failed(checks: &[(&'static str, bool)]) -> Verdict {
+    for (check, right) in checks {
         if !*right {
-            return Some(place);
+            return failed_check(*check);
         }
     }
     None
 }
+
+/// A failure where a loop found a number for which its check fails.
+pub fn failed_for(check: &'static str, number: Option<usize>) -> Verdict {
+    match number {
+        Some(number) => Some(Failure { check, number }),
+        None => None,
+    }
+}
+
+/// The first failure of several.
+pub fn first_failure(verdicts: &[Verdict]) -> Verdict {
+    for verdict in verdicts {
+        if verdict.is_some() {
+            return *verdict;
+        }
+    }
+    None
+}
+
+/// A worked row: its number, its subject, and what fails in it.
+pub type Row = (usize, &'static str, Verdict);
 
 /// Each row's verdict, at the place of its number, for the named ciphers and generators. Other places are empty.
 pub fn verdicts() -> [Option<Verdict>; 24] {
@@ -58,7 +92,7 @@ pub fn verdicts() -> [Option<Verdict>; 24] {
             XChaChaCore<R20, Lanes16>,
         >(),
     );
-    enter(&mut verdicts, &[(13, no_rounds())]);
+    enter(&mut verdicts, &[(13, "a counter that wraps", no_rounds())]);
     enter(&mut verdicts, &generators::verdicts::<Lanes8>());
     verdicts
 }
@@ -67,8 +101,8 @@ fn no_rounds() -> Verdict {
     cores::row_13::<ChaChaCore<R0, Ietf, Lanes16>, ChaChaCore<R0, Legacy, Lanes16>>()
 }
 
-fn enter(verdicts: &mut [Option<Verdict>; 24], rows: &[(usize, Verdict)]) {
-    for (number, failed) in rows {
+fn enter(verdicts: &mut [Option<Verdict>; 24], rows: &[Row]) {
+    for (number, _, failed) in rows {
         if let Some(verdict) = verdicts.get_mut(*number) {
             *verdict = Some(*failed);
         }

@@ -23,3 +23,24 @@ mod users;
 mod width3;
 mod wraps;
 mod xchacha;
+
+use crate::rows::{Row, Verdict};
+use std::process::Abort;
+
+// Stops the test at the first of these that fails: what is named first, a backend or a type, and then the check.
+fn all_right(rt: &impl Abort, verdicts: &[(&'static str, Verdict)]) {
+    for (subject, verdict) in verdicts {
+        if let Some(failure) = *verdict {
+            panic!(rt; "{subject}: {}, {}", failure.check, failure.number);
+        }
+    }
+}
+
+// The same of the rows over a backend, with each row's number and subject.
+fn rows_right(rt: &impl Abort, backend: &'static str, rows: &[Row]) {
+    for (number, subject, verdict) in rows {
+        if let Some(failure) = *verdict {
+            panic!(rt; "{backend}: row {number}, {subject}: {}", failure.check);
+        }
+    }
+}

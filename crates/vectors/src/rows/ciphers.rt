@@ -3,10 +3,10 @@
 ghost use Rattle.std.specs.Prelude.{◌≡◌, ◌≤◌, ◌<◌, ◌+◌, length};
 ghost use Rattle.chacha20.specs.Keystream.{xor_stream};
 
-use super::{COUNTING, FROM_1, LEGACY_NONCE, Verdict, failed};
+use super::steps::{Place, Step, wrong_step};
+use super::{COUNTING, FROM_1, LEGACY_NONCE, Row, Verdict, failed, first_failure};
 use chacha20::cipher::{
-    KeyIvInit, OverflowError, StreamCipher, StreamCipherCounter, StreamCipherError,
-    StreamCipherSeek, StreamCipherSeekCore,
+    KeyIvInit, StreamCipher, StreamCipherCounter, StreamCipherSeek, StreamCipherSeekCore,
 };
 use chacha20::{ChaCha20, Key, LegacyNonce, Nonce, R20, StreamCipherCoreWrapper, XNonce, hchacha};
 
@@ -24,25 +24,24 @@ const PLAINTEXT: [u8; 16] = [0, 1, 2, 3, 4, 5, 6, 7, 8, 9, 10, 11, 12, 13, 14, 1
 
 const CIPHERTEXT: [u8; 16] = *b"\xe4\x05\x62\x6e\x4f\x12\x36\xb3\x67\x0e\xe4\x28\x33\x2e\xa2\x0e";
 
-/// Each row's number and what fails in it: for cores in the layout of RFC 8439, in the one before it, and with nonces of 24
-/// bytes.
-pub fn verdicts<K, L, X>() -> [(usize, Verdict); 10]
+/// Each row for cores in the layout of RFC 8439, in the one before it, and with nonces of 24 bytes.
+pub fn verdicts<K, L, X>() -> [Row; 10]
 where
     K: SeekCore<Nonce, u32>,
     L: SeekCore<LegacyNonce, u64>,
     X: SeekCore<XNonce, u32>,
 {
     [
-        (1, row_1::<K>()),
-        (3, row_3()),
-        (4, row_4::<K>()),
-        (5, row_5::<X>()),
-        (6, row_6::<L>()),
-        (11, row_11::<K>()),
-        (12, row_12::<K, L>()),
-        (16, row_16::<K>()),
-        (18, row_18::<K>()),
-        (22, row_22::<K, L>()),
+        (1, "there and back", row_1::<K>()),
+        (3, "HChaCha", row_3()),
+        (4, "a message from block 1 on", row_4::<K>()),
+        (5, "XChaCha20", row_5::<X>()),
+        (6, "the legacy cipher", row_6::<L>()),
+        (11, "the last block", row_11::<K>()),
+        (12, "positions of types", row_12::<K, L>()),
+        (16, "slices of two lengths", row_16::<K>()),
+        (18, "the last byte", row_18::<K>()),
+        (22, "how much a fresh cipher takes", row_22::<K, L>()),
     ]
 }
 
@@ -64,7 +63,11 @@ fn row_1<K: SeekCore<Nonce, u32>>() -> Verdict {
     let back = data;
     cipher.seek(0u32);
     apply_in_pieces(&mut cipher, &mut data, 3);
-    failed(&[there == CIPHERTEXT, back == PLAINTEXT, data == CIPHERTEXT])
+    failed(&[
+        ("there", there == CIPHERTEXT),
+        ("back", back == PLAINTEXT),
+        ("in pieces", data == CIPHERTEXT),
+    ])
 }
 
 /// Applies a cipher to bytes in pieces of one size, of which the last may be shorter. The bytes and the cipher become
@@ -88,7 +91,7 @@ fn row_3() -> Verdict {
     let input = *b"\x00\x00\x00\x09\x00\x00\x00\x4a\x00\x00\x00\x00\x31\x41\x59\x27";
     let expected = b"\x82\x41\x3b\x42\x27\xb2\x7b\xfe\xd3\x0e\x42\x50\x8a\x87\x7d\x73\
         \xa0\xf9\xe4\xd5\x8a\x74\xa8\x53\xc1\x2e\xc4\x13\x26\xd3\xec\xdc";
-    failed(&[hchacha::<R20>(&COUNTING, &input) == *expected])
+    failed(&[("the subkey", hchacha::<R20>(&COUNTING, &input) == *expected)])
 }
 
 // A message from block 1 on (RFC 8439, section 2.4.2).
@@ -97,26 +100,36 @@ fn row_4<K: SeekCore<Nonce, u32>>() -> Verdict {
         &COUNTING,
         &[0, 0, 0, 0, 0, 0, 0, 0x4a, 0, 0, 0, 0],
     );
-    let mut text = *b"Ladies and Gentl";
-    failed(&[
-        cipher.try_apply_keystream(&mut [0; 64]).is_ok(),
-        cipher.try_apply_keystream(&mut text).is_ok(),
-        text == *b"\x6e\x2e\x35\x9a\x25\x68\xf9\x80\x41\xba\x07\x28\xdd\x0d\x69\x81",
-    ])
+    wrong_step(&mut cipher, &ROW_4)
 }
+
+const ROW_4: [(&'static str, Step); 2] = [
+    ("block 0", Step::Skip(64)),
+    (
+        "the message",
+        Step::Apply(
+            b"Ladies and Gentl",
+            b"\x6e\x2e\x35\x9a\x25\x68\xf9\x80\x41\xba\x07\x28\xdd\x0d\x69\x81",
+        ),
+    ),
+];
 
 // XChaCha20 from block 1 on.
 fn row_5<X: SeekCore<XNonce, u32>>() -> Verdict {
     let mut cipher = StreamCipherCoreWrapper::<X>::new(&FROM_80, &X_NONCE);
-    let mut stream = [0; 32];
-    failed(&[
-        cipher.try_write_keystream(&mut [0; 64]).is_ok(),
-        cipher.try_write_keystream(&mut stream).is_ok(),
-        stream
-            == *b"\x29\x62\x4b\x4b\x1b\x14\x0a\xce\x53\x74\x0e\x40\x5b\x21\x68\x54\
-        \x0f\xd7\xd6\x30\xc1\xf5\x36\xfe\xcd\x72\x2f\xc3\xcd\xdb\xa7\xf4",
-    ])
+    wrong_step(&mut cipher, &ROW_5)
 }
+
+const ROW_5: [(&'static str, Step); 2] = [
+    ("block 0", Step::WriteSkip(64)),
+    (
+        "the front of block 1",
+        Step::Write(
+            b"\x29\x62\x4b\x4b\x1b\x14\x0a\xce\x53\x74\x0e\x40\x5b\x21\x68\x54\
+            \x0f\xd7\xd6\x30\xc1\xf5\x36\xfe\xcd\x72\x2f\xc3\xcd\xdb\xa7\xf4",
+        ),
+    ),
+];
 
 // The key 80 to 9f and its nonce.
 const FROM_80: Key = *b"\x80\x81\x82\x83\x84\x85\x86\x87\x88\x89\x8a\x8b\x8c\x8d\x8e\x8f\
@@ -127,82 +140,130 @@ const X_NONCE: XNonce = *b"@ABCDEFGHIJKLMNOPQRSTUVX";
 // The legacy cipher, from its start and from byte 17.
 fn row_6<L: SeekCore<LegacyNonce, u64>>() -> Verdict {
     let mut cipher = StreamCipherCoreWrapper::<L>::new(&FROM_1, &LEGACY_NONCE);
-    let mut stream = [0; 32];
-    let mut three = [0; 3];
-    let written = cipher.try_write_keystream(&mut stream);
+    let start = wrong_step(&mut cipher, &ROW_6_START);
     cipher.seek(17u64);
-    failed(&[
-        written.is_ok(),
-        stream
-            == *b"\xde\xeb\x6b\x9d\x06\xdf\xf3\xe0\x91\xbf\x3a\xd4\xf4\xd4\x92\xb6\
-        \xdd\x98\x24\x6f\x69\x69\x18\x02\xe4\x66\xe0\x3b\xad\x23\x57\x87",
-        cipher.try_write_keystream(&mut three).is_ok(),
-        three == [0x98, 0x24, 0x6f],
-        cipher.try_apply_keystream(&mut []).is_ok(),
-        cipher.try_current_pos() == Ok(20u32),
-    ])
+    first_failure(&[start, wrong_step(&mut cipher, &ROW_6_FROM_17)])
 }
+
+const ROW_6_START: [(&'static str, Step); 1] = [(
+    "32 bytes",
+    Step::Write(
+        b"\xde\xeb\x6b\x9d\x06\xdf\xf3\xe0\x91\xbf\x3a\xd4\xf4\xd4\x92\xb6\
+        \xdd\x98\x24\x6f\x69\x69\x18\x02\xe4\x66\xe0\x3b\xad\x23\x57\x87",
+    ),
+)];
+
+const ROW_6_FROM_17: [(&'static str, Step); 3] = [
+    ("three bytes from byte 17 on", Step::Write(b"\x98\x24\x6f")),
+    ("no bytes", Step::Apply(b"", b"")),
+    ("the position after them", Step::At(Place::U32(20))),
+];
 
 // The block with the greatest counter is taken as any other.
 fn row_11<K: SeekCore<Nonce, u32>>() -> Verdict {
     let mut cipher = StreamCipherCoreWrapper::<K>::new(&COUNTING, &[0; 12]);
-    failed(&[
-        cipher.try_seek(274877906880u64).is_ok(),
-        cipher.try_apply_keystream(&mut []).is_ok(),
-        cipher.try_apply_keystream(&mut [7]).is_ok(),
-        cipher.try_current_pos() == Ok(274877906881u64),
-        cipher.try_seek(274877906881u64).is_ok(),
-        cipher.try_seek(-1i32) == Err(StreamCipherError),
-        cipher.try_current_pos() == Ok(274877906881u64),
-    ])
+    wrong_step(&mut cipher, &ROW_11)
 }
+
+const ROW_11: [(&'static str, Step); 7] = [
+    (
+        "a seek to the last block",
+        Step::Seek(Place::U64(274877906880)),
+    ),
+    ("no bytes", Step::Apply(b"", b"")),
+    ("a byte", Step::Skip(1)),
+    ("the position after it", Step::At(Place::U64(274877906881))),
+    (
+        "a seek to byte 1 of it",
+        Step::Seek(Place::U64(274877906881)),
+    ),
+    ("a seek below 0", Step::NoSeek(Place::I32(-1))),
+    ("the position then", Step::At(Place::U64(274877906881))),
+];
 
 // Positions that a type can't say.
 fn row_12<K: SeekCore<Nonce, u32>, L: SeekCore<LegacyNonce, u64>>() -> Verdict {
     let mut legacy = StreamCipherCoreWrapper::<L>::new(&FROM_1, &LEGACY_NONCE);
     let mut cipher = StreamCipherCoreWrapper::<K>::new(&COUNTING, &[0; 12]);
     cipher.seek(2147483648u32);
-    failed(&[
-        legacy.try_seek(1180591620717411303360u128).is_ok(),
-        legacy.try_current_pos::<u64>() == Err(OverflowError),
-        legacy.try_current_pos::<u128>() == Ok(1180591620717411303360),
-        cipher.try_current_pos::<i32>() == Err(OverflowError),
-        cipher.try_current_pos::<u32>() == Ok(2147483648),
+    first_failure(&[
+        wrong_step(&mut legacy, &ROW_12_LEGACY),
+        wrong_step(&mut cipher, &ROW_12),
     ])
 }
+
+const ROW_12_LEGACY: [(&'static str, Step); 3] = [
+    (
+        "a seek past 64 bits",
+        Step::Seek(Place::U128(1180591620717411303360)),
+    ),
+    ("its position in 64 bits", Step::NotInU64),
+    (
+        "its position in 128 bits",
+        Step::At(Place::U128(1180591620717411303360)),
+    ),
+];
+
+const ROW_12: [(&'static str, Step); 2] = [
+    ("a position past 31 bits, in 31", Step::NotInI32),
+    (
+        "a position past 31 bits, in 32",
+        Step::At(Place::U32(2147483648)),
+    ),
+];
 
 // Two slices of different lengths.
 fn row_16<K: SeekCore<Nonce, u32>>() -> Verdict {
     let mut cipher = StreamCipherCoreWrapper::<K>::new(&COUNTING, &[0; 12]);
-    let mut output = [1, 2, 3, 4];
-    failed(&[
-        cipher.try_apply_keystream_b2b(&[5, 6, 7], &mut output) == Err(StreamCipherError),
-        output == [1, 2, 3, 4],
-        cipher.try_current_pos() == Ok(0u32),
-    ])
+    wrong_step(&mut cipher, &ROW_16)
 }
+
+const ROW_16: [(&'static str, Step); 2] = [
+    ("three bytes into four", Step::NoBetween(&[5, 6, 7], 4)),
+    ("the position after them", Step::At(Place::U32(0))),
+];
 
 // The last byte: the stream ends after it, and a fresh cipher begins at its start.
 fn row_18<K: SeekCore<Nonce, u32>>() -> Verdict {
     let mut cipher = StreamCipherCoreWrapper::<K>::new(&COUNTING, &[0; 12]);
-    let fresh = StreamCipherCoreWrapper::<K>::new(&COUNTING, &[0; 12]);
-    failed(&[
-        cipher.try_seek(274877906943u64).is_ok(),
-        cipher.try_apply_keystream(&mut [0]).is_ok(),
-        cipher.try_current_pos() == Ok(274877906944u64),
-        cipher.try_apply_keystream(&mut [0]) == Err(StreamCipherError),
-        fresh.try_current_pos() == Ok(0u64),
+    let mut fresh = StreamCipherCoreWrapper::<K>::new(&COUNTING, &[0; 12]);
+    first_failure(&[
+        wrong_step(&mut cipher, &ROW_18),
+        wrong_step(
+            &mut fresh,
+            &[("a fresh cipher's position", Step::At(Place::U64(0)))],
+        ),
     ])
 }
 
+const ROW_18: [(&'static str, Step); 4] = [
+    (
+        "a seek to the last byte",
+        Step::Seek(Place::U64(274877906943)),
+    ),
+    ("the last byte", Step::Skip(1)),
+    (
+        "the position at the end",
+        Step::At(Place::U64(274877906944)),
+    ),
+    ("a byte after the last", Step::NoApply(&[0])),
+];
+
 // How much a fresh cipher takes.
 fn row_22<K: SeekCore<Nonce, u32>, L: SeekCore<LegacyNonce, u64>>() -> Verdict {
-    let cipher = StreamCipherCoreWrapper::<K>::new(&COUNTING, &[0; 12]);
-    let legacy = StreamCipherCoreWrapper::<L>::new(&FROM_1, &LEGACY_NONCE);
-    failed(&[
-        cipher.check_remaining(274877906880).is_ok(),
-        cipher.check_remaining(274877906881).is_ok(),
-        cipher.check_remaining(274877906945) == Err(StreamCipherError),
-        legacy.check_remaining(usize::MAX).is_ok(),
+    let mut cipher = StreamCipherCoreWrapper::<K>::new(&COUNTING, &[0; 12]);
+    let mut legacy = StreamCipherCoreWrapper::<L>::new(&FROM_1, &LEGACY_NONCE);
+    first_failure(&[
+        wrong_step(&mut cipher, &ROW_22),
+        wrong_step(
+            &mut legacy,
+            &[("all that a length says", Step::Left(usize::MAX))],
+        ),
     ])
 }
+
+const ROW_22: [(&'static str, Step); 3] = [
+    ("all blocks but the last", Step::Left(274877906880)),
+    ("one byte more", Step::Left(274877906881)),
+    ("more than all", Step::NotLeft(274877906945)),
+];

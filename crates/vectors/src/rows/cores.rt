@@ -40,13 +40,25 @@ where
     legacy.set_block_pos(0xffff_ffff);
     let legacy_two = next_two(&mut legacy);
     failed(&[
-        is_first_block(&first),
-        two[0].ends_with(b"\xfe\xff\xff\xff\0\0\0\0\0\0\0\0\0\0\0\0"),
-        two[1].ends_with(&[0; 16]),
-        core.get_block_pos() == 1,
-        is_first_block(&legacy_first),
-        legacy_two[0].ends_with(b"\xfe\xff\xff\xff\0\0\0\0\0\0\0\0\0\0\0\0"),
-        legacy_two[1].ends_with(b"\0\0\0\0\x02\0\0\0\0\0\0\0\0\0\0\0"),
-        legacy.get_block_pos() == 0x1_0000_0001,
+        ("block 0", is_first_block(&first)),
+        (
+            "the last block",
+            two[0].ends_with(b"\xfe\xff\xff\xff\0\0\0\0\0\0\0\0\0\0\0\0"),
+        ),
+        ("the block after it", two[1].ends_with(&[0; 16])),
+        ("the position then", core.get_block_pos() == 1),
+        ("legacy block 0", is_first_block(&legacy_first)),
+        (
+            "legacy block 2^32 - 1",
+            legacy_two[0].ends_with(b"\xfe\xff\xff\xff\0\0\0\0\0\0\0\0\0\0\0\0"),
+        ),
+        (
+            "legacy block 2^32",
+            legacy_two[1].ends_with(b"\0\0\0\0\x02\0\0\0\0\0\0\0\0\0\0\0"),
+        ),
+        (
+            "the legacy position then",
+            legacy.get_block_pos() == 0x1_0000_0001,
+        ),
     ])
 }

@@ -2,9 +2,11 @@
 
 ghost use Rattle.std.specs.Prelude.{◌≤◌};
 
-use super::streams;
 use super::width3::Width3;
-use crate::rows::{COUNTING, R0, Verdict, ciphers, cores, failed, generators};
+use super::{all_right, rows_right, streams};
+use crate::rows::{
+    COUNTING, R0, Row, Verdict, ciphers, cores, failed, failed_for, first_failure, generators,
+};
 use chacha20::backends::{Lanes4, Lanes8, Lanes16, Rows8, Soft};
 use chacha20::cipher::{
     KeyIvInit, RngBackend, StreamCipherBackend, StreamCipherCounter, StreamCipherSeekCore,
@@ -18,34 +20,21 @@ type IetfCore<B> = ChaChaCore<R20, Ietf, B>;
 
 type LegacyCore<B> = ChaChaCore<R20, Legacy, B>;
 
-// The number of the first row that isn't right, and the place of the check that fails in it.
-fn wrong(rows: &[(usize, Verdict)]) -> Option<(usize, usize)> {
-    for (number, verdict) in rows {
-        if let Some(check) = *verdict {
-            return Some((*number, check));
-        }
-    }
-    None
-}
-
-fn wrong_cipher_row<B>() -> Option<(usize, usize)>
+fn cipher_rows<B>() -> [Row; 10]
 where
     B: StreamCipherBackend<R20, Ietf> + StreamCipherBackend<R20, Legacy>,
 {
-    wrong(&ciphers::verdicts::<IetfCore<B>, LegacyCore<B>, XChaChaCore<R20, B>>())
+    ciphers::verdicts::<IetfCore<B>, LegacyCore<B>, XChaChaCore<R20, B>>()
 }
 
 #[test]
 fn rows_of_ciphers(rt: HostRuntime) {
-    let wrong_rows = [
-        wrong_cipher_row::<Soft>(),
-        wrong_cipher_row::<Lanes4>(),
-        wrong_cipher_row::<Lanes8>(),
-        wrong_cipher_row::<Rows8>(),
-        wrong_cipher_row::<Lanes16>(),
-        wrong_cipher_row::<Width3>(),
-    ];
-    assert_eq!(rt; wrong_rows, [None; 6]);
+    rows_right(&rt, "Soft", &cipher_rows::<Soft>());
+    rows_right(&rt, "Lanes4", &cipher_rows::<Lanes4>());
+    rows_right(&rt, "Lanes8", &cipher_rows::<Lanes8>());
+    rows_right(&rt, "Rows8", &cipher_rows::<Rows8>());
+    rows_right(&rt, "Lanes16", &cipher_rows::<Lanes16>());
+    rows_right(&rt, "Width3", &cipher_rows::<Width3>());
 }
 
 fn row_13<
@@ -56,35 +45,27 @@ fn row_13<
 
 #[test]
 fn rows_of_cores(rt: HostRuntime) {
-    let verdicts = [
-        row_13::<Soft>(),
-        row_13::<Lanes4>(),
-        row_13::<Lanes8>(),
-        row_13::<Rows8>(),
-        row_13::<Lanes16>(),
-        row_13::<Width3>(),
-    ];
-    assert_eq!(rt; verdicts, [None; 6]);
-}
-
-fn wrong_generator_row<B>() -> Option<(usize, usize)>
-where
-    B: RngBackend<R8> + RngBackend<R12> + RngBackend<R20>,
-{
-    wrong(&generators::verdicts::<B>())
+    all_right(
+        &rt,
+        &[
+            ("row 13 over Soft", row_13::<Soft>()),
+            ("row 13 over Lanes4", row_13::<Lanes4>()),
+            ("row 13 over Lanes8", row_13::<Lanes8>()),
+            ("row 13 over Rows8", row_13::<Rows8>()),
+            ("row 13 over Lanes16", row_13::<Lanes16>()),
+            ("row 13 over Width3", row_13::<Width3>()),
+        ],
+    );
 }
 
 #[test]
 fn rows_of_generators(rt: HostRuntime) {
-    let wrong_rows = [
-        wrong_generator_row::<Soft>(),
-        wrong_generator_row::<Lanes4>(),
-        wrong_generator_row::<Lanes8>(),
-        wrong_generator_row::<Rows8>(),
-        wrong_generator_row::<Lanes16>(),
-        wrong_generator_row::<Width3>(),
-    ];
-    assert_eq!(rt; wrong_rows, [None; 6]);
+    rows_right(&rt, "Soft", &generators::verdicts::<Soft>());
+    rows_right(&rt, "Lanes4", &generators::verdicts::<Lanes4>());
+    rows_right(&rt, "Lanes8", &generators::verdicts::<Lanes8>());
+    rows_right(&rt, "Rows8", &generators::verdicts::<Rows8>());
+    rows_right(&rt, "Lanes16", &generators::verdicts::<Lanes16>());
+    rows_right(&rt, "Width3", &generators::verdicts::<Width3>());
 }
 
 // The streams of ciphers; the legacy one between all places that are multiples of so many bytes.
@@ -93,45 +74,60 @@ where
     B: StreamCipherBackend<R20, Ietf> + StreamCipherBackend<R20, Legacy>,
 {
     failed(&[
-        streams::ietf_stream::<IetfCore<B>>(),
-        streams::xchacha_stream::<XChaChaCore<R20, B>>(),
-        streams::legacy_stream::<LegacyCore<B>>(step).is_none(),
+        ("RFC 8439's stream", streams::ietf_stream::<IetfCore<B>>()),
+        (
+            "XChaCha20's stream",
+            streams::xchacha_stream::<XChaChaCore<R20, B>>(),
+        ),
+        (
+            "the legacy stream",
+            streams::legacy_stream::<LegacyCore<B>>(step).is_none(),
+        ),
     ])
 }
 
 #[test]
 fn cipher_streams(rt: HostRuntime) {
-    let verdicts = [
-        wrong_cipher_stream::<Soft>(1),
-        wrong_cipher_stream::<Lanes4>(17),
-        wrong_cipher_stream::<Lanes8>(17),
-        wrong_cipher_stream::<Rows8>(17),
-        wrong_cipher_stream::<Lanes16>(17),
-        wrong_cipher_stream::<Width3>(17),
-    ];
-    assert_eq!(rt; verdicts, [None; 6]);
+    all_right(
+        &rt,
+        &[
+            ("Soft", wrong_cipher_stream::<Soft>(1)),
+            ("Lanes4", wrong_cipher_stream::<Lanes4>(17)),
+            ("Lanes8", wrong_cipher_stream::<Lanes8>(17)),
+            ("Rows8", wrong_cipher_stream::<Rows8>(17)),
+            ("Lanes16", wrong_cipher_stream::<Lanes16>(17)),
+            ("Width3", wrong_cipher_stream::<Width3>(17)),
+        ],
+    );
 }
 
 fn wrong_generator_stream<B: RngBackend<R20>>() -> Verdict {
-    failed(&[
-        streams::zero_seed_words::<B>().is_none(),
-        streams::every_17th_word::<B>().is_none(),
-        streams::carry_blocks::<B>(),
-        streams::wrap_to_start::<B>(),
+    first_failure(&[
+        failed_for("words of a zero seed", streams::zero_seed_words::<B>()),
+        failed_for("each 17th word", streams::every_17th_word::<B>()),
+        failed(&[
+            ("blocks around 2^32", streams::carry_blocks::<B>()),
+            (
+                "the first block after the last",
+                streams::wrap_to_start::<B>(),
+            ),
+        ]),
     ])
 }
 
 #[test]
 fn generator_streams(rt: HostRuntime) {
-    let verdicts = [
-        wrong_generator_stream::<Soft>(),
-        wrong_generator_stream::<Lanes4>(),
-        wrong_generator_stream::<Lanes8>(),
-        wrong_generator_stream::<Rows8>(),
-        wrong_generator_stream::<Lanes16>(),
-        wrong_generator_stream::<Width3>(),
-    ];
-    assert_eq!(rt; verdicts, [None; 6]);
+    all_right(
+        &rt,
+        &[
+            ("Soft", wrong_generator_stream::<Soft>()),
+            ("Lanes4", wrong_generator_stream::<Lanes4>()),
+            ("Lanes8", wrong_generator_stream::<Lanes8>()),
+            ("Rows8", wrong_generator_stream::<Rows8>()),
+            ("Lanes16", wrong_generator_stream::<Lanes16>()),
+            ("Width3", wrong_generator_stream::<Width3>()),
+        ],
+    );
 }
 
 // So many blocks from a counter on, the single block after them, and the position after the many.
@@ -227,8 +223,8 @@ fn wrong_words<R: Rounds, B: RngBackend<R>>() -> Option<usize> {
     None
 }
 
-// What goes wrong in cores beside those over the plain backend, in either layout.
-fn wrong_cores<R: Rounds, B>() -> [Option<usize>; 2]
+// What goes wrong in cores beside those over the plain backend, in either layout: the number of blocks.
+fn wrong_cores<R: Rounds, B>() -> [Verdict; 2]
 where
     B: StreamCipherBackend<R, Ietf> + StreamCipherBackend<R, Legacy> + RngBackend<R>,
 {
@@ -237,53 +233,77 @@ where
     let mut plain_legacy = ChaChaCore::<R, Legacy, Soft>::from_seed(COUNTING);
     let mut wide_legacy = ChaChaCore::<R, Legacy, B>::from_seed(COUNTING);
     [
-        wrong_count(&mut wide, &mut plain, START),
-        wrong_count(&mut wide_legacy, &mut plain_legacy, u64::from(START)),
+        failed_for("core", wrong_count(&mut wide, &mut plain, START)),
+        failed_for(
+            "legacy core",
+            wrong_count(&mut wide_legacy, &mut plain_legacy, u64::from(START)),
+        ),
     ]
 }
 
-// What goes wrong in the calls of a backend.
-fn wrong_calls<R: Rounds, B>() -> [Option<usize>; 5]
+// What goes wrong in the calls of a backend: the number of the block, the length of the tail, or the number of the call.
+fn wrong_calls<R: Rounds, B>() -> [Verdict; 5]
 where
     B: StreamCipherBackend<R, Ietf> + StreamCipherBackend<R, Legacy> + RngBackend<R>,
 {
     [
-        wrong_single_block::<R, Ietf, B>(),
-        wrong_single_block::<R, Legacy, B>(),
-        wrong_tail::<R, Ietf, B>(),
-        wrong_tail::<R, Legacy, B>(),
-        wrong_words::<R, B>(),
+        failed_for("single block", wrong_single_block::<R, Ietf, B>()),
+        failed_for("legacy single block", wrong_single_block::<R, Legacy, B>()),
+        failed_for("tail", wrong_tail::<R, Ietf, B>()),
+        failed_for("legacy tail", wrong_tail::<R, Legacy, B>()),
+        failed_for("words", wrong_words::<R, B>()),
     ]
 }
 
-fn beside_soft<R: Rounds, B>(rt: &impl Abort)
+// With no rounds, and with 20.
+fn beside_soft<B>(rt: &impl Abort)
 where
-    B: StreamCipherBackend<R, Ietf> + StreamCipherBackend<R, Legacy> + RngBackend<R>,
+    B: StreamCipherBackend<R0, Ietf>
+        + StreamCipherBackend<R0, Legacy>
+        + RngBackend<R0>
+        + StreamCipherBackend<R20, Ietf>
+        + StreamCipherBackend<R20, Legacy>
+        + RngBackend<R20>,
 {
-    assert_eq!(rt; wrong_cores::<R, B>(), [None; 2]);
-    assert_eq!(rt; wrong_calls::<R, B>(), [None; 5]);
+    all_right(
+        rt,
+        &[
+            (
+                "cores without rounds",
+                first_failure(&wrong_cores::<R0, B>()),
+            ),
+            (
+                "calls without rounds",
+                first_failure(&wrong_calls::<R0, B>()),
+            ),
+            (
+                "cores of 20 rounds",
+                first_failure(&wrong_cores::<R20, B>()),
+            ),
+            (
+                "calls of 20 rounds",
+                first_failure(&wrong_calls::<R20, B>()),
+            ),
+        ],
+    );
 }
 
 #[test]
 fn lanes4_beside_soft(rt: HostRuntime) {
-    beside_soft::<R0, Lanes4>(&rt);
-    beside_soft::<R20, Lanes4>(&rt);
+    beside_soft::<Lanes4>(&rt);
 }
 
 #[test]
 fn lanes8_beside_soft(rt: HostRuntime) {
-    beside_soft::<R0, Lanes8>(&rt);
-    beside_soft::<R20, Lanes8>(&rt);
+    beside_soft::<Lanes8>(&rt);
 }
 
 #[test]
 fn rows8_beside_soft(rt: HostRuntime) {
-    beside_soft::<R0, Rows8>(&rt);
-    beside_soft::<R20, Rows8>(&rt);
+    beside_soft::<Rows8>(&rt);
 }
 
 #[test]
 fn lanes16_beside_soft(rt: HostRuntime) {
-    beside_soft::<R0, Lanes16>(&rt);
-    beside_soft::<R20, Lanes16>(&rt);
+    beside_soft::<Lanes16>(&rt);
 }

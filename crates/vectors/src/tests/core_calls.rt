@@ -1,5 +1,6 @@
 //! Calls on a core alone.
 
+use super::all_right;
 use crate::rows::{COUNTING, R0, Verdict, failed};
 use chacha20::backends::{Lanes4, Lanes8, Lanes16, Rows8, Soft};
 use chacha20::cipher::{KeyIvInit, StreamCipherBackend, StreamCipherCore, StreamCipherSeekCore};
@@ -13,19 +14,24 @@ fn two_blocks_of_zeros<B: StreamCipherBackend<R0, Ietf>>() -> Verdict {
     core.write_keystream_blocks(&mut blocks);
     let mut second = [0; 64];
     second[48] = 2;
-    failed(&[blocks == [[0; 64], second], core.get_block_pos() == 2])
+    failed(&[
+        ("two blocks of zeros", blocks == [[0; 64], second]),
+        ("the position after them", core.get_block_pos() == 2),
+    ])
 }
 
 #[test]
 fn zeroized(rt: HostRuntime) {
-    let verdicts = [
-        two_blocks_of_zeros::<Soft>(),
-        two_blocks_of_zeros::<Lanes4>(),
-        two_blocks_of_zeros::<Lanes8>(),
-        two_blocks_of_zeros::<Rows8>(),
-        two_blocks_of_zeros::<Lanes16>(),
-    ];
-    assert_eq!(rt; verdicts, [None; 5]);
+    all_right(
+        &rt,
+        &[
+            ("Soft", two_blocks_of_zeros::<Soft>()),
+            ("Lanes4", two_blocks_of_zeros::<Lanes4>()),
+            ("Lanes8", two_blocks_of_zeros::<Lanes8>()),
+            ("Rows8", two_blocks_of_zeros::<Rows8>()),
+            ("Lanes16", two_blocks_of_zeros::<Lanes16>()),
+        ],
+    );
 }
 
 // The block with the greatest counter counts. 2^64 blocks are more than a number of blocks says.
@@ -38,10 +44,13 @@ fn remaining_blocks(rt: HostRuntime) {
         Legacy::remaining_blocks(u64::MAX),
     ];
     let right = failed(&[
-        of_ietf == [Some(4294967296), Some(1)],
-        of_legacy == [None, Some(18446744073709551615), Some(1)],
+        ("of 32 bits", of_ietf == [Some(4294967296), Some(1)]),
+        (
+            "of 64 bits",
+            of_legacy == [None, Some(18446744073709551615), Some(1)],
+        ),
     ]);
-    assert_eq!(rt; right, None);
+    all_right(&rt, &[("remaining blocks", right)]);
 }
 
 type PlainCore = ChaChaCore<R20, Ietf, Soft>;
@@ -87,12 +96,12 @@ fn blocks_at_once(rt: HostRuntime) {
     let mut writes = PlainCore::new(&COUNTING, &[7; 12]);
     let mut applies = PlainCore::new(&COUNTING, &[7; 12]);
     let right = failed(&[
-        written_at_once(&mut writes) == single,
-        applied_at_once(&mut applies) == of_a5(single),
-        writes.get_block_pos() == 4,
-        applies.get_block_pos() == 4,
+        ("written", written_at_once(&mut writes) == single),
+        ("applied", applied_at_once(&mut applies) == of_a5(single)),
+        ("the position after writing", writes.get_block_pos() == 4),
+        ("the position after applying", applies.get_block_pos() == 4),
     ]);
-    assert_eq!(rt; right, None);
+    all_right(&rt, &[("blocks at once", right)]);
 }
 
 // The next block as one core writes it is what another applies to zeros.
@@ -111,11 +120,17 @@ fn block_applied(rt: HostRuntime) {
     writes.set_block_pos(0xffff_ffff);
     applies.set_block_pos(0xffff_ffff);
     let right = failed(&[
-        applies_as_written(&mut writes, &mut applies),
-        applies_as_written(&mut writes, &mut applies),
-        applies.get_block_pos() == 0x1_0000_0001,
+        (
+            "block 2^32 - 1",
+            applies_as_written(&mut writes, &mut applies),
+        ),
+        ("block 2^32", applies_as_written(&mut writes, &mut applies)),
+        (
+            "the position after them",
+            applies.get_block_pos() == 0x1_0000_0001,
+        ),
     ]);
-    assert_eq!(rt; right, None);
+    all_right(&rt, &[("a block applied", right)]);
 }
 
 // Three blocks, of which two are written at once and one is counted, and the position after them.
@@ -137,5 +152,6 @@ fn three<C: StreamCipherSeekCore<Counter = u32>>(core: &mut C) -> ([[u8; 64]; 3]
 fn blocks_counted(rt: HostRuntime) {
     let applied = three(&mut XChaChaCore::<R20, Lanes16>::new(&COUNTING, &[7; 24]));
     let written = two_and_one(&mut XChaChaCore::<R20, Soft>::new(&COUNTING, &[7; 24]));
-    assert!(rt; applied == written && written.1 == 3);
+    assert!(rt; applied == written, "as written");
+    assert!(rt; written.1 == 3, "the position after them");
 }

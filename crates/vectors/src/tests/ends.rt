@@ -2,13 +2,14 @@
 
 ghost use Rattle.std.specs.Prelude.{◌≤◌, ◌^◌, length};
 
+use super::all_right;
 use super::width3::Width3;
 use crate::rows::ciphers::SeekCore;
-use crate::rows::{COUNTING, FROM_1, LEGACY_NONCE, R0, Verdict, failed};
+use crate::rows::steps::{Place, Step, wrong_step};
+use crate::rows::{COUNTING, FROM_1, LEGACY_NONCE, R0, Verdict, failed, failed_for, first_failure};
 use chacha20::backends::{Lanes4, Lanes8, Lanes16, Rows8, Soft};
 use chacha20::cipher::{
-    KeyIvInit, OverflowError, StreamCipher, StreamCipherBackend, StreamCipherSeek,
-    StreamCipherSeekCore,
+    KeyIvInit, StreamCipher, StreamCipherBackend, StreamCipherSeek, StreamCipherSeekCore,
 };
 use chacha20::runs::{CipherAnswer, CipherCall, run_cipher};
 use chacha20::variants::{Ietf, Legacy};
@@ -16,150 +17,152 @@ use chacha20::{ChaChaCore, LegacyNonce, Nonce, R20, StreamCipherCoreWrapper, XCh
 
 type Cipher<K> = StreamCipherCoreWrapper<K>;
 
+type NamedStep = (&'static str, Step);
+
 // The limits: 64 bytes for each counter of 32 and of 64 bits.
 const LIMIT: u128 = 274877906944;
 
 const LEGACY_LIMIT: u128 = 1180591620717411303424;
 
 // The last sixteen bytes: seventeen are refused, sixteen come, and then none but no bytes.
-fn last_bytes<K: StreamCipherSeekCore<Counter = u32>>(cipher: &mut Cipher<K>) -> Verdict {
-    let mut bytes = [0; 17];
-    cipher.seek(274877906928u64);
-    failed(&[
-        cipher.try_apply_keystream(&mut bytes).is_err(),
-        bytes == [0; 17],
-        cipher.try_apply_keystream(&mut bytes[..16]).is_ok(),
-        cipher.try_current_pos() == Ok(274877906944u64),
-        cipher.try_apply_keystream(&mut bytes[16..]).is_err(),
-        cipher.try_apply_keystream(&mut []).is_ok(),
-        bytes == *b"\xfe\xff\xff\xff\0\0\0\0\0\0\0\0\0\0\0\0\0",
-    ])
-}
+const LAST_BYTES: [NamedStep; 5] = [
+    ("seventeen bytes before the end", Step::NoApply(&[0; 17])),
+    (
+        "the last sixteen bytes",
+        Step::Apply(&[0; 16], b"\xfe\xff\xff\xff\0\0\0\0\0\0\0\0\0\0\0\0"),
+    ),
+    (
+        "the position at the end",
+        Step::At(Place::U64(274877906944)),
+    ),
+    ("a byte at the end", Step::NoApply(&[0])),
+    ("no bytes at the end", Step::Apply(b"", b"")),
+];
 
 // After them the start, by a seek.
-fn first_bytes<K: StreamCipherSeekCore>(cipher: &mut Cipher<K>) -> Verdict {
-    let mut bytes = [0; 4];
-    cipher.seek(0u32);
-    failed(&[
-        cipher.try_apply_keystream(&mut bytes).is_ok(),
-        bytes == *b"\xca\xf0\xe0\xc2",
-        cipher.try_current_pos() == Ok(4u32),
-    ])
-}
+const FIRST_BYTES: [NamedStep; 2] = [
+    ("the first bytes", Step::Apply(&[0; 4], b"\xca\xf0\xe0\xc2")),
+    ("the position after them", Step::At(Place::U32(4))),
+];
 
 // From the block before the last one into the last.
-fn into_the_last_block<K: StreamCipherSeekCore<Counter = u32>>(cipher: &mut Cipher<K>) -> Verdict {
-    let mut bytes = [0; 17];
-    cipher.seek(274877906864u64);
-    failed(&[
-        cipher.try_apply_keystream(&mut bytes).is_ok(),
-        bytes == *b"\xfc\xff\xff\xff\0\0\0\0\0\0\0\0\0\0\0\0\xca",
-        cipher.try_current_pos() == Ok(274877906881u64),
-    ])
-}
+const INTO_THE_LAST_BLOCK: [NamedStep; 2] = [
+    (
+        "into the last block",
+        Step::Apply(&[0; 17], b"\xfc\xff\xff\xff\0\0\0\0\0\0\0\0\0\0\0\0\xca"),
+    ),
+    ("the position in it", Step::At(Place::U64(274877906881))),
+];
 
-// The limit itself is a position, and the next number isn't.
-fn at_the_limit<K: StreamCipherSeekCore>(cipher: &mut Cipher<K>) -> Verdict {
-    failed(&[
-        cipher.try_seek(274877906944u64).is_ok(),
-        cipher.check_remaining(0).is_ok(),
-        cipher.check_remaining(1).is_err(),
-        cipher.try_seek(274877906945u64).is_err(),
-        cipher.try_current_pos() == Ok(274877906944u64),
-    ])
-}
-
-// Between slices at the limit: of lengths that differ, of one byte, and of none.
-fn slices_at_the_limit<K: StreamCipherSeekCore>(cipher: &mut Cipher<K>) -> Verdict {
-    let mut output = [5; 4];
-    failed(&[
-        cipher.try_seek(274877906944u64).is_ok(),
-        cipher
-            .try_apply_keystream_b2b(&[1, 2, 3], &mut output)
-            .is_err(),
-        cipher
-            .try_apply_keystream_b2b(&[1], &mut output[..1])
-            .is_err(),
-        cipher.try_write_keystream(&mut output[..1]).is_err(),
-        output == [5; 4],
-        cipher.try_apply_keystream_b2b(&[], &mut []).is_ok(),
-        cipher.try_write_keystream(&mut []).is_ok(),
-    ])
-}
+// The limit itself is a position, and the next number isn't. Between slices there: of lengths that differ, of one byte,
+// and of none.
+const AT_THE_LIMIT: [NamedStep; 11] = [
+    ("a seek to the limit", Step::Seek(Place::U64(274877906944))),
+    ("no bytes are left", Step::Left(0)),
+    ("one isn't", Step::NotLeft(1)),
+    (
+        "a seek past the limit",
+        Step::NoSeek(Place::U64(274877906945)),
+    ),
+    ("the position", Step::At(Place::U64(274877906944))),
+    (
+        "a seek to where it is",
+        Step::Seek(Place::U64(274877906944)),
+    ),
+    ("three bytes into four", Step::NoBetween(&[1, 2, 3], 4)),
+    ("a byte between slices", Step::NoBetween(&[1], 1)),
+    ("a byte written", Step::NoWrite(1)),
+    ("no bytes between slices", Step::Between(b"", b"")),
+    ("no bytes written", Step::Write(b"")),
+];
 
 // Numbers below 0, and the greatest of two types, are no positions: the cipher stays where it is.
-fn far_seeks<K: StreamCipherSeekCore>(cipher: &mut Cipher<K>, place: u32) -> Verdict {
-    failed(&[
-        cipher.try_seek(i32::MIN).is_err(),
-        cipher.try_seek(u128::MAX).is_err(),
-        cipher.try_seek(usize::MAX).is_err(),
-        cipher.try_seek(-1i32).is_err(),
-        cipher.try_current_pos() == Ok(place),
-    ])
-}
+const FAR_SEEKS: [NamedStep; 11] = [
+    ("the least of 32 bits", Step::NoSeek(Place::I32(i32::MIN))),
+    (
+        "the greatest of 128 bits",
+        Step::NoSeek(Place::U128(u128::MAX)),
+    ),
+    (
+        "the greatest length",
+        Step::NoSeek(Place::Usize(usize::MAX)),
+    ),
+    ("below 0", Step::NoSeek(Place::I32(-1))),
+    ("the position at the start", Step::At(Place::U32(0))),
+    ("a seek to 70", Step::Seek(Place::U32(70))),
+    (
+        "the least of 32 bits, at 70",
+        Step::NoSeek(Place::I32(i32::MIN)),
+    ),
+    (
+        "the greatest of 128 bits, at 70",
+        Step::NoSeek(Place::U128(u128::MAX)),
+    ),
+    (
+        "the greatest length, at 70",
+        Step::NoSeek(Place::Usize(usize::MAX)),
+    ),
+    ("below 0, at 70", Step::NoSeek(Place::I32(-1))),
+    ("the position at 70", Step::At(Place::U32(70))),
+];
 
-// The greatest position of 31 bits, and the one after it.
-fn past_31_bits<K: StreamCipherSeekCore<Counter = u32>>(cipher: &mut Cipher<K>) -> Verdict {
-    cipher.seek(2147483647i32);
-    failed(&[
-        cipher.try_current_pos() == Ok(2147483647i32),
-        cipher.try_apply_keystream(&mut [0]).is_ok(),
-        cipher.try_current_pos::<i32>() == Err(OverflowError),
-    ])
-}
-
-// The last block of a cipher, and then none.
-fn last_block<K: StreamCipherSeekCore>(
-    cipher: &mut Cipher<K>,
-    start: u128,
-    expected: &[u8; 64],
-) -> Verdict {
-    let mut block = [0; 64];
-    failed(&[
-        cipher.try_seek(start).is_ok(),
-        cipher.try_apply_keystream(&mut block).is_ok(),
-        block == *expected,
-        cipher.check_remaining(1).is_err(),
-    ])
-}
-
-// A position that is the greatest of 64 bits, and the one after it.
-fn past_64_bits<K: StreamCipherSeekCore<Counter = u64>>(cipher: &mut Cipher<K>) -> Verdict {
-    cipher.seek(usize::MAX);
-    failed(&[
-        cipher.try_current_pos() == Ok(18446744073709551615u64),
-        cipher.try_apply_keystream(&mut [0]).is_ok(),
-        cipher.try_current_pos::<u64>() == Err(OverflowError),
-        cipher.try_current_pos::<usize>() == Err(OverflowError),
-        cipher.try_current_pos() == Ok(18446744073709551616u128),
-    ])
-}
+// The greatest position of 31 bits and the one after it, and the last block of a cipher and then none.
+const PAST_31_BITS: [NamedStep; 6] = [
+    ("a position of 31 bits", Step::At(Place::I32(2147483647))),
+    ("a byte there", Step::Skip(1)),
+    ("the one after it", Step::NotInI32),
+    (
+        "a seek to the last block",
+        Step::Seek(Place::U128(LIMIT - 64)),
+    ),
+    ("the last block", Step::Apply(&[0; 64], LAST_BLOCK)),
+    ("a byte after it", Step::NotLeft(1)),
+];
 
 // A fresh cipher with a counter of 64 bits takes as much as can be asked for. Its limit is a position, and more than 64
-// bits say.
-fn at_the_legacy_limit<K: StreamCipherSeekCore>(cipher: &mut Cipher<K>) -> Verdict {
-    failed(&[
-        cipher.check_remaining(usize::MAX).is_ok(),
-        cipher.try_seek(LEGACY_LIMIT).is_ok(),
-        cipher.check_remaining(0).is_ok(),
-        cipher.check_remaining(1).is_err(),
-        cipher.try_seek(LEGACY_LIMIT + 1).is_err(),
-        cipher.try_current_pos::<u64>() == Err(OverflowError),
-        cipher.try_current_pos() == Ok(LEGACY_LIMIT),
-    ])
-}
+// bits say. Its last byte.
+const AT_THE_LEGACY_LIMIT: [NamedStep; 13] = [
+    ("all that a length says", Step::Left(usize::MAX)),
+    ("a seek to the limit", Step::Seek(Place::U128(LEGACY_LIMIT))),
+    ("no bytes are left", Step::Left(0)),
+    ("one isn't", Step::NotLeft(1)),
+    (
+        "a seek past the limit",
+        Step::NoSeek(Place::U128(LEGACY_LIMIT + 1)),
+    ),
+    ("the limit in 64 bits", Step::NotInU64),
+    ("the limit", Step::At(Place::U128(LEGACY_LIMIT))),
+    (
+        "a seek to the last byte",
+        Step::Seek(Place::U128(LEGACY_LIMIT - 1)),
+    ),
+    ("one byte is left", Step::Left(1)),
+    ("two aren't", Step::NotLeft(2)),
+    ("all that a length says isn't", Step::NotLeft(usize::MAX)),
+    ("the last byte", Step::Skip(1)),
+    ("none is left after it", Step::NotLeft(1)),
+];
 
-// Its last byte.
-fn last_legacy_byte<K: StreamCipherSeekCore>(cipher: &mut Cipher<K>) -> Verdict {
-    failed(&[
-        cipher.try_seek(LEGACY_LIMIT - 1).is_ok(),
-        cipher.check_remaining(1).is_ok(),
-        cipher.check_remaining(2).is_err(),
-        cipher.check_remaining(usize::MAX).is_err(),
-        cipher.try_apply_keystream(&mut [0]).is_ok(),
-        cipher.check_remaining(1).is_err(),
-    ])
-}
+// A position that is the greatest of 64 bits and the one after it, and the last block of a cipher and then none.
+const PAST_64_BITS: [NamedStep; 8] = [
+    (
+        "a position of 64 bits",
+        Step::At(Place::U64(18446744073709551615)),
+    ),
+    ("a byte there", Step::Skip(1)),
+    ("the one after it in 64 bits", Step::NotInU64),
+    ("the one after it as a length", Step::NotInUsize),
+    (
+        "the one after it",
+        Step::At(Place::U128(18446744073709551616)),
+    ),
+    (
+        "a seek to the last block",
+        Step::Seek(Place::U128(LEGACY_LIMIT - 64)),
+    ),
+    ("the last block", Step::Apply(&[0; 64], LAST_LEGACY_BLOCK)),
+    ("a byte after it", Step::NotLeft(1)),
+];
 
 // The last 33 blocks of a stream are two groups of the widest backend and one more.
 const LENGTH: usize = 2112;
@@ -282,16 +285,31 @@ fn goes_on<K: StreamCipherSeekCore>(cipher: &mut Cipher<K>, limit: u128, last: &
     requires { 1 ≤ limit }
 {
     let mut byte = [0];
-    failed(&[
-        cipher.try_seek(limit).is_ok(),
-        cipher.try_seek(limit - 1).is_ok(),
-        cipher.try_apply_keystream(&mut byte).is_ok(),
-        last.ends_with(&byte),
-        cipher.try_seek(0u32).is_ok(),
-        cipher.check_remaining(LENGTH).is_ok(),
-        cipher.try_seek(limit).is_ok(),
-        cipher.check_remaining(1).is_err(),
-    ])
+    let before = wrong_step(
+        cipher,
+        &[
+            ("a seek to the limit", Step::Seek(Place::U128(limit))),
+            (
+                "a seek to the last byte",
+                Step::Seek(Place::U128(limit - 1)),
+            ),
+        ],
+    );
+    let applied = cipher.try_apply_keystream(&mut byte).is_ok();
+    let after = wrong_step(
+        cipher,
+        &[
+            ("a seek to the start", Step::Seek(Place::U32(0))),
+            ("bytes are left there", Step::Left(LENGTH)),
+            (
+                "a seek from there to the limit",
+                Step::Seek(Place::U128(limit)),
+            ),
+            ("none is left there", Step::NotLeft(1)),
+        ],
+    );
+    let is_last = failed(&[("the last byte", applied && last.ends_with(&byte))]);
+    first_failure(&[before, is_last, after])
 }
 
 // What goes wrong in a cipher that is asked for bytes up to its limit, of which the last 33 blocks are given.
@@ -299,32 +317,41 @@ fn wrong_ends<K: StreamCipherSeekCore>(
     cipher: &mut Cipher<K>,
     start: u128,
     last: &[[u8; 64]; 33],
-) -> [Verdict; 5]
+) -> Verdict
     requires { start ≤ 2 ^ 70 }
 {
     let last = last.as_flattened();
-    [
-        wrong_end(cipher, start, last, By::Apply),
-        wrong_end(cipher, start, last, By::Write),
-        wrong_end(cipher, start, last, By::Between),
-        wrong_rest(cipher, start),
+    first_failure(&[
+        failed_for(
+            "last bytes applied to",
+            wrong_end(cipher, start, last, By::Apply),
+        ),
+        failed_for(
+            "last bytes written",
+            wrong_end(cipher, start, last, By::Write),
+        ),
+        failed_for(
+            "last bytes between slices",
+            wrong_end(cipher, start, last, By::Between),
+        ),
+        failed_for("so many bytes left", wrong_rest(cipher, start)),
         goes_on(cipher, start + LENGTH as u128, last),
-    ]
+    ])
 }
 
 // What goes wrong at the end of a cipher without rounds whose counter has 32 bits.
-fn wrong_zero_ends<N, K: SeekCore<N, u32>>(nonce: &N) -> [Verdict; 5] {
+fn wrong_zero_ends<N, K: SeekCore<N, u32>>(nonce: &N) -> Verdict {
     let mut cipher = Cipher::<K>::new(&[0; 32], nonce);
-    [
-        last_bytes(&mut cipher),
-        first_bytes(&mut cipher),
-        into_the_last_block(&mut cipher),
-        at_the_limit(&mut cipher),
-        slices_at_the_limit(&mut cipher),
-    ]
+    cipher.seek(274877906928u64);
+    let last = wrong_step(&mut cipher, &LAST_BYTES);
+    cipher.seek(0u32);
+    let first = wrong_step(&mut cipher, &FIRST_BYTES);
+    cipher.seek(274877906864u64);
+    let into = wrong_step(&mut cipher, &INTO_THE_LAST_BLOCK);
+    first_failure(&[last, first, into, wrong_step(&mut cipher, &AT_THE_LIMIT)])
 }
 
-fn wrong_zero_groups<K: SeekCore<Nonce, u32>>() -> [Verdict; 5] {
+fn wrong_zero_groups<K: SeekCore<Nonce, u32>>() -> Verdict {
     let mut cipher = Cipher::<K>::new(&[0; 32], &[0; 12]);
     wrong_ends(
         &mut cipher,
@@ -333,62 +360,57 @@ fn wrong_zero_groups<K: SeekCore<Nonce, u32>>() -> [Verdict; 5] {
     )
 }
 
-fn wrong_ietf_ends<K: SeekCore<Nonce, u32>>() -> [Verdict; 5] {
+fn wrong_ietf_ends<K: SeekCore<Nonce, u32>>() -> Verdict {
     let mut cipher = Cipher::<K>::new(&COUNTING, &[0; 12]);
-    [
-        far_seeks(&mut cipher, 0),
-        failed(&[cipher.try_seek(70u32).is_ok()]),
-        far_seeks(&mut cipher, 70),
-        past_31_bits(&mut cipher),
-        last_block(&mut cipher, LIMIT - 64, LAST_BLOCK),
-    ]
+    let far = wrong_step(&mut cipher, &FAR_SEEKS);
+    cipher.seek(2147483647i32);
+    first_failure(&[far, wrong_step(&mut cipher, &PAST_31_BITS)])
 }
 
-fn wrong_legacy_ends<K: SeekCore<LegacyNonce, u64>>() -> [Verdict; 4] {
+fn wrong_legacy_ends<K: SeekCore<LegacyNonce, u64>>() -> Verdict {
     let mut cipher = Cipher::<K>::new(&FROM_1, &LEGACY_NONCE);
-    [
-        at_the_legacy_limit(&mut cipher),
-        last_legacy_byte(&mut cipher),
-        past_64_bits(&mut cipher),
-        last_block(&mut cipher, LEGACY_LIMIT - 64, LAST_LEGACY_BLOCK),
-    ]
+    let limit = wrong_step(&mut cipher, &AT_THE_LEGACY_LIMIT);
+    cipher.seek(usize::MAX);
+    first_failure(&[limit, wrong_step(&mut cipher, &PAST_64_BITS)])
 }
 
-fn wrong_legacy_groups<K: SeekCore<LegacyNonce, u64>>() -> [Verdict; 5] {
+fn wrong_legacy_groups<K: SeekCore<LegacyNonce, u64>>() -> Verdict {
     let mut cipher = Cipher::<K>::new(&FROM_1, &LEGACY_NONCE);
     let start = LEGACY_LIMIT - LENGTH as u128;
     let last = last_blocks_one_by_one(&mut cipher, start);
     wrong_ends(&mut cipher, start, &last)
 }
 
-// The kind of cipher over a backend, by its place here, of which an end is wrong.
+// The first end that is wrong, of each kind of cipher over a backend.
 fn directly_over<B>() -> Verdict
 where
     B: StreamCipherBackend<R0, Ietf>
         + StreamCipherBackend<R20, Ietf>
         + StreamCipherBackend<R20, Legacy>,
 {
-    failed(&[
-        wrong_zero_ends::<Nonce, ChaChaCore<R0, Ietf, B>>(&[0; 12]) == [None; 5],
-        wrong_zero_ends::<XNonce, XChaChaCore<R0, B>>(&[0; 24]) == [None; 5],
-        wrong_zero_groups::<ChaChaCore<R0, Ietf, B>>() == [None; 5],
-        wrong_ietf_ends::<ChaChaCore<R20, Ietf, B>>() == [None; 5],
-        wrong_legacy_ends::<ChaChaCore<R20, Legacy, B>>() == [None; 4],
-        wrong_legacy_groups::<ChaChaCore<R20, Legacy, B>>() == [None; 5],
+    first_failure(&[
+        wrong_zero_ends::<Nonce, ChaChaCore<R0, Ietf, B>>(&[0; 12]),
+        wrong_zero_ends::<XNonce, XChaChaCore<R0, B>>(&[0; 24]),
+        wrong_zero_groups::<ChaChaCore<R0, Ietf, B>>(),
+        wrong_ietf_ends::<ChaChaCore<R20, Ietf, B>>(),
+        wrong_legacy_ends::<ChaChaCore<R20, Legacy, B>>(),
+        wrong_legacy_groups::<ChaChaCore<R20, Legacy, B>>(),
     ])
 }
 
 #[test]
 fn directly(rt: HostRuntime) {
-    let verdicts = [
-        directly_over::<Soft>(),
-        directly_over::<Lanes4>(),
-        directly_over::<Lanes8>(),
-        directly_over::<Rows8>(),
-        directly_over::<Lanes16>(),
-        directly_over::<Width3>(),
-    ];
-    assert_eq!(rt; verdicts, [None; 6]);
+    all_right(
+        &rt,
+        &[
+            ("Soft", directly_over::<Soft>()),
+            ("Lanes4", directly_over::<Lanes4>()),
+            ("Lanes8", directly_over::<Lanes8>()),
+            ("Rows8", directly_over::<Rows8>()),
+            ("Lanes16", directly_over::<Lanes16>()),
+            ("Width3", directly_over::<Width3>()),
+        ],
+    );
 }
 
 // The last bytes, the start after them, and from the block before the last one into the last.
@@ -423,9 +445,15 @@ fn last_bytes_as_a_list<K: StreamCipherSeekCore>(cipher: &mut Cipher<K>) -> Verd
         CipherAnswer::Position(274877906881),
     ];
     failed(&[
-        answers == expected,
-        data.starts_with(b"\xfe\xff\xff\xff\0\0\0\0\0\0\0\0\0\0\0\0\0"),
-        data.ends_with(b"\xca\xf0\xe0\xc2\xfc\xff\xff\xff\0\0\0\0\0\0\0\0\0\0\0\0\xca"),
+        ("answers of the last bytes", answers == expected),
+        (
+            "the last bytes",
+            data.starts_with(b"\xfe\xff\xff\xff\0\0\0\0\0\0\0\0\0\0\0\0\0"),
+        ),
+        (
+            "the first bytes and those into the last block",
+            data.ends_with(b"\xca\xf0\xe0\xc2\xfc\xff\xff\xff\0\0\0\0\0\0\0\0\0\0\0\0\xca"),
+        ),
     ])
 }
 
@@ -474,7 +502,10 @@ fn at_the_limit_as_a_list<K: StreamCipherSeekCore>(cipher: &mut Cipher<K>) -> Ve
         CipherAnswer::Done,
         CipherAnswer::Done,
     ];
-    failed(&[answers == expected, data == [5; 4]])
+    failed(&[
+        ("answers at the limit", answers == expected),
+        ("the data at the limit", data == [5; 4]),
+    ])
 }
 
 // At the start of the stream no calls, far seeks, and calls for no bytes at the end of the data; and the greatest
@@ -518,7 +549,10 @@ fn from_the_start_as_a_list<K: StreamCipherSeekCore>(cipher: &mut Cipher<K>) -> 
         CipherAnswer::Done,
         CipherAnswer::Overflow,
     ];
-    failed(&[untouched, answers == expected])
+    failed(&[
+        ("no calls", untouched),
+        ("answers from the start", answers == expected),
+    ])
 }
 
 // A counter of 64 bits: the greatest position of 64 bits and the one after it, the last byte, and the limit.
@@ -561,7 +595,7 @@ fn legacy_as_a_list<K: StreamCipherSeekCore>(cipher: &mut Cipher<K>) -> Verdict 
         CipherAnswer::Position(1180591620717411303424),
         CipherAnswer::Overflow,
     ];
-    failed(&[answers == expected])
+    failed(&[("legacy answers", answers == expected)])
 }
 
 // The last 33 blocks but for so many bytes, and then those.
@@ -601,17 +635,20 @@ fn wrong_end_as_a_list<K: StreamCipherSeekCore>(
     None
 }
 
-fn wrong_zero_lists<K: SeekCore<Nonce, u32>>() -> [Verdict; 3] {
+fn wrong_zero_lists<K: SeekCore<Nonce, u32>>() -> Verdict {
     let mut cipher = Cipher::<K>::new(&[0; 32], &[0; 12]);
-    [
+    first_failure(&[
         last_bytes_as_a_list(&mut cipher),
         at_the_limit_as_a_list(&mut cipher),
-        wrong_end_as_a_list(
-            &mut cipher,
-            LIMIT - LENGTH as u128,
-            &last_blocks_without_rounds(),
+        failed_for(
+            "last bytes but for so many",
+            wrong_end_as_a_list(
+                &mut cipher,
+                LIMIT - LENGTH as u128,
+                &last_blocks_without_rounds(),
+            ),
         ),
-    ]
+    ])
 }
 
 fn wrong_ietf_list<K: SeekCore<Nonce, u32>>() -> Verdict {
@@ -629,24 +666,26 @@ where
         + StreamCipherBackend<R20, Ietf>
         + StreamCipherBackend<R20, Legacy>,
 {
-    failed(&[
-        wrong_zero_lists::<ChaChaCore<R0, Ietf, B>>() == [None; 3],
-        wrong_ietf_list::<ChaChaCore<R20, Ietf, B>>().is_none(),
-        wrong_legacy_list::<ChaChaCore<R20, Legacy, B>>().is_none(),
+    first_failure(&[
+        wrong_zero_lists::<ChaChaCore<R0, Ietf, B>>(),
+        wrong_ietf_list::<ChaChaCore<R20, Ietf, B>>(),
+        wrong_legacy_list::<ChaChaCore<R20, Legacy, B>>(),
     ])
 }
 
 #[test]
 fn as_lists(rt: HostRuntime) {
-    let verdicts = [
-        lists_over::<Soft>(),
-        lists_over::<Lanes4>(),
-        lists_over::<Lanes8>(),
-        lists_over::<Rows8>(),
-        lists_over::<Lanes16>(),
-        lists_over::<Width3>(),
-    ];
-    assert_eq!(rt; verdicts, [None; 6]);
+    all_right(
+        &rt,
+        &[
+            ("Soft", lists_over::<Soft>()),
+            ("Lanes4", lists_over::<Lanes4>()),
+            ("Lanes8", lists_over::<Lanes8>()),
+            ("Rows8", lists_over::<Rows8>()),
+            ("Lanes16", lists_over::<Lanes16>()),
+            ("Width3", lists_over::<Width3>()),
+        ],
+    );
 }
 
 // Last blocks as OpenSSL 3.0.19 makes them: `openssl enc -chacha20` of zeros, under the key 00 to 1f with the iv ffffffff

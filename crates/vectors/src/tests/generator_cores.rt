@@ -1,5 +1,6 @@
 //! Cores as makers of words, 64 at a time.
 
+use super::all_right;
 use super::streams::{CARRY_BLOCKS, ZERO_SEED_WORDS};
 use crate::rows::{R0, failed};
 use chacha20::backends::Soft;
@@ -80,13 +81,19 @@ fn four_blocks_of_20_rounds(rt: HostRuntime) {
     // The counter's low word is full.
     let with_carry = words_from(&mut core, 0xffff_ffff);
     let right = failed(&[
-        first.starts_with(&ZERO_SEED_WORDS),
-        after_first == 4,
-        over_the_end.starts_with(&[0xd88c_91d7, 0x32f8_0c62, 0xc052_2653, 0x53a5_014c]),
-        over_the_end[16..].starts_with(&ZERO_SEED_WORDS),
-        after_the_end == 3,
-        begin_with(&with_carry, CARRY_BLOCKS),
-        core.get_block_pos() == 0x1_0000_0003,
+        ("the first four blocks", first.starts_with(&ZERO_SEED_WORDS)),
+        ("the position after them", after_first == 4),
+        (
+            "the last block",
+            over_the_end.starts_with(&[0xd88c_91d7, 0x32f8_0c62, 0xc052_2653, 0x53a5_014c]),
+        ),
+        (
+            "the first block after it",
+            over_the_end[16..].starts_with(&ZERO_SEED_WORDS),
+        ),
+        ("the position after those", after_the_end == 3),
+        ("blocks around 2^32", begin_with(&with_carry, CARRY_BLOCKS)),
+        ("the position then", core.get_block_pos() == 0x1_0000_0003),
     ]);
-    assert_eq!(rt; right, None);
+    all_right(&rt, &[("20 rounds", right)]);
 }

@@ -1,8 +1,9 @@
 //! A run on the generator without rounds, and rows of generators as lists of calls, over each backend; the lists over a
 //! user's own as well.
 
+use super::all_right;
 use super::width3::Width3;
-use crate::rows::{R0, Verdict, failed};
+use crate::rows::{R0, Verdict, failed, first_failure};
 use chacha20::backends::{Lanes4, Lanes8, Lanes16, Rows8, Soft};
 use chacha20::cipher::RngBackend;
 use chacha20::runs::{RngAnswer, RngCall, run_rng};
@@ -25,25 +26,27 @@ fn run_directly<B: RngBackend<R0>>() -> Verdict {
     rng.fill_bytes(&mut data);
     let rng = ZeroGenerator::<B>::deserialize_state(&rng.serialize_state());
     failed(&[
-        words == 0x0000_0002_0000_0006,
-        positions == (16, 1),
-        data == *b"\xca\xf0\xe0\xc2\xdc",
-        rng.get_word_pos() == 18,
-        rng.get_block_pos() == 1,
-        rng.get_stream() == STREAM,
+        ("two words", words == 0x0000_0002_0000_0006),
+        ("the positions after them", positions == (16, 1)),
+        ("bytes", data == *b"\xca\xf0\xe0\xc2\xdc"),
+        ("the word position at the end", rng.get_word_pos() == 18),
+        ("the block position at the end", rng.get_block_pos() == 1),
+        ("the stream", rng.get_stream() == STREAM),
     ])
 }
 
 #[test]
 fn directly(rt: HostRuntime) {
-    let verdicts = [
-        run_directly::<Soft>(),
-        run_directly::<Lanes4>(),
-        run_directly::<Lanes8>(),
-        run_directly::<Rows8>(),
-        run_directly::<Lanes16>(),
-    ];
-    assert_eq!(rt; verdicts, [None; 5]);
+    all_right(
+        &rt,
+        &[
+            ("Soft", run_directly::<Soft>()),
+            ("Lanes4", run_directly::<Lanes4>()),
+            ("Lanes8", run_directly::<Lanes8>()),
+            ("Rows8", run_directly::<Rows8>()),
+            ("Lanes16", run_directly::<Lanes16>()),
+        ],
+    );
 }
 
 fn run_as_a_list<B: RngBackend<R0>>() -> Verdict {
@@ -75,7 +78,10 @@ fn run_as_a_list<B: RngBackend<R0>>() -> Verdict {
         RngAnswer::U64(1),
         RngAnswer::U64(STREAM),
     ];
-    failed(&[data == *b"\xca\xf0\xe0\xc2\xdc", answers == expected])
+    failed(&[
+        ("the run's data", data == *b"\xca\xf0\xe0\xc2\xdc"),
+        ("the run's answers", answers == expected),
+    ])
 }
 
 // Row 20: two words around the wrap.
@@ -95,7 +101,7 @@ fn row_20_as_a_list<B: RngBackend<R20>>() -> Verdict {
         RngAnswer::U64(0xade0_b876_8976_b107),
         RngAnswer::U128(1),
     ];
-    failed(&[answers == expected])
+    failed(&[("row 20: answers", answers == expected)])
 }
 
 // Row 21: another stream of the same seed.
@@ -119,28 +125,30 @@ fn row_21_as_a_list<B: RngBackend<R20>>() -> Verdict {
         RngAnswer::Seed([0; 32]),
         RngAnswer::U32(0x374d_c6c2),
     ];
-    failed(&[answers == expected])
+    failed(&[("row 21: answers", answers == expected)])
 }
 
-fn all_as_lists<B: RngBackend<R0> + RngBackend<R20>>() -> [Verdict; 3] {
-    [
+fn all_as_lists<B: RngBackend<R0> + RngBackend<R20>>() -> Verdict {
+    first_failure(&[
         run_as_a_list::<B>(),
         row_20_as_a_list::<B>(),
         row_21_as_a_list::<B>(),
-    ]
+    ])
 }
 
 #[test]
 fn as_lists(rt: HostRuntime) {
-    let verdicts = [
-        all_as_lists::<Soft>(),
-        all_as_lists::<Lanes4>(),
-        all_as_lists::<Lanes8>(),
-        all_as_lists::<Rows8>(),
-        all_as_lists::<Lanes16>(),
-        all_as_lists::<Width3>(),
-    ];
-    assert_eq!(rt; verdicts, [[None; 3]; 6]);
+    all_right(
+        &rt,
+        &[
+            ("Soft", all_as_lists::<Soft>()),
+            ("Lanes4", all_as_lists::<Lanes4>()),
+            ("Lanes8", all_as_lists::<Lanes8>()),
+            ("Rows8", all_as_lists::<Rows8>()),
+            ("Lanes16", all_as_lists::<Lanes16>()),
+            ("Width3", all_as_lists::<Width3>()),
+        ],
+    );
 }
 
 // The calls that the run above doesn't make.

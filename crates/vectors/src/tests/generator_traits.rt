@@ -1,5 +1,6 @@
 //! Generators through the traits of `rand_core`, as generic code uses them.
 
+use super::all_right;
 use crate::rows::{FROM_1, R0, Verdict, failed};
 use chacha20::backends::{Lanes4, Lanes8, Lanes16, Rows8, Soft};
 use chacha20::cipher::{RngBackend, StreamCipherCore};
@@ -57,21 +58,23 @@ fn reads_without_rounds<B: RngBackend<R0>>() -> Verdict {
     let mut rng = ChaChaRng::<R0, B>::from_seed([0; 32]);
     let mut other = ChaChaRng::<R0, B>::from_seed([0; 32]);
     failed(&[
-        reads(&mut rng) == WORKED,
-        try_reads(&mut other) == Ok(WORKED),
+        ("through Rng", reads(&mut rng) == WORKED),
+        ("through TryRng", try_reads(&mut other) == Ok(WORKED)),
     ])
 }
 
 #[test]
 fn without_rounds(rt: HostRuntime) {
-    let verdicts = [
-        reads_without_rounds::<Soft>(),
-        reads_without_rounds::<Lanes4>(),
-        reads_without_rounds::<Lanes8>(),
-        reads_without_rounds::<Rows8>(),
-        reads_without_rounds::<Lanes16>(),
-    ];
-    assert_eq!(rt; verdicts, [None; 5]);
+    all_right(
+        &rt,
+        &[
+            ("Soft", reads_without_rounds::<Soft>()),
+            ("Lanes4", reads_without_rounds::<Lanes4>()),
+            ("Lanes8", reads_without_rounds::<Lanes8>()),
+            ("Rows8", reads_without_rounds::<Rows8>()),
+            ("Lanes16", reads_without_rounds::<Lanes16>()),
+        ],
+    );
 }
 
 // Two reads of 13 bytes.
@@ -97,23 +100,25 @@ fn reads_of_row_7<B: RngBackend<R20>>() -> Verdict {
     let mut rng = ChaChaRng::<R20, B>::from_seed(FROM_1);
     let mut other = ChaChaRng::<R20, B>::from_seed(FROM_1);
     failed(&[
-        fills(&mut rng) == expected,
-        rng.get_word_pos() == 8,
-        try_fills(&mut other) == Ok(expected),
-        other.get_word_pos() == 8,
+        ("through Rng", fills(&mut rng) == expected),
+        ("the position after Rng", rng.get_word_pos() == 8),
+        ("through TryRng", try_fills(&mut other) == Ok(expected)),
+        ("the position after TryRng", other.get_word_pos() == 8),
     ])
 }
 
 #[test]
 fn row_7(rt: HostRuntime) {
-    let verdicts = [
-        reads_of_row_7::<Soft>(),
-        reads_of_row_7::<Lanes4>(),
-        reads_of_row_7::<Lanes8>(),
-        reads_of_row_7::<Rows8>(),
-        reads_of_row_7::<Lanes16>(),
-    ];
-    assert_eq!(rt; verdicts, [None; 5]);
+    all_right(
+        &rt,
+        &[
+            ("Soft", reads_of_row_7::<Soft>()),
+            ("Lanes4", reads_of_row_7::<Lanes4>()),
+            ("Lanes8", reads_of_row_7::<Lanes8>()),
+            ("Rows8", reads_of_row_7::<Rows8>()),
+            ("Lanes16", reads_of_row_7::<Lanes16>()),
+        ],
+    );
 }
 
 // A generator that another one seeds.
@@ -157,12 +162,21 @@ fn seed_from_u64(rt: HostRuntime) {
     for number in [0, 1, 0x0123_4567_89ab_cdef, u64::MAX] {
         let seed: Seed = rand_core::Seed::from_u64(number);
         let right = failed(&[
-            of_number::<ChaCha8Rng>(number) == ChaCha8Rng::from_seed(seed),
-            of_number::<ChaCha12Rng>(number) == ChaCha12Rng::from_seed(seed),
-            of_number::<ChaCha20Rng>(number) == ChaCha20Rng::from_seed(seed),
-            first_block(number) == first_bytes(seed),
+            (
+                "8 rounds",
+                of_number::<ChaCha8Rng>(number) == ChaCha8Rng::from_seed(seed),
+            ),
+            (
+                "12 rounds",
+                of_number::<ChaCha12Rng>(number) == ChaCha12Rng::from_seed(seed),
+            ),
+            (
+                "20 rounds",
+                of_number::<ChaCha20Rng>(number) == ChaCha20Rng::from_seed(seed),
+            ),
+            ("a core's block", first_block(number) == first_bytes(seed)),
         ]);
-        assert_eq!(rt; right, None, "of {number}");
+        all_right(&rt, &[("the seed of a number", right)]);
     }
 }
 

@@ -1,5 +1,6 @@
 //! Words and bytes of generators.
 
+use super::all_right;
 use crate::rows::{R0, Verdict, failed};
 use chacha20::backends::{Lanes4, Lanes8, Lanes16, Rows8, Soft};
 use chacha20::cipher::RngBackend;
@@ -14,23 +15,25 @@ fn reads_without_rounds<B: RngBackend<R0>>() -> Verdict {
     rng.fill_bytes(&mut bytes);
     rng.fill_bytes(&mut []);
     failed(&[
-        word == 0xc2e0_f0ca,
-        two_words == 0xf2c4_5a64_6640_c8dc,
-        bytes == *b"\xe8\xca\x40\xd6\x00",
-        rng.next_u32() == 0,
+        ("a word", word == 0xc2e0_f0ca),
+        ("two words", two_words == 0xf2c4_5a64_6640_c8dc),
+        ("bytes", bytes == *b"\xe8\xca\x40\xd6\x00"),
+        ("the word after them", rng.next_u32() == 0),
     ])
 }
 
 #[test]
 fn without_rounds(rt: HostRuntime) {
-    let verdicts = [
-        reads_without_rounds::<Soft>(),
-        reads_without_rounds::<Lanes4>(),
-        reads_without_rounds::<Lanes8>(),
-        reads_without_rounds::<Rows8>(),
-        reads_without_rounds::<Lanes16>(),
-    ];
-    assert_eq!(rt; verdicts, [None; 5]);
+    all_right(
+        &rt,
+        &[
+            ("Soft", reads_without_rounds::<Soft>()),
+            ("Lanes4", reads_without_rounds::<Lanes4>()),
+            ("Lanes8", reads_without_rounds::<Lanes8>()),
+            ("Rows8", reads_without_rounds::<Rows8>()),
+            ("Lanes16", reads_without_rounds::<Lanes16>()),
+        ],
+    );
 }
 
 // The first bytes of a zero seed are those of the cipher with a zero key (draft-strombergson-chacha-test-vectors, TC1,

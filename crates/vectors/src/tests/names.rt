@@ -1,5 +1,6 @@
 //! Every public name by the crate's root, and by the module that it stands in.
 
+use super::all_right;
 use crate::rows::failed;
 use chacha20::rand_core::{Rng, SeedableRng};
 use chacha20::{
@@ -169,11 +170,17 @@ fn x_ciphers(rt: HostRuntime) {
         sizes_of_type(None::<&XChaCha20>),
     ];
     let right = failed(&[
-        sizes == [(32, 24); 3],
-        hchacha::<R20>(&[0; 32], &[0; 16]).starts_with(b"\x11\x40\x70\x4c\x32\x8d\x1d\x5d"),
-        byte_from::<ChaChaCore<R20, Ietf, Soft>, u32>(&[0; 32], &[0; 12], 2) == Ok(0xe0),
+        ("sizes of keys and nonces", sizes == [(32, 24); 3]),
+        (
+            "the subkey of zeros",
+            hchacha::<R20>(&[0; 32], &[0; 16]).starts_with(b"\x11\x40\x70\x4c\x32\x8d\x1d\x5d"),
+        ),
+        (
+            "byte 2",
+            byte_from::<ChaChaCore<R20, Ietf, Soft>, u32>(&[0; 32], &[0; 12], 2) == Ok(0xe0),
+        ),
     ]);
-    assert_eq!(rt; right, None);
+    all_right(&rt, &[("XChaCha", right)]);
 }
 
 // By a list of calls: a seek, and the position after it.

@@ -2,7 +2,8 @@
 
 ghost use Rattle.std.specs.Prelude.{◌≤◌, ◌+◌, length};
 
-use crate::rows::COUNTING;
+use super::all_right;
+use crate::rows::{COUNTING, Verdict, failed_for, first_failure};
 use chacha20::backends::{Lanes4, Lanes8, Lanes16, Rows8, Soft};
 use chacha20::cipher::{
     KeyIvInit, StreamCipher, StreamCipherBackend, StreamCipherSeek, StreamCipherSeekCore,
@@ -143,23 +144,44 @@ fn wrong_list<C: StreamCipherSeekCore>(cipher: &mut StreamCipherCoreWrapper<C>) 
     None
 }
 
-// A cipher of each kind over a backend.
-fn cuts_over<B>() -> [Option<usize>; 7]
+// A cipher of each kind over a backend: the size of the pieces, or the place of the seek.
+fn cuts_over<B>() -> Verdict
 where
     B: StreamCipherBackend<R8, Ietf>
         + StreamCipherBackend<R12, Ietf>
         + StreamCipherBackend<R20, Ietf>
         + StreamCipherBackend<R20, Legacy>,
 {
-    [
-        wrong_of::<ChaChaCore<R8, Ietf, B>>(&COUNTING, &[7; 12]),
-        wrong_of::<ChaChaCore<R12, Ietf, B>>(&COUNTING, &[7; 12]),
-        wrong_of::<ChaChaCore<R20, Ietf, B>>(&COUNTING, &[7; 12]),
-        wrong_of::<ChaChaCore<R20, Legacy, B>>(&COUNTING, &[7; 8]),
-        wrong_of::<XChaChaCore<R8, B>>(&COUNTING, &[7; 24]),
-        wrong_of::<XChaChaCore<R12, B>>(&COUNTING, &[7; 24]),
-        wrong_of::<XChaChaCore<R20, B>>(&COUNTING, &[7; 24]),
-    ]
+    first_failure(&[
+        failed_for(
+            "ChaCha8",
+            wrong_of::<ChaChaCore<R8, Ietf, B>>(&COUNTING, &[7; 12]),
+        ),
+        failed_for(
+            "ChaCha12",
+            wrong_of::<ChaChaCore<R12, Ietf, B>>(&COUNTING, &[7; 12]),
+        ),
+        failed_for(
+            "ChaCha20",
+            wrong_of::<ChaChaCore<R20, Ietf, B>>(&COUNTING, &[7; 12]),
+        ),
+        failed_for(
+            "ChaCha20Legacy",
+            wrong_of::<ChaChaCore<R20, Legacy, B>>(&COUNTING, &[7; 8]),
+        ),
+        failed_for(
+            "XChaCha8",
+            wrong_of::<XChaChaCore<R8, B>>(&COUNTING, &[7; 24]),
+        ),
+        failed_for(
+            "XChaCha12",
+            wrong_of::<XChaChaCore<R12, B>>(&COUNTING, &[7; 24]),
+        ),
+        failed_for(
+            "XChaCha20",
+            wrong_of::<XChaChaCore<R20, B>>(&COUNTING, &[7; 24]),
+        ),
+    ])
 }
 
 fn wrong_of<C: KeyIvInit + StreamCipherSeekCore + Drop>(
@@ -172,12 +194,14 @@ fn wrong_of<C: KeyIvInit + StreamCipherSeekCore + Drop>(
 
 #[test]
 fn cuts(rt: HostRuntime) {
-    let wrong_cuts = [
-        cuts_over::<Soft>(),
-        cuts_over::<Lanes4>(),
-        cuts_over::<Lanes8>(),
-        cuts_over::<Rows8>(),
-        cuts_over::<Lanes16>(),
-    ];
-    assert_eq!(rt; wrong_cuts, [[None; 7]; 5]);
+    all_right(
+        &rt,
+        &[
+            ("Soft", cuts_over::<Soft>()),
+            ("Lanes4", cuts_over::<Lanes4>()),
+            ("Lanes8", cuts_over::<Lanes8>()),
+            ("Rows8", cuts_over::<Rows8>()),
+            ("Lanes16", cuts_over::<Lanes16>()),
+        ],
+    );
 }

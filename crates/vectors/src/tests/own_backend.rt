@@ -2,9 +2,10 @@
 
 ghost use Rattle.std.specs.Prelude.{◌≤◌, length};
 
+use super::all_right;
 use super::width3::Width3;
 use crate::rows::ciphers::SeekCore;
-use crate::rows::{COUNTING, LEGACY_NONCE};
+use crate::rows::{COUNTING, LEGACY_NONCE, failed_for};
 use chacha20::backends::Soft;
 use chacha20::cipher::{
     KeyIvInit, StreamCipher, StreamCipherCounter, StreamCipherError, StreamCipherSeekCore,
@@ -63,19 +64,27 @@ fn wrong_length<N, T: StreamCipherCounter, A: SeekCore<N, T>, B: SeekCore<N, T>>
 
 #[test]
 fn ciphers_beside_soft(rt: HostRuntime) {
-    let wrong = [
-        wrong_length::<Nonce, u32, ChaChaCore<R20, Ietf, Width3>, ChaChaCore<R20, Ietf, Soft>>(
-            &[7; 12],
-        ),
-        wrong_length::<
-            LegacyNonce,
-            u64,
-            ChaChaCore<R20, Legacy, Width3>,
-            ChaChaCore<R20, Legacy, Soft>,
-        >(&LEGACY_NONCE),
-        wrong_length::<XNonce, u32, XChaChaCore<R20, Width3>, XChaChaCore<R20, Soft>>(&[7; 24]),
-    ];
-    assert_eq!(rt; wrong, [None; 3]);
+    let ietf = wrong_length::<
+        Nonce,
+        u32,
+        ChaChaCore<R20, Ietf, Width3>,
+        ChaChaCore<R20, Ietf, Soft>,
+    >(&[7; 12]);
+    let legacy = wrong_length::<
+        LegacyNonce,
+        u64,
+        ChaChaCore<R20, Legacy, Width3>,
+        ChaChaCore<R20, Legacy, Soft>,
+    >(&LEGACY_NONCE);
+    let x = wrong_length::<XNonce, u32, XChaChaCore<R20, Width3>, XChaChaCore<R20, Soft>>(&[7; 24]);
+    all_right(
+        &rt,
+        &[
+            ("ChaCha20", failed_for("so many blocks", ietf)),
+            ("ChaCha20Legacy", failed_for("so many blocks", legacy)),
+            ("XChaCha20", failed_for("so many blocks", x)),
+        ],
+    );
 }
 
 // Whether two generators fill so many bytes alike, and then give the same words.
@@ -114,8 +123,6 @@ where
 
 #[test]
 fn generators_beside_soft(rt: HostRuntime) {
-    assert_eq!(rt;
-        wrong_fill::<ChaChaRng<R20, Width3>, ChaChaRng<R20, Soft>>(),
-        None
-    );
+    let wrong = wrong_fill::<ChaChaRng<R20, Width3>, ChaChaRng<R20, Soft>>();
+    all_right(&rt, &[("ChaCha20Rng", failed_for("so many blocks", wrong))]);
 }

@@ -1,5 +1,6 @@
 //! Positions, in each type that can say them.
 
+use super::all_right;
 use crate::rows::ciphers::SeekCore;
 use crate::rows::{COUNTING, Verdict, failed};
 use chacha20::backends::Lanes16;
@@ -27,12 +28,18 @@ fn answers<K: StreamCipherSeekCore>(
     place: u64,
 ) -> Verdict {
     failed(&[
-        cipher.try_seek(place).is_ok(),
-        cipher.try_current_pos() == i32::try_from(place).map_err(|_| OverflowError),
-        cipher.try_current_pos() == u32::try_from(place).map_err(|_| OverflowError),
-        cipher.try_current_pos() == Ok(place),
-        cipher.try_current_pos() == Ok(u128::from(place)),
-        cipher.try_current_pos() == Ok(place as usize),
+        ("a seek", cipher.try_seek(place).is_ok()),
+        (
+            "in i32",
+            cipher.try_current_pos() == i32::try_from(place).map_err(|_| OverflowError),
+        ),
+        (
+            "in u32",
+            cipher.try_current_pos() == u32::try_from(place).map_err(|_| OverflowError),
+        ),
+        ("in u64", cipher.try_current_pos() == Ok(place)),
+        ("in u128", cipher.try_current_pos() == Ok(u128::from(place))),
+        ("in usize", cipher.try_current_pos() == Ok(place as usize)),
     ])
 }
 
@@ -50,34 +57,41 @@ fn is_sought<K: StreamCipherSeekCore, T: SeekNum>(
 // A place is sought in each type that can say it.
 fn sought<K: StreamCipherSeekCore>(cipher: &mut StreamCipherCoreWrapper<K>, place: u64) -> Verdict {
     failed(&[
-        is_sought(cipher, place, place),
-        is_sought(cipher, u128::from(place), place),
-        is_sought(cipher, place as usize, place),
-        match u32::try_from(place) {
-            Ok(number) => is_sought(cipher, number, place),
-            Err(_) => true,
-        },
-        match i32::try_from(place) {
-            Ok(number) => is_sought(cipher, number, place),
-            Err(_) => true,
-        },
+        ("sought in u64", is_sought(cipher, place, place)),
+        (
+            "sought in u128",
+            is_sought(cipher, u128::from(place), place),
+        ),
+        ("sought in usize", is_sought(cipher, place as usize, place)),
+        (
+            "sought in u32",
+            match u32::try_from(place) {
+                Ok(number) => is_sought(cipher, number, place),
+                Err(_) => true,
+            },
+        ),
+        (
+            "sought in i32",
+            match i32::try_from(place) {
+                Ok(number) => is_sought(cipher, number, place),
+                Err(_) => true,
+            },
+        ),
     ])
-}
-
-// The first place that isn't answered or sought in each type.
-fn wrong_place<K: StreamCipherSeekCore>(cipher: &mut StreamCipherCoreWrapper<K>) -> Option<u64> {
-    for place in PLACES {
-        if answers(cipher, place).is_some() || sought(cipher, place).is_some() {
-            return Some(place);
-        }
-    }
-    None
 }
 
 #[test]
 fn in_each_type(rt: HostRuntime) {
     let mut cipher = ChaCha20::new(&COUNTING, &[0; 12]);
-    assert_eq!(rt; wrong_place(&mut cipher), None);
+    for place in PLACES {
+        all_right(
+            &rt,
+            &[
+                ("a place's answers", answers(&mut cipher, place)),
+                ("a seek to a place", sought(&mut cipher, place)),
+            ],
+        );
+    }
 }
 
 // Writing, two slices and applying give the same bytes, over several pieces and from the middle of a block on.
@@ -86,24 +100,30 @@ fn gives_the_same<K: StreamCipherSeekCore>(cipher: &mut StreamCipherCoreWrapper<
     let mut written = [1; 70000];
     let mut between = [2; 70000];
     failed(&[
-        cipher.try_seek(13u32).is_ok(),
-        cipher.try_apply_keystream(&mut applied).is_ok(),
-        cipher.try_seek(13u32).is_ok(),
-        cipher.try_write_keystream(&mut written).is_ok(),
-        cipher.try_seek(13u32).is_ok(),
-        cipher
-            .try_apply_keystream_b2b(&[0; 70000], &mut between)
-            .is_ok(),
-        applied == written,
-        applied == between,
-        cipher.try_current_pos() == Ok(70013u32),
+        ("a seek", cipher.try_seek(13u32).is_ok()),
+        ("applied", cipher.try_apply_keystream(&mut applied).is_ok()),
+        ("a seek back", cipher.try_seek(13u32).is_ok()),
+        ("written", cipher.try_write_keystream(&mut written).is_ok()),
+        ("another seek back", cipher.try_seek(13u32).is_ok()),
+        (
+            "between slices",
+            cipher
+                .try_apply_keystream_b2b(&[0; 70000], &mut between)
+                .is_ok(),
+        ),
+        ("written as applied", applied == written),
+        ("between slices as applied", applied == between),
+        (
+            "the position at the end",
+            cipher.try_current_pos() == Ok(70013u32),
+        ),
     ])
 }
 
 #[test]
 fn written_and_between_slices(rt: HostRuntime) {
     let mut cipher = ChaCha20::new(&COUNTING, &[0; 12]);
-    assert_eq!(rt; gives_the_same(&mut cipher), None);
+    all_right(&rt, &[("70000 bytes", gives_the_same(&mut cipher))]);
 }
 
 // The forms that leave the refusals to the caller.
@@ -119,14 +139,15 @@ fn without_refusals<K: SeekCore<Nonce, u32>>() -> Verdict {
     let mut between = [9; 2];
     cipher.apply_keystream_b2b(&[0, 0], &mut between);
     failed(&[
-        written == *b"\x76\xb8\xe0\xad",
-        after_written == 4,
-        applied == *b"\xe0\xad",
-        between == *b"\x76\xb8",
+        ("written", written == *b"\x76\xb8\xe0\xad"),
+        ("the position after four bytes", after_written == 4),
+        ("applied", applied == *b"\xe0\xad"),
+        ("between slices", between == *b"\x76\xb8"),
     ])
 }
 
 #[test]
 fn refusals_left_to_the_caller(rt: HostRuntime) {
-    assert_eq!(rt; without_refusals::<ChaChaCore<R20, Ietf, Lanes16>>(), None);
+    let verdict = without_refusals::<ChaChaCore<R20, Ietf, Lanes16>>();
+    all_right(&rt, &[("without refusals", verdict)]);
 }

@@ -3,6 +3,7 @@
 ghost use Rattle.std.specs.Prelude.{◌≡◌, ◌↔◌, ◌≤◌, ◌+◌, ◌*◌, length, IsOk, OnOk, OnErr};
 ghost use Rattle.chacha20.specs.Keystream.{xor_stream};
 
+use super::all_right;
 use crate::rows::{COUNTING, Verdict, failed};
 use chacha20::ChaCha20;
 use chacha20::cipher::{KeyIvInit, StreamCipher, StreamCipherError, StreamCipherSeek};
@@ -40,16 +41,22 @@ fn as_a_whole<S: StreamCipherSeek>(cipher: &mut S) -> Verdict {
     }
     let encrypted = file;
     failed(&[
-        accepted,
-        encrypted == whole,
-        encrypt_record(cipher, u64::MAX, &mut file) == Err(StreamCipherError),
-        file == encrypted,
-        cipher.try_current_pos() == Ok(200u32),
+        ("all records are taken", accepted),
+        ("they are the whole", encrypted == whole),
+        (
+            "a record past the end",
+            encrypt_record(cipher, u64::MAX, &mut file) == Err(StreamCipherError),
+        ),
+        ("it stays", file == encrypted),
+        (
+            "the position after it",
+            cipher.try_current_pos() == Ok(200u32),
+        ),
     ])
 }
 
 #[test]
 fn records(rt: HostRuntime) {
     let mut cipher = ChaCha20::new(&COUNTING, &[0; 12]);
-    assert_eq!(rt; as_a_whole(&mut cipher), None);
+    all_right(&rt, &[("records", as_a_whole(&mut cipher))]);
 }

@@ -1,80 +1,61 @@
 //! A run on the cipher without rounds, and rows of ciphers as lists of calls, over each backend; the lists over a user's
 //! own as well.
 
+use super::all_right;
 use super::width3::Width3;
 use crate::rows::ciphers::SeekCore;
-use crate::rows::{COUNTING, R0, Verdict, failed};
+use crate::rows::steps::{Place, Step, wrong_step};
+use crate::rows::{COUNTING, R0, Verdict, failed, first_failure};
 use chacha20::backends::{Lanes4, Lanes8, Lanes16, Rows8, Soft};
-use chacha20::cipher::{
-    KeyIvInit, StreamCipher, StreamCipherBackend, StreamCipherSeek, StreamCipherSeekCore,
-};
+use chacha20::cipher::{KeyIvInit, StreamCipherBackend, StreamCipherSeekCore};
 use chacha20::runs::{CipherAnswer, CipherCall, run_cipher};
 use chacha20::variants::Ietf;
 use chacha20::{ChaChaCore, Nonce, R20, StreamCipherCoreWrapper};
 
 type Cipher<K> = StreamCipherCoreWrapper<K>;
 
-// A run on the cipher without rounds, for a key and a nonce of zeros.
-fn run_directly<K: StreamCipherSeekCore>(cipher: &mut Cipher<K>, data: &mut [u8; 4]) -> Verdict {
-    let applied = cipher.try_apply_keystream(data).is_ok();
-    let first = *data;
-    failed(&[
-        applied && first == *b"\xca\xf0\xe0\xc2",
-        cipher.try_seek(0u128).is_ok(),
-        cipher
-            .try_apply_keystream_b2b(&[1, 2, 3], &mut data[..3])
-            .is_ok(),
-        *data == *b"\xcb\xf2\xe3\xc2",
-    ])
-}
+// A run on the cipher without rounds, for a key and a nonce of zeros: two refusals, which change nothing, the rest of the
+// first block, and the front of the next.
+const RUN: [(&'static str, Step); 10] = [
+    ("four bytes", Step::Apply(&[0; 4], b"\xca\xf0\xe0\xc2")),
+    ("a seek to the start", Step::Seek(Place::U128(0))),
+    (
+        "three bytes between slices",
+        Step::Between(&[1, 2, 3], b"\xcb\xf2\xe3"),
+    ),
+    ("three bytes into four", Step::NoBetween(&[1, 2, 3], 4)),
+    ("the position after them", Step::At(Place::U128(3))),
+    ("a seek below 0", Step::NoSeek(Place::I32(-1))),
+    ("the position then", Step::At(Place::I32(3))),
+    ("a byte written", Step::Write(b"\xc2")),
+    (
+        "the rest of the block",
+        Step::Apply(
+            &[0; 60],
+            b"\xdc\xc8\x40\x66\x64\x5a\xc4\xf2\xe8\xca\x40\xd6\
+            \0\0\0\0\0\0\0\0\0\0\0\0\0\0\0\0\0\0\0\0\0\0\0\0\
+            \0\0\0\0\0\0\0\0\0\0\0\0\0\0\0\0\0\0\0\0\0\0\0\0",
+        ),
+    ),
+    ("the next block", Step::Apply(&[0; 4], b"\xca\xf0\xe0\xc2")),
+];
 
-// Where it goes on: two refusals, which change nothing, and the last byte.
-fn run_on<K: StreamCipherSeekCore>(cipher: &mut Cipher<K>, data: &mut [u8; 4]) -> Verdict {
-    failed(&[
-        cipher.try_apply_keystream_b2b(&[1, 2, 3], data).is_err(),
-        *data == *b"\xcb\xf2\xe3\xc2",
-        cipher.try_current_pos() == Ok(3u128),
-        cipher.try_seek(-1i32).is_err(),
-        cipher.try_current_pos() == Ok(3i32),
-        cipher.try_write_keystream(&mut data[3..]).is_ok(),
-        *data == *b"\xcb\xf2\xe3\xc2",
-    ])
-}
-
-// The rest of the first block, and the front of the next.
-fn over_a_blocks_end<K: StreamCipherSeekCore>(cipher: &mut Cipher<K>) -> Verdict {
-    let mut rest = [0; 60];
-    let mut next = [0; 4];
-    let mut expected = [0; 60];
-    expected[..12].copy_from_slice(b"\xdc\xc8\x40\x66\x64\x5a\xc4\xf2\xe8\xca\x40\xd6");
-    failed(&[
-        cipher.try_apply_keystream(&mut rest).is_ok(),
-        rest == expected,
-        cipher.try_apply_keystream(&mut next).is_ok(),
-        next == *b"\xca\xf0\xe0\xc2",
-    ])
-}
-
-fn all_directly<K: SeekCore<Nonce, u32>>() -> [Verdict; 3] {
-    let mut cipher = Cipher::<K>::new(&[0; 32], &[0; 12]);
-    let mut data = [0; 4];
-    [
-        run_directly(&mut cipher, &mut data),
-        run_on(&mut cipher, &mut data),
-        over_a_blocks_end(&mut cipher),
-    ]
+fn all_directly<K: SeekCore<Nonce, u32>>() -> Verdict {
+    wrong_step(&mut Cipher::<K>::new(&[0; 32], &[0; 12]), &RUN)
 }
 
 #[test]
 fn directly(rt: HostRuntime) {
-    let verdicts = [
-        all_directly::<ChaChaCore<R0, Ietf, Soft>>(),
-        all_directly::<ChaChaCore<R0, Ietf, Lanes4>>(),
-        all_directly::<ChaChaCore<R0, Ietf, Lanes8>>(),
-        all_directly::<ChaChaCore<R0, Ietf, Rows8>>(),
-        all_directly::<ChaChaCore<R0, Ietf, Lanes16>>(),
-    ];
-    assert_eq!(rt; verdicts, [[None; 3]; 5]);
+    all_right(
+        &rt,
+        &[
+            ("Soft", all_directly::<ChaChaCore<R0, Ietf, Soft>>()),
+            ("Lanes4", all_directly::<ChaChaCore<R0, Ietf, Lanes4>>()),
+            ("Lanes8", all_directly::<ChaChaCore<R0, Ietf, Lanes8>>()),
+            ("Rows8", all_directly::<ChaChaCore<R0, Ietf, Rows8>>()),
+            ("Lanes16", all_directly::<ChaChaCore<R0, Ietf, Lanes16>>()),
+        ],
+    );
 }
 
 fn run_as_a_list<K: StreamCipherSeekCore>(cipher: &mut Cipher<K>) -> Verdict {
@@ -111,7 +92,10 @@ fn run_as_a_list<K: StreamCipherSeekCore>(cipher: &mut Cipher<K>) -> Verdict {
         CipherAnswer::PositionI32(3),
         CipherAnswer::Done,
     ];
-    failed(&[data == *b"\xcb\xf2\xe3\xc2", answers == expected])
+    failed(&[
+        ("the run's data", data == *b"\xcb\xf2\xe3\xc2"),
+        ("the run's answers", answers == expected),
+    ])
 }
 
 // Row 1: there, back, and there again in pieces of 3.
@@ -125,12 +109,15 @@ fn row_1_as_a_list<K: StreamCipherSeekCore>(cipher: &mut Cipher<K>) -> Verdict {
     let back_data = data;
     let in_pieces = run_in_pieces(cipher, &mut data);
     failed(&[
-        there == [CipherAnswer::Done],
-        there_data == ciphertext,
-        back == [CipherAnswer::Done; 2],
-        back_data == plaintext,
-        in_pieces == [CipherAnswer::Done; 7],
-        data == ciphertext,
+        ("row 1: there, answers", there == [CipherAnswer::Done]),
+        ("row 1: there", there_data == ciphertext),
+        ("row 1: back, answers", back == [CipherAnswer::Done; 2]),
+        ("row 1: back", back_data == plaintext),
+        (
+            "row 1: in pieces, answers",
+            in_pieces == [CipherAnswer::Done; 7],
+        ),
+        ("row 1: in pieces", data == ciphertext),
     ])
 }
 
@@ -194,7 +181,7 @@ fn row_11_as_a_list<K: StreamCipherSeekCore>(cipher: &mut Cipher<K>) -> Verdict 
         CipherAnswer::Refused,
         CipherAnswer::Position(274877906881),
     ];
-    failed(&[answers == expected])
+    failed(&[("row 11: answers at the last block", answers == expected)])
 }
 
 // Row 18: the last byte.
@@ -215,7 +202,7 @@ fn row_18_as_a_list<K: StreamCipherSeekCore>(cipher: &mut Cipher<K>) -> Verdict 
         CipherAnswer::Position(274877906944),
         CipherAnswer::Refused,
     ];
-    failed(&[answers == expected])
+    failed(&[("row 18: answers at the last byte", answers == expected)])
 }
 
 fn wrong_run<K: SeekCore<Nonce, u32>>() -> Verdict {
@@ -223,34 +210,36 @@ fn wrong_run<K: SeekCore<Nonce, u32>>() -> Verdict {
 }
 
 // Rows 1, 18 and 11; the first call of row 18 asks for a fresh cipher's position.
-fn wrong_rows<K: SeekCore<Nonce, u32>>() -> [Verdict; 3] {
+fn wrong_rows<K: SeekCore<Nonce, u32>>() -> Verdict {
     let mut cipher = Cipher::<K>::new(&COUNTING, &[0; 12]);
-    [
+    first_failure(&[
         row_1_as_a_list(&mut Cipher::<K>::new(&[0x42; 32], &[0x24; 12])),
         row_18_as_a_list(&mut cipher),
         row_11_as_a_list(&mut cipher),
-    ]
+    ])
 }
 
-fn all_as_lists<B>() -> (Verdict, [Verdict; 3])
+fn all_as_lists<B>() -> Verdict
 where
     B: StreamCipherBackend<R0, Ietf> + StreamCipherBackend<R20, Ietf>,
 {
-    (
+    first_failure(&[
         wrong_run::<ChaChaCore<R0, Ietf, B>>(),
         wrong_rows::<ChaChaCore<R20, Ietf, B>>(),
-    )
+    ])
 }
 
 #[test]
 fn as_lists(rt: HostRuntime) {
-    let verdicts = [
-        all_as_lists::<Soft>(),
-        all_as_lists::<Lanes4>(),
-        all_as_lists::<Lanes8>(),
-        all_as_lists::<Rows8>(),
-        all_as_lists::<Lanes16>(),
-        all_as_lists::<Width3>(),
-    ];
-    assert_eq!(rt; verdicts, [(None, [None; 3]); 6]);
+    all_right(
+        &rt,
+        &[
+            ("Soft", all_as_lists::<Soft>()),
+            ("Lanes4", all_as_lists::<Lanes4>()),
+            ("Lanes8", all_as_lists::<Lanes8>()),
+            ("Rows8", all_as_lists::<Rows8>()),
+            ("Lanes16", all_as_lists::<Lanes16>()),
+            ("Width3", all_as_lists::<Width3>()),
+        ],
+    );
 }

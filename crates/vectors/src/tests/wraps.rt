@@ -1,7 +1,8 @@
 //! Counters and positions that wrap, and states of any bytes, over each backend. Nothing here makes rounds, so that words
 //! can be computed by hand.
 
-use crate::rows::{R0, Verdict, failed};
+use super::all_right;
+use crate::rows::{R0, Verdict, failed, failed_for, first_failure};
 use chacha20::backends::{Lanes4, Lanes8, Lanes16, Rows8, Soft};
 use chacha20::cipher::{
     KeyIvInit, RngBackend, StreamCipherBackend, StreamCipherCounter, StreamCipherSeekCore,
@@ -75,22 +76,30 @@ where
     let mut ietf = ChaChaCore::<R0, Ietf, B>::new(&[0; 32], &[0; 12]);
     let mut legacy = ChaChaCore::<R0, Legacy, B>::from_seed([0; 32]);
     failed(&[
-        ends(&mut ietf, u32::MAX - 2) == Some(IETF_WRAP),
-        ends(&mut legacy, 0xffff_fffd) == Some(LEGACY_CARRY),
-        ends(&mut legacy, u64::MAX - 2) == Some(LEGACY_WRAP),
+        ("32 bits", ends(&mut ietf, u32::MAX - 2) == Some(IETF_WRAP)),
+        (
+            "64 bits, the low word",
+            ends(&mut legacy, 0xffff_fffd) == Some(LEGACY_CARRY),
+        ),
+        (
+            "64 bits",
+            ends(&mut legacy, u64::MAX - 2) == Some(LEGACY_WRAP),
+        ),
     ])
 }
 
 #[test]
 fn cores(rt: HostRuntime) {
-    let verdicts = [
-        wrong_core::<Soft>(),
-        wrong_core::<Lanes4>(),
-        wrong_core::<Lanes8>(),
-        wrong_core::<Rows8>(),
-        wrong_core::<Lanes16>(),
-    ];
-    assert_eq!(rt; verdicts, [None; 5]);
+    all_right(
+        &rt,
+        &[
+            ("Soft", wrong_core::<Soft>()),
+            ("Lanes4", wrong_core::<Lanes4>()),
+            ("Lanes8", wrong_core::<Lanes8>()),
+            ("Rows8", wrong_core::<Rows8>()),
+            ("Lanes16", wrong_core::<Lanes16>()),
+        ],
+    );
 }
 
 // How many word positions there are.
@@ -104,10 +113,10 @@ fn words_over_the_end<B: RngBackend<R0>>() -> Verdict {
     rng.set_stream(STREAM);
     rng.set_word_pos(POSITIONS - 4);
     failed(&[
-        rng.next_u64() == 0xffff_fffe_ffff_fffe,
-        rng.next_u64() == 0x0000_0002_0000_0006,
-        rng.get_word_pos() == 0,
-        rng.next_u32() == 0xc2e0_f0ca,
+        ("the last words", rng.next_u64() == 0xffff_fffe_ffff_fffe),
+        ("the first words", rng.next_u64() == 0x0000_0002_0000_0006),
+        ("the position after four", rng.get_word_pos() == 0),
+        ("the word after them", rng.next_u32() == 0xc2e0_f0ca),
     ])
 }
 
@@ -118,19 +127,22 @@ fn bytes_over_the_end<B: RngBackend<R0>>() -> Verdict {
     rng.set_word_pos(POSITIONS - 1);
     let mut bytes = [0; 5];
     rng.fill_bytes(&mut bytes);
-    failed(&[bytes == *b"\x02\0\0\0\xca", rng.get_word_pos() == 1])
+    failed(&[
+        ("five bytes over the end", bytes == *b"\x02\0\0\0\xca"),
+        ("the position after five bytes", rng.get_word_pos() == 1),
+    ])
 }
 
 // The first of 131 numbers of words around the wrap after which a position is wrong, or asking for it changes a word.
-fn wrong_position<B: RngBackend<R0>>() -> Option<u64> {
+fn wrong_position<B: RngBackend<R0>>() -> Option<usize> {
     let mut asked = ChaChaRng::<R0, B>::from_seed([0; 32]);
     let mut unasked = ChaChaRng::<R0, B>::from_seed([0; 32]);
     asked.set_stream(STREAM);
     unasked.set_stream(STREAM);
     asked.set_block_pos(u64::MAX - 1);
     unasked.set_block_pos(u64::MAX - 1);
-    for words in 0..131u64 {
-        let expected = (POSITIONS - 32 + u128::from(words)) % POSITIONS;
+    for words in 0..131usize {
+        let expected = (POSITIONS - 32 + words as u128) % POSITIONS;
         let right = asked.get_word_pos() == expected
             && u128::from(asked.get_block_pos()) == expected / 16
             && asked.next_u32() == unasked.next_u32();
@@ -142,36 +154,38 @@ fn wrong_position<B: RngBackend<R0>>() -> Option<u64> {
 }
 
 // The first value of a state's last byte that isn't taken modulo 16.
-fn wrong_last_byte<B: RngBackend<R0>>() -> Option<u8> {
+fn wrong_last_byte<B: RngBackend<R0>>() -> Option<usize> {
     for last in 0..=255u8 {
         let mut state = [0; 49];
         state[48] = last;
         let rng = ChaChaRng::<R0, B>::deserialize_state(&state);
         state[48] = last % 16;
         if rng.get_word_pos() != u128::from(last % 16) << 64 || rng.serialize_state() != state {
-            return Some(last);
+            return Some(usize::from(last));
         }
     }
     None
 }
 
 fn wrong_generator<B: RngBackend<R0>>() -> Verdict {
-    failed(&[
-        words_over_the_end::<B>().is_none(),
-        bytes_over_the_end::<B>().is_none(),
-        wrong_position::<B>().is_none(),
-        wrong_last_byte::<B>().is_none(),
+    first_failure(&[
+        words_over_the_end::<B>(),
+        bytes_over_the_end::<B>(),
+        failed_for("so many words around the wrap", wrong_position::<B>()),
+        failed_for("a state's last byte", wrong_last_byte::<B>()),
     ])
 }
 
 #[test]
 fn generators(rt: HostRuntime) {
-    let verdicts = [
-        wrong_generator::<Soft>(),
-        wrong_generator::<Lanes4>(),
-        wrong_generator::<Lanes8>(),
-        wrong_generator::<Rows8>(),
-        wrong_generator::<Lanes16>(),
-    ];
-    assert_eq!(rt; verdicts, [None; 5]);
+    all_right(
+        &rt,
+        &[
+            ("Soft", wrong_generator::<Soft>()),
+            ("Lanes4", wrong_generator::<Lanes4>()),
+            ("Lanes8", wrong_generator::<Lanes8>()),
+            ("Rows8", wrong_generator::<Rows8>()),
+            ("Lanes16", wrong_generator::<Lanes16>()),
+        ],
+    );
 }

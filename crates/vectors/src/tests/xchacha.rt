@@ -1,5 +1,6 @@
 //! HChaCha without rounds, and XChaCha ciphers beside those that they are made of.
 
+use super::all_right;
 use super::contracts::both;
 use super::streams::{X_KEY, X_NONCE};
 use crate::rows::ciphers::SeekCore;
@@ -47,12 +48,12 @@ fn as_the_derived_ciphers(rt: HostRuntime) {
     let of_12 = x_stream_of(None::<&XChaCha12>);
     let of_20 = x_stream_of(None::<&XChaCha20>);
     let right = failed(&[
-        of_8 == derived_stream::<R8>(),
-        of_12 == derived_stream::<R12>(),
-        of_20 == derived_stream::<R20>(),
-        of_8 != of_12,
-        of_8 != of_20,
-        of_12 != of_20,
+        ("8 rounds", of_8 == derived_stream::<R8>()),
+        ("12 rounds", of_12 == derived_stream::<R12>()),
+        ("20 rounds", of_20 == derived_stream::<R20>()),
+        ("8 and 12 differ", of_8 != of_12),
+        ("8 and 20 differ", of_8 != of_20),
+        ("12 and 20 differ", of_12 != of_20),
     ]);
-    assert_eq!(rt; right, None);
+    all_right(&rt, &[("XChaCha", right)]);
 }
