@@ -9,7 +9,7 @@ use Rattle.chacha_base.specs.State.{state_counter, fixed_words, state_block, sta
 use Rattle.chacha_base.proofs.StateLemmas.{fixed_words-state_after, state_counter-state_after}
 use Rattle.chacha_base.specs.Keystream.{keystream, xor_stream}
 use Rattle.chacha_base.proofs.KeystreamLemmas.{xor_stream-same, xor_stream-more, keystream-wrapped}
-use Rattle.chacha20.specs.Blocks.{byte_of, stream_of_state, applied}
+use Rattle.chacha20.specs.Blocks.{byte_of, state_stream, applied}
 
 -- byte j of block i
 pub byte_of_block : (blocks : List (List ℕ)) (p i j : ℕ) → p ≡ 64 * i → j < 64 → slice_index (slice_index_or blocks i []) j ≡ byte_of blocks (p + j)
@@ -42,7 +42,7 @@ applied-more n layout s i blocks old {t} {k} {e} {l} {now} {part} h moved all si
     let xs = take l (drop (64 * i) now) in
     let sum : l ≡ 64 * length blocks = omega arith in
     let whole = length-take-le l (drop (64 * i) now) (omega (arith, length-drop (64 * i) now)) ∙ sum in
-    xor_stream-more (stream_of_state n layout s) (64 * c) (64 * i) l (64 * e) old now part (omega arith) room before
+    xor_stream-more (state_stream n layout s) (64 * c) (64 * i) l (64 * e) old now part (omega arith) room before
     (xored
     ∙ xor_stream-blocks m (state_block n layout (fixed_words layout t)) (state_counter layout t) blocks xs whole (λ j less. made j (omega arith))
     ∙ ap₂ (λ f d. xor_stream (keystream m (state_block n layout f)) (64 * d) xs) (fixed_words-state_after layout i s t h moved) (state_counter-state_after layout i s t h moved)

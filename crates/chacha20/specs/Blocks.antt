@@ -9,9 +9,9 @@ abbrev pub byte_of : List (List ℕ) → ℕ → ℕ
 byte_of blocks p = slice_index (slice_index_or blocks (p / 64) []) (p % 64)
 
 -- byte p of the keystream of a state's fixed part, after n double rounds
-abbrev pub stream_of_state : ℕ → Layout → List ℕ → ℕ → ℕ
-stream_of_state n layout s = keystream (modulus layout) (state_block n layout (fixed_words layout s))
+abbrev pub state_stream : ℕ → Layout → List ℕ → ℕ → ℕ
+state_stream n layout s = keystream (modulus layout) (state_block n layout (fixed_words layout s))
 
 -- bytes XORed with that keystream from the state's counter on
 abbrev pub applied : ℕ → Layout → List ℕ → List ℕ → List ℕ
-applied n layout s = xor_stream (stream_of_state n layout s) (64 * state_counter layout s)
+applied n layout s = xor_stream (state_stream n layout s) (64 * state_counter layout s)

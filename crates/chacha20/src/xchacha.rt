@@ -95,9 +95,9 @@ impl<R: Rounds, B: ParBlocksSizeUser> ParBlocksSizeUser for XChaChaCore<R, B> {
 
     const PAR_BLOCKS: usize = B::PAR_BLOCKS;
 
-    ghost par_blocks_from = { B.par_blocks_from };
+    ghost par_blocks_at_least = { B.par_blocks_at_least };
 
-    ghost par_blocks_to = { B.par_blocks_to };
+    ghost par_blocks_at_most = { B.par_blocks_at_most };
 }
 
 impl<R: Rounds, B> KeySizeUser for XChaChaCore<R, B> {

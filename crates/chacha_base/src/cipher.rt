@@ -59,9 +59,9 @@ pub trait ParBlocksSizeUser {
     /// Blocks in a parallel call.
     const PAR_BLOCKS: usize;
 
-    ghost par_blocks_from: { 1 ≤ PAR_BLOCKS };
+    ghost par_blocks_at_least: { 1 ≤ PAR_BLOCKS };
 
-    ghost par_blocks_to: { PAR_BLOCKS ≤ 16 };
+    ghost par_blocks_at_most: { PAR_BLOCKS ≤ 16 };
 }
 
 /// What hands out the blocks of a keystream: a core, or a cipher over one. It has no code, only what clauses say of

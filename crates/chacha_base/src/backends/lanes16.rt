@@ -59,9 +59,9 @@ impl ParBlocksSizeUser for Lanes16 {
 
     const PAR_BLOCKS: usize = 16;
 
-    ghost par_blocks_from = { lit≤ tt };
+    ghost par_blocks_at_least = { lit≤ tt };
 
-    ghost par_blocks_to = { lit≤ tt };
+    ghost par_blocks_at_most = { lit≤ tt };
 }
 
 impl<R: Rounds, V: Variant> StreamCipherBackend<R, V> for Lanes16 {

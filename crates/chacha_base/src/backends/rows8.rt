@@ -29,9 +29,9 @@ impl ParBlocksSizeUser for Rows8 {
 
     const PAR_BLOCKS: usize = 8;
 
-    ghost par_blocks_from = { lit≤ tt };
+    ghost par_blocks_at_least = { lit≤ tt };
 
-    ghost par_blocks_to = { lit≤ tt };
+    ghost par_blocks_at_most = { lit≤ tt };
 }
 
 impl<R: Rounds, V: Variant> StreamCipherBackend<R, V> for Rows8 {

@@ -54,9 +54,9 @@ impl ParBlocksSizeUser for Soft {
 
     const PAR_BLOCKS: usize = 1;
 
-    ghost par_blocks_from = { lit≤ tt };
+    ghost par_blocks_at_least = { lit≤ tt };
 
-    ghost par_blocks_to = { lit≤ tt };
+    ghost par_blocks_at_most = { lit≤ tt };
 }
 
 impl<R: Rounds, V: Variant> StreamCipherBackend<R, V> for Soft {

@@ -52,9 +52,9 @@ impl ParBlocksSizeUser for Toy {
 
     const PAR_BLOCKS: usize = 4;
 
-    ghost par_blocks_from = { lit≤ tt };
+    ghost par_blocks_at_least = { lit≤ tt };
 
-    ghost par_blocks_to = { lit≤ tt };
+    ghost par_blocks_at_most = { lit≤ tt };
 }
 
 impl KeySizeUser for Toy {

@@ -6,7 +6,7 @@ use Rattle.chacha_base.specs.State.{state_counter}
 use Rattle.chacha_base.proofs.CountsLemmas.{grows-none, grows-group, grows-blocks}
 use Rattle.chacha_base.proofs.StateLemmas.{state_after-zero, state_after-more}
 use Rattle.chacha_base.proofs.KeystreamLemmas.{xor_stream-whole}
-use Rattle.chacha20.specs.Blocks.{stream_of_state}
+use Rattle.chacha20.specs.Blocks.{state_stream}
 use Rattle.chacha20.proofs.BlocksLemmas.{applied-more}
 use Rattle.chacha20.proofs.chacha_core.apply_through.Goals as goal
 
@@ -50,7 +50,7 @@ xor_blocks-requires-2 g c =
     let w = c.PAR_BLOCKS-width.result in
     let m = length c.args.data.now / 64 in
     let front = 64 * (w * (m / w)) in
-    let made = rest_fits w m c.groups.room (omega (arith, g.B.ParBlocksSizeUser.par_blocks_from)) (omega arith) in
+    let made = rest_fits w m c.groups.room (omega (arith, g.B.ParBlocksSizeUser.par_blocks_at_least)) (omega arith) in
     let all = div-add-mod m w in
     let left : length c.groups.data - front ≡ 64 * length c.write_tail.new.blocks = omega (arith, made, all) in
     length-take-le _ (drop front c.groups.data) (omega (arith, length-drop front c.groups.data)) ∙ left
@@ -63,20 +63,20 @@ returns-clause-data g c =
     let w = c.PAR_BLOCKS-width.result in
     let m = length c.args.data.now / 64 in
     let i = w * (m / w) in
-    let made = rest_fits w m c.groups.room (omega (arith, g.B.ParBlocksSizeUser.par_blocks_from)) (omega arith) in
+    let made = rest_fits w m c.groups.room (omega (arith, g.B.ParBlocksSizeUser.par_blocks_at_least)) (omega arith) in
     let done : c.groups.group ≡ m / w = omega arith in
     let all = div-add-mod m w in
     let count : length c.write_tail.new.blocks ≡ m % w = omega (arith, made) in
     let size : length c.groups.data - 64 * i ≡ 64 * (m % w) = omega (arith, all) in
     applied-more n layout s i _ c.args.data.now c.told-state (rw done at c.groups.invariant.state) all size (omega arith) c.groups.auto.data count (rw done at c.groups.invariant.data)
     c.xor_blocks-2.ensures (λ j less. c.write_tail.ensures.blocks j (rw made less))
-    ∙ xor_stream-whole (stream_of_state n layout s) (64 * state_counter layout s) (64 * m) c.args.data.now (omega arith)
+    ∙ xor_stream-whole (state_stream n layout s) (64 * state_counter layout s) (64 * m) c.args.data.now (omega arith)
 
 pub returns-clause-state : goal.returns-clause-state
 returns-clause-state g c =
     let w = c.PAR_BLOCKS-width.result in
     let m = length c.args.data.now / 64 in
-    let made = rest_fits w m c.groups.room (omega (arith, g.B.ParBlocksSizeUser.par_blocks_from)) (omega arith) in
+    let made = rest_fits w m c.groups.room (omega (arith, g.B.ParBlocksSizeUser.par_blocks_at_least)) (omega arith) in
     let done : c.groups.group ≡ m / w = omega arith in
     state_after-more g.V.Variant.layout c.args.state.now c.groups.state _ (w * (m / w)) _ m c.told-state (rw done at c.groups.invariant.state) (rw made at c.write_tail.ensures.state)
     (div-add-mod m w)
@@ -85,6 +85,6 @@ pub returns-clause-steps : goal.returns-clause-steps
 returns-clause-steps g c =
     let w = c.PAR_BLOCKS-width.result in
     let m = length c.args.data.now / 64 in
-    let made = rest_fits w m c.groups.room (omega (arith, g.B.ParBlocksSizeUser.par_blocks_from)) (omega arith) in
+    let made = rest_fits w m c.groups.room (omega (arith, g.B.ParBlocksSizeUser.par_blocks_at_least)) (omega arith) in
     let done : c.groups.group ≡ m / w = omega arith in
     rw (← c.PAR_BLOCKS-width.ensures) (grows-blocks w _ _ m (rw done at c.groups.invariant.steps) (rw made at c.write_tail.ensures.steps))
