@@ -41,7 +41,10 @@ fn with_contracts(rt: HostRuntime) -> Result<(), Fail> {
     let mut message = *b"attack at dawn";
     encrypt(&[0x42; 32], &[0x24; 12], &mut message)?;
     // What `openssl enc -chacha20` makes of it.
-    assert_eq!(rt; message, [133, 112, 20, 12, 40, 124, 16, 213, 27, 39, 138, 66, 72, 77]);
+    assert_eq!(rt;
+        message,
+        [133, 112, 20, 12, 40, 124, 16, 213, 27, 39, 138, 66, 72, 77]
+    );
 
     encrypt_short(&[0x42; 32], &[0x24; 12], &mut message);
     assert_eq!(rt; message, *b"attack at dawn");
