@@ -6,25 +6,24 @@
 #include <stdlib.h>
 #include <string.h>
 
+#include "../c/processor.h"
 #include "bench.h"
 
-static int has_v3(void) {
-    return __builtin_cpu_supports("avx2") && __builtin_cpu_supports("bmi") && __builtin_cpu_supports("bmi2") &&
-           __builtin_cpu_supports("fma");
-}
-
 int main(int argc, char **argv) {
-    struct machine machine = {.levels = {&library_default}, .level_count = 1};
+    struct machine machine = {.levels = {&library_v2}, .level_count = 1};
+    struct processor processor = this_processor();
     int is_check = argc > 1 && strcmp(argv[1], "check") == 0, is_time = argc > 1 && strcmp(argv[1], "time") == 0;
     if (!is_check && !is_time) {
         fputs("bench check [BYTES [SEED]]\nbench time [TURNS]\n", stderr);
         return 2;
     }
-    if (has_v3()) {
+    if (has_x86_64_v3(&processor)) {
         machine.levels[machine.level_count++] = &library_v3;
     } else {
         puts("not run: the build for x86-64-v3, which this processor doesn't have");
     }
+    /* The one that chooses makes one of the two calls, so it is compared and not timed. */
+    if (is_check) machine.levels[machine.level_count++] = &library_chosen;
     machine.other_count = find_others(machine.others);
     if (is_time) return time_all(&machine, argc > 2 ? atoi(argv[2]) : 101);
     return check(&machine, argc > 3 ? strtoull(argv[3], NULL, 10) : 20260101,

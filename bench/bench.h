@@ -8,7 +8,7 @@
 
 /* What this machine can run: builds of the library, and other implementations. */
 struct machine {
-    const struct library *levels[2];
+    const struct library *levels[3];
     int level_count;
     struct other others[MOST_OTHERS];
     int other_count;

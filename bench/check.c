@@ -14,6 +14,9 @@
 
 enum { LONGEST = 1 << 18, MOST_CUTS = 40, CONTROLS = 200 };
 
+/* A position in a stream: those of the legacy layout have more than 64 bits. */
+__extension__ typedef unsigned __int128 wide;
+
 static const int rounds_of[ROUNDS] = {8, 12, 20};
 static const size_t nonce_len[LAYOUTS] = {12, 24, 8};
 
@@ -30,7 +33,7 @@ struct run {
     uint64_t messages;
 };
 
-static uint8_t input[LONGEST + 64], expected[LONGEST + 128], made[LONGEST + 64];
+static uint8_t input[LONGEST + 64], expected[LONGEST + 128], made[LONGEST + 64], keystream[LONGEST + 64];
 
 /* splitmix64 */
 static uint64_t next(struct run *run) {
@@ -86,12 +89,11 @@ static const struct other *any_other(struct run *run, enum layout layout, int ro
 
 /* What the bytes become by another implementation, which knows blocks alone. The room has 64 bytes more. */
 static const uint8_t *by_other(const struct other *other, enum layout layout, int rounds, const uint8_t *key,
-                               const uint8_t *nonce, uint64_t position, const uint8_t *bytes, size_t len,
-                               uint8_t *room) {
-    size_t before = position % 64;
+                               const uint8_t *nonce, wide position, const uint8_t *bytes, size_t len, uint8_t *room) {
+    size_t before = (size_t)(position % 64);
     memset(room, 0, before);
     memcpy(room + before, bytes, len);
-    other->xor_from_block[layout](rounds, key, nonce, position / 64, room, before + len);
+    other->xor_from_block[layout](rounds, key, nonce, (uint64_t)(position / 64), room, before + len);
     return room + before;
 }
 
@@ -100,28 +102,71 @@ static size_t random_length(struct run *run) {
     return below(run, ends[below(run, 5)] + 1);
 }
 
-/* A position from which so many bytes can be taken, and after which each of them still has a position of 64 bits. */
-static uint64_t random_position(struct run *run, enum layout layout, size_t len) {
-    uint64_t last = (layout == LEGACY ? UINT64_MAX : CHACHA20_STREAM_BYTES) - len;
-    switch (below(run, 7)) {
+/* Where the stream ends. */
+static wide end_of(enum layout layout) { return layout == LEGACY ? (wide)1 << 70 : CHACHA20_STREAM_BYTES; }
+
+/* A position from which so many bytes can be taken. */
+static wide random_position(struct run *run, enum layout layout, size_t len) {
+    wide last = end_of(layout) - len;
+    switch (below(run, 8)) {
         case 0: return 0;
         case 1: return below(run, 5000);
-        case 2: return (UINT64_C(1) << 32) - below(run, LONGEST);
-        case 3: return (layout == LEGACY ? UINT64_C(1) << 38 : last / 2) - below(run, LONGEST);
+        case 2: return ((wide)1 << 32) - below(run, LONGEST);
+        case 3: return (layout == LEGACY ? (wide)1 << 38 : last / 2) - below(run, LONGEST);
         case 4: return last - below(run, 5000);
         case 5: return last;
-        default: return below(run, last);
+        case 6: return (layout == LEGACY ? (wide)1 << 64 : last / 3) - below(run, LONGEST);
+        default: return (((wide)next(run) << 64) + next(run)) % last;
     }
 }
 
-/* Combines one part of a message, in place or between buffers. */
+/* The place as the calls take it; blocks of a legacy position are moved into its offset, as far as it has room. */
+struct place {
+    uint64_t block, offset;
+};
+
+static struct place place_of(struct run *run, enum layout layout, wide position) {
+    struct place place = {(uint64_t)(position / 64), (uint64_t)(position % 64)};
+    if (position / 64 > UINT64_MAX) place = (struct place){UINT64_MAX, (uint64_t)(position - (wide)64 * UINT64_MAX)};
+    if (layout == LEGACY && below(run, 2)) {
+        uint64_t most = (UINT64_MAX - place.offset) / 64, moved;
+        if (most > place.block) most = place.block;
+        moved = below(run, 2) ? most : most ? below(run, most) : 0;
+        place.block -= moved, place.offset += 64 * moved;
+    }
+    return place;
+}
+
+static uint32_t combine_by_keystream(const uint8_t *bytes, uint8_t *output, size_t len) {
+    for (size_t i = 0; i < len; i++) output[i] = bytes[i] ^ keystream[i];
+    return CHACHA20_OK;
+}
+
+/* Combines one part of a message by one of the functions of a cipher. */
 static uint32_t combine_part(struct run *run, enum layout layout, int at_rounds, const uint8_t *key,
-                             const uint8_t *nonce, uint64_t position, size_t from, size_t len) {
-    const struct library *library = any_level(run);
-    if (run->spoilt == ONE_POSITION) position += position < 64 ? 1 : (uint64_t)-1;
-    if (below(run, 2)) return library->xor_in_place[layout][at_rounds](key, nonce, position, made + from, len);
-    memset(made + from, 0x55, len);
-    return library->xor_b2b[layout][at_rounds](key, nonce, position, input + from, len, made + from, len);
+                             const uint8_t *nonce, wide position, size_t from, size_t len) {
+    const struct cipher *cipher = &any_level(run)->ciphers[layout][at_rounds];
+    if (run->spoilt == ONE_POSITION) position += position < 64 ? 1 : (wide)-1;
+    struct place at = place_of(run, layout, position);
+    uint8_t *part = made + from;
+    switch (below(run, 7)) {
+        case 0: return cipher->xor(key, nonce, at.block, at.offset, part, part, len);
+        case 1:
+            memset(part, 0x55, len);
+            return cipher->xor(key, nonce, at.block, at.offset, len ? part : NULL, len ? input + from : NULL, len);
+        case 2:
+            memset(part, 0x55, len);
+            return cipher->xor_between(key, nonce, at.block, at.offset, input + from, len, part, len);
+        case 3:
+            if (cipher->write_keystream(key, nonce, at.block, at.offset, keystream, len) != CHACHA20_OK) return 1;
+            return combine_by_keystream(input + from, part, len);
+        case 4:
+            if (cipher->keystream(key, nonce, at.block, at.offset, len ? keystream : NULL, len) != CHACHA20_OK) {
+                return 1;
+            }
+            return combine_by_keystream(input + from, part, len);
+        default: return cipher->xor_in_place(key, nonce, at.block, at.offset, part, len);
+    }
 }
 
 /* A message whole by another implementation, and in parts by the library. */
@@ -129,7 +174,7 @@ static void one_message(struct run *run) {
     enum layout layout = (enum layout)below(run, LAYOUTS);
     int at_rounds = layout == LEGACY || below(run, 40) > 0 ? 2 : (int)below(run, 2);
     size_t len = random_length(run) + (run->spoilt == NOTHING ? 0 : 16), cuts[MOST_CUTS + 2], order[MOST_CUTS + 1];
-    uint64_t position = random_position(run, layout, len);
+    wide position = random_position(run, layout, len);
     int parts = 1 + (int)below(run, below(run, 4) == 0 ? MOST_CUTS + 1 : 4);
     uint8_t key[32], nonce[24];
     random_bytes(run, key, sizeof key);
@@ -155,36 +200,30 @@ static void one_message(struct run *run) {
     run->messages++;
 }
 
-/* A message of the legacy layout across byte 2^64, which only one call can reach. */
-static void across_64_bits(struct run *run) {
-    size_t len = 2 + below(run, 3000);
-    uint64_t position = UINT64_MAX - below(run, len - 1);
-    uint8_t key[32], nonce[8];
-    random_bytes(run, key, sizeof key);
-    random_bytes(run, nonce, sizeof nonce);
-    const struct other *other = any_other(run, LEGACY, 20, len);
-    const uint8_t *right = by_other(other, LEGACY, 20, key, nonce, position, input, len, expected);
-    memcpy(made, input, len);
-    const struct library *library = any_level(run);
-    holds(run, library->xor_in_place[LEGACY][2](key, nonce, position, made, len) == 0, "refused across 2^64");
-    holds(run, library->check[LEGACY](position, len) == 0, "a check across 2^64");
-    same_bytes(run, made, right, len, "bytes across 2^64");
+/* Words of the legacy layout from a block on, by another implementation; after the last block comes the first. */
+static void wrapping_blocks(const struct other *other, int rounds, const uint8_t *key, const uint8_t *nonce,
+                            uint64_t block, uint8_t *room, size_t len) {
+    size_t to_end = block > UINT64_MAX - LONGEST ? 64 * (size_t)(UINT64_MAX - block) + 64 : len;
+    if (to_end > len) to_end = len;
+    memset(room, 0, len);
+    other->xor_from_block[LEGACY](rounds, key, nonce, block, room, to_end);
+    if (to_end < len) other->xor_from_block[LEGACY](rounds, key, nonce, 0, room + to_end, len - to_end);
 }
 
-/* Reads of a generator: its stream is that of the legacy cipher under the seed, from the word's place on. */
+/* Reads of a generator: its stream is that of the legacy cipher under the seed, from the word's place on, and begins
+   again after 2^68 words. */
 static void one_generator(struct run *run) {
     int at_rounds = below(run, 40) > 0 ? 2 : (int)below(run, 2);
     size_t words = random_length(run) / 4, done = 0;
-    uint8_t seed[32], nonce[8], state[CHACHA20_RNG_STATE_BYTES];
+    uint8_t seed[32], nonce[8], state[CHACHA_RNG_STATE_BYTES];
     uint64_t block = next(run) >> below(run, 64), stream = next(run), low, high;
     unsigned in_block = (unsigned)below(run, 16);
-    if (block > UINT64_MAX - LONGEST) block -= LONGEST;
+    if (below(run, 4) == 0) block = UINT64_MAX - below(run, LONGEST / 64);
     random_bytes(run, seed, sizeof seed);
     random_bytes(run, state, sizeof state);
     for (int i = 0; i < 8; i++) nonce[i] = (uint8_t)(stream >> (8 * i));
     const struct other *other = any_other(run, LEGACY, rounds_of[at_rounds], 4 * words);
-    memset(expected, 0, 4 * (words + in_block));
-    other->xor_from_block[LEGACY](rounds_of[at_rounds], seed, nonce, block, expected, 4 * (words + in_block));
+    wrapping_blocks(other, rounds_of[at_rounds], seed, nonce, block, expected, 4 * (words + in_block));
     const uint8_t *right = expected + 4 * in_block;
     any_level(run)->from_seed(seed, state);
     any_level(run)->set_stream(state, stream);
@@ -196,7 +235,10 @@ static void one_generator(struct run *run) {
     while (done < words) {
         const struct library *library = any_level(run);
         size_t left = 4 * (words - done), len = below(run, (left < 70 || below(run, 2) ? left : 70) + 1);
-        switch (below(run, 4)) {
+        int read = (int)below(run, 5);
+        if (read == 1 && left < 8) continue;
+        state[48] |= (uint8_t)(below(run, 16) << 4);
+        switch (read) {
             case 0: {
                 uint32_t word = library->next_u32[at_rounds](state);
                 for (int i = 0; i < 4; i++) made[4 * done + (size_t)i] = (uint8_t)(word >> (8 * i));
@@ -204,65 +246,102 @@ static void one_generator(struct run *run) {
                 break;
             }
             case 1: {
-                if (left < 8) break;
                 uint64_t two = library->next_u64[at_rounds](state);
                 for (int i = 0; i < 8; i++) made[4 * done + (size_t)i] = (uint8_t)(two >> (8 * i));
                 done += 2;
                 break;
             }
             default: {
-                library->fill_bytes[at_rounds](state, made + 4 * done, len);
+                if (read == 2) {
+                    library->fill[at_rounds](state, len ? made + 4 * done : NULL, len);
+                    if (len == 0) state[48] &= 15;
+                } else {
+                    library->fill_bytes[at_rounds](state, made + 4 * done, len);
+                }
                 /* What is left of the last word is lost. */
                 for (; len % 4; len++) made[4 * done + len] = right[4 * done + len];
                 done += len / 4;
             }
         }
+        holds(run, state[48] < 16, "the upper half of a written state's last byte");
     }
     same_bytes(run, made, right, 4 * words, "words of a generator");
+    wide word_pos = (((wide)block << 4) + in_block + words) % ((wide)1 << 68);
+    uint8_t kept[CHACHA_RNG_STATE_BYTES];
+    state[48] |= (uint8_t)(below(run, 16) << 4);
+    memcpy(kept, state, sizeof kept);
     any_level(run)->get_word_pos(state, &low, &high);
-    uint64_t place = in_block + words;
-    holds(run, low == (block << 4) + place && high == (block >> 60) + ((block << 4) + place < place),
-          "a word position");
-    holds(run, any_level(run)->get_block_pos(state) == block + place / 16, "a block position");
+    holds(run, low == (uint64_t)word_pos && high == (uint64_t)(word_pos >> 64), "a word position");
+    holds(run, any_level(run)->get_block_pos(state) == (uint64_t)(word_pos / 16), "a block position");
     holds(run, any_level(run)->get_stream(state) == stream && memcmp(state, seed, 32) == 0, "a stream or a seed");
+    same_bytes(run, state, kept, sizeof kept, "a state that was read");
+    any_level(run)->set_stream(state, stream + 1);
+    any_level(run)->get_word_pos(state, &low, &high);
+    holds(run, low == 0 && high == 0 && state[48] == 0 && any_level(run)->get_stream(state) == stream + 1,
+          "another stream begins at its first word");
+    any_level(run)->set_block_pos(state, block);
+    any_level(run)->get_word_pos(state, &low, &high);
+    holds(run, low == block << 4 && high == block >> 60 && memcmp(state, seed, 32) == 0, "a block's first word");
 }
 
 /* A refusal leaves what was there. */
 static void one_refusal(struct run *run) {
-    enum layout layout = (enum layout)below(run, 2);
+    enum layout layout = (enum layout)below(run, LAYOUTS);
     size_t len = 1 + below(run, 300), other_len = below(run, 300);
-    uint64_t past = below(run, 2) ? below(run, len) : below(run, UINT64_MAX - CHACHA20_STREAM_BYTES);
-    uint64_t position = CHACHA20_STREAM_BYTES - len + 1 + past;
+    wide end = end_of(layout), greatest = layout == LEGACY ? (wide)65 * UINT64_MAX : UINT64_MAX;
+    wide past = below(run, 2) ? below(run, len) : (((wide)next(run) << 64) + next(run)) % (greatest - end);
     const struct library *library = any_level(run);
-    int at_rounds = (int)below(run, ROUNDS);
+    int at_rounds = layout == LEGACY ? 2 : (int)below(run, ROUNDS);
+    const struct cipher *cipher = &library->ciphers[layout][at_rounds];
+    struct place at = place_of(run, layout, end - len + 1 + past), last = place_of(run, layout, end - len);
+    struct place ends = place_of(run, layout, end), beyond = place_of(run, layout, end + 1 + past);
     uint8_t key[32], nonce[24];
     random_bytes(run, key, sizeof key);
     random_bytes(run, nonce, sizeof nonce);
     random_bytes(run, input, 300);
     memcpy(made, input, 300);
-    holds(run, library->xor_in_place[layout][at_rounds](key, nonce, position, made, len) == 1, "taken past the end");
-    holds(run, library->xor_b2b[layout][at_rounds](key, nonce, position, expected, len, made, len) == 1,
+    holds(run, cipher->xor_in_place(key, nonce, at.block, at.offset, made, len) == 1, "taken past the end");
+    holds(run, cipher->xor_between(key, nonce, at.block, at.offset, expected, len, made, len) == 1,
           "taken past the end between buffers");
-    holds(run, library->check[layout](position, len) == 1, "a check past the end");
-    holds(run, library->check[layout](CHACHA20_STREAM_BYTES - len, len) == 0, "a check up to the end");
+    holds(run, cipher->write_keystream(key, nonce, at.block, at.offset, made, len) == 1,
+          "a keystream past the end");
+    holds(run, cipher->xor(key, nonce, at.block, at.offset, made, made, len) == 1 &&
+                   cipher->xor(key, nonce, at.block, at.offset, made, expected, len) == 1 &&
+                   cipher->keystream(key, nonce, at.block, at.offset, made, len) == 1,
+          "taken past the end by a function of the header");
+    holds(run, library->check[layout](at.block, at.offset, len) == 1, "a check past the end");
+    holds(run, library->check[layout](last.block, last.offset, len) == 0, "a check up to the end");
+    holds(run, library->check[layout](ends.block, ends.offset, 0) == 0, "a check of nothing at the end");
+    holds(run, cipher->xor_in_place(key, nonce, ends.block, ends.offset, made, 0) == 0 &&
+                   cipher->xor_between(key, nonce, ends.block, ends.offset, expected, 0, made, 0) == 0 &&
+                   cipher->write_keystream(key, nonce, ends.block, ends.offset, made, 0) == 0 &&
+                   cipher->xor(key, nonce, ends.block, ends.offset, NULL, NULL, 0) == 0 &&
+                   cipher->keystream(key, nonce, ends.block, ends.offset, NULL, 0) == 0,
+          "nothing at the end was refused");
+    holds(run, cipher->xor_in_place(key, nonce, beyond.block, beyond.offset, made, 0) == 1 &&
+                   cipher->xor_between(key, nonce, beyond.block, beyond.offset, expected, 0, made, 0) == 1 &&
+                   cipher->write_keystream(key, nonce, beyond.block, beyond.offset, made, 0) == 1 &&
+                   cipher->xor(key, nonce, beyond.block, beyond.offset, NULL, NULL, 0) == 1 &&
+                   cipher->keystream(key, nonce, beyond.block, beyond.offset, NULL, 0) == 1 &&
+                   library->check[layout](beyond.block, beyond.offset, 0) == 1,
+          "nothing past the end was taken");
     if (other_len != len) {
-        enum layout any = (enum layout)below(run, LAYOUTS);
-        holds(run, library->xor_b2b[any][2](key, nonce, 0, expected, len, made, other_len) == 1, "unequal lengths");
+        holds(run, cipher->xor_between(key, nonce, 0, 0, expected, len, made, other_len) == 1, "unequal lengths");
     }
     same_bytes(run, made, input, 300, "a refused call wrote");
 }
 
-static void one_subkey(struct run *run) {
+static void one_subkey(struct run *run, int at_rounds) {
     uint8_t key[32], block[16], found[32], right[32];
     const struct machine *machine = run->machine;
     const struct other *other = &plain_c;
     for (int i = 0; i < machine->other_count; i++) {
-        if (machine->others[i].hchacha20) other = &machine->others[i];
+        if (at_rounds == 2 && machine->others[i].hchacha) other = &machine->others[i];
     }
     random_bytes(run, key, sizeof key);
     random_bytes(run, block, sizeof block);
-    other->hchacha20(key, block, right);
-    any_level(run)->hchacha20(key, block, found);
+    other->hchacha(rounds_of[at_rounds], key, block, right);
+    any_level(run)->hchacha[at_rounds](key, block, found);
     same_bytes(run, found, right, sizeof right, "a subkey");
 }
 
@@ -287,6 +366,60 @@ static uint8_t *at_edge(const struct pages *pages, int at_end, size_t len) {
     return at_end ? pages->end - len : pages->begin;
 }
 
+/* What stands beside a buffer on its pages has to stay. */
+static void fill_pages(const struct pages *pages) {
+    memset(pages->begin, 0xa5, (size_t)(pages->end - pages->begin));
+}
+
+static void beside_is_kept(struct run *run, const struct pages *pages, const uint8_t *buffer, size_t len) {
+    uint64_t changed = 0;
+    for (const uint8_t *at = pages->begin; at < buffer; at++) changed += *at != 0xa5;
+    for (const uint8_t *at = buffer + len; at < pages->end; at++) changed += *at != 0xa5;
+    if (changed) wrong(run, changed, "bytes beside a buffer");
+}
+
+/* A cipher's calls with each of their pointers at the front or the end of mapped pages. */
+static void cipher_at_edges(struct run *run, const struct cipher *cipher, const uint8_t *right, const uint8_t *key,
+                            const uint8_t *nonce, uint64_t position, const uint8_t *from, uint8_t *output,
+                            size_t len) {
+    memcpy(output, from, len);
+    holds(run, cipher->xor_in_place(key, nonce, position / 64, position % 64, output, len) == 0, "an answer, in place");
+    same_bytes(run, output, right, len, "bytes at an edge, in place");
+    memset(output, 0x55, len);
+    holds(run, cipher->xor_between(key, nonce, position / 64, position % 64, from, len, output, len) == 0,
+          "an answer, between buffers");
+    same_bytes(run, output, right, len, "bytes at an edge, between buffers");
+    memset(output, 0x55, len);
+    holds(run, cipher->write_keystream(key, nonce, position / 64, position % 64, output, len) == 0,
+          "an answer, keystream");
+    for (size_t i = 0; i < len; i++) output[i] ^= from[i];
+    same_bytes(run, output, right, len, "a keystream at an edge");
+}
+
+static void generator_at_edges(struct run *run, const struct library *library, int at_rounds, const uint8_t *key,
+                               uint8_t *state, uint64_t *low, uint64_t *high, uint8_t *output, size_t len) {
+    static const uint8_t stream_0[8] = {0};
+    library->from_seed(key, state);
+    library->set_word_pos(state, 3, 0);
+    library->get_word_pos(state, low, high);
+    holds(run, *low == 3 && *high == 0, "a word position at an edge");
+    memset(made, 0, len + 24);
+    const uint8_t *right =
+        by_other(&plain_c, LEGACY, rounds_of[at_rounds], key, stream_0, 0, made, len + 24, expected);
+    library->fill_bytes[at_rounds](state, output, len);
+    same_bytes(run, output, right + 12, len, "words at an edge");
+    library->set_word_pos(state, 1, 16);
+    holds(run, library->next_u32[at_rounds](state) ==
+                   ((uint32_t)right[4] | (uint32_t)right[5] << 8 | (uint32_t)right[6] << 16 | (uint32_t)right[7] << 24),
+          "a word at an edge");
+    uint64_t two = 0;
+    for (int i = 7; i >= 0; i--) two = two << 8 | right[8 + i];
+    holds(run, library->next_u64[at_rounds](state) == two, "two words at an edge");
+    library->set_stream(state, 7);
+    library->set_block_pos(state, 9);
+    holds(run, library->get_stream(state) == 7 && library->get_block_pos(state) == 9, "a position at an edge");
+}
+
 /* Every export with each of its pointers at the front or the end of mapped pages, length 0 included, where a pointer at
    the end is that of a page that can't be touched. */
 static void at_edges(struct run *run, const struct library *library) {
@@ -296,43 +429,39 @@ static void at_edges(struct run *run, const struct library *library) {
             uint64_t position = below(run, 200);
             uint8_t *key = at_edge(&keys, at_end, 32), *output = at_edge(&outputs, at_end, len);
             uint8_t *from = at_edge(&inputs, at_end, len), *state = at_edge(&nonces, at_end, 49);
+            fill_pages(&keys), fill_pages(&inputs), fill_pages(&outputs);
             random_bytes(run, key, 32);
             random_bytes(run, from, len);
             for (int layout = 0; layout < LAYOUTS; layout++) {
                 uint8_t *nonce = at_edge(&nonces, at_end, nonce_len[layout]);
+                fill_pages(&nonces);
                 random_bytes(run, nonce, nonce_len[layout]);
                 for (int i = 0; i < ROUNDS; i++) {
-                    if (!library->xor_in_place[layout][i]) continue;
+                    if (!library->ciphers[layout][i].xor_in_place) continue;
                     const uint8_t *right = by_other(&plain_c, (enum layout)layout, rounds_of[i], key, nonce, position,
                                                     from, len, expected);
-                    memcpy(output, from, len);
-                    library->xor_in_place[layout][i](key, nonce, position, output, len);
-                    same_bytes(run, output, right, len, "bytes at an edge, in place");
-                    library->xor_b2b[layout][i](key, nonce, position, from, len, output, len);
-                    same_bytes(run, output, right, len, "bytes at an edge, between buffers");
+                    cipher_at_edges(run, &library->ciphers[layout][i], right, key, nonce, position, from, output, len);
                 }
+                beside_is_kept(run, &nonces, nonce, nonce_len[layout]);
             }
+            beside_is_kept(run, &inputs, from, len);
+            fill_pages(&nonces);
             for (int i = 0; i < ROUNDS; i++) {
-                static const uint8_t stream_0[8] = {0};
+                uint8_t made_here[32], *subkey = at_edge(&outputs, at_end, 32);
                 uint64_t *low = (uint64_t *)(void *)at_edge(&inputs, at_end, 8);
                 uint64_t *high = (uint64_t *)(void *)at_edge(&outputs, at_end, 8);
-                library->from_seed(key, state);
-                library->set_word_pos(state, 3, 0);
-                library->get_word_pos(state, low, high);
-                holds(run, *low == 3 && *high == 0, "a word position at an edge");
-                memset(made, 0, len + 12);
-                const uint8_t *right = by_other(&plain_c, LEGACY, rounds_of[i], key, stream_0, 12, made, len + 12,
-                                                expected);
-                library->fill_bytes[i](state, output, len);
-                same_bytes(run, output, right, len, "words at an edge");
-                library->set_block_pos(state, 0);
-                library->set_stream(state, 7);
-                holds(run, library->get_stream(state) == 7 && library->get_block_pos(state) == 0,
-                      "a position at an edge");
-                library->next_u32[i](state);
-                library->next_u64[i](state);
+                fill_pages(&inputs), fill_pages(&outputs);
+                generator_at_edges(run, library, i, key, state, low, high, output, len);
+                beside_is_kept(run, &nonces, state, 49);
+                beside_is_kept(run, &inputs, (uint8_t *)low, 8);
+                beside_is_kept(run, &outputs, at_edge(&outputs, at_end, len < 8 ? 8 : len), len < 8 ? 8 : len);
+                fill_pages(&outputs);
+                library->hchacha[i](key, state, subkey);
+                plain_c.hchacha(rounds_of[i], key, state, made_here);
+                same_bytes(run, subkey, made_here, 32, "a subkey at an edge");
+                beside_is_kept(run, &outputs, subkey, 32);
             }
-            library->hchacha20(key, at_edge(&nonces, at_end, 16), at_edge(&outputs, at_end, 32));
+            beside_is_kept(run, &keys, key, 32);
         }
     }
     for (int i = 0; i < 4; i++) {
@@ -365,8 +494,7 @@ int check(const struct machine *machine, uint64_t seed, uint64_t bytes) {
         one_message(&run);
         if (run.messages % 4 == 0) one_generator(&run);
         if (run.messages % 8 == 0) one_refusal(&run);
-        if (run.messages % 16 == 0) across_64_bits(&run);
-        if (run.messages % 16 == 0) one_subkey(&run);
+        if (run.messages % 16 == 0) one_subkey(&run, (int)below(&run, ROUNDS));
     }
     printf("8 and 12 rounds, beside plain C: %" PRIu64 " bytes\n", run.bytes_beside_plain);
     printf("check, seed %" PRIu64 ": %" PRIu64 " bytes beside", seed, run.bytes_beside_found);

@@ -1,3 +1,5 @@
+/* SPDX-License-Identifier: Apache-2.0 OR MIT */
+
 /* The functions of one build of the library, so that builds for several processor levels stand in one program. */
 
 #ifndef LIBRARY_H
@@ -10,20 +12,30 @@ enum { LAYOUTS = 3, ROUNDS = 3 };
 /* Nonces of 12, of 24 and of 8 bytes, and 8, 12 and 20 rounds. Of the legacy layout 20 rounds alone are there. */
 enum layout { IETF, XCHACHA, LEGACY };
 
-typedef uint32_t (*xor_in_place)(const uint8_t *key, const uint8_t *nonce, uint64_t position, uint8_t *data,
-                                 size_t len);
-typedef uint32_t (*xor_b2b)(const uint8_t *key, const uint8_t *nonce, uint64_t position, const uint8_t *input,
-                            size_t input_len, uint8_t *output, size_t output_len);
+/* A cipher's functions, those of the header that a compiler of C makes included. The place is byte 64 * block + offset,
+   for all layouts; where the export takes one number, it is that sum. */
+struct cipher {
+    uint32_t (*xor_in_place)(const uint8_t *key, const uint8_t *nonce, uint64_t block, uint64_t offset, uint8_t *data,
+                             size_t len);
+    uint32_t (*xor_between)(const uint8_t *key, const uint8_t *nonce, uint64_t block, uint64_t offset,
+                            const uint8_t *input, size_t input_len, uint8_t *output, size_t output_len);
+    uint32_t (*write_keystream)(const uint8_t *key, const uint8_t *nonce, uint64_t block, uint64_t offset,
+                                uint8_t *output, size_t len);
+    uint32_t (*xor)(const uint8_t *key, const uint8_t *nonce, uint64_t block, uint64_t offset, uint8_t *output,
+                    const uint8_t *input, size_t len);
+    uint32_t (*keystream)(const uint8_t *key, const uint8_t *nonce, uint64_t block, uint64_t offset, uint8_t *output,
+                          size_t len);
+};
 
 struct library {
     const char *level;
-    xor_in_place xor_in_place[LAYOUTS][ROUNDS];
-    xor_b2b xor_b2b[LAYOUTS][ROUNDS];
-    uint32_t (*check[LAYOUTS])(uint64_t position, size_t len);
-    void (*hchacha20)(const uint8_t *key, const uint8_t *input, uint8_t *subkey);
+    struct cipher ciphers[LAYOUTS][ROUNDS];
+    uint32_t (*check[LAYOUTS])(uint64_t block, uint64_t offset, size_t len);
+    void (*hchacha[ROUNDS])(const uint8_t *key, const uint8_t *input, uint8_t *subkey);
     uint32_t (*next_u32[ROUNDS])(uint8_t *state);
     uint64_t (*next_u64[ROUNDS])(uint8_t *state);
-    void (*fill_bytes[ROUNDS])(uint8_t *state, uint8_t *dst, size_t len);
+    void (*fill_bytes[ROUNDS])(uint8_t *state, uint8_t *output, size_t len);
+    void (*fill[ROUNDS])(uint8_t *state, uint8_t *output, size_t len);
     void (*from_seed)(const uint8_t *seed, uint8_t *state);
     void (*get_word_pos)(const uint8_t *state, uint64_t *low, uint64_t *high);
     void (*set_word_pos)(uint8_t *state, uint64_t low, uint64_t high);
@@ -33,7 +45,9 @@ struct library {
     void (*set_stream)(uint8_t *state, uint64_t stream);
 };
 
-extern const struct library library_default;
+/* The builds for x86-64-v2 and for x86-64-v3, and the one that chooses between them. */
+extern const struct library library_v2;
 extern const struct library library_v3;
+extern const struct library library_chosen;
 
 #endif

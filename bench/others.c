@@ -114,7 +114,8 @@ static void sodium_legacy(int rounds, const uint8_t *key, const uint8_t *nonce, 
     sodium_legacy_ic(data, data, len, nonce, block, key);
 }
 
-static void sodium_hchacha20(const uint8_t *key, const uint8_t *input, uint8_t *subkey) {
+static void sodium_hchacha20(int rounds, const uint8_t *key, const uint8_t *input, uint8_t *subkey) {
+    (void)rounds;
     sodium_hchacha(subkey, input, key, NULL);
 }
 
@@ -135,7 +136,7 @@ static int find_sodium(struct other *found) {
     *found = (struct other){
         .name = "libsodium",
         .xor_from_block = {[IETF] = sodium_ietf, [XCHACHA] = sodium_xchacha, [LEGACY] = sodium_legacy},
-        .hchacha20 = sodium_hchacha20};
+        .hchacha = sodium_hchacha20};
     return 1;
 }
 
@@ -216,11 +217,7 @@ static void plain_xchacha(int rounds, const uint8_t *key, const uint8_t *nonce, 
     plain_xor(rounds, 4, subkey, subnonce, block, data, len);
 }
 
-static void plain_hchacha20(const uint8_t *key, const uint8_t *input, uint8_t *subkey) {
-    plain_hchacha(20, key, input, subkey);
-}
-
 const struct other plain_c = {
     .name = "plain C",
     .xor_from_block = {[IETF] = plain_ietf, [XCHACHA] = plain_xchacha, [LEGACY] = plain_legacy},
-    .hchacha20 = plain_hchacha20};
+    .hchacha = plain_hchacha};

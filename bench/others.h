@@ -13,7 +13,7 @@ struct other {
     /* NULL where it has no such layout; 20 rounds alone, but for plain C. */
     void (*xor_from_block[LAYOUTS])(int rounds, const uint8_t *key, const uint8_t *nonce, uint64_t block,
                                     uint8_t *data, size_t len);
-    void (*hchacha20)(const uint8_t *key, const uint8_t *input, uint8_t *subkey);
+    void (*hchacha)(int rounds, const uint8_t *key, const uint8_t *input, uint8_t *subkey);
 };
 
 enum { MOST_OTHERS = 2 };

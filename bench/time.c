@@ -26,7 +26,7 @@ static void call(const struct contestant *it, uint8_t *data, size_t len) {
     if (it->other) {
         it->other->xor_from_block[IETF](20, key, nonce, 0, data, len);
     } else {
-        it->library->xor_in_place[IETF][2](key, nonce, 0, data, len);
+        if (it->library->ciphers[IETF][2].xor_in_place(key, nonce, 0, 0, data, len) != CHACHA20_OK) abort();
     }
 }
 
@@ -87,7 +87,7 @@ static void time_levels(const struct machine *machine, uint8_t *data, int turns)
     int count = 0, ours = machine->level_count;
     for (int i = 0; i < ours; i++) {
         all[count] = (struct contestant){.library = machine->levels[i]};
-        snprintf(all[count++].name, sizeof all[0].name, "chacha20_c, %s", machine->levels[i]->level);
+        snprintf(all[count++].name, sizeof all[0].name, "chacha20, %s", machine->levels[i]->level);
     }
     for (int i = 0; i < machine->other_count; i++) {
         all[count] = (struct contestant){.other = &machine->others[i]};

@@ -1,21 +1,25 @@
-/* ChaCha stream ciphers and seekable generators of random words: the static library
-   libchacha20_c.a, whose functions are proved to meet their contracts (crates/chacha20_c).
+/* SPDX-License-Identifier: Apache-2.0 OR MIT
+
+   ChaCha stream ciphers, HChaCha and seekable generators of random words. Each function that this
+   header declares and does not define is proved to meet its contract (crates/chacha20_c).
 
    For every function:
 
-   - No pointer may be null, also where a length is 0. With length 0 nothing is read or
-     written there, and the pointer may be any other, as one past the end of a buffer.
-   - What a function writes may not overlap anything else that it is given. What it only reads
-     may: a key and a nonce may be parts of one buffer.
-   - Bytes need no alignment. The two uint64_t of chacha20_rng_get_word_pos are aligned as C
-     has them.
-   - Nothing is kept between calls, nothing is allocated, no lock is taken. Calls in several
-     threads need no more than that no memory is written by one and used by another.
-   - Keys, nonces and seeds are not wiped from the stack.
+   - A pointer is never null, also where a length is 0; the inline functions alone take null with
+     length 0. With length 0 nothing is read or written there, and the pointer may be any other, as
+     one past the end of a buffer.
+   - What a function writes may not overlap anything else that it is given, the key least of all:
+     no call rekeys in place. What it only reads may overlap: a key and a nonce may be parts of one
+     buffer.
+   - Bytes need no alignment. The two uint64_t of chacha_rng_get_word_pos are aligned as C has them.
+   - Nothing is kept between calls, nothing is allocated, no lock is taken, nothing is thrown. Calls
+     in several threads, and in signal handlers, need no more than that no memory is written by one
+     and used by another.
+   - Keys, nonces and seeds are not wiped from the stack; chacha20_wipe.h has a recipe.
 
-   Lengths and positions are in bytes, but for those of generators, which count words of 32 bits
-   or blocks of 64 bytes. The library is for x86-64 and needs memcpy, memmove and memset, and
-   nothing else. */
+   Lengths and positions are in bytes, but for those of generators, which count words of 32 bits or
+   blocks of 64 bytes. The library is for x86-64 and needs memcpy, memmove and memset, and nothing
+   else. The header takes C89 to C23 and C++98 to C++23. */
 
 #ifndef CHACHA20_H
 #define CHACHA20_H
@@ -23,128 +27,395 @@
 #include <stddef.h>
 #include <stdint.h>
 
+#define CHACHA20_VERSION "0.4.0"
+#define CHACHA20_VERSION_MAJOR 0
+#define CHACHA20_VERSION_MINOR 4
+#define CHACHA20_VERSION_PATCH 0
+
+/* Sizes, the same for 8, 12 and 20 rounds. */
+#define CHACHA20_KEY_BYTES 32
+#define CHACHA20_NONCE_BYTES 12
+#define XCHACHA20_NONCE_BYTES 24
+#define CHACHA20_LEGACY_NONCE_BYTES 8
+#define CHACHA20_BLOCK_BYTES 64
+#define HCHACHA20_INPUT_BYTES 16
+#define HCHACHA20_SUBKEY_BYTES 32
+#define CHACHA_RNG_SEED_BYTES 32
+#define CHACHA_RNG_STATE_BYTES 49
+
+/* Bytes in the stream of a key and a nonce of 12 or 24 bytes: all 2^32 blocks, 274877906944 bytes.
+   A legacy stream has 2^64 blocks, 2^70 bytes. */
+#define CHACHA20_STREAM_BYTES ((uint64_t)1 << 38)
+
+/* The answers. After CHACHA20_REFUSED every byte is as it was: so data are NOT encrypted, and may
+   not be sent. */
+#define CHACHA20_OK 0
+#define CHACHA20_REFUSED 1
+
+/* What follows says to compilers what this header says to readers. */
+
+/* An answer that has to be looked at. */
+#if defined(__cplusplus) && __cplusplus >= 202002L
+#define CHACHA20_MUST_USE [[nodiscard("a refused call has encrypted nothing")]]
+#elif (defined(__cplusplus) && __cplusplus >= 201703L) || \
+    (!defined(__cplusplus) && defined(__STDC_VERSION__) && __STDC_VERSION__ > 201710L)
+#define CHACHA20_MUST_USE [[nodiscard]]
+#elif defined(__GNUC__)
+#define CHACHA20_MUST_USE __attribute__((__warn_unused_result__))
+#else
+#define CHACHA20_MUST_USE
+#endif
+
+/* What is written lies apart from all else; in brackets, how many bytes there are at least. */
+#if !defined(__cplusplus) && defined(__STDC_VERSION__) && __STDC_VERSION__ >= 199901L
+#define CHACHA20_APART restrict
+#define CHACHA20_MIN(bytes) static bytes
+#define CHACHA20_MIN_APART(bytes) restrict static bytes
+#define CHACHA20_INLINE_WORD inline
+#elif defined(__GNUC__)
+#define CHACHA20_APART __restrict
+#define CHACHA20_MIN(bytes) bytes
+#define CHACHA20_MIN_APART(bytes) bytes
+#define CHACHA20_INLINE_WORD __inline
+#else
+#define CHACHA20_APART
+#define CHACHA20_MIN(bytes) bytes
+#define CHACHA20_MIN_APART(bytes) bytes
+#define CHACHA20_INLINE_WORD
+#endif
+
+#if defined(__GNUC__)
+#define CHACHA20_INLINE static CHACHA20_INLINE_WORD __attribute__((__unused__))
+#else
+#define CHACHA20_INLINE static CHACHA20_INLINE_WORD
+#endif
+
+#if !defined(__cplusplus)
+#define CHACHA20_NOEXCEPT
+#elif __cplusplus >= 201103L
+#define CHACHA20_NOEXCEPT noexcept
+#else
+#define CHACHA20_NOEXCEPT throw()
+#endif
+
 #ifdef __cplusplus
 extern "C" {
 #endif
 
+/* A length has 64 bits in the library; where size_t has fewer, this is an error. */
+typedef char chacha20_size_t_has_64_bits[sizeof(size_t) == 8 ? 1 : -1];
+
 /* Ciphers
 
-   Each call names the key, the nonce and the position of the first byte, counted from the first
-   of the keystream; block b begins at position 64 * b. The bytes become those that one call from
-   position 0 on would have made of them, however a message is cut and in whatever order its
-   parts come. To decrypt is the same call. A position within a block costs one block more.
+   Each call names the key, the nonce and the position of the first byte, counted from the first of
+   the keystream. Block b begins at position 64 * b: the counter 1 with which RFC 8439 begins a
+   message is position 64. The bytes become those that one call from position 0 on would have made
+   of them, however a message is cut and in whatever order its parts come. To decrypt is the same
+   call. A position within a block costs one block more.
 
-   No two messages under one key may have the same nonce, and nothing is authenticated.
+   No two messages under one key may have the same nonce: their XOR would show. Nothing is
+   authenticated: whoever can change a message can turn each of its bits, so take a MAC as well.
 
-   NAME_xor combines `data` in place; NAME_xor_b2b combines `input` into `output`, which have to
-   be apart.
+   NAME_xor_in_place     combines `data` with the keystream
+   NAME_xor_between      combines `input` into `output`, which are apart and of one length
+   NAME_write_keystream  writes the keystream itself, whatever stood there
 
    The answers:
-     0  done
-     1  refused, and nothing is written: position + length would pass the end of the stream,
-        or the two lengths differ
+     CHACHA20_OK       done
+     CHACHA20_REFUSED  nothing is written: position + length would pass the end of the stream, or
+                       the two lengths differ. What stands there is not encrypted.
 
-   Length 0 is done at each position up to the end itself, and refused past it. */
+   Length 0 is done at each position up to the end itself, and refused past it.
 
-/* Bytes in the stream of a key and a nonce: all 2^32 blocks, with a nonce of 12 or of 24 bytes. */
-#define CHACHA20_STREAM_BYTES UINT64_C(274877906944)
+   A cipher is made for each call. That costs copies of the key and the nonce, and with a nonce of
+   24 bytes a derivation as well, about one block. To pay it once for many calls, derive yourself:
+   hchacha20 of the key and the first 16 bytes of the nonce gives the key, and four zero bytes with
+   the last 8 bytes of the nonce give the nonce, with which chacha20_... makes the same bytes. */
 
-/* The layout of RFC 8439, with 20 rounds; 8 and 12 rounds are not the RFC's. */
-uint32_t chacha20_ietf8_xor(const uint8_t key[32], const uint8_t nonce[12], uint64_t position,
-                            uint8_t *data, size_t len);
-uint32_t chacha20_ietf12_xor(const uint8_t key[32], const uint8_t nonce[12], uint64_t position,
-                             uint8_t *data, size_t len);
-uint32_t chacha20_ietf20_xor(const uint8_t key[32], const uint8_t nonce[12], uint64_t position,
-                             uint8_t *data, size_t len);
+/* ChaCha20 of RFC 8439; 12 and 8 rounds are not the RFC's. */
+CHACHA20_MUST_USE uint32_t chacha20_xor_in_place(
+    const uint8_t key[CHACHA20_MIN(32)], const uint8_t nonce[CHACHA20_MIN(12)], uint64_t position,
+    uint8_t *CHACHA20_APART data, size_t len) CHACHA20_NOEXCEPT;
+CHACHA20_MUST_USE uint32_t chacha20_xor_between(
+    const uint8_t key[CHACHA20_MIN(32)], const uint8_t nonce[CHACHA20_MIN(12)], uint64_t position,
+    const uint8_t *input, size_t input_len, uint8_t *CHACHA20_APART output,
+    size_t output_len) CHACHA20_NOEXCEPT;
+CHACHA20_MUST_USE uint32_t chacha20_write_keystream(
+    const uint8_t key[CHACHA20_MIN(32)], const uint8_t nonce[CHACHA20_MIN(12)], uint64_t position,
+    uint8_t *CHACHA20_APART output, size_t len) CHACHA20_NOEXCEPT;
 
-uint32_t chacha20_ietf8_xor_b2b(const uint8_t key[32], const uint8_t nonce[12], uint64_t position,
-                                const uint8_t *input, size_t input_len, uint8_t *output, size_t output_len);
-uint32_t chacha20_ietf12_xor_b2b(const uint8_t key[32], const uint8_t nonce[12], uint64_t position,
-                                 const uint8_t *input, size_t input_len, uint8_t *output, size_t output_len);
-uint32_t chacha20_ietf20_xor_b2b(const uint8_t key[32], const uint8_t nonce[12], uint64_t position,
-                                 const uint8_t *input, size_t input_len, uint8_t *output, size_t output_len);
+CHACHA20_MUST_USE uint32_t chacha12_xor_in_place(
+    const uint8_t key[CHACHA20_MIN(32)], const uint8_t nonce[CHACHA20_MIN(12)], uint64_t position,
+    uint8_t *CHACHA20_APART data, size_t len) CHACHA20_NOEXCEPT;
+CHACHA20_MUST_USE uint32_t chacha12_xor_between(
+    const uint8_t key[CHACHA20_MIN(32)], const uint8_t nonce[CHACHA20_MIN(12)], uint64_t position,
+    const uint8_t *input, size_t input_len, uint8_t *CHACHA20_APART output,
+    size_t output_len) CHACHA20_NOEXCEPT;
+CHACHA20_MUST_USE uint32_t chacha12_write_keystream(
+    const uint8_t key[CHACHA20_MIN(32)], const uint8_t nonce[CHACHA20_MIN(12)], uint64_t position,
+    uint8_t *CHACHA20_APART output, size_t len) CHACHA20_NOEXCEPT;
 
-/* XChaCha (draft-irtf-cfrg-xchacha), with 20 rounds; 8 and 12 rounds are not the draft's. */
-uint32_t chacha20_xchacha8_xor(const uint8_t key[32], const uint8_t nonce[24], uint64_t position,
-                               uint8_t *data, size_t len);
-uint32_t chacha20_xchacha12_xor(const uint8_t key[32], const uint8_t nonce[24], uint64_t position,
-                                uint8_t *data, size_t len);
-uint32_t chacha20_xchacha20_xor(const uint8_t key[32], const uint8_t nonce[24], uint64_t position,
-                                uint8_t *data, size_t len);
+CHACHA20_MUST_USE uint32_t chacha8_xor_in_place(
+    const uint8_t key[CHACHA20_MIN(32)], const uint8_t nonce[CHACHA20_MIN(12)], uint64_t position,
+    uint8_t *CHACHA20_APART data, size_t len) CHACHA20_NOEXCEPT;
+CHACHA20_MUST_USE uint32_t chacha8_xor_between(
+    const uint8_t key[CHACHA20_MIN(32)], const uint8_t nonce[CHACHA20_MIN(12)], uint64_t position,
+    const uint8_t *input, size_t input_len, uint8_t *CHACHA20_APART output,
+    size_t output_len) CHACHA20_NOEXCEPT;
+CHACHA20_MUST_USE uint32_t chacha8_write_keystream(
+    const uint8_t key[CHACHA20_MIN(32)], const uint8_t nonce[CHACHA20_MIN(12)], uint64_t position,
+    uint8_t *CHACHA20_APART output, size_t len) CHACHA20_NOEXCEPT;
 
-uint32_t chacha20_xchacha8_xor_b2b(const uint8_t key[32], const uint8_t nonce[24], uint64_t position,
-                                   const uint8_t *input, size_t input_len, uint8_t *output, size_t output_len);
-uint32_t chacha20_xchacha12_xor_b2b(const uint8_t key[32], const uint8_t nonce[24], uint64_t position,
-                                    const uint8_t *input, size_t input_len, uint8_t *output, size_t output_len);
-uint32_t chacha20_xchacha20_xor_b2b(const uint8_t key[32], const uint8_t nonce[24], uint64_t position,
-                                    const uint8_t *input, size_t input_len, uint8_t *output, size_t output_len);
+/* XChaCha20 (draft-irtf-cfrg-xchacha), whose nonces may be random; 12 and 8 rounds are not the
+   draft's. */
+CHACHA20_MUST_USE uint32_t xchacha20_xor_in_place(
+    const uint8_t key[CHACHA20_MIN(32)], const uint8_t nonce[CHACHA20_MIN(24)], uint64_t position,
+    uint8_t *CHACHA20_APART data, size_t len) CHACHA20_NOEXCEPT;
+CHACHA20_MUST_USE uint32_t xchacha20_xor_between(
+    const uint8_t key[CHACHA20_MIN(32)], const uint8_t nonce[CHACHA20_MIN(24)], uint64_t position,
+    const uint8_t *input, size_t input_len, uint8_t *CHACHA20_APART output,
+    size_t output_len) CHACHA20_NOEXCEPT;
+CHACHA20_MUST_USE uint32_t xchacha20_write_keystream(
+    const uint8_t key[CHACHA20_MIN(32)], const uint8_t nonce[CHACHA20_MIN(24)], uint64_t position,
+    uint8_t *CHACHA20_APART output, size_t len) CHACHA20_NOEXCEPT;
 
-/* Whether the ciphers above, all of them, take so many bytes from a position on: 0, or 1 where
-   position + len is greater than CHACHA20_STREAM_BYTES. No sum wraps. */
-uint32_t chacha20_ietf_check(uint64_t position, size_t len);
+CHACHA20_MUST_USE uint32_t xchacha12_xor_in_place(
+    const uint8_t key[CHACHA20_MIN(32)], const uint8_t nonce[CHACHA20_MIN(24)], uint64_t position,
+    uint8_t *CHACHA20_APART data, size_t len) CHACHA20_NOEXCEPT;
+CHACHA20_MUST_USE uint32_t xchacha12_xor_between(
+    const uint8_t key[CHACHA20_MIN(32)], const uint8_t nonce[CHACHA20_MIN(24)], uint64_t position,
+    const uint8_t *input, size_t input_len, uint8_t *CHACHA20_APART output,
+    size_t output_len) CHACHA20_NOEXCEPT;
+CHACHA20_MUST_USE uint32_t xchacha12_write_keystream(
+    const uint8_t key[CHACHA20_MIN(32)], const uint8_t nonce[CHACHA20_MIN(24)], uint64_t position,
+    uint8_t *CHACHA20_APART output, size_t len) CHACHA20_NOEXCEPT;
 
-/* The layout from before RFC 8439: a nonce of 8 bytes, a counter of 64 bits, 20 rounds. The
-   stream has 2^70 bytes. A uint64_t says the first 2^64 positions of it, so the blocks from 2^58
-   on can be reached only by a call that begins before them. No call reaches the end of the
-   stream: chacha20_legacy20_xor and chacha20_legacy_check always answer 0, and
-   chacha20_legacy20_xor_b2b answers 1 exactly where the two lengths differ. */
-uint32_t chacha20_legacy20_xor(const uint8_t key[32], const uint8_t nonce[8], uint64_t position,
-                               uint8_t *data, size_t len);
-uint32_t chacha20_legacy20_xor_b2b(const uint8_t key[32], const uint8_t nonce[8], uint64_t position,
-                                   const uint8_t *input, size_t input_len, uint8_t *output, size_t output_len);
-uint32_t chacha20_legacy_check(uint64_t position, size_t len);
+CHACHA20_MUST_USE uint32_t xchacha8_xor_in_place(
+    const uint8_t key[CHACHA20_MIN(32)], const uint8_t nonce[CHACHA20_MIN(24)], uint64_t position,
+    uint8_t *CHACHA20_APART data, size_t len) CHACHA20_NOEXCEPT;
+CHACHA20_MUST_USE uint32_t xchacha8_xor_between(
+    const uint8_t key[CHACHA20_MIN(32)], const uint8_t nonce[CHACHA20_MIN(24)], uint64_t position,
+    const uint8_t *input, size_t input_len, uint8_t *CHACHA20_APART output,
+    size_t output_len) CHACHA20_NOEXCEPT;
+CHACHA20_MUST_USE uint32_t xchacha8_write_keystream(
+    const uint8_t key[CHACHA20_MIN(32)], const uint8_t nonce[CHACHA20_MIN(24)], uint64_t position,
+    uint8_t *CHACHA20_APART output, size_t len) CHACHA20_NOEXCEPT;
 
-/* HChaCha20 (draft-irtf-cfrg-xchacha, section 2.2): writes the 32 bytes that it makes of a key
-   and of 16 bytes more. Nothing is refused. */
-void chacha20_hchacha20(const uint8_t key[32], const uint8_t input[16], uint8_t subkey[32]);
+/* Whether the ciphers above, all of them, take so many bytes from a position on, or refuse them
+   because position + len, a sum that never wraps, is greater than CHACHA20_STREAM_BYTES. */
+CHACHA20_MUST_USE uint32_t chacha20_check(uint64_t position, size_t len) CHACHA20_NOEXCEPT;
+
+/* The layout from before RFC 8439: a nonce of 8 bytes, a counter of 64 bits, 20 rounds. The stream
+   has 2^70 bytes, so its positions are two numbers: byte 64 * block + offset, a sum that never
+   wraps. An offset may be 64 or greater; with one below 64 each byte has one name, and every block
+   can be reached. Refused is what would pass byte 64 * 2^64. */
+CHACHA20_MUST_USE uint32_t chacha20_legacy_xor_in_place(
+    const uint8_t key[CHACHA20_MIN(32)], const uint8_t nonce[CHACHA20_MIN(8)], uint64_t block,
+    uint64_t offset, uint8_t *CHACHA20_APART data, size_t len) CHACHA20_NOEXCEPT;
+CHACHA20_MUST_USE uint32_t chacha20_legacy_xor_between(
+    const uint8_t key[CHACHA20_MIN(32)], const uint8_t nonce[CHACHA20_MIN(8)], uint64_t block,
+    uint64_t offset, const uint8_t *input, size_t input_len, uint8_t *CHACHA20_APART output,
+    size_t output_len) CHACHA20_NOEXCEPT;
+CHACHA20_MUST_USE uint32_t chacha20_legacy_write_keystream(
+    const uint8_t key[CHACHA20_MIN(32)], const uint8_t nonce[CHACHA20_MIN(8)], uint64_t block,
+    uint64_t offset, uint8_t *CHACHA20_APART output, size_t len) CHACHA20_NOEXCEPT;
+CHACHA20_MUST_USE uint32_t chacha20_legacy_check(
+    uint64_t block, uint64_t offset, size_t len) CHACHA20_NOEXCEPT;
+
+/* HChaCha20 (draft-irtf-cfrg-xchacha, section 2.2): writes the 32 bytes that it makes of a key and
+   of 16 bytes more; 12 and 8 rounds are not the draft's. Nothing is refused. */
+void hchacha20(
+    const uint8_t key[CHACHA20_MIN(32)], const uint8_t input[CHACHA20_MIN(16)],
+    uint8_t subkey[CHACHA20_MIN_APART(32)]) CHACHA20_NOEXCEPT;
+void hchacha12(
+    const uint8_t key[CHACHA20_MIN(32)], const uint8_t input[CHACHA20_MIN(16)],
+    uint8_t subkey[CHACHA20_MIN_APART(32)]) CHACHA20_NOEXCEPT;
+void hchacha8(
+    const uint8_t key[CHACHA20_MIN(32)], const uint8_t input[CHACHA20_MIN(16)],
+    uint8_t subkey[CHACHA20_MIN_APART(32)]) CHACHA20_NOEXCEPT;
 
 /* Generators
 
-   A generator is 49 bytes, which the caller keeps, copies and stores as any other: 32 of seed, 8
-   of the stream's number, 9 of the word position, each number with the low byte first. Any 49
-   bytes are a state. The upper half of the last one says nothing; a call that writes the state
-   writes it as 0.
+   A generator is 49 bytes, which the caller keeps, copies and stores as any other: 32 of seed, 8 of
+   the stream's number, 9 of the word position, each number with the low byte first. Any 49 bytes
+   are a state. The upper half of the last one says nothing; a call that writes the state writes it
+   as 0.
 
-   The words of a stream are those of the blocks of ChaCha in the layout with a counter of 64
-   bits, whose key is the seed and whose nonce is the stream: 2^68 words, and then the first
-   again. The number of rounds is not part of the state, but of the name of each read. Nothing is
-   refused.
+   The words of a stream are those of the blocks of ChaCha in the layout with a counter of 64 bits,
+   whose key is the seed and whose nonce is the stream: 2^68 words, and then the first again. The
+   number of rounds is not part of the state, but of the name of each read. Nothing is refused.
 
-   Each call makes the generator of the state anew, which makes four blocks. So take many words
-   by one fill_bytes, which decodes and writes the state once, and not word by word. */
-#define CHACHA20_RNG_STATE_BYTES 49
+   A read makes the generator of the state anew, which makes four blocks; so take many words by one
+   fill_bytes, and not word by word. To get and to set a number makes no block.
+
+   The state is the secret: who reads it knows what came and what comes. A copy of it repeats the
+   stream, and so does a process after fork; give each its own stream number or its own seed. */
 
 /* Writes the state of a seed: word 0 of stream 0. */
-void chacha20_rng_from_seed(const uint8_t seed[32], uint8_t state[49]);
+void chacha_rng_from_seed(
+    const uint8_t seed[CHACHA20_MIN(32)], uint8_t state[CHACHA20_MIN_APART(49)]) CHACHA20_NOEXCEPT;
 
 /* The next word. */
-uint32_t chacha20_rng8_next_u32(uint8_t state[49]);
-uint32_t chacha20_rng12_next_u32(uint8_t state[49]);
-uint32_t chacha20_rng20_next_u32(uint8_t state[49]);
+uint32_t chacha20_rng_next_u32(uint8_t state[CHACHA20_MIN(49)]) CHACHA20_NOEXCEPT;
+uint32_t chacha12_rng_next_u32(uint8_t state[CHACHA20_MIN(49)]) CHACHA20_NOEXCEPT;
+uint32_t chacha8_rng_next_u32(uint8_t state[CHACHA20_MIN(49)]) CHACHA20_NOEXCEPT;
 
 /* The next two words; the first is the low half. */
-uint64_t chacha20_rng8_next_u64(uint8_t state[49]);
-uint64_t chacha20_rng12_next_u64(uint8_t state[49]);
-uint64_t chacha20_rng20_next_u64(uint8_t state[49]);
+uint64_t chacha20_rng_next_u64(uint8_t state[CHACHA20_MIN(49)]) CHACHA20_NOEXCEPT;
+uint64_t chacha12_rng_next_u64(uint8_t state[CHACHA20_MIN(49)]) CHACHA20_NOEXCEPT;
+uint64_t chacha8_rng_next_u64(uint8_t state[CHACHA20_MIN(49)]) CHACHA20_NOEXCEPT;
 
-/* Writes len bytes: those of the next words, the low byte of each first. The bytes of the last
-   word for which there is no room are lost; length 0 takes no word. */
-void chacha20_rng8_fill_bytes(uint8_t state[49], uint8_t *dst, size_t len);
-void chacha20_rng12_fill_bytes(uint8_t state[49], uint8_t *dst, size_t len);
-void chacha20_rng20_fill_bytes(uint8_t state[49], uint8_t *dst, size_t len);
+/* Writes len bytes: those of the next words, the low byte of each first. The bytes of the last word
+   for which there is no room are lost; length 0 takes no word. */
+void chacha20_rng_fill_bytes(
+    uint8_t state[CHACHA20_MIN_APART(49)], uint8_t *CHACHA20_APART output,
+    size_t len) CHACHA20_NOEXCEPT;
+void chacha12_rng_fill_bytes(
+    uint8_t state[CHACHA20_MIN_APART(49)], uint8_t *CHACHA20_APART output,
+    size_t len) CHACHA20_NOEXCEPT;
+void chacha8_rng_fill_bytes(
+    uint8_t state[CHACHA20_MIN_APART(49)], uint8_t *CHACHA20_APART output,
+    size_t len) CHACHA20_NOEXCEPT;
 
 /* The word position, *low + 2^64 * *high, where *high is below 16; low and high are two objects.
    Setting takes any two numbers, modulo 2^68. */
-void chacha20_rng_get_word_pos(const uint8_t state[49], uint64_t *low, uint64_t *high);
-void chacha20_rng_set_word_pos(uint8_t state[49], uint64_t low, uint64_t high);
+void chacha_rng_get_word_pos(
+    const uint8_t state[CHACHA20_MIN(49)], uint64_t *CHACHA20_APART low,
+    uint64_t *CHACHA20_APART high) CHACHA20_NOEXCEPT;
+void chacha_rng_set_word_pos(
+    uint8_t state[CHACHA20_MIN(49)], uint64_t low, uint64_t high) CHACHA20_NOEXCEPT;
 
 /* The number of the block that the next word lies in. Setting moves to the block's first word. */
-uint64_t chacha20_rng_get_block_pos(const uint8_t state[49]);
-void chacha20_rng_set_block_pos(uint8_t state[49], uint64_t block_pos);
+uint64_t chacha_rng_get_block_pos(const uint8_t state[CHACHA20_MIN(49)]) CHACHA20_NOEXCEPT;
+void chacha_rng_set_block_pos(
+    uint8_t state[CHACHA20_MIN(49)], uint64_t block_pos) CHACHA20_NOEXCEPT;
 
 /* The stream. Setting moves to word 0 of the stream; the seed stays. */
-uint64_t chacha20_rng_get_stream(const uint8_t state[49]);
-void chacha20_rng_set_stream(uint8_t state[49], uint64_t stream);
+uint64_t chacha_rng_get_stream(const uint8_t state[CHACHA20_MIN(49)]) CHACHA20_NOEXCEPT;
+void chacha_rng_set_stream(uint8_t state[CHACHA20_MIN(49)], uint64_t stream) CHACHA20_NOEXCEPT;
+
+/* The same with one length, for callers in C; not proved, since a compiler of C makes them.
+
+   NAME_xor        combines `input` into `output`, which are equal or apart
+   NAME_keystream  writes the keystream
+   NAME_rng_fill   fills `output` from a generator
+
+   With length 0 the pointers to data may be null. */
+
+CHACHA20_MUST_USE CHACHA20_INLINE uint32_t chacha20_xor(
+    const uint8_t key[CHACHA20_MIN(32)], const uint8_t nonce[CHACHA20_MIN(12)], uint64_t position,
+    uint8_t *output, const uint8_t *input, size_t len) CHACHA20_NOEXCEPT {
+    if (len == 0) return chacha20_check(position, 0);
+    if (output == input) return chacha20_xor_in_place(key, nonce, position, output, len);
+    return chacha20_xor_between(key, nonce, position, input, len, output, len);
+}
+CHACHA20_MUST_USE CHACHA20_INLINE uint32_t chacha20_keystream(
+    const uint8_t key[CHACHA20_MIN(32)], const uint8_t nonce[CHACHA20_MIN(12)], uint64_t position,
+    uint8_t *output, size_t len) CHACHA20_NOEXCEPT {
+    if (len == 0) return chacha20_check(position, 0);
+    return chacha20_write_keystream(key, nonce, position, output, len);
+}
+
+CHACHA20_MUST_USE CHACHA20_INLINE uint32_t chacha12_xor(
+    const uint8_t key[CHACHA20_MIN(32)], const uint8_t nonce[CHACHA20_MIN(12)], uint64_t position,
+    uint8_t *output, const uint8_t *input, size_t len) CHACHA20_NOEXCEPT {
+    if (len == 0) return chacha20_check(position, 0);
+    if (output == input) return chacha12_xor_in_place(key, nonce, position, output, len);
+    return chacha12_xor_between(key, nonce, position, input, len, output, len);
+}
+CHACHA20_MUST_USE CHACHA20_INLINE uint32_t chacha12_keystream(
+    const uint8_t key[CHACHA20_MIN(32)], const uint8_t nonce[CHACHA20_MIN(12)], uint64_t position,
+    uint8_t *output, size_t len) CHACHA20_NOEXCEPT {
+    if (len == 0) return chacha20_check(position, 0);
+    return chacha12_write_keystream(key, nonce, position, output, len);
+}
+
+CHACHA20_MUST_USE CHACHA20_INLINE uint32_t chacha8_xor(
+    const uint8_t key[CHACHA20_MIN(32)], const uint8_t nonce[CHACHA20_MIN(12)], uint64_t position,
+    uint8_t *output, const uint8_t *input, size_t len) CHACHA20_NOEXCEPT {
+    if (len == 0) return chacha20_check(position, 0);
+    if (output == input) return chacha8_xor_in_place(key, nonce, position, output, len);
+    return chacha8_xor_between(key, nonce, position, input, len, output, len);
+}
+CHACHA20_MUST_USE CHACHA20_INLINE uint32_t chacha8_keystream(
+    const uint8_t key[CHACHA20_MIN(32)], const uint8_t nonce[CHACHA20_MIN(12)], uint64_t position,
+    uint8_t *output, size_t len) CHACHA20_NOEXCEPT {
+    if (len == 0) return chacha20_check(position, 0);
+    return chacha8_write_keystream(key, nonce, position, output, len);
+}
+
+CHACHA20_MUST_USE CHACHA20_INLINE uint32_t xchacha20_xor(
+    const uint8_t key[CHACHA20_MIN(32)], const uint8_t nonce[CHACHA20_MIN(24)], uint64_t position,
+    uint8_t *output, const uint8_t *input, size_t len) CHACHA20_NOEXCEPT {
+    if (len == 0) return chacha20_check(position, 0);
+    if (output == input) return xchacha20_xor_in_place(key, nonce, position, output, len);
+    return xchacha20_xor_between(key, nonce, position, input, len, output, len);
+}
+CHACHA20_MUST_USE CHACHA20_INLINE uint32_t xchacha20_keystream(
+    const uint8_t key[CHACHA20_MIN(32)], const uint8_t nonce[CHACHA20_MIN(24)], uint64_t position,
+    uint8_t *output, size_t len) CHACHA20_NOEXCEPT {
+    if (len == 0) return chacha20_check(position, 0);
+    return xchacha20_write_keystream(key, nonce, position, output, len);
+}
+
+CHACHA20_MUST_USE CHACHA20_INLINE uint32_t xchacha12_xor(
+    const uint8_t key[CHACHA20_MIN(32)], const uint8_t nonce[CHACHA20_MIN(24)], uint64_t position,
+    uint8_t *output, const uint8_t *input, size_t len) CHACHA20_NOEXCEPT {
+    if (len == 0) return chacha20_check(position, 0);
+    if (output == input) return xchacha12_xor_in_place(key, nonce, position, output, len);
+    return xchacha12_xor_between(key, nonce, position, input, len, output, len);
+}
+CHACHA20_MUST_USE CHACHA20_INLINE uint32_t xchacha12_keystream(
+    const uint8_t key[CHACHA20_MIN(32)], const uint8_t nonce[CHACHA20_MIN(24)], uint64_t position,
+    uint8_t *output, size_t len) CHACHA20_NOEXCEPT {
+    if (len == 0) return chacha20_check(position, 0);
+    return xchacha12_write_keystream(key, nonce, position, output, len);
+}
+
+CHACHA20_MUST_USE CHACHA20_INLINE uint32_t xchacha8_xor(
+    const uint8_t key[CHACHA20_MIN(32)], const uint8_t nonce[CHACHA20_MIN(24)], uint64_t position,
+    uint8_t *output, const uint8_t *input, size_t len) CHACHA20_NOEXCEPT {
+    if (len == 0) return chacha20_check(position, 0);
+    if (output == input) return xchacha8_xor_in_place(key, nonce, position, output, len);
+    return xchacha8_xor_between(key, nonce, position, input, len, output, len);
+}
+CHACHA20_MUST_USE CHACHA20_INLINE uint32_t xchacha8_keystream(
+    const uint8_t key[CHACHA20_MIN(32)], const uint8_t nonce[CHACHA20_MIN(24)], uint64_t position,
+    uint8_t *output, size_t len) CHACHA20_NOEXCEPT {
+    if (len == 0) return chacha20_check(position, 0);
+    return xchacha8_write_keystream(key, nonce, position, output, len);
+}
+
+CHACHA20_MUST_USE CHACHA20_INLINE uint32_t chacha20_legacy_xor(
+    const uint8_t key[CHACHA20_MIN(32)], const uint8_t nonce[CHACHA20_MIN(8)], uint64_t block,
+    uint64_t offset, uint8_t *output, const uint8_t *input, size_t len) CHACHA20_NOEXCEPT {
+    if (len == 0) return chacha20_legacy_check(block, offset, 0);
+    if (output == input) {
+        return chacha20_legacy_xor_in_place(key, nonce, block, offset, output, len);
+    }
+    return chacha20_legacy_xor_between(key, nonce, block, offset, input, len, output, len);
+}
+CHACHA20_MUST_USE CHACHA20_INLINE uint32_t chacha20_legacy_keystream(
+    const uint8_t key[CHACHA20_MIN(32)], const uint8_t nonce[CHACHA20_MIN(8)], uint64_t block,
+    uint64_t offset, uint8_t *output, size_t len) CHACHA20_NOEXCEPT {
+    if (len == 0) return chacha20_legacy_check(block, offset, 0);
+    return chacha20_legacy_write_keystream(key, nonce, block, offset, output, len);
+}
+
+CHACHA20_INLINE void chacha20_rng_fill(
+    uint8_t state[CHACHA20_MIN(49)], uint8_t *output, size_t len) CHACHA20_NOEXCEPT {
+    if (len != 0) chacha20_rng_fill_bytes(state, output, len);
+}
+
+CHACHA20_INLINE void chacha12_rng_fill(
+    uint8_t state[CHACHA20_MIN(49)], uint8_t *output, size_t len) CHACHA20_NOEXCEPT {
+    if (len != 0) chacha12_rng_fill_bytes(state, output, len);
+}
+
+CHACHA20_INLINE void chacha8_rng_fill(
+    uint8_t state[CHACHA20_MIN(49)], uint8_t *output, size_t len) CHACHA20_NOEXCEPT {
+    if (len != 0) chacha8_rng_fill_bytes(state, output, len);
+}
 
 #ifdef __cplusplus
 }

@@ -1,0 +1,96 @@
+/* SPDX-License-Identifier: Apache-2.0 OR MIT
+
+   The 42 functions of chacha20.h, each as one call of the same function of the build for x86-64-v2
+   or of the build for x86-64-v3. Not proved: the proofs are of what is called here.
+
+   The choice is made once, before main or when the shared library is loaded, and so before a second
+   thread can look. Until then, as in another constructor, x86-64-v2 is taken, which makes the same
+   bytes. No pointer to a function is kept that an attacker could change, and no call through one is
+   made. */
+
+#include "../include/chacha20.h"
+#include "processor.h"
+
+static int takes_v3;
+
+__attribute__((constructor)) static void choose(void) {
+    struct processor it = this_processor();
+    takes_v3 = has_x86_64_v3(&it);
+}
+
+/* NAME with parameters, as a call with arguments: `return` for those that answer, nothing for others. */
+#define BOTH(RESULT, RETURN, NAME, PARAMETERS, ARGUMENTS) \
+    RESULT NAME##_x86_64_v2 PARAMETERS;                   \
+    RESULT NAME##_x86_64_v3 PARAMETERS;                   \
+    RESULT NAME PARAMETERS {                              \
+        if (takes_v3) {                                   \
+            RETURN NAME##_x86_64_v3 ARGUMENTS;            \
+        } else {                                          \
+            RETURN NAME##_x86_64_v2 ARGUMENTS;            \
+        }                                                 \
+    }
+
+#define ANSWERS(RESULT, NAME, PARAMETERS, ARGUMENTS) BOTH(RESULT, return, NAME, PARAMETERS, ARGUMENTS)
+#define WRITES(NAME, PARAMETERS, ARGUMENTS) BOTH(void, (void)0;, NAME, PARAMETERS, ARGUMENTS)
+
+#define KEY const uint8_t key[CHACHA20_MIN(32)]
+#define STATE uint8_t state[CHACHA20_MIN(49)]
+
+/* A place is one number, or two. */
+#define CIPHER(NAME, NONCE, PLACE, PLACE_ARGUMENTS)                                                    \
+    ANSWERS(uint32_t, NAME##_xor_in_place,                                                             \
+            (KEY, const uint8_t nonce[CHACHA20_MIN(NONCE)], PLACE, uint8_t *restrict data, size_t len), \
+            (key, nonce, PLACE_ARGUMENTS, data, len))                                                  \
+    ANSWERS(uint32_t, NAME##_xor_between,                                                              \
+            (KEY, const uint8_t nonce[CHACHA20_MIN(NONCE)], PLACE, const uint8_t *input,               \
+             size_t input_len, uint8_t *restrict output, size_t output_len),                           \
+            (key, nonce, PLACE_ARGUMENTS, input, input_len, output, output_len))                       \
+    ANSWERS(uint32_t, NAME##_write_keystream,                                                          \
+            (KEY, const uint8_t nonce[CHACHA20_MIN(NONCE)], PLACE, uint8_t *restrict output,           \
+             size_t len),                                                                              \
+            (key, nonce, PLACE_ARGUMENTS, output, len))
+
+#define POSITION uint64_t position
+#define BLOCK_AND_OFFSET uint64_t block, uint64_t offset
+#define BLOCK_AND_OFFSET_ARGUMENTS block, offset
+
+CIPHER(chacha20, 12, POSITION, position)
+CIPHER(chacha12, 12, POSITION, position)
+CIPHER(chacha8, 12, POSITION, position)
+CIPHER(xchacha20, 24, POSITION, position)
+CIPHER(xchacha12, 24, POSITION, position)
+CIPHER(xchacha8, 24, POSITION, position)
+CIPHER(chacha20_legacy, 8, BLOCK_AND_OFFSET, BLOCK_AND_OFFSET_ARGUMENTS)
+
+ANSWERS(uint32_t, chacha20_check, (POSITION, size_t len), (position, len))
+ANSWERS(uint32_t, chacha20_legacy_check, (BLOCK_AND_OFFSET, size_t len), (BLOCK_AND_OFFSET_ARGUMENTS, len))
+
+#define SUBKEY(NAME)                                                                                   \
+    WRITES(NAME,                                                                                       \
+           (KEY, const uint8_t input[CHACHA20_MIN(16)], uint8_t subkey[CHACHA20_MIN_APART(32)]),       \
+           (key, input, subkey))
+
+SUBKEY(hchacha20)
+SUBKEY(hchacha12)
+SUBKEY(hchacha8)
+
+#define GENERATOR(NAME)                                                                                \
+    ANSWERS(uint32_t, NAME##_next_u32, (STATE), (state))                                               \
+    ANSWERS(uint64_t, NAME##_next_u64, (STATE), (state))                                               \
+    WRITES(NAME##_fill_bytes,                                                                          \
+           (uint8_t state[CHACHA20_MIN_APART(49)], uint8_t *restrict output, size_t len),              \
+           (state, output, len))
+
+GENERATOR(chacha20_rng)
+GENERATOR(chacha12_rng)
+GENERATOR(chacha8_rng)
+
+WRITES(chacha_rng_from_seed,
+       (const uint8_t seed[CHACHA20_MIN(32)], uint8_t state[CHACHA20_MIN_APART(49)]), (seed, state))
+WRITES(chacha_rng_get_word_pos, (const STATE, uint64_t *restrict low, uint64_t *restrict high),
+       (state, low, high))
+WRITES(chacha_rng_set_word_pos, (STATE, uint64_t low, uint64_t high), (state, low, high))
+ANSWERS(uint64_t, chacha_rng_get_block_pos, (const STATE), (state))
+WRITES(chacha_rng_set_block_pos, (STATE, uint64_t block_pos), (state, block_pos))
+ANSWERS(uint64_t, chacha_rng_get_stream, (const STATE), (state))
+WRITES(chacha_rng_set_stream, (STATE, uint64_t stream), (state, stream))

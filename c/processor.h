@@ -1,0 +1,56 @@
+/* SPDX-License-Identifier: Apache-2.0 OR MIT
+
+   Whether a processor has the level x86-64-v3, by what it and the system say of it. Not proved;
+   `make -C bench levels` tries the decision on described processors. */
+
+#ifndef CHACHA20_PROCESSOR_H
+#define CHACHA20_PROCESSOR_H
+
+#include <cpuid.h>
+#include <stdint.h>
+
+/* The registers that the decision reads; 0 where the processor has no such leaf. */
+struct processor {
+    uint32_t leaf_1_ecx;
+    uint32_t leaf_7_ebx;
+    uint32_t leaf_80000001_ecx;
+    uint32_t xcr0; /* which registers the system saves; 0 where it says nothing */
+};
+
+enum {
+    FMA = 1 << 12,
+    MOVBE = 1 << 22,
+    OSXSAVE = 1 << 27,
+    AVX = 1 << 28,
+    F16C = 1 << 29,
+    BMI1 = 1 << 3,
+    AVX2 = 1 << 5,
+    BMI2 = 1 << 8,
+    LZCNT = 1 << 5,
+    SAVES_VECTORS_OF_128_AND_256_BITS = 6
+};
+
+static inline int has_all(uint32_t found, uint32_t wanted) { return (found & wanted) == wanted; }
+
+/* The System V ABI for x86-64 lists what the level has, beside what x86-64-v2 has. */
+static inline int has_x86_64_v3(const struct processor *it) {
+    return has_all(it->leaf_1_ecx, FMA | MOVBE | OSXSAVE | AVX | F16C) &&
+           has_all(it->leaf_7_ebx, BMI1 | AVX2 | BMI2) && has_all(it->leaf_80000001_ecx, LZCNT) &&
+           has_all(it->xcr0, SAVES_VECTORS_OF_128_AND_256_BITS);
+}
+
+static inline struct processor this_processor(void) {
+    struct processor it = {0, 0, 0, 0};
+    unsigned a, b, c, d;
+    if (__get_cpuid(1, &a, &b, &c, &d)) it.leaf_1_ecx = c;
+    if (__get_cpuid_count(7, 0, &a, &b, &c, &d)) it.leaf_7_ebx = b;
+    if (__get_cpuid(0x80000001, &a, &b, &c, &d)) it.leaf_80000001_ecx = c;
+    /* Without OSXSAVE there is no instruction xgetbv. */
+    if (has_all(it.leaf_1_ecx, OSXSAVE)) {
+        __asm__ volatile("xgetbv" : "=a"(a), "=d"(d) : "c"(0));
+        it.xcr0 = a;
+    }
+    return it;
+}
+
+#endif
