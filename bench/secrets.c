@@ -1,0 +1,107 @@
+/* SPDX-License-Identifier: Apache-2.0 OR MIT
+
+   Run under valgrind's memcheck, with keys, nonces, seeds, stream numbers and data marked as undefined: memcheck then
+   reports each branch and each address that depends on one of them. A branch and an address that are planted show that
+   it would. Lengths, positions, and so the places of words in a generator, aren't secret. */
+
+#include <stdio.h>
+#include <string.h>
+#include <valgrind/memcheck.h>
+
+#include "../c/processor.h"
+#include "library.h"
+
+enum { LONGEST = 2600 };
+
+static uint8_t key[32], nonce[24], state[CHACHA_RNG_STATE_BYTES], input[LONGEST], output[LONGEST];
+static unsigned calls, wrong_answers;
+
+/* A program that knows no secret may look at an answer. */
+static void done(uint32_t answer) {
+    calls++;
+    if (answer != CHACHA20_OK) wrong_answers++;
+}
+
+static void all_secret(void) {
+    (void)VALGRIND_MAKE_MEM_UNDEFINED(key, sizeof key);
+    (void)VALGRIND_MAKE_MEM_UNDEFINED(nonce, sizeof nonce);
+    (void)VALGRIND_MAKE_MEM_UNDEFINED(input, sizeof input);
+    (void)VALGRIND_MAKE_MEM_UNDEFINED(output, sizeof output);
+}
+
+static void by_cipher(const struct cipher *cipher, uint64_t position, size_t len) {
+    uint64_t block = position / 64, offset = position % 64;
+    done(cipher->xor_in_place(key, nonce, block, offset, output, len));
+    done(cipher->xor_between(key, nonce, block, offset, input, len, output, len));
+    done(cipher->write_keystream(key, nonce, block, offset, output, len));
+    done(cipher->xor(key, nonce, block, offset, output, output, len));
+    done(cipher->xor(key, nonce, block, offset, output, input, len));
+    done(cipher->keystream(key, nonce, block, offset, output, len));
+}
+
+static void by_generator(const struct library *library, int at_rounds, uint64_t position, size_t len) {
+    uint64_t low, high;
+    memset(state, 0, sizeof state);
+    library->from_seed(key, state);
+    library->set_stream(state, 5);
+    (void)VALGRIND_MAKE_MEM_UNDEFINED(state, 40);
+    library->set_word_pos(state, position, 1);
+    library->fill_bytes[at_rounds](state, output, len);
+    library->fill[at_rounds](state, output, len);
+    (void)library->next_u32[at_rounds](state);
+    (void)library->next_u64[at_rounds](state);
+    (void)library->get_stream(state);
+    library->get_word_pos(state, &low, &high);
+    /* The word position isn't secret, and no secret has come into it. */
+    if (high == 1 && low == position + 2 * ((len + 3) / 4) + 3) calls += 7;
+    library->set_block_pos(state, library->get_block_pos(state) + 1);
+    library->set_stream(state, 6);
+    calls += 4;
+}
+
+static void by_library(const struct library *library) {
+    static const uint64_t positions[] = {0, 1, 63, 64, 1000, ((uint64_t)1 << 37) + 5};
+    for (int i = 0; i < (int)(sizeof positions / sizeof positions[0]); i++) {
+        for (size_t len = 0; len <= LONGEST; len += len < 70 ? 23 : 421) {
+            for (int layout = 0; layout < LAYOUTS; layout++) {
+                done(library->check[layout](positions[i] / 64, positions[i] % 64, len));
+                for (int at_rounds = 0; at_rounds < ROUNDS; at_rounds++) {
+                    if (!library->ciphers[layout][at_rounds].xor_in_place) continue;
+                    all_secret();
+                    by_cipher(&library->ciphers[layout][at_rounds], positions[i], len);
+                }
+            }
+            for (int at_rounds = 0; at_rounds < ROUNDS; at_rounds++) {
+                all_secret();
+                library->hchacha[at_rounds](key, nonce, output);
+                by_generator(library, at_rounds, positions[i], len);
+            }
+        }
+    }
+}
+
+int main(void) {
+    static volatile uint8_t table[256], seen;
+    struct processor processor = this_processor();
+    if (!RUNNING_ON_VALGRIND) {
+        puts("make secrets runs this under valgrind");
+        return 2;
+    }
+    by_library(&library_v2);
+    if (has_x86_64_v3(&processor)) {
+        by_library(&library_v3);
+    } else {
+        puts("not run: the build for x86-64-v3, which this processor doesn't have");
+    }
+    by_library(&library_chosen);
+    unsigned reports = VALGRIND_COUNT_ERRORS;
+    all_secret();
+    if (key[3] & 1) seen = 1;
+    unsigned of_branch = VALGRIND_COUNT_ERRORS - reports;
+    seen = table[key[5]];
+    (void)seen;
+    unsigned of_address = VALGRIND_COUNT_ERRORS - reports - of_branch;
+    printf("secrets: %u calls, %u refused\n", calls, wrong_answers);
+    printf("secrets: %u reports; of a planted branch %u, of a planted address %u\n", reports, of_branch, of_address);
+    return reports != 0 || of_branch != 1 || of_address != 1 || wrong_answers != 0;
+}
