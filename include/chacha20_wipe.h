@@ -16,7 +16,7 @@
 
 #include "chacha20.h"
 
-#define CHACHA20_DEEPEST 6144
+#define CHACHA20_DEEPEST 4608
 #define CHACHA20_WIPE_BYTES 8192
 
 #ifdef __cplusplus
