@@ -2,27 +2,93 @@
 //! with the low byte first. Any bytes are a state; the upper half of the last one says nothing, and a call that writes
 //! the state writes it as 0. No call refuses anything.
 //!
-//! A call makes the generator of the state, which makes four blocks, and writes back once.
+//! A call that reads words makes the generator of the state, which makes four blocks, and writes back once. The other
+//! calls make no block: they read and write the bytes.
 
-ghost use Rattle.std.specs.Prelude.{◌≡◌, ◌<◌, ◌+◌, ◌*◌, ◌/◌, ◌^◌, length};
+ghost use Rattle.std.specs.Prelude.{◌≡◌, ◌<◌, ◌+◌, ◌*◌, ◌/◌, ◌%◌, ◌^◌, length, take, drop, slice_index};
+ghost use Rattle.std.specs.Int.{w64, from_le_bytes};
 ghost use Rattle.chacha20.specs.Generator.{of_seed, at_word_pos, next_u32, next_u64, fill};
 ghost use Rattle.chacha20.specs.StateBytes.{state_bytes, of_state_bytes};
 
 use chacha20::cipher::RngBackend;
 use chacha20::{ChaCha8Rng, ChaCha12Rng, ChaCha20Rng, ChaChaRng, Rounds, Seed, SerializedRngState};
 
+// How many word positions there are: sixteen words for each of 2^64 blocks.
+const POSITIONS: u128 = 1 << 68;
+
 /// Writes the state of a seed: the start of stream 0 (this crate). `state` and `seed` do not overlap.
 #[unsafe(no_mangle)]
-pub extern "C" fn chacha20_rng_from_seed(seed: &Seed, state: &mut SerializedRngState)
+pub extern "C" fn chacha_rng_from_seed(seed: &Seed, state: &mut SerializedRngState)
     ensures value { of_state_bytes state.new ≡ of_seed seed.now }
     ensures stored { state.new ≡ state_bytes (of_state_bytes state.new) }
 {
-    *state = ChaCha20Rng::from_seed(*seed).serialize_state();
+    *state = stored(seed, 0, 0);
+}
+
+/// The word position (this crate): writes its low 64 bits and, below 16, the rest. The three do not overlap.
+#[unsafe(no_mangle)]
+pub extern "C" fn chacha_rng_get_word_pos(state: &SerializedRngState, low: &mut u64, high: &mut u64)
+    ensures value { low.new + 2 ^ 64 * high.new ≡ (of_state_bytes state.now).word_pos }
+    ensures below { high.new < 16 }
+{
+    *low = read_u64(&state[40..48]);
+    *high = u64::from(state[48] % 16);
+}
+
+/// Sets the word position to low + 2^64 * high, modulo 2^68 (this crate).
+#[unsafe(no_mangle)]
+pub extern "C" fn chacha_rng_set_word_pos(state: &mut SerializedRngState, low: u64, high: u64)
+    ensures value { of_state_bytes state.new
+        ≡ at_word_pos (of_state_bytes state.old) (low + 2 ^ 64 * high) }
+    ensures stored { state.new ≡ state_bytes (of_state_bytes state.new) }
+{
+    *state = stored(&seed_in(state), stream_in(state), joined(low, high));
+}
+
+/// The number of the block that the next word lies in (this crate).
+#[unsafe(no_mangle)]
+pub extern "C" fn chacha_rng_get_block_pos(state: &SerializedRngState) -> u64
+    ensures { result ≡ (of_state_bytes state.now).word_pos / 16 }
+{
+    let low = read_u64(&state[40..48]);
+    (low >> 4) + (u64::from(state[48] % 16) << 60)
+}
+
+/// Moves to the first word of a block (this crate).
+#[unsafe(no_mangle)]
+pub extern "C" fn chacha_rng_set_block_pos(state: &mut SerializedRngState, block_pos: u64)
+    ensures value { of_state_bytes state.new
+        ≡ record (of_state_bytes state.old) { word_pos = 16 * block_pos } }
+    ensures stored { state.new ≡ state_bytes (of_state_bytes state.new) }
+{
+    *state = stored(
+        &seed_in(state),
+        stream_in(state),
+        16 * u128::from(block_pos),
+    );
+}
+
+/// The stream (this crate).
+#[unsafe(no_mangle)]
+pub extern "C" fn chacha_rng_get_stream(state: &SerializedRngState) -> u64
+    ensures { result ≡ (of_state_bytes state.now).stream }
+{
+    stream_in(state)
+}
+
+/// Moves to the first word of a stream; the seed stays (this crate).
+#[unsafe(no_mangle)]
+pub extern "C" fn chacha_rng_set_stream(state: &mut SerializedRngState, stream: u64)
+    ensures value { of_state_bytes state.new
+        ≡ record (of_state_bytes state.old) { stream = stream; word_pos = 0 } }
+    ensures stored { state.new ≡ state_bytes (of_state_bytes state.new) }
+{
+    *state = stored(&seed_in(state), stream, 0);
 }
 
 /// Takes the next word of the generator with 8 rounds (this crate).
 #[unsafe(no_mangle)]
-pub extern "C" fn chacha20_rng8_next_u32(state: &mut SerializedRngState) -> u32
+pub extern "C" fn chacha8_rng_next_u32(state: &mut SerializedRngState) -> u32
     ensures value { (result, of_state_bytes state.new)
         ≡ next_u32 4 (of_state_bytes state.old) }
     ensures stored { state.new ≡ state_bytes (of_state_bytes state.new) }
@@ -32,7 +98,7 @@ pub extern "C" fn chacha20_rng8_next_u32(state: &mut SerializedRngState) -> u32
 
 /// Takes the next two words of the generator with 8 rounds; the first is the low half of the answer (this crate).
 #[unsafe(no_mangle)]
-pub extern "C" fn chacha20_rng8_next_u64(state: &mut SerializedRngState) -> u64
+pub extern "C" fn chacha8_rng_next_u64(state: &mut SerializedRngState) -> u64
     ensures value { (result, of_state_bytes state.new)
         ≡ next_u64 4 (of_state_bytes state.old) }
     ensures stored { state.new ≡ state_bytes (of_state_bytes state.new) }
@@ -40,21 +106,21 @@ pub extern "C" fn chacha20_rng8_next_u64(state: &mut SerializedRngState) -> u64
     next_u64(ChaCha8Rng::deserialize_state(state), state)
 }
 
-/// Fills `dst` with the bytes of the next words of the generator with 8 rounds, the low byte of each first (this
-/// crate). The bytes of the last word that `dst` has no room for are lost; no bytes take no word. `dst` and `state` do
-/// not overlap.
+/// Fills `output` with the bytes of the next words of the generator with 8 rounds, the low byte of each first (this
+/// crate). The bytes of the last word that `output` has no room for are lost; no bytes take no word. `output` and
+/// `state` do not overlap.
 #[unsafe(no_mangle)]
-pub extern "C" fn chacha20_rng8_fill_bytes(state: &mut SerializedRngState, dst: &mut [u8])
-    ensures value { (dst.new, of_state_bytes state.new)
-        ≡ fill 4 (of_state_bytes state.old) (length dst.old) }
+pub extern "C" fn chacha8_rng_fill_bytes(state: &mut SerializedRngState, output: &mut [u8])
+    ensures value { (output.new, of_state_bytes state.new)
+        ≡ fill 4 (of_state_bytes state.old) (length output.old) }
     ensures stored { state.new ≡ state_bytes (of_state_bytes state.new) }
 {
-    fill_bytes(ChaCha8Rng::deserialize_state(state), state, dst);
+    fill_bytes(ChaCha8Rng::deserialize_state(state), state, output);
 }
 
 /// Takes the next word of the generator with 12 rounds (this crate).
 #[unsafe(no_mangle)]
-pub extern "C" fn chacha20_rng12_next_u32(state: &mut SerializedRngState) -> u32
+pub extern "C" fn chacha12_rng_next_u32(state: &mut SerializedRngState) -> u32
     ensures value { (result, of_state_bytes state.new)
         ≡ next_u32 6 (of_state_bytes state.old) }
     ensures stored { state.new ≡ state_bytes (of_state_bytes state.new) }
@@ -64,7 +130,7 @@ pub extern "C" fn chacha20_rng12_next_u32(state: &mut SerializedRngState) -> u32
 
 /// Takes the next two words of the generator with 12 rounds; the first is the low half of the answer (this crate).
 #[unsafe(no_mangle)]
-pub extern "C" fn chacha20_rng12_next_u64(state: &mut SerializedRngState) -> u64
+pub extern "C" fn chacha12_rng_next_u64(state: &mut SerializedRngState) -> u64
     ensures value { (result, of_state_bytes state.new)
         ≡ next_u64 6 (of_state_bytes state.old) }
     ensures stored { state.new ≡ state_bytes (of_state_bytes state.new) }
@@ -72,21 +138,21 @@ pub extern "C" fn chacha20_rng12_next_u64(state: &mut SerializedRngState) -> u64
     next_u64(ChaCha12Rng::deserialize_state(state), state)
 }
 
-/// Fills `dst` with the bytes of the next words of the generator with 12 rounds, the low byte of each first (this
-/// crate). The bytes of the last word that `dst` has no room for are lost; no bytes take no word. `dst` and `state` do
-/// not overlap.
+/// Fills `output` with the bytes of the next words of the generator with 12 rounds, the low byte of each first (this
+/// crate). The bytes of the last word that `output` has no room for are lost; no bytes take no word. `output` and
+/// `state` do not overlap.
 #[unsafe(no_mangle)]
-pub extern "C" fn chacha20_rng12_fill_bytes(state: &mut SerializedRngState, dst: &mut [u8])
-    ensures value { (dst.new, of_state_bytes state.new)
-        ≡ fill 6 (of_state_bytes state.old) (length dst.old) }
+pub extern "C" fn chacha12_rng_fill_bytes(state: &mut SerializedRngState, output: &mut [u8])
+    ensures value { (output.new, of_state_bytes state.new)
+        ≡ fill 6 (of_state_bytes state.old) (length output.old) }
     ensures stored { state.new ≡ state_bytes (of_state_bytes state.new) }
 {
-    fill_bytes(ChaCha12Rng::deserialize_state(state), state, dst);
+    fill_bytes(ChaCha12Rng::deserialize_state(state), state, output);
 }
 
 /// Takes the next word of the generator with 20 rounds (this crate).
 #[unsafe(no_mangle)]
-pub extern "C" fn chacha20_rng20_next_u32(state: &mut SerializedRngState) -> u32
+pub extern "C" fn chacha_rng_next_u32(state: &mut SerializedRngState) -> u32
     ensures value { (result, of_state_bytes state.new)
         ≡ next_u32 10 (of_state_bytes state.old) }
     ensures stored { state.new ≡ state_bytes (of_state_bytes state.new) }
@@ -96,7 +162,7 @@ pub extern "C" fn chacha20_rng20_next_u32(state: &mut SerializedRngState) -> u32
 
 /// Takes the next two words of the generator with 20 rounds; the first is the low half of the answer (this crate).
 #[unsafe(no_mangle)]
-pub extern "C" fn chacha20_rng20_next_u64(state: &mut SerializedRngState) -> u64
+pub extern "C" fn chacha_rng_next_u64(state: &mut SerializedRngState) -> u64
     ensures value { (result, of_state_bytes state.new)
         ≡ next_u64 10 (of_state_bytes state.old) }
     ensures stored { state.new ≡ state_bytes (of_state_bytes state.new) }
@@ -104,83 +170,16 @@ pub extern "C" fn chacha20_rng20_next_u64(state: &mut SerializedRngState) -> u64
     next_u64(ChaCha20Rng::deserialize_state(state), state)
 }
 
-/// Fills `dst` with the bytes of the next words of the generator with 20 rounds, the low byte of each first (this
-/// crate). The bytes of the last word that `dst` has no room for are lost; no bytes take no word. `dst` and `state` do
-/// not overlap.
+/// Fills `output` with the bytes of the next words of the generator with 20 rounds, the low byte of each first (this
+/// crate). The bytes of the last word that `output` has no room for are lost; no bytes take no word. `output` and
+/// `state` do not overlap.
 #[unsafe(no_mangle)]
-pub extern "C" fn chacha20_rng20_fill_bytes(state: &mut SerializedRngState, dst: &mut [u8])
-    ensures value { (dst.new, of_state_bytes state.new)
-        ≡ fill 10 (of_state_bytes state.old) (length dst.old) }
+pub extern "C" fn chacha_rng_fill_bytes(state: &mut SerializedRngState, output: &mut [u8])
+    ensures value { (output.new, of_state_bytes state.new)
+        ≡ fill 10 (of_state_bytes state.old) (length output.old) }
     ensures stored { state.new ≡ state_bytes (of_state_bytes state.new) }
 {
-    fill_bytes(ChaCha20Rng::deserialize_state(state), state, dst);
-}
-
-/// The word position (this crate): writes its low 64 bits and, below 16, the rest. The three do not overlap.
-#[unsafe(no_mangle)]
-pub extern "C" fn chacha20_rng_get_word_pos(
-    state: &SerializedRngState,
-    low: &mut u64,
-    high: &mut u64,
-)
-    ensures value { low.new + 2 ^ 64 * high.new ≡ (of_state_bytes state.now).word_pos }
-    ensures below { high.new < 16 }
-{
-    let word_pos = ChaCha20Rng::deserialize_state(state).get_word_pos();
-    *low = (word_pos & u128::from(u64::MAX)) as u64;
-    *high = (word_pos >> 64) as u64;
-}
-
-/// Sets the word position to low + 2^64 * high, modulo 2^68 (this crate).
-#[unsafe(no_mangle)]
-pub extern "C" fn chacha20_rng_set_word_pos(state: &mut SerializedRngState, low: u64, high: u64)
-    ensures value { of_state_bytes state.new
-        ≡ at_word_pos (of_state_bytes state.old) (low + 2 ^ 64 * high) }
-    ensures stored { state.new ≡ state_bytes (of_state_bytes state.new) }
-{
-    let mut rng = ChaCha20Rng::deserialize_state(state);
-    rng.set_word_pos(joined(low, high));
-    *state = rng.serialize_state();
-}
-
-/// The number of the block that the next word lies in (this crate).
-#[unsafe(no_mangle)]
-pub extern "C" fn chacha20_rng_get_block_pos(state: &SerializedRngState) -> u64
-    ensures { result ≡ (of_state_bytes state.now).word_pos / 16 }
-{
-    ChaCha20Rng::deserialize_state(state).get_block_pos()
-}
-
-/// Moves to the first word of a block (this crate).
-#[unsafe(no_mangle)]
-pub extern "C" fn chacha20_rng_set_block_pos(state: &mut SerializedRngState, block_pos: u64)
-    ensures value { of_state_bytes state.new
-        ≡ record (of_state_bytes state.old) { word_pos = 16 * block_pos } }
-    ensures stored { state.new ≡ state_bytes (of_state_bytes state.new) }
-{
-    let mut rng = ChaCha20Rng::deserialize_state(state);
-    rng.set_block_pos(block_pos);
-    *state = rng.serialize_state();
-}
-
-/// The stream (this crate).
-#[unsafe(no_mangle)]
-pub extern "C" fn chacha20_rng_get_stream(state: &SerializedRngState) -> u64
-    ensures { result ≡ (of_state_bytes state.now).stream }
-{
-    ChaCha20Rng::deserialize_state(state).get_stream()
-}
-
-/// Moves to the first word of a stream; the seed stays (this crate).
-#[unsafe(no_mangle)]
-pub extern "C" fn chacha20_rng_set_stream(state: &mut SerializedRngState, stream: u64)
-    ensures value { of_state_bytes state.new
-        ≡ record (of_state_bytes state.old) { stream = stream; word_pos = 0 } }
-    ensures stored { state.new ≡ state_bytes (of_state_bytes state.new) }
-{
-    let mut rng = ChaCha20Rng::deserialize_state(state);
-    rng.set_stream(stream);
-    *state = rng.serialize_state();
+    fill_bytes(ChaCha20Rng::deserialize_state(state), state, output);
 }
 
 // The reads of a generator, which is then stored.
@@ -212,12 +211,12 @@ fn next_u64<R: Rounds, B: RngBackend<R>>(
 fn fill_bytes<R: Rounds, B: RngBackend<R>>(
     mut rng: ChaChaRng<R, B>,
     state: &mut SerializedRngState,
-    dst: &mut [u8],
+    output: &mut [u8],
 )
-    ensures value { (dst.new, of_state_bytes state.new) ≡ fill R.COUNT rng (length dst.old) }
+    ensures value { (output.new, of_state_bytes state.new) ≡ fill R.COUNT rng (length output.old) }
     ensures stored { state.new ≡ state_bytes (of_state_bytes state.new) }
 {
-    rng.fill_bytes(dst);
+    rng.fill_bytes(output);
     *state = rng.serialize_state();
 }
 
@@ -226,4 +225,47 @@ fn joined(low: u64, high: u64) -> u128
     ensures { result ≡ low + 2 ^ 64 * high }
 {
     (u128::from(high) << 64) + u128::from(low)
+}
+
+// The state of a seed, a stream and a word position, which counts modulo 2^68.
+#[tactic(auto, using(chacha20::proofs::StateBytesLemmas::two_written_length))]
+fn stored(seed: &Seed, stream: u64, word_pos: u128) -> SerializedRngState
+    ensures value { of_state_bytes result
+        ≡ record { seed = seed.now; stream = stream; word_pos = word_pos % 2 ^ 68 } }
+    ensures stored { result ≡ state_bytes (of_state_bytes result) }
+{
+    let position = word_pos % POSITIONS;
+    let low = ((position & u128::from(u64::MAX)) as u64).to_le_bytes();
+    let mut state = [0; 49];
+    state[..32].copy_from_slice(seed);
+    state[32..40].copy_from_slice(&stream.to_le_bytes());
+    state[40..48].copy_from_slice(&low);
+    state[48] = (position >> 64) as u8;
+    state
+}
+
+// The seed of a state.
+fn seed_in(state: &SerializedRngState) -> Seed
+    ensures { result ≡ (of_state_bytes state.now).seed }
+{
+    let mut seed = [0; 32];
+    seed.copy_from_slice(&state[..32]);
+    seed
+}
+
+// The stream of a state.
+fn stream_in(state: &SerializedRngState) -> u64
+    ensures { result ≡ (of_state_bytes state.now).stream }
+{
+    read_u64(&state[32..40])
+}
+
+// The number of 8 bytes, the low byte first.
+fn read_u64(bytes: &[u8]) -> u64
+    requires { length bytes.now ≡ 8 }
+    ensures { result ≡ from_le_bytes w64 bytes.now }
+{
+    let mut number = [0; 8];
+    number.copy_from_slice(bytes);
+    u64::from_le_bytes(number)
 }

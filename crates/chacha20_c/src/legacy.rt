@@ -1,53 +1,87 @@
-//! The cipher from before RFC 8439. A position of 64 bits says the first 2^64 bytes of its stream, which goes on past
-//! what any call can reach.
+//! ChaCha20 from before RFC 8439, with a nonce of 8 bytes and a counter of 64 bits. A position in its stream is the
+//! number of a block and a number of bytes from there on, since one number of 64 bits does not reach the end.
 
+ghost use Rattle.std.specs.Prelude.{◌≡◌, ◌+◌, ◌*◌};
 ghost use Rattle.chacha20.specs.Block.{block};
 ghost use Rattle.chacha20.specs.Keystream.{keystream};
 ghost use Rattle.chacha20.specs.Layout.{legacy, modulus};
 ghost use Rattle.chacha20.specs.Limit.{limit_of};
-ghost use Rattle.chacha20_c.specs.Answers.{Checked, Xored, XoredInto};
+ghost use Rattle.chacha20_c.specs.Answers.{Checked, Written, Xored, XoredInto};
 
 use crate::stateless;
 use chacha20::{ChaCha20Legacy, Key, LegacyNonce};
 
-/// ChaCha20 as it was before RFC 8439, with a counter of 64 bits:
-/// combines `data` in place, by exclusive or, with the keystream from byte `position` on.
-/// Answers 0: no position and length of 64 bits reach the end of the stream.
+// Where the stream of 2^64 blocks ends.
+const LIMIT: u128 = 64 << 64;
+
+/// ChaCha20 as it was before RFC 8439:
+/// combines `data` in place, by exclusive or, with the keystream from byte 64 * `block_pos` + `offset` on, a sum that
+/// does not wrap.
+/// Answers 0, or 1 where the bytes would pass the end of the stream, and then nothing is written.
 /// `data` overlaps no other argument.
 #[unsafe(no_mangle)]
-pub extern "C" fn chacha20_legacy20_xor(
+pub extern "C" fn chacha20_legacy_xor_in_place(
     key: &Key,
     nonce: &LegacyNonce,
-    position: u64,
+    block_pos: u64,
+    offset: u64,
     data: &mut [u8],
 ) -> u32
     ensures { Xored (limit_of (modulus legacy)) (keystream (modulus legacy)
-        (block 10 legacy key.now nonce.now)) position result «data».old «data».new }
+        (block 10 legacy key.now nonce.now))
+        (64 * block_pos + offset) result «data».old «data».new }
 {
-    stateless::xor::<ChaCha20Legacy>(key, nonce, position, data)
+    stateless::xor_in_place::<ChaCha20Legacy>(key, nonce, position(block_pos, offset), data)
 }
 
-/// `chacha20_legacy20_xor` from `input` to `output`, which overlaps no other argument.
-/// Answers 1 where the lengths differ, and then nothing is written.
+/// `chacha20_legacy_xor_in_place` from `input` to `output`, which overlaps no other argument.
+/// Answers 0, or 1 where the lengths differ, too, and then nothing is written.
 #[unsafe(no_mangle)]
-pub extern "C" fn chacha20_legacy20_xor_b2b(
+pub extern "C" fn chacha20_legacy_xor_between(
     key: &Key,
     nonce: &LegacyNonce,
-    position: u64,
+    block_pos: u64,
+    offset: u64,
     input: &[u8],
     output: &mut [u8],
 ) -> u32
     ensures { XoredInto (limit_of (modulus legacy)) (keystream (modulus legacy)
-        (block 10 legacy key.now nonce.now)) position result input.now output.old output.new }
+        (block 10 legacy key.now nonce.now))
+        (64 * block_pos + offset) result input.now output.old output.new }
 {
-    stateless::xor_b2b::<ChaCha20Legacy>(key, nonce, position, input, output)
+    stateless::xor_between::<ChaCha20Legacy>(key, nonce, position(block_pos, offset), input, output)
 }
 
-/// Whether the legacy cipher takes `len` bytes from byte `position` on: answers 0. This crate's own.
+/// The keystream of `chacha20_legacy_xor_in_place`: writes its bytes over `output`, whatever was there.
+/// Answers 0, or 1 where the bytes would pass the end of the stream, and then nothing is written.
+/// `output` overlaps no other argument.
 #[unsafe(no_mangle)]
-pub extern "C" fn chacha20_legacy_check(position: u64, len: usize) -> u32
-    ensures { Checked (limit_of (modulus legacy)) position len result }
+pub extern "C" fn chacha20_legacy_write_keystream(
+    key: &Key,
+    nonce: &LegacyNonce,
+    block_pos: u64,
+    offset: u64,
+    output: &mut [u8],
+) -> u32
+    ensures { Written (limit_of (modulus legacy)) (keystream (modulus legacy)
+        (block 10 legacy key.now nonce.now))
+        (64 * block_pos + offset) result output.old output.new }
 {
-    let _ = (position, len);
-    0
+    stateless::write_keystream::<ChaCha20Legacy>(key, nonce, position(block_pos, offset), output)
+}
+
+/// Whether the legacy cipher takes `len` bytes from byte 64 * `block_pos` + `offset` on, a sum that does not wrap.
+/// Answers 0, or 1 where the bytes would pass the end of the stream. This crate's own.
+#[unsafe(no_mangle)]
+pub extern "C" fn chacha20_legacy_check(block_pos: u64, offset: u64, len: usize) -> u32
+    ensures { Checked (limit_of (modulus legacy)) (64 * block_pos + offset) len result }
+{
+    stateless::check(position(block_pos, offset), len, LIMIT)
+}
+
+// The number of bytes before the one that lies so many bytes past the front of a block.
+fn position(block_pos: u64, offset: u64) -> u128
+    ensures { result ≡ 64 * block_pos + offset }
+{
+    64 * u128::from(block_pos) + u128::from(offset)
 }

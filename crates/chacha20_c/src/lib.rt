@@ -3,12 +3,13 @@
 //!
 //! A slice crosses as a pointer and then its length, an array as a pointer. No pointer is null, also where a length is
 //! 0, and what a call writes overlaps nothing else that it is given. A cipher has no state here: each call names its
-//! key, its nonce and a position, which is a number of bytes from the first of the keystream. The state of a generator
-//! is 49 bytes of the caller's.
+//! key, its nonce and a position, which is a number of bytes from the first of the keystream. The legacy cipher's is
+//! the number of a block of 64 bytes, and a number of bytes from there on. The state of a generator is 49 bytes of the
+//! caller's, which fit any number of rounds: each read names its own.
 #![tactic(auto)]
 
+mod chacha;
 mod generators;
-mod ietf;
 mod legacy;
 mod stateless;
 #[cfg(test)]

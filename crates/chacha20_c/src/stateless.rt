@@ -1,33 +1,33 @@
 //! Calls on a cipher that is made for each of them, for any cipher, with answers as C has them: 0 where a call is
-//! accepted, and 1 where it is refused.
+//! accepted, and 1 where it is refused. A position has 128 bits, so that it reaches the end of each stream.
 
 ghost use Rattle.std.specs.Prelude.{◌≡◌, ◌↔◌, ◌≤◌, ◌+◌, length, IsOk, OnOk, OnErr};
-ghost use Rattle.chacha20.specs.Keystream.{keystream, xor_stream};
+ghost use Rattle.chacha20.specs.Keystream.{keystream, stream_part, xor_stream};
 ghost use Rattle.chacha20.specs.Limit.{limit_of};
-ghost use Rattle.chacha20_c.specs.Answers.{Xored, XoredInto};
+ghost use Rattle.chacha20_c.specs.Answers.{Checked, Written, Xored, XoredInto};
 
 use chacha20::cipher::{KeyIvInit, StreamCipher, StreamCipherError, StreamCipherSeek};
 
 /// Combines bytes with the keystream from a position on.
-pub(crate) fn xor<C: KeyIvInit + StreamCipherSeek + Drop>(
+pub(crate) fn xor_in_place<C: KeyIvInit + StreamCipherSeek + Drop>(
     key: &C::Key,
     nonce: &C::Iv,
-    position: u64,
+    position: u128,
     data: &mut [u8],
 ) -> u32
     ensures { Xored (limit_of C.modulus) (keystream C.modulus (C.blocks_of key.now nonce.now))
         position result «data».old «data».new }
 {
-    match try_xor::<C>(key, nonce, position, data) {
+    match try_xor_in_place::<C>(key, nonce, position, data) {
         Ok(()) => 0,
         Err(_) => 1,
     }
 }
 
-fn try_xor<C: KeyIvInit + StreamCipherSeek + Drop>(
+fn try_xor_in_place<C: KeyIvInit + StreamCipherSeek + Drop>(
     key: &C::Key,
     nonce: &C::Iv,
-    position: u64,
+    position: u128,
     data: &mut [u8],
 ) -> Result<(), StreamCipherError>
     ensures accepted { IsOk result ↔ (position + length «data».old ≤ limit_of C.modulus) }
@@ -41,26 +41,26 @@ fn try_xor<C: KeyIvInit + StreamCipherSeek + Drop>(
 }
 
 /// Combines an input with the keystream from a position on into an output.
-pub(crate) fn xor_b2b<C: KeyIvInit + StreamCipherSeek + Drop>(
+pub(crate) fn xor_between<C: KeyIvInit + StreamCipherSeek + Drop>(
     key: &C::Key,
     nonce: &C::Iv,
-    position: u64,
+    position: u128,
     input: &[u8],
     output: &mut [u8],
 ) -> u32
     ensures { XoredInto (limit_of C.modulus) (keystream C.modulus (C.blocks_of key.now nonce.now))
         position result input.now output.old output.new }
 {
-    match try_xor_b2b::<C>(key, nonce, position, input, output) {
+    match try_xor_between::<C>(key, nonce, position, input, output) {
         Ok(()) => 0,
         Err(_) => 1,
     }
 }
 
-fn try_xor_b2b<C: KeyIvInit + StreamCipherSeek + Drop>(
+fn try_xor_between<C: KeyIvInit + StreamCipherSeek + Drop>(
     key: &C::Key,
     nonce: &C::Iv,
-    position: u64,
+    position: u128,
     input: &[u8],
     output: &mut [u8],
 ) -> Result<(), StreamCipherError>
@@ -73,4 +73,48 @@ fn try_xor_b2b<C: KeyIvInit + StreamCipherSeek + Drop>(
     let mut cipher = C::new(key, nonce);
     cipher.try_seek(position)?;
     cipher.try_apply_keystream_b2b(input, output)
+}
+
+/// Writes the keystream from a position on.
+pub(crate) fn write_keystream<C: KeyIvInit + StreamCipherSeek + Drop>(
+    key: &C::Key,
+    nonce: &C::Iv,
+    position: u128,
+    output: &mut [u8],
+) -> u32
+    ensures { Written (limit_of C.modulus) (keystream C.modulus (C.blocks_of key.now nonce.now))
+        position result output.old output.new }
+{
+    match try_write_keystream::<C>(key, nonce, position, output) {
+        Ok(()) => 0,
+        Err(_) => 1,
+    }
+}
+
+fn try_write_keystream<C: KeyIvInit + StreamCipherSeek + Drop>(
+    key: &C::Key,
+    nonce: &C::Iv,
+    position: u128,
+    output: &mut [u8],
+) -> Result<(), StreamCipherError>
+    ensures accepted { IsOk result ↔ (position + length output.old ≤ limit_of C.modulus) }
+    ensures bytes { OnOk result (output.new
+        ≡ stream_part (keystream C.modulus (C.blocks_of key.now nonce.now)) position
+        (length output.old)) }
+    ensures refused { OnErr result (output.new ≡ output.old) }
+{
+    let mut cipher = C::new(key, nonce);
+    cipher.try_seek(position)?;
+    cipher.try_write_keystream(output)
+}
+
+/// Whether so many bytes from a position on end at a limit or before it.
+pub(crate) fn check(position: u128, len: usize, limit: u128) -> u32
+    ensures { Checked limit position len result }
+{
+    if position <= limit && len as u128 <= limit - position {
+        0
+    } else {
+        1
+    }
 }

@@ -1,0 +1,169 @@
+//! ChaCha with a nonce of 12 bytes (RFC 8439).
+
+ghost use Rattle.chacha20.specs.Block.{block};
+ghost use Rattle.chacha20.specs.Keystream.{keystream};
+ghost use Rattle.chacha20.specs.Layout.{ietf, modulus};
+ghost use Rattle.chacha20.specs.Limit.{limit_of};
+ghost use Rattle.chacha20_c.specs.Answers.{Checked, Written, Xored, XoredInto};
+
+use crate::stateless;
+use chacha20::{ChaCha8, ChaCha12, ChaCha20, Key, Nonce};
+
+// Where the streams of 2^32 blocks end.
+const LIMIT: u128 = 64 << 32;
+
+/// ChaCha with 8 rounds (this crate's own number):
+/// combines `data` in place, by exclusive or, with the keystream from byte `position` on.
+/// Answers 0, or 1 where the bytes would pass the end of the stream, and then nothing is written.
+/// `data` overlaps no other argument.
+#[unsafe(no_mangle)]
+pub extern "C" fn chacha8_xor_in_place(
+    key: &Key,
+    nonce: &Nonce,
+    position: u64,
+    data: &mut [u8],
+) -> u32
+    ensures { Xored (limit_of (modulus ietf)) (keystream (modulus ietf)
+        (block 4 ietf key.now nonce.now)) position result «data».old «data».new }
+{
+    stateless::xor_in_place::<ChaCha8>(key, nonce, u128::from(position), data)
+}
+
+/// `chacha8_xor_in_place` from `input` to `output`, which overlaps no other argument.
+/// Answers 0, or 1 where the lengths differ, too, and then nothing is written.
+#[unsafe(no_mangle)]
+pub extern "C" fn chacha8_xor_between(
+    key: &Key,
+    nonce: &Nonce,
+    position: u64,
+    input: &[u8],
+    output: &mut [u8],
+) -> u32
+    ensures { XoredInto (limit_of (modulus ietf)) (keystream (modulus ietf)
+        (block 4 ietf key.now nonce.now)) position result input.now output.old output.new }
+{
+    stateless::xor_between::<ChaCha8>(key, nonce, u128::from(position), input, output)
+}
+
+/// The keystream of `chacha8_xor_in_place`: writes its bytes over `output`, whatever was there.
+/// Answers 0, or 1 where the bytes would pass the end of the stream, and then nothing is written.
+/// `output` overlaps no other argument.
+#[unsafe(no_mangle)]
+pub extern "C" fn chacha8_write_keystream(
+    key: &Key,
+    nonce: &Nonce,
+    position: u64,
+    output: &mut [u8],
+) -> u32
+    ensures { Written (limit_of (modulus ietf)) (keystream (modulus ietf)
+        (block 4 ietf key.now nonce.now)) position result output.old output.new }
+{
+    stateless::write_keystream::<ChaCha8>(key, nonce, u128::from(position), output)
+}
+
+/// ChaCha with 12 rounds (this crate's own number):
+/// combines `data` in place, by exclusive or, with the keystream from byte `position` on.
+/// Answers 0, or 1 where the bytes would pass the end of the stream, and then nothing is written.
+/// `data` overlaps no other argument.
+#[unsafe(no_mangle)]
+pub extern "C" fn chacha12_xor_in_place(
+    key: &Key,
+    nonce: &Nonce,
+    position: u64,
+    data: &mut [u8],
+) -> u32
+    ensures { Xored (limit_of (modulus ietf)) (keystream (modulus ietf)
+        (block 6 ietf key.now nonce.now)) position result «data».old «data».new }
+{
+    stateless::xor_in_place::<ChaCha12>(key, nonce, u128::from(position), data)
+}
+
+/// `chacha12_xor_in_place` from `input` to `output`, which overlaps no other argument.
+/// Answers 0, or 1 where the lengths differ, too, and then nothing is written.
+#[unsafe(no_mangle)]
+pub extern "C" fn chacha12_xor_between(
+    key: &Key,
+    nonce: &Nonce,
+    position: u64,
+    input: &[u8],
+    output: &mut [u8],
+) -> u32
+    ensures { XoredInto (limit_of (modulus ietf)) (keystream (modulus ietf)
+        (block 6 ietf key.now nonce.now)) position result input.now output.old output.new }
+{
+    stateless::xor_between::<ChaCha12>(key, nonce, u128::from(position), input, output)
+}
+
+/// The keystream of `chacha12_xor_in_place`: writes its bytes over `output`, whatever was there.
+/// Answers 0, or 1 where the bytes would pass the end of the stream, and then nothing is written.
+/// `output` overlaps no other argument.
+#[unsafe(no_mangle)]
+pub extern "C" fn chacha12_write_keystream(
+    key: &Key,
+    nonce: &Nonce,
+    position: u64,
+    output: &mut [u8],
+) -> u32
+    ensures { Written (limit_of (modulus ietf)) (keystream (modulus ietf)
+        (block 6 ietf key.now nonce.now)) position result output.old output.new }
+{
+    stateless::write_keystream::<ChaCha12>(key, nonce, u128::from(position), output)
+}
+
+/// ChaCha20 (RFC 8439, section 2.4):
+/// combines `data` in place, by exclusive or, with the keystream from byte `position` on.
+/// Answers 0, or 1 where the bytes would pass the end of the stream, and then nothing is written.
+/// `data` overlaps no other argument.
+#[unsafe(no_mangle)]
+pub extern "C" fn chacha20_xor_in_place(
+    key: &Key,
+    nonce: &Nonce,
+    position: u64,
+    data: &mut [u8],
+) -> u32
+    ensures { Xored (limit_of (modulus ietf)) (keystream (modulus ietf)
+        (block 10 ietf key.now nonce.now)) position result «data».old «data».new }
+{
+    stateless::xor_in_place::<ChaCha20>(key, nonce, u128::from(position), data)
+}
+
+/// `chacha20_xor_in_place` from `input` to `output`, which overlaps no other argument.
+/// Answers 0, or 1 where the lengths differ, too, and then nothing is written.
+#[unsafe(no_mangle)]
+pub extern "C" fn chacha20_xor_between(
+    key: &Key,
+    nonce: &Nonce,
+    position: u64,
+    input: &[u8],
+    output: &mut [u8],
+) -> u32
+    ensures { XoredInto (limit_of (modulus ietf)) (keystream (modulus ietf)
+        (block 10 ietf key.now nonce.now)) position result input.now output.old output.new }
+{
+    stateless::xor_between::<ChaCha20>(key, nonce, u128::from(position), input, output)
+}
+
+/// The keystream of `chacha20_xor_in_place`: writes its bytes over `output`, whatever was there.
+/// Answers 0, or 1 where the bytes would pass the end of the stream, and then nothing is written.
+/// `output` overlaps no other argument.
+#[unsafe(no_mangle)]
+pub extern "C" fn chacha20_write_keystream(
+    key: &Key,
+    nonce: &Nonce,
+    position: u64,
+    output: &mut [u8],
+) -> u32
+    ensures { Written (limit_of (modulus ietf)) (keystream (modulus ietf)
+        (block 10 ietf key.now nonce.now)) position result output.old output.new }
+{
+    stateless::write_keystream::<ChaCha20>(key, nonce, u128::from(position), output)
+}
+
+/// Whether the ciphers with a nonce of 12 or of 24 bytes take `len` bytes from byte `position` on, whatever the number
+/// of rounds. Answers 0, or 1 where the bytes would pass the end of the stream. This crate's own.
+#[unsafe(no_mangle)]
+pub extern "C" fn chacha20_check(position: u64, len: usize) -> u32
+    ensures { Checked (limit_of (modulus ietf)) position len result }
+{
+    stateless::check(u128::from(position), len, LIMIT)
+}
