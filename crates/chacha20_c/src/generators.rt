@@ -152,7 +152,7 @@ pub extern "C" fn chacha12_rng_fill_bytes(state: &mut SerializedRngState, output
 
 /// Takes the next word of the generator with 20 rounds (this crate).
 #[unsafe(no_mangle)]
-pub extern "C" fn chacha_rng_next_u32(state: &mut SerializedRngState) -> u32
+pub extern "C" fn chacha20_rng_next_u32(state: &mut SerializedRngState) -> u32
     ensures value { (result, of_state_bytes state.new)
         ≡ next_u32 10 (of_state_bytes state.old) }
     ensures stored { state.new ≡ state_bytes (of_state_bytes state.new) }
@@ -162,7 +162,7 @@ pub extern "C" fn chacha_rng_next_u32(state: &mut SerializedRngState) -> u32
 
 /// Takes the next two words of the generator with 20 rounds; the first is the low half of the answer (this crate).
 #[unsafe(no_mangle)]
-pub extern "C" fn chacha_rng_next_u64(state: &mut SerializedRngState) -> u64
+pub extern "C" fn chacha20_rng_next_u64(state: &mut SerializedRngState) -> u64
     ensures value { (result, of_state_bytes state.new)
         ≡ next_u64 10 (of_state_bytes state.old) }
     ensures stored { state.new ≡ state_bytes (of_state_bytes state.new) }
@@ -174,7 +174,7 @@ pub extern "C" fn chacha_rng_next_u64(state: &mut SerializedRngState) -> u64
 /// crate). The bytes of the last word that `output` has no room for are lost; no bytes take no word. `output` and
 /// `state` do not overlap.
 #[unsafe(no_mangle)]
-pub extern "C" fn chacha_rng_fill_bytes(state: &mut SerializedRngState, output: &mut [u8])
+pub extern "C" fn chacha20_rng_fill_bytes(state: &mut SerializedRngState, output: &mut [u8])
     ensures value { (output.new, of_state_bytes state.new)
         ≡ fill 10 (of_state_bytes state.old) (length output.old) }
     ensures stored { state.new ≡ state_bytes (of_state_bytes state.new) }

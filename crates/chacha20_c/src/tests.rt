@@ -6,10 +6,11 @@ use crate::chacha::{
     chacha20_xor_between, chacha20_xor_in_place,
 };
 use crate::generators::{
-    chacha_rng_fill_bytes, chacha_rng_from_seed, chacha_rng_get_block_pos, chacha_rng_get_stream,
-    chacha_rng_get_word_pos, chacha_rng_next_u32, chacha_rng_next_u64, chacha_rng_set_block_pos,
-    chacha_rng_set_stream, chacha_rng_set_word_pos, chacha8_rng_fill_bytes, chacha8_rng_next_u32,
-    chacha8_rng_next_u64, chacha12_rng_fill_bytes, chacha12_rng_next_u32, chacha12_rng_next_u64,
+    chacha_rng_from_seed, chacha_rng_get_block_pos, chacha_rng_get_stream, chacha_rng_get_word_pos,
+    chacha_rng_set_block_pos, chacha_rng_set_stream, chacha_rng_set_word_pos,
+    chacha8_rng_fill_bytes, chacha8_rng_next_u32, chacha8_rng_next_u64, chacha12_rng_fill_bytes,
+    chacha12_rng_next_u32, chacha12_rng_next_u64, chacha20_rng_fill_bytes, chacha20_rng_next_u32,
+    chacha20_rng_next_u64,
 };
 use crate::legacy::{
     chacha20_legacy_check, chacha20_legacy_write_keystream, chacha20_legacy_xor_between,
@@ -51,21 +52,20 @@ fn in_place(rt: HostRuntime) {
     );
 }
 
-// The second half of the streams, from byte 8 on.
+// The second half of each stream, combined with the stream, leaves zeros.
 #[test]
 fn between_buffers(rt: HostRuntime) {
     let (mut of_8, mut of_12, mut of_20, mut legacy) = ([1; 8], [2; 8], [3; 8], [4; 8]);
     let answers = [
-        chacha8_xor_between(&[0; 32], &[0; 12], 8, &[0; 8], &mut of_8),
-        chacha12_xor_between(&[0; 32], &[0; 12], 8, &[0; 8], &mut of_12),
-        chacha20_xor_between(&[0; 32], &[0; 12], 8, &[0; 8], &mut of_20),
-        chacha20_legacy_xor_between(&[0; 32], &[0; 8], 0, 8, &[0; 8], &mut legacy),
+        chacha8_xor_between(&[0; 32], &[0; 12], 8, &OF_8[8..], &mut of_8),
+        chacha12_xor_between(&[0; 32], &[0; 12], 8, &OF_12[8..], &mut of_12),
+        chacha20_xor_between(&[0; 32], &[0; 12], 8, &OF_20[8..], &mut of_20),
+        chacha20_legacy_xor_between(&[0; 32], &[0; 8], 0, 8, &OF_20[8..], &mut legacy),
     ];
-    let right = OF_8.ends_with(&of_8)
-        && OF_12.ends_with(&of_12)
-        && OF_20.ends_with(&of_20)
-        && legacy == of_20;
-    assert_eq!(rt; (answers, right), ([0; 4], true));
+    assert_eq!(rt;
+        (answers, [of_8, of_12, of_20, legacy]),
+        ([0; 4], [[0; 8]; 4])
+    );
 }
 
 // The keystream goes over whatever was there.
@@ -204,16 +204,16 @@ fn reads(rt: HostRuntime) {
     let words = [
         chacha8_rng_next_u32(&mut of_8),
         chacha12_rng_next_u32(&mut of_12),
-        chacha_rng_next_u32(&mut of_20),
+        chacha20_rng_next_u32(&mut of_20),
     ];
     let two_words = [
         chacha8_rng_next_u64(&mut of_8),
         chacha12_rng_next_u64(&mut of_12),
-        chacha_rng_next_u64(&mut of_20),
+        chacha20_rng_next_u64(&mut of_20),
     ];
     chacha8_rng_fill_bytes(&mut of_8, &mut bytes[0]);
     chacha12_rng_fill_bytes(&mut of_12, &mut bytes[1]);
-    chacha_rng_fill_bytes(&mut of_20, &mut bytes[2]);
+    chacha20_rng_fill_bytes(&mut of_20, &mut bytes[2]);
     state[40] = 4;
     assert_eq!(rt;
         (words, two_words, bytes, [of_8, of_12, of_20]),
