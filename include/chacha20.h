@@ -5,7 +5,7 @@
 
    For every function:
 
-   - A pointer is never null, also where a length is 0; the inline functions alone take null with
+   - A pointer is never null, also where a length is 0; only the inline functions take null with
      length 0. With length 0 nothing is read or written there, and the pointer may be any other, as
      one past the end of a buffer.
    - What a function writes may not overlap anything else that it is given, the key least of all:

@@ -16,6 +16,6 @@ pub mod StateBytes
 pub mod Runs
 pub mod GeneratorRuns
 pub mod Text
--- What clauses of inner functions alone use.
+-- What only clauses of inner functions use.
 pub mod Blocks
 pub mod Unread

@@ -20,10 +20,10 @@ use std::marker::Model;
 /// (draft-irtf-cfrg-xchacha).
 pub type XNonce = [u8; 24];
 
-/// XChaCha with 8 rounds, this crate's own number: the draft defines 20 alone. It takes as many bytes as `XChaCha20`.
+/// XChaCha with 8 rounds, this crate's own number: the draft defines only 20. It takes as many bytes as `XChaCha20`.
 pub type XChaCha8 = StreamCipherCoreWrapper<XChaChaCore<R8, Lanes16>>;
 
-/// XChaCha with 12 rounds, this crate's own number: the draft defines 20 alone. It takes as many bytes as `XChaCha20`.
+/// XChaCha with 12 rounds, this crate's own number: the draft defines only 20. It takes as many bytes as `XChaCha20`.
 pub type XChaCha12 = StreamCipherCoreWrapper<XChaChaCore<R12, Lanes16>>;
 
 /// XChaCha20 (draft-irtf-cfrg-xchacha, section 2.3), from block 0 on: ChaCha20 under the key and the nonce that

@@ -11,7 +11,7 @@ pub mod Cipher
 pub mod Limit
 pub mod SeekNum
 pub mod Counts
--- What clauses of inner functions alone use.
+-- What only clauses of inner functions use.
 pub mod Number
 pub mod Buffered
 pub mod Lanes

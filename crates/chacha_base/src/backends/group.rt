@@ -48,7 +48,7 @@ pub trait States: Copy {
 
 /// States that become blocks.
 pub trait Group: States {
-    /// States that differ in the last row alone.
+    /// States that differ only in the last row.
     fn start(state: &[u32; 16], last_rows: &[[u32; 4]]) -> Self
         requires { length last_rows.now ≡ Self.BLOCKS }
         ensures { (g : ℕ) → g < Self.BLOCKS → Self.words_of result g
