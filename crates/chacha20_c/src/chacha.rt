@@ -7,10 +7,42 @@ ghost use Rattle.chacha20.specs.Limit.{limit_of};
 ghost use Rattle.chacha20_c.specs.Answers.{Checked, Written, Xored, XoredInto};
 
 use crate::stateless;
-use chacha20::{ChaCha8, ChaCha12, ChaCha20, Key, Nonce};
+use chacha20::{
+    ChaChaCore, Ietf, Key, Lanes16, Nonce, R8, R12, R20, Rounds, StreamCipherCoreWrapper,
+};
 
 // Where the streams of 2^32 blocks end.
 const LIMIT: u128 = 64 << 32;
+
+// The type of `ChaCha8`, `ChaCha12` and `ChaCha20`. The calls on it are proved once, for any number of rounds.
+type Cipher<R> = StreamCipherCoreWrapper<ChaChaCore<R, Ietf, Lanes16>>;
+
+fn xor_in_place<R: Rounds>(key: &Key, nonce: &Nonce, position: u64, data: &mut [u8]) -> u32
+    ensures { Xored (limit_of (modulus ietf)) (keystream (modulus ietf)
+        (block R.COUNT ietf key.now nonce.now)) position result «data».old «data».new }
+{
+    stateless::xor_in_place::<Cipher<R>>(key, nonce, u128::from(position), data)
+}
+
+fn xor_between<R: Rounds>(
+    key: &Key,
+    nonce: &Nonce,
+    position: u64,
+    input: &[u8],
+    output: &mut [u8],
+) -> u32
+    ensures { XoredInto (limit_of (modulus ietf)) (keystream (modulus ietf)
+        (block R.COUNT ietf key.now nonce.now)) position result input.now output.old output.new }
+{
+    stateless::xor_between::<Cipher<R>>(key, nonce, u128::from(position), input, output)
+}
+
+fn write_keystream<R: Rounds>(key: &Key, nonce: &Nonce, position: u64, output: &mut [u8]) -> u32
+    ensures { Written (limit_of (modulus ietf)) (keystream (modulus ietf)
+        (block R.COUNT ietf key.now nonce.now)) position result output.old output.new }
+{
+    stateless::write_keystream::<Cipher<R>>(key, nonce, u128::from(position), output)
+}
 
 /// ChaCha with 8 rounds (this crate's own number):
 /// combines `data` in place, by exclusive or, with the keystream from byte `position` on.
@@ -26,7 +58,7 @@ pub extern "C" fn chacha8_xor_in_place(
     ensures { Xored (limit_of (modulus ietf)) (keystream (modulus ietf)
         (block 4 ietf key.now nonce.now)) position result «data».old «data».new }
 {
-    stateless::xor_in_place::<ChaCha8>(key, nonce, u128::from(position), data)
+    xor_in_place::<R8>(key, nonce, position, data)
 }
 
 /// `chacha8_xor_in_place` from `input` to `output`, which overlaps no other argument.
@@ -42,7 +74,7 @@ pub extern "C" fn chacha8_xor_between(
     ensures { XoredInto (limit_of (modulus ietf)) (keystream (modulus ietf)
         (block 4 ietf key.now nonce.now)) position result input.now output.old output.new }
 {
-    stateless::xor_between::<ChaCha8>(key, nonce, u128::from(position), input, output)
+    xor_between::<R8>(key, nonce, position, input, output)
 }
 
 /// The keystream of `chacha8_xor_in_place`: writes its bytes over `output`, whatever was there.
@@ -58,7 +90,7 @@ pub extern "C" fn chacha8_write_keystream(
     ensures { Written (limit_of (modulus ietf)) (keystream (modulus ietf)
         (block 4 ietf key.now nonce.now)) position result output.old output.new }
 {
-    stateless::write_keystream::<ChaCha8>(key, nonce, u128::from(position), output)
+    write_keystream::<R8>(key, nonce, position, output)
 }
 
 /// ChaCha with 12 rounds (this crate's own number):
@@ -75,7 +107,7 @@ pub extern "C" fn chacha12_xor_in_place(
     ensures { Xored (limit_of (modulus ietf)) (keystream (modulus ietf)
         (block 6 ietf key.now nonce.now)) position result «data».old «data».new }
 {
-    stateless::xor_in_place::<ChaCha12>(key, nonce, u128::from(position), data)
+    xor_in_place::<R12>(key, nonce, position, data)
 }
 
 /// `chacha12_xor_in_place` from `input` to `output`, which overlaps no other argument.
@@ -91,7 +123,7 @@ pub extern "C" fn chacha12_xor_between(
     ensures { XoredInto (limit_of (modulus ietf)) (keystream (modulus ietf)
         (block 6 ietf key.now nonce.now)) position result input.now output.old output.new }
 {
-    stateless::xor_between::<ChaCha12>(key, nonce, u128::from(position), input, output)
+    xor_between::<R12>(key, nonce, position, input, output)
 }
 
 /// The keystream of `chacha12_xor_in_place`: writes its bytes over `output`, whatever was there.
@@ -107,7 +139,7 @@ pub extern "C" fn chacha12_write_keystream(
     ensures { Written (limit_of (modulus ietf)) (keystream (modulus ietf)
         (block 6 ietf key.now nonce.now)) position result output.old output.new }
 {
-    stateless::write_keystream::<ChaCha12>(key, nonce, u128::from(position), output)
+    write_keystream::<R12>(key, nonce, position, output)
 }
 
 /// ChaCha20 (RFC 8439, section 2.4):
@@ -124,7 +156,7 @@ pub extern "C" fn chacha20_xor_in_place(
     ensures { Xored (limit_of (modulus ietf)) (keystream (modulus ietf)
         (block 10 ietf key.now nonce.now)) position result «data».old «data».new }
 {
-    stateless::xor_in_place::<ChaCha20>(key, nonce, u128::from(position), data)
+    xor_in_place::<R20>(key, nonce, position, data)
 }
 
 /// `chacha20_xor_in_place` from `input` to `output`, which overlaps no other argument.
@@ -140,7 +172,7 @@ pub extern "C" fn chacha20_xor_between(
     ensures { XoredInto (limit_of (modulus ietf)) (keystream (modulus ietf)
         (block 10 ietf key.now nonce.now)) position result input.now output.old output.new }
 {
-    stateless::xor_between::<ChaCha20>(key, nonce, u128::from(position), input, output)
+    xor_between::<R20>(key, nonce, position, input, output)
 }
 
 /// The keystream of `chacha20_xor_in_place`: writes its bytes over `output`, whatever was there.
@@ -156,7 +188,7 @@ pub extern "C" fn chacha20_write_keystream(
     ensures { Written (limit_of (modulus ietf)) (keystream (modulus ietf)
         (block 10 ietf key.now nonce.now)) position result output.old output.new }
 {
-    stateless::write_keystream::<ChaCha20>(key, nonce, u128::from(position), output)
+    write_keystream::<R20>(key, nonce, position, output)
 }
 
 /// Whether the ciphers with a nonce of 12 or of 24 bytes take `len` bytes from byte `position` on, whatever the number

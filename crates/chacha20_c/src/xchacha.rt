@@ -9,7 +9,42 @@ ghost use Rattle.chacha20.specs.XChaCha.{hchacha, subkey, subnonce};
 ghost use Rattle.chacha20_c.specs.Answers.{Written, Xored, XoredInto};
 
 use crate::stateless;
-use chacha20::{Key, R8, R12, R20, XChaCha8, XChaCha12, XChaCha20, XNonce, hchacha};
+use chacha20::{
+    Key, Lanes16, R8, R12, R20, Rounds, StreamCipherCoreWrapper, XChaChaCore, XNonce, hchacha,
+};
+
+// The type of `XChaCha8`, `XChaCha12` and `XChaCha20`. The calls on it are proved once, for any number of rounds.
+type Cipher<R> = StreamCipherCoreWrapper<XChaChaCore<R, Lanes16>>;
+
+fn xor_in_place<R: Rounds>(key: &Key, nonce: &XNonce, position: u64, data: &mut [u8]) -> u32
+    ensures { Xored (limit_of (modulus ietf)) (keystream (modulus ietf)
+        (block R.COUNT ietf (subkey R.COUNT key.now nonce.now) (subnonce nonce.now)))
+        position result «data».old «data».new }
+{
+    stateless::xor_in_place::<Cipher<R>>(key, nonce, u128::from(position), data)
+}
+
+fn xor_between<R: Rounds>(
+    key: &Key,
+    nonce: &XNonce,
+    position: u64,
+    input: &[u8],
+    output: &mut [u8],
+) -> u32
+    ensures { XoredInto (limit_of (modulus ietf)) (keystream (modulus ietf)
+        (block R.COUNT ietf (subkey R.COUNT key.now nonce.now) (subnonce nonce.now)))
+        position result input.now output.old output.new }
+{
+    stateless::xor_between::<Cipher<R>>(key, nonce, u128::from(position), input, output)
+}
+
+fn write_keystream<R: Rounds>(key: &Key, nonce: &XNonce, position: u64, output: &mut [u8]) -> u32
+    ensures { Written (limit_of (modulus ietf)) (keystream (modulus ietf)
+        (block R.COUNT ietf (subkey R.COUNT key.now nonce.now) (subnonce nonce.now)))
+        position result output.old output.new }
+{
+    stateless::write_keystream::<Cipher<R>>(key, nonce, u128::from(position), output)
+}
 
 /// XChaCha with 8 rounds (this crate's own number):
 /// combines `data` in place, by exclusive or, with the keystream from byte `position` on.
@@ -26,7 +61,7 @@ pub extern "C" fn xchacha8_xor_in_place(
         (block 4 ietf (subkey 4 key.now nonce.now) (subnonce nonce.now)))
         position result «data».old «data».new }
 {
-    stateless::xor_in_place::<XChaCha8>(key, nonce, u128::from(position), data)
+    xor_in_place::<R8>(key, nonce, position, data)
 }
 
 /// `xchacha8_xor_in_place` from `input` to `output`, which overlaps no other argument.
@@ -43,7 +78,7 @@ pub extern "C" fn xchacha8_xor_between(
         (block 4 ietf (subkey 4 key.now nonce.now) (subnonce nonce.now)))
         position result input.now output.old output.new }
 {
-    stateless::xor_between::<XChaCha8>(key, nonce, u128::from(position), input, output)
+    xor_between::<R8>(key, nonce, position, input, output)
 }
 
 /// The keystream of `xchacha8_xor_in_place`: writes its bytes over `output`, whatever was there.
@@ -60,7 +95,7 @@ pub extern "C" fn xchacha8_write_keystream(
         (block 4 ietf (subkey 4 key.now nonce.now) (subnonce nonce.now)))
         position result output.old output.new }
 {
-    stateless::write_keystream::<XChaCha8>(key, nonce, u128::from(position), output)
+    write_keystream::<R8>(key, nonce, position, output)
 }
 
 /// XChaCha with 12 rounds (this crate's own number):
@@ -78,7 +113,7 @@ pub extern "C" fn xchacha12_xor_in_place(
         (block 6 ietf (subkey 6 key.now nonce.now) (subnonce nonce.now)))
         position result «data».old «data».new }
 {
-    stateless::xor_in_place::<XChaCha12>(key, nonce, u128::from(position), data)
+    xor_in_place::<R12>(key, nonce, position, data)
 }
 
 /// `xchacha12_xor_in_place` from `input` to `output`, which overlaps no other argument.
@@ -95,7 +130,7 @@ pub extern "C" fn xchacha12_xor_between(
         (block 6 ietf (subkey 6 key.now nonce.now) (subnonce nonce.now)))
         position result input.now output.old output.new }
 {
-    stateless::xor_between::<XChaCha12>(key, nonce, u128::from(position), input, output)
+    xor_between::<R12>(key, nonce, position, input, output)
 }
 
 /// The keystream of `xchacha12_xor_in_place`: writes its bytes over `output`, whatever was there.
@@ -112,7 +147,7 @@ pub extern "C" fn xchacha12_write_keystream(
         (block 6 ietf (subkey 6 key.now nonce.now) (subnonce nonce.now)))
         position result output.old output.new }
 {
-    stateless::write_keystream::<XChaCha12>(key, nonce, u128::from(position), output)
+    write_keystream::<R12>(key, nonce, position, output)
 }
 
 /// XChaCha20 (draft-irtf-cfrg-xchacha, section 2.3):
@@ -130,7 +165,7 @@ pub extern "C" fn xchacha20_xor_in_place(
         (block 10 ietf (subkey 10 key.now nonce.now) (subnonce nonce.now)))
         position result «data».old «data».new }
 {
-    stateless::xor_in_place::<XChaCha20>(key, nonce, u128::from(position), data)
+    xor_in_place::<R20>(key, nonce, position, data)
 }
 
 /// `xchacha20_xor_in_place` from `input` to `output`, which overlaps no other argument.
@@ -147,7 +182,7 @@ pub extern "C" fn xchacha20_xor_between(
         (block 10 ietf (subkey 10 key.now nonce.now) (subnonce nonce.now)))
         position result input.now output.old output.new }
 {
-    stateless::xor_between::<XChaCha20>(key, nonce, u128::from(position), input, output)
+    xor_between::<R20>(key, nonce, position, input, output)
 }
 
 /// The keystream of `xchacha20_xor_in_place`: writes its bytes over `output`, whatever was there.
@@ -164,7 +199,7 @@ pub extern "C" fn xchacha20_write_keystream(
         (block 10 ietf (subkey 10 key.now nonce.now) (subnonce nonce.now)))
         position result output.old output.new }
 {
-    stateless::write_keystream::<XChaCha20>(key, nonce, u128::from(position), output)
+    write_keystream::<R20>(key, nonce, position, output)
 }
 
 /// HChaCha with 8 rounds (this crate's own number): writes the 32 bytes that it makes of a key and of 16 bytes more.
