@@ -19,6 +19,7 @@ mod records;
 mod rfc8439;
 mod runs;
 mod streams;
+mod texts;
 mod users;
 mod width3;
 mod wraps;

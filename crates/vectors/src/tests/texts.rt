@@ -1,10 +1,10 @@
 //! The texts that `Debug` writes, of cores and generators over each backend, among them those of the named types.
 
-use crate::{ChaCha8Rng, ChaCha12Rng, ChaCha20LegacyCore, ChaCha20Rng, ChaChaCore, ChaChaRng};
-use chacha_base::backends::{Lanes4, Lanes8, Lanes16, Rows8, Soft};
-use chacha_base::cipher::{KeyIvInit, RngBackend};
-use chacha_base::rounds::{R8, R12, R20};
-use chacha_base::variants::{Ietf, Legacy};
+use chacha20::cipher::{KeyIvInit, RngBackend};
+use chacha20::{
+    ChaCha8Rng, ChaCha12Rng, ChaCha20LegacyCore, ChaCha20Rng, ChaChaCore, ChaChaRng, Ietf, Lanes4,
+    Lanes8, Lanes16, Legacy, R8, R12, R20, Rows8, Soft,
+};
 use std::alloc::Global;
 use std::fmt::Debug;
 use std::process::Abort;
