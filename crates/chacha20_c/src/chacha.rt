@@ -7,9 +7,8 @@ ghost use Rattle.chacha20.specs.Limit.{limit_of};
 ghost use Rattle.chacha20_c.specs.Answers.{Checked, Written, Xored, XoredInto};
 
 use crate::stateless;
-use chacha20::{
-    ChaChaCore, Ietf, Key, Lanes16, Nonce, R8, R12, R20, Rounds, StreamCipherCoreWrapper,
-};
+use chacha20::backends::Lanes16;
+use chacha20::{ChaChaCore, Ietf, Key, Nonce, R8, R12, R20, Rounds, StreamCipherCoreWrapper};
 
 // Where the streams of 2^32 blocks end.
 const LIMIT: u128 = 64 << 32;

@@ -9,9 +9,8 @@ ghost use Rattle.chacha20.specs.XChaCha.{hchacha, subkey, subnonce};
 ghost use Rattle.chacha20_c.specs.Answers.{Written, Xored, XoredInto};
 
 use crate::stateless;
-use chacha20::{
-    Key, Lanes16, R8, R12, R20, Rounds, StreamCipherCoreWrapper, XChaChaCore, XNonce, hchacha,
-};
+use chacha20::backends::Lanes16;
+use chacha20::{Key, R8, R12, R20, Rounds, StreamCipherCoreWrapper, XChaChaCore, XNonce, hchacha};
 
 // The type of `XChaCha8`, `XChaCha12` and `XChaCha20`. The calls on it are proved once, for any number of rounds.
 type Cipher<R> = StreamCipherCoreWrapper<XChaChaCore<R, Lanes16>>;
