@@ -7,7 +7,5 @@ pub mod backends;
 pub mod bytes;
 pub mod cipher;
 pub mod rounds;
-#[cfg(test)]
-mod tests;
 pub mod variants;
 pub mod wrapper;

@@ -11,19 +11,19 @@ use chacha20::variants::{Ietf, Legacy};
 use chacha20::{ChaCha20LegacyCore, ChaChaCore, LegacyNonce, R20, Rounds, XChaChaCore};
 
 /// The key or seed 00 to 1f.
-pub const COUNTING: [u8; 32] = [
+pub static COUNTING: [u8; 32] = [
     0, 1, 2, 3, 4, 5, 6, 7, 8, 9, 10, 11, 12, 13, 14, 15, 16, 17, 18, 19, 20, 21, 22, 23, 24, 25,
     26, 27, 28, 29, 30, 31,
 ];
 
 /// The key or seed 01 to 20.
-pub const FROM_1: [u8; 32] = [
+pub static FROM_1: [u8; 32] = [
     1, 2, 3, 4, 5, 6, 7, 8, 9, 10, 11, 12, 13, 14, 15, 16, 17, 18, 19, 20, 21, 22, 23, 24, 25, 26,
     27, 28, 29, 30, 31, 32,
 ];
 
 /// The legacy nonce that goes with `FROM_1`.
-pub const LEGACY_NONCE: LegacyNonce = [3, 1, 4, 1, 5, 9, 2, 6];
+pub static LEGACY_NONCE: LegacyNonce = [3, 1, 4, 1, 5, 9, 2, 6];
 
 /// No rounds: a block is its start state, each word doubled.
 #[derive(Clone, Copy)]

@@ -1,6 +1,7 @@
 //! What no contract says: published bytes over each backend; and what a caller learns from contracts.
 
 mod backends;
+mod base;
 mod contracts;
 mod core_calls;
 mod draws;
@@ -20,6 +21,8 @@ mod rfc8439;
 mod runs;
 mod streams;
 mod texts;
+mod toy;
+mod toy_cipher;
 mod users;
 mod width3;
 mod wraps;

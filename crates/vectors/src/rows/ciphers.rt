@@ -20,9 +20,9 @@ where
     C: KeyIvInit<Key = Key, Iv = N> + StreamCipherSeekCore<Counter = T> + Drop,
 {}
 
-const PLAINTEXT: [u8; 16] = [0, 1, 2, 3, 4, 5, 6, 7, 8, 9, 10, 11, 12, 13, 14, 15];
+static PLAINTEXT: [u8; 16] = [0, 1, 2, 3, 4, 5, 6, 7, 8, 9, 10, 11, 12, 13, 14, 15];
 
-const CIPHERTEXT: [u8; 16] = *b"\xe4\x05\x62\x6e\x4f\x12\x36\xb3\x67\x0e\xe4\x28\x33\x2e\xa2\x0e";
+static CIPHERTEXT: [u8; 16] = *b"\xe4\x05\x62\x6e\x4f\x12\x36\xb3\x67\x0e\xe4\x28\x33\x2e\xa2\x0e";
 
 /// Each row for cores in the layout of RFC 8439, in the one before it, and with nonces of 24 bytes.
 pub fn verdicts<K, L, X>() -> [Row; 10]
@@ -47,8 +47,12 @@ where
 
 /// The first row's ciphertext; its plaintext, if the cipher refuses it.
 pub fn first_ciphertext() -> [u8; 16] {
+    applied(&mut ChaCha20::new(&[0x42; 32], &[0x24; 12]))
+}
+
+fn applied<C: StreamCipher>(cipher: &mut C) -> [u8; 16] {
     let mut data = PLAINTEXT;
-    let _ = ChaCha20::new(&[0x42; 32], &[0x24; 12]).try_apply_keystream(&mut data);
+    let _ = cipher.try_apply_keystream(&mut data);
     data
 }
 
@@ -103,7 +107,7 @@ fn row_4<K: SeekCore<Nonce, u32>>() -> Verdict {
     wrong_step(&mut cipher, &ROW_4)
 }
 
-const ROW_4: [(&'static str, Step); 2] = [
+static ROW_4: [(&'static str, Step); 2] = [
     ("block 0", Step::Skip(64)),
     (
         "the message",
@@ -120,7 +124,7 @@ fn row_5<X: SeekCore<XNonce, u32>>() -> Verdict {
     wrong_step(&mut cipher, &ROW_5)
 }
 
-const ROW_5: [(&'static str, Step); 2] = [
+static ROW_5: [(&'static str, Step); 2] = [
     ("block 0", Step::WriteSkip(64)),
     (
         "the front of block 1",
@@ -132,10 +136,10 @@ const ROW_5: [(&'static str, Step); 2] = [
 ];
 
 // The key 80 to 9f and its nonce.
-const FROM_80: Key = *b"\x80\x81\x82\x83\x84\x85\x86\x87\x88\x89\x8a\x8b\x8c\x8d\x8e\x8f\
+static FROM_80: Key = *b"\x80\x81\x82\x83\x84\x85\x86\x87\x88\x89\x8a\x8b\x8c\x8d\x8e\x8f\
     \x90\x91\x92\x93\x94\x95\x96\x97\x98\x99\x9a\x9b\x9c\x9d\x9e\x9f";
 
-const X_NONCE: XNonce = *b"@ABCDEFGHIJKLMNOPQRSTUVX";
+static X_NONCE: XNonce = *b"@ABCDEFGHIJKLMNOPQRSTUVX";
 
 // The legacy cipher, from its start and from byte 17.
 fn row_6<L: SeekCore<LegacyNonce, u64>>() -> Verdict {
@@ -145,7 +149,7 @@ fn row_6<L: SeekCore<LegacyNonce, u64>>() -> Verdict {
     first_failure(&[start, wrong_step(&mut cipher, &ROW_6_FROM_17)])
 }
 
-const ROW_6_START: [(&'static str, Step); 1] = [(
+static ROW_6_START: [(&'static str, Step); 1] = [(
     "32 bytes",
     Step::Write(
         b"\xde\xeb\x6b\x9d\x06\xdf\xf3\xe0\x91\xbf\x3a\xd4\xf4\xd4\x92\xb6\
@@ -153,7 +157,7 @@ const ROW_6_START: [(&'static str, Step); 1] = [(
     ),
 )];
 
-const ROW_6_FROM_17: [(&'static str, Step); 3] = [
+static ROW_6_FROM_17: [(&'static str, Step); 3] = [
     ("three bytes from byte 17 on", Step::Write(b"\x98\x24\x6f")),
     ("no bytes", Step::Apply(b"", b"")),
     ("the position after them", Step::At(Place::U32(20))),
@@ -165,7 +169,7 @@ fn row_11<K: SeekCore<Nonce, u32>>() -> Verdict {
     wrong_step(&mut cipher, &ROW_11)
 }
 
-const ROW_11: [(&'static str, Step); 7] = [
+static ROW_11: [(&'static str, Step); 7] = [
     (
         "a seek to the last block",
         Step::Seek(Place::U64(274877906880)),
@@ -192,7 +196,7 @@ fn row_12<K: SeekCore<Nonce, u32>, L: SeekCore<LegacyNonce, u64>>() -> Verdict {
     ])
 }
 
-const ROW_12_LEGACY: [(&'static str, Step); 3] = [
+static ROW_12_LEGACY: [(&'static str, Step); 3] = [
     (
         "a seek past 64 bits",
         Step::Seek(Place::U128(1180591620717411303360)),
@@ -204,7 +208,7 @@ const ROW_12_LEGACY: [(&'static str, Step); 3] = [
     ),
 ];
 
-const ROW_12: [(&'static str, Step); 2] = [
+static ROW_12: [(&'static str, Step); 2] = [
     ("a position past 31 bits, in 31", Step::NotInI32),
     (
         "a position past 31 bits, in 32",
@@ -218,7 +222,7 @@ fn row_16<K: SeekCore<Nonce, u32>>() -> Verdict {
     wrong_step(&mut cipher, &ROW_16)
 }
 
-const ROW_16: [(&'static str, Step); 2] = [
+static ROW_16: [(&'static str, Step); 2] = [
     ("three bytes into four", Step::NoBetween(&[5, 6, 7], 4)),
     ("the position after them", Step::At(Place::U32(0))),
 ];
@@ -236,7 +240,7 @@ fn row_18<K: SeekCore<Nonce, u32>>() -> Verdict {
     ])
 }
 
-const ROW_18: [(&'static str, Step); 4] = [
+static ROW_18: [(&'static str, Step); 4] = [
     (
         "a seek to the last byte",
         Step::Seek(Place::U64(274877906943)),
@@ -262,7 +266,7 @@ fn row_22<K: SeekCore<Nonce, u32>, L: SeekCore<LegacyNonce, u64>>() -> Verdict {
     ])
 }
 
-const ROW_22: [(&'static str, Step); 3] = [
+static ROW_22: [(&'static str, Step); 3] = [
     ("all blocks but the last", Step::Left(274877906880)),
     ("one byte more", Step::Left(274877906881)),
     ("more than all", Step::NotLeft(274877906945)),

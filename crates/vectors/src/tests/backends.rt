@@ -164,7 +164,7 @@ where
 // Five blocks before a counter of 32 bits wraps: the counter alone, and in a state.
 const START: u32 = 0xffff_fffb;
 
-const START_STATE: [u32; 16] = [
+static START_STATE: [u32; 16] = [
     0x61707865, 0x3320646e, 0x79622d32, 0x6b206574, 1, 2, 3, 4, 5, 6, 7, 8, START, 9, 10, 11,
 ];
 

@@ -25,7 +25,11 @@ const LIMIT: u128 = 274877906944;
 const LEGACY_LIMIT: u128 = 1180591620717411303424;
 
 // The last sixteen bytes: seventeen are refused, sixteen come, and then none but no bytes.
-const LAST_BYTES: [NamedStep; 5] = [
+static LAST_BYTES: [NamedStep; 6] = [
+    (
+        "a seek to the last sixteen bytes",
+        Step::Seek(Place::U64(274877906928)),
+    ),
     ("seventeen bytes before the end", Step::NoApply(&[0; 17])),
     (
         "the last sixteen bytes",
@@ -40,13 +44,18 @@ const LAST_BYTES: [NamedStep; 5] = [
 ];
 
 // After them the start, by a seek.
-const FIRST_BYTES: [NamedStep; 2] = [
+static FIRST_BYTES: [NamedStep; 3] = [
+    ("a seek to the start", Step::Seek(Place::U32(0))),
     ("the first bytes", Step::Apply(&[0; 4], b"\xca\xf0\xe0\xc2")),
     ("the position after them", Step::At(Place::U32(4))),
 ];
 
 // From the block before the last one into the last.
-const INTO_THE_LAST_BLOCK: [NamedStep; 2] = [
+static INTO_THE_LAST_BLOCK: [NamedStep; 3] = [
+    (
+        "a seek to the block before the last one",
+        Step::Seek(Place::U64(274877906864)),
+    ),
     (
         "into the last block",
         Step::Apply(&[0; 17], b"\xfc\xff\xff\xff\0\0\0\0\0\0\0\0\0\0\0\0\xca"),
@@ -56,7 +65,7 @@ const INTO_THE_LAST_BLOCK: [NamedStep; 2] = [
 
 // The limit itself is a position, and the next number isn't. Between slices there: of lengths that differ, of one byte,
 // and of none.
-const AT_THE_LIMIT: [NamedStep; 11] = [
+static AT_THE_LIMIT: [NamedStep; 11] = [
     ("a seek to the limit", Step::Seek(Place::U64(274877906944))),
     ("no bytes are left", Step::Left(0)),
     ("one isn't", Step::NotLeft(1)),
@@ -77,7 +86,7 @@ const AT_THE_LIMIT: [NamedStep; 11] = [
 ];
 
 // Numbers below 0, and the greatest of two types, are no positions: the cipher stays where it is.
-const FAR_SEEKS: [NamedStep; 11] = [
+static FAR_SEEKS: [NamedStep; 11] = [
     ("the least of 32 bits", Step::NoSeek(Place::I32(i32::MIN))),
     (
         "the greatest of 128 bits",
@@ -107,7 +116,7 @@ const FAR_SEEKS: [NamedStep; 11] = [
 ];
 
 // The greatest position of 31 bits and the one after it, and the last block of a cipher and then none.
-const PAST_31_BITS: [NamedStep; 6] = [
+static PAST_31_BITS: [NamedStep; 6] = [
     ("a position of 31 bits", Step::At(Place::I32(2147483647))),
     ("a byte there", Step::Skip(1)),
     ("the one after it", Step::NotInI32),
@@ -121,7 +130,7 @@ const PAST_31_BITS: [NamedStep; 6] = [
 
 // A fresh cipher with a counter of 64 bits takes as much as can be asked for. Its limit is a position, and more than 64
 // bits say. Its last byte.
-const AT_THE_LEGACY_LIMIT: [NamedStep; 13] = [
+static AT_THE_LEGACY_LIMIT: [NamedStep; 13] = [
     ("all that a length says", Step::Left(usize::MAX)),
     ("a seek to the limit", Step::Seek(Place::U128(LEGACY_LIMIT))),
     ("no bytes are left", Step::Left(0)),
@@ -144,7 +153,7 @@ const AT_THE_LEGACY_LIMIT: [NamedStep; 13] = [
 ];
 
 // A position that is the greatest of 64 bits and the one after it, and the last block of a cipher and then none.
-const PAST_64_BITS: [NamedStep; 8] = [
+static PAST_64_BITS: [NamedStep; 8] = [
     (
         "a position of 64 bits",
         Step::At(Place::U64(18446744073709551615)),
@@ -342,13 +351,12 @@ fn wrong_ends<K: StreamCipherSeekCore>(
 // What goes wrong at the end of a cipher without rounds whose counter has 32 bits.
 fn wrong_zero_ends<N, K: SeekCore<N, u32>>(nonce: &N) -> Verdict {
     let mut cipher = Cipher::<K>::new(&[0; 32], nonce);
-    cipher.seek(274877906928u64);
-    let last = wrong_step(&mut cipher, &LAST_BYTES);
-    cipher.seek(0u32);
-    let first = wrong_step(&mut cipher, &FIRST_BYTES);
-    cipher.seek(274877906864u64);
-    let into = wrong_step(&mut cipher, &INTO_THE_LAST_BLOCK);
-    first_failure(&[last, first, into, wrong_step(&mut cipher, &AT_THE_LIMIT)])
+    first_failure(&[
+        wrong_step(&mut cipher, &LAST_BYTES),
+        wrong_step(&mut cipher, &FIRST_BYTES),
+        wrong_step(&mut cipher, &INTO_THE_LAST_BLOCK),
+        wrong_step(&mut cipher, &AT_THE_LIMIT),
+    ])
 }
 
 fn wrong_zero_groups<K: SeekCore<Nonce, u32>>() -> Verdict {
@@ -416,36 +424,10 @@ fn directly(rt: HostRuntime) {
 // The last bytes, the start after them, and from the block before the last one into the last.
 fn last_bytes_as_a_list<K: StreamCipherSeekCore>(cipher: &mut Cipher<K>) -> Verdict {
     let mut data = [0; 38];
-    let calls = [
-        CipherCall::Seek(274877906928),
-        CipherCall::Apply { at: 0, len: 17 },
-        CipherCall::Apply { at: 0, len: 16 },
-        CipherCall::Pos,
-        CipherCall::Apply { at: 16, len: 1 },
-        CipherCall::Apply { at: 38, len: 0 },
-        CipherCall::Seek(0),
-        CipherCall::Apply { at: 17, len: 4 },
-        CipherCall::Seek(274877906864),
-        CipherCall::Apply { at: 21, len: 17 },
-        CipherCall::Pos,
-    ];
     let mut answers = [CipherAnswer::Overflow; 11];
-    run_cipher(cipher, &[], &mut data, &calls, &mut answers);
-    let expected = [
-        CipherAnswer::Done,
-        CipherAnswer::Refused,
-        CipherAnswer::Done,
-        CipherAnswer::Position(274877906944),
-        CipherAnswer::Refused,
-        CipherAnswer::Done,
-        CipherAnswer::Done,
-        CipherAnswer::Done,
-        CipherAnswer::Done,
-        CipherAnswer::Done,
-        CipherAnswer::Position(274877906881),
-    ];
+    run_cipher(cipher, &[], &mut data, &LAST_BYTES_CALLS, &mut answers);
     failed(&[
-        ("answers of the last bytes", answers == expected),
+        ("answers of the last bytes", answers == LAST_BYTES_ANSWERS),
         (
             "the last bytes",
             data.starts_with(b"\xfe\xff\xff\xff\0\0\0\0\0\0\0\0\0\0\0\0\0"),
@@ -457,146 +439,186 @@ fn last_bytes_as_a_list<K: StreamCipherSeekCore>(cipher: &mut Cipher<K>) -> Verd
     ])
 }
 
+static LAST_BYTES_CALLS: [CipherCall; 11] = [
+    CipherCall::Seek(274877906928),
+    CipherCall::Apply { at: 0, len: 17 },
+    CipherCall::Apply { at: 0, len: 16 },
+    CipherCall::Pos,
+    CipherCall::Apply { at: 16, len: 1 },
+    CipherCall::Apply { at: 38, len: 0 },
+    CipherCall::Seek(0),
+    CipherCall::Apply { at: 17, len: 4 },
+    CipherCall::Seek(274877906864),
+    CipherCall::Apply { at: 21, len: 17 },
+    CipherCall::Pos,
+];
+
+static LAST_BYTES_ANSWERS: [CipherAnswer; 11] = [
+    CipherAnswer::Done,
+    CipherAnswer::Refused,
+    CipherAnswer::Done,
+    CipherAnswer::Position(274877906944),
+    CipherAnswer::Refused,
+    CipherAnswer::Done,
+    CipherAnswer::Done,
+    CipherAnswer::Done,
+    CipherAnswer::Done,
+    CipherAnswer::Done,
+    CipherAnswer::Position(274877906881),
+];
+
 // The limit itself is a position, and the next number isn't. Between slices there, and calls for no bytes at the end of
 // the data.
 fn at_the_limit_as_a_list<K: StreamCipherSeekCore>(cipher: &mut Cipher<K>) -> Verdict {
     let mut data = [5; 4];
-    let calls = [
-        CipherCall::Seek(274877906944),
-        CipherCall::CheckRemaining(0),
-        CipherCall::CheckRemaining(1),
-        CipherCall::Seek(274877906945),
-        CipherCall::Pos,
-        CipherCall::ApplyFrom {
-            from: 0,
-            from_len: 3,
-            at: 0,
-            len: 4,
-        },
-        CipherCall::ApplyFrom {
-            from: 0,
-            from_len: 1,
-            at: 0,
-            len: 1,
-        },
-        CipherCall::Write { at: 0, len: 1 },
-        CipherCall::ApplyFrom {
-            from: 3,
-            from_len: 0,
-            at: 4,
-            len: 0,
-        },
-        CipherCall::Write { at: 4, len: 0 },
-    ];
     let mut answers = [CipherAnswer::Overflow; 10];
-    run_cipher(cipher, &[1, 2, 3], &mut data, &calls, &mut answers);
-    let expected = [
-        CipherAnswer::Done,
-        CipherAnswer::Done,
-        CipherAnswer::Refused,
-        CipherAnswer::Refused,
-        CipherAnswer::Position(274877906944),
-        CipherAnswer::Refused,
-        CipherAnswer::Refused,
-        CipherAnswer::Refused,
-        CipherAnswer::Done,
-        CipherAnswer::Done,
-    ];
+    run_cipher(
+        cipher,
+        &[1, 2, 3],
+        &mut data,
+        &AT_THE_LIMIT_CALLS,
+        &mut answers,
+    );
     failed(&[
-        ("answers at the limit", answers == expected),
+        ("answers at the limit", answers == AT_THE_LIMIT_ANSWERS),
         ("the data at the limit", data == [5; 4]),
     ])
 }
+
+static AT_THE_LIMIT_CALLS: [CipherCall; 10] = [
+    CipherCall::Seek(274877906944),
+    CipherCall::CheckRemaining(0),
+    CipherCall::CheckRemaining(1),
+    CipherCall::Seek(274877906945),
+    CipherCall::Pos,
+    CipherCall::ApplyFrom {
+        from: 0,
+        from_len: 3,
+        at: 0,
+        len: 4,
+    },
+    CipherCall::ApplyFrom {
+        from: 0,
+        from_len: 1,
+        at: 0,
+        len: 1,
+    },
+    CipherCall::Write { at: 0, len: 1 },
+    CipherCall::ApplyFrom {
+        from: 3,
+        from_len: 0,
+        at: 4,
+        len: 0,
+    },
+    CipherCall::Write { at: 4, len: 0 },
+];
+
+static AT_THE_LIMIT_ANSWERS: [CipherAnswer; 10] = [
+    CipherAnswer::Done,
+    CipherAnswer::Done,
+    CipherAnswer::Refused,
+    CipherAnswer::Refused,
+    CipherAnswer::Position(274877906944),
+    CipherAnswer::Refused,
+    CipherAnswer::Refused,
+    CipherAnswer::Refused,
+    CipherAnswer::Done,
+    CipherAnswer::Done,
+];
 
 // At the start of the stream no calls, far seeks, and calls for no bytes at the end of the data; and the greatest
 // position of 31 bits, and the one after it.
 fn from_the_start_as_a_list<K: StreamCipherSeekCore>(cipher: &mut Cipher<K>) -> Verdict {
     let mut data = [5];
     run_cipher(cipher, &[], &mut data, &[], &mut []);
-    let calls = [
-        CipherCall::SeekI32(i32::MIN),
-        CipherCall::Seek(u128::MAX),
-        CipherCall::Seek(usize::MAX as u128),
-        CipherCall::Pos,
-        CipherCall::Apply { at: 1, len: 0 },
-        CipherCall::Write { at: 1, len: 0 },
-        CipherCall::ApplyFrom {
-            from: 0,
-            from_len: 0,
-            at: 1,
-            len: 0,
-        },
-        CipherCall::Pos,
-        CipherCall::SeekI32(2147483647),
-        CipherCall::PosI32,
-        CipherCall::Write { at: 0, len: 1 },
-        CipherCall::PosI32,
-    ];
     let untouched = data == [5];
     let mut answers = [CipherAnswer::PositionI32(7); 12];
-    run_cipher(cipher, &[], &mut data, &calls, &mut answers);
-    let expected = [
-        CipherAnswer::Refused,
-        CipherAnswer::Refused,
-        CipherAnswer::Refused,
-        CipherAnswer::Position(0),
-        CipherAnswer::Done,
-        CipherAnswer::Done,
-        CipherAnswer::Done,
-        CipherAnswer::Position(0),
-        CipherAnswer::Done,
-        CipherAnswer::PositionI32(2147483647),
-        CipherAnswer::Done,
-        CipherAnswer::Overflow,
-    ];
+    run_cipher(cipher, &[], &mut data, &FROM_THE_START_CALLS, &mut answers);
     failed(&[
         ("no calls", untouched),
-        ("answers from the start", answers == expected),
+        ("answers from the start", answers == FROM_THE_START_ANSWERS),
     ])
 }
 
+static FROM_THE_START_CALLS: [CipherCall; 12] = [
+    CipherCall::SeekI32(i32::MIN),
+    CipherCall::Seek(u128::MAX),
+    CipherCall::Seek(usize::MAX as u128),
+    CipherCall::Pos,
+    CipherCall::Apply { at: 1, len: 0 },
+    CipherCall::Write { at: 1, len: 0 },
+    CipherCall::ApplyFrom {
+        from: 0,
+        from_len: 0,
+        at: 1,
+        len: 0,
+    },
+    CipherCall::Pos,
+    CipherCall::SeekI32(2147483647),
+    CipherCall::PosI32,
+    CipherCall::Write { at: 0, len: 1 },
+    CipherCall::PosI32,
+];
+
+static FROM_THE_START_ANSWERS: [CipherAnswer; 12] = [
+    CipherAnswer::Refused,
+    CipherAnswer::Refused,
+    CipherAnswer::Refused,
+    CipherAnswer::Position(0),
+    CipherAnswer::Done,
+    CipherAnswer::Done,
+    CipherAnswer::Done,
+    CipherAnswer::Position(0),
+    CipherAnswer::Done,
+    CipherAnswer::PositionI32(2147483647),
+    CipherAnswer::Done,
+    CipherAnswer::Overflow,
+];
+
 // A counter of 64 bits: the greatest position of 64 bits and the one after it, the last byte, and the limit.
 fn legacy_as_a_list<K: StreamCipherSeekCore>(cipher: &mut Cipher<K>) -> Verdict {
-    let calls = [
-        CipherCall::CheckRemaining(usize::MAX),
-        CipherCall::Seek(usize::MAX as u128),
-        CipherCall::Pos,
-        CipherCall::Apply { at: 0, len: 1 },
-        CipherCall::Pos,
-        CipherCall::Seek(1180591620717411303423),
-        CipherCall::CheckRemaining(1),
-        CipherCall::CheckRemaining(usize::MAX),
-        CipherCall::Apply { at: 0, len: 1 },
-        CipherCall::CheckRemaining(0),
-        CipherCall::CheckRemaining(1),
-        CipherCall::Seek(1180591620717411303424),
-        CipherCall::CheckRemaining(1),
-        CipherCall::Seek(1180591620717411303425),
-        CipherCall::Pos,
-        CipherCall::PosI32,
-    ];
     let mut answers = [CipherAnswer::PositionI32(7); 16];
-    run_cipher(cipher, &[], &mut [0], &calls, &mut answers);
-    let expected = [
-        CipherAnswer::Done,
-        CipherAnswer::Done,
-        CipherAnswer::Position(18446744073709551615),
-        CipherAnswer::Done,
-        CipherAnswer::Position(18446744073709551616),
-        CipherAnswer::Done,
-        CipherAnswer::Done,
-        CipherAnswer::Refused,
-        CipherAnswer::Done,
-        CipherAnswer::Done,
-        CipherAnswer::Refused,
-        CipherAnswer::Done,
-        CipherAnswer::Refused,
-        CipherAnswer::Refused,
-        CipherAnswer::Position(1180591620717411303424),
-        CipherAnswer::Overflow,
-    ];
-    failed(&[("legacy answers", answers == expected)])
+    run_cipher(cipher, &[], &mut [0], &LEGACY_CALLS, &mut answers);
+    failed(&[("legacy answers", answers == LEGACY_ANSWERS)])
 }
+
+static LEGACY_CALLS: [CipherCall; 16] = [
+    CipherCall::CheckRemaining(usize::MAX),
+    CipherCall::Seek(usize::MAX as u128),
+    CipherCall::Pos,
+    CipherCall::Apply { at: 0, len: 1 },
+    CipherCall::Pos,
+    CipherCall::Seek(1180591620717411303423),
+    CipherCall::CheckRemaining(1),
+    CipherCall::CheckRemaining(usize::MAX),
+    CipherCall::Apply { at: 0, len: 1 },
+    CipherCall::CheckRemaining(0),
+    CipherCall::CheckRemaining(1),
+    CipherCall::Seek(1180591620717411303424),
+    CipherCall::CheckRemaining(1),
+    CipherCall::Seek(1180591620717411303425),
+    CipherCall::Pos,
+    CipherCall::PosI32,
+];
+
+static LEGACY_ANSWERS: [CipherAnswer; 16] = [
+    CipherAnswer::Done,
+    CipherAnswer::Done,
+    CipherAnswer::Position(18446744073709551615),
+    CipherAnswer::Done,
+    CipherAnswer::Position(18446744073709551616),
+    CipherAnswer::Done,
+    CipherAnswer::Done,
+    CipherAnswer::Refused,
+    CipherAnswer::Done,
+    CipherAnswer::Done,
+    CipherAnswer::Refused,
+    CipherAnswer::Done,
+    CipherAnswer::Refused,
+    CipherAnswer::Refused,
+    CipherAnswer::Position(1180591620717411303424),
+    CipherAnswer::Overflow,
+];
 
 // The last 33 blocks but for so many bytes, and then those.
 fn wrong_end_as_a_list<K: StreamCipherSeekCore>(

@@ -52,81 +52,87 @@ fn directly(rt: HostRuntime) {
 fn run_as_a_list<B: RngBackend<R0>>() -> Verdict {
     let mut rng = ZeroGenerator::<B>::from_seed([0; 32]);
     let mut data = [0; 5];
-    let calls = [
-        RngCall::SetStream(STREAM),
-        RngCall::SetWordPos(PAST_THE_LAST),
-        RngCall::NextU64,
-        RngCall::GetWordPos,
-        RngCall::GetBlockPos,
-        RngCall::Fill { at: 0, len: 5 },
-        RngCall::Reload,
-        RngCall::GetWordPos,
-        RngCall::GetBlockPos,
-        RngCall::GetStream,
-    ];
     let mut answers = [RngAnswer::U32(7); 10];
-    run_rng(&mut rng, &mut data, &calls, &mut answers);
-    let expected = [
-        RngAnswer::Done,
-        RngAnswer::Done,
-        RngAnswer::U64(0x0000_0002_0000_0006),
-        RngAnswer::U128(16),
-        RngAnswer::U64(1),
-        RngAnswer::Done,
-        RngAnswer::Done,
-        RngAnswer::U128(18),
-        RngAnswer::U64(1),
-        RngAnswer::U64(STREAM),
-    ];
+    run_rng(&mut rng, &mut data, &RUN_CALLS, &mut answers);
     failed(&[
         ("the run's data", data == *b"\xca\xf0\xe0\xc2\xdc"),
-        ("the run's answers", answers == expected),
+        ("the run's answers", answers == RUN_ANSWERS),
     ])
 }
 
+static RUN_CALLS: [RngCall; 10] = [
+    RngCall::SetStream(STREAM),
+    RngCall::SetWordPos(PAST_THE_LAST),
+    RngCall::NextU64,
+    RngCall::GetWordPos,
+    RngCall::GetBlockPos,
+    RngCall::Fill { at: 0, len: 5 },
+    RngCall::Reload,
+    RngCall::GetWordPos,
+    RngCall::GetBlockPos,
+    RngCall::GetStream,
+];
+
+static RUN_ANSWERS: [RngAnswer; 10] = [
+    RngAnswer::Done,
+    RngAnswer::Done,
+    RngAnswer::U64(0x0000_0002_0000_0006),
+    RngAnswer::U128(16),
+    RngAnswer::U64(1),
+    RngAnswer::Done,
+    RngAnswer::Done,
+    RngAnswer::U128(18),
+    RngAnswer::U64(1),
+    RngAnswer::U64(STREAM),
+];
+
 // Row 20: two words around the wrap.
 fn row_20_as_a_list<B: RngBackend<R20>>() -> Verdict {
-    let calls = [
-        RngCall::SetWordPos((1 << 68) - 64),
-        RngCall::Fill { at: 0, len: 252 },
-        RngCall::NextU64,
-        RngCall::GetWordPos,
-    ];
     let mut answers = [RngAnswer::Done; 4];
     let mut rng = ChaChaRng::<R20, B>::from_seed([0; 32]);
-    run_rng(&mut rng, &mut [0; 252], &calls, &mut answers);
-    let expected = [
-        RngAnswer::Done,
-        RngAnswer::Done,
-        RngAnswer::U64(0xade0_b876_8976_b107),
-        RngAnswer::U128(1),
-    ];
-    failed(&[("row 20: answers", answers == expected)])
+    run_rng(&mut rng, &mut [0; 252], &ROW_20_CALLS, &mut answers);
+    failed(&[("row 20: answers", answers == ROW_20_ANSWERS)])
 }
+
+static ROW_20_CALLS: [RngCall; 4] = [
+    RngCall::SetWordPos((1 << 68) - 64),
+    RngCall::Fill { at: 0, len: 252 },
+    RngCall::NextU64,
+    RngCall::GetWordPos,
+];
+
+static ROW_20_ANSWERS: [RngAnswer; 4] = [
+    RngAnswer::Done,
+    RngAnswer::Done,
+    RngAnswer::U64(0xade0_b876_8976_b107),
+    RngAnswer::U128(1),
+];
 
 // Row 21: another stream of the same seed.
 fn row_21_as_a_list<B: RngBackend<R20>>() -> Verdict {
-    let calls = [
-        RngCall::Fill { at: 0, len: 16 },
-        RngCall::NextU32,
-        RngCall::SetStream(0x0200_0000_0000_0000),
-        RngCall::GetWordPos,
-        RngCall::GetSeed,
-        RngCall::NextU32,
-    ];
     let mut answers = [RngAnswer::Done; 6];
     let mut rng = ChaChaRng::<R20, B>::from_seed([0; 32]);
-    run_rng(&mut rng, &mut [0; 16], &calls, &mut answers);
-    let expected = [
-        RngAnswer::Done,
-        RngAnswer::U32(0xb819_d2bd),
-        RngAnswer::Done,
-        RngAnswer::U128(0),
-        RngAnswer::Seed([0; 32]),
-        RngAnswer::U32(0x374d_c6c2),
-    ];
-    failed(&[("row 21: answers", answers == expected)])
+    run_rng(&mut rng, &mut [0; 16], &ROW_21_CALLS, &mut answers);
+    failed(&[("row 21: answers", answers == ROW_21_ANSWERS)])
 }
+
+static ROW_21_CALLS: [RngCall; 6] = [
+    RngCall::Fill { at: 0, len: 16 },
+    RngCall::NextU32,
+    RngCall::SetStream(0x0200_0000_0000_0000),
+    RngCall::GetWordPos,
+    RngCall::GetSeed,
+    RngCall::NextU32,
+];
+
+static ROW_21_ANSWERS: [RngAnswer; 6] = [
+    RngAnswer::Done,
+    RngAnswer::U32(0xb819_d2bd),
+    RngAnswer::Done,
+    RngAnswer::U128(0),
+    RngAnswer::Seed([0; 32]),
+    RngAnswer::U32(0x374d_c6c2),
+];
 
 fn all_as_lists<B: RngBackend<R0> + RngBackend<R20>>() -> Verdict {
     first_failure(&[
@@ -155,14 +161,8 @@ fn as_lists(rt: HostRuntime) {
 #[test]
 fn other_calls(rt: HostRuntime) {
     let mut rng = ZeroGenerator::<Soft>::from_seed([0; 32]);
-    let calls = [
-        RngCall::NextU32,
-        RngCall::GetSeed,
-        RngCall::SetBlockPos(u64::MAX),
-        RngCall::Serialize,
-    ];
     let mut answers = [RngAnswer::Done; 4];
-    run_rng(&mut rng, &mut [], &calls, &mut answers);
+    run_rng(&mut rng, &mut [], &OTHER_CALLS, &mut answers);
     // Position 2^68 - 16.
     let mut state: SerializedRngState = [0; 49];
     state[40..].copy_from_slice(b"\xf0\xff\xff\xff\xff\xff\xff\xff\x0f");
@@ -174,6 +174,13 @@ fn other_calls(rt: HostRuntime) {
     ];
     assert_eq!(rt; answers, expected);
 }
+
+static OTHER_CALLS: [RngCall; 4] = [
+    RngCall::NextU32,
+    RngCall::GetSeed,
+    RngCall::SetBlockPos(u64::MAX),
+    RngCall::Serialize,
+];
 
 #[test]
 fn no_calls(rt: HostRuntime) {

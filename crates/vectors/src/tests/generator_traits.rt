@@ -17,7 +17,7 @@ struct Answers {
 }
 
 // The worked answers of a generator without rounds.
-const WORKED: Answers = Answers {
+static WORKED: Answers = Answers {
     word: 0xc2e0_f0ca,
     two_words: 0xf2c4_5a64_6640_c8dc,
     bytes: *b"\xe8\xca\x40\xd6\x00",

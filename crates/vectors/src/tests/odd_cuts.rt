@@ -16,7 +16,7 @@ use chacha20::{ChaChaCore, R8, R12, R20, StreamCipherCoreWrapper, XChaChaCore};
 const LENGTH: usize = 2049;
 
 // One more and one fewer than blocks and groups have bytes, and less than a block.
-const SIZES: [usize; 9] = [1, 3, 63, 64, 65, 255, 257, 1023, 1025];
+static SIZES: [usize; 9] = [1, 3, 63, 64, 65, 255, 257, 1023, 1025];
 
 // Whether pieces of a size, with an empty piece after each, come out as the whole.
 fn same_in_pieces<C: StreamCipherSeekCore>(

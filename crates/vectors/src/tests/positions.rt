@@ -13,7 +13,7 @@ use chacha20::{ChaCha20, ChaChaCore, Nonce, R20, StreamCipherCoreWrapper};
 const LIMIT: u64 = 274877906944;
 
 // Where types end, and the limit.
-const PLACES: [u64; 6] = [
+static PLACES: [u64; 6] = [
     0,
     0x7fff_ffff,
     0x8000_0000,

@@ -16,7 +16,7 @@ type Cipher<K> = StreamCipherCoreWrapper<K>;
 
 // A run on the cipher without rounds, for a key and a nonce of zeros: two refusals, which change nothing, the rest of the
 // first block, and the front of the next.
-const RUN: [(&'static str, Step); 10] = [
+static RUN: [(&'static str, Step); 10] = [
     ("four bytes", Step::Apply(&[0; 4], b"\xca\xf0\xe0\xc2")),
     ("a seek to the start", Step::Seek(Place::U128(0))),
     (
@@ -44,59 +44,65 @@ fn all_directly<K: SeekCore<Nonce, u32>>() -> Verdict {
     wrong_step(&mut Cipher::<K>::new(&[0; 32], &[0; 12]), &RUN)
 }
 
+fn directly_over<B: StreamCipherBackend<R0, Ietf>>() -> Verdict {
+    all_directly::<ChaChaCore<R0, Ietf, B>>()
+}
+
 #[test]
 fn directly(rt: HostRuntime) {
     all_right(
         &rt,
         &[
-            ("Soft", all_directly::<ChaChaCore<R0, Ietf, Soft>>()),
-            ("Lanes4", all_directly::<ChaChaCore<R0, Ietf, Lanes4>>()),
-            ("Lanes8", all_directly::<ChaChaCore<R0, Ietf, Lanes8>>()),
-            ("Rows8", all_directly::<ChaChaCore<R0, Ietf, Rows8>>()),
-            ("Lanes16", all_directly::<ChaChaCore<R0, Ietf, Lanes16>>()),
+            ("Soft", directly_over::<Soft>()),
+            ("Lanes4", directly_over::<Lanes4>()),
+            ("Lanes8", directly_over::<Lanes8>()),
+            ("Rows8", directly_over::<Rows8>()),
+            ("Lanes16", directly_over::<Lanes16>()),
         ],
     );
 }
 
 fn run_as_a_list<K: StreamCipherSeekCore>(cipher: &mut Cipher<K>) -> Verdict {
     let mut data = [0; 4];
-    let calls = [
-        CipherCall::Apply { at: 0, len: 4 },
-        CipherCall::Seek(0),
-        CipherCall::ApplyFrom {
-            from: 0,
-            from_len: 3,
-            at: 0,
-            len: 3,
-        },
-        CipherCall::ApplyFrom {
-            from: 0,
-            from_len: 3,
-            at: 0,
-            len: 4,
-        },
-        CipherCall::Pos,
-        CipherCall::SeekI32(-1),
-        CipherCall::PosI32,
-        CipherCall::Write { at: 3, len: 1 },
-    ];
     let mut answers = [CipherAnswer::Overflow; 8];
-    run_cipher(cipher, &[1, 2, 3], &mut data, &calls, &mut answers);
-    let expected = [
-        CipherAnswer::Done,
-        CipherAnswer::Done,
-        CipherAnswer::Done,
-        CipherAnswer::Refused,
-        CipherAnswer::Position(3),
-        CipherAnswer::Refused,
-        CipherAnswer::PositionI32(3),
-        CipherAnswer::Done,
-    ];
+    run_cipher(cipher, &[1, 2, 3], &mut data, &RUN_CALLS, &mut answers);
     failed(&[
         ("the run's data", data == *b"\xcb\xf2\xe3\xc2"),
-        ("the run's answers", answers == expected),
+        ("the run's answers", answers == RUN_ANSWERS),
     ])
 }
+
+static RUN_CALLS: [CipherCall; 8] = [
+    CipherCall::Apply { at: 0, len: 4 },
+    CipherCall::Seek(0),
+    CipherCall::ApplyFrom {
+        from: 0,
+        from_len: 3,
+        at: 0,
+        len: 3,
+    },
+    CipherCall::ApplyFrom {
+        from: 0,
+        from_len: 3,
+        at: 0,
+        len: 4,
+    },
+    CipherCall::Pos,
+    CipherCall::SeekI32(-1),
+    CipherCall::PosI32,
+    CipherCall::Write { at: 3, len: 1 },
+];
+
+static RUN_ANSWERS: [CipherAnswer; 8] = [
+    CipherAnswer::Done,
+    CipherAnswer::Done,
+    CipherAnswer::Done,
+    CipherAnswer::Refused,
+    CipherAnswer::Position(3),
+    CipherAnswer::Refused,
+    CipherAnswer::PositionI32(3),
+    CipherAnswer::Done,
+];
 
 // Row 1: there, back, and there again in pieces of 3.
 fn row_1_as_a_list<K: StreamCipherSeekCore>(cipher: &mut Cipher<K>) -> Verdict {
@@ -125,85 +131,98 @@ fn run_there<K: StreamCipherSeekCore>(
     cipher: &mut Cipher<K>,
     data: &mut [u8; 16],
 ) -> [CipherAnswer; 1] {
-    let calls = [CipherCall::Apply { at: 0, len: 16 }];
     let mut answers = [CipherAnswer::Refused];
-    run_cipher(cipher, &[], data, &calls, &mut answers);
+    run_cipher(cipher, &[], data, &THERE, &mut answers);
     answers
 }
+
+static THERE: [CipherCall; 1] = [CipherCall::Apply { at: 0, len: 16 }];
 
 fn run_back<K: StreamCipherSeekCore>(
     cipher: &mut Cipher<K>,
     data: &mut [u8; 16],
 ) -> [CipherAnswer; 2] {
-    let calls = [CipherCall::Seek(0), CipherCall::Apply { at: 0, len: 16 }];
     let mut answers = [CipherAnswer::Refused; 2];
-    run_cipher(cipher, &[], data, &calls, &mut answers);
+    run_cipher(cipher, &[], data, &BACK, &mut answers);
     answers
 }
+
+static BACK: [CipherCall; 2] = [CipherCall::Seek(0), CipherCall::Apply { at: 0, len: 16 }];
 
 fn run_in_pieces<K: StreamCipherSeekCore>(
     cipher: &mut Cipher<K>,
     data: &mut [u8; 16],
 ) -> [CipherAnswer; 7] {
-    let calls = [
-        CipherCall::Seek(0),
-        CipherCall::Apply { at: 0, len: 3 },
-        CipherCall::Apply { at: 3, len: 3 },
-        CipherCall::Apply { at: 6, len: 3 },
-        CipherCall::Apply { at: 9, len: 3 },
-        CipherCall::Apply { at: 12, len: 3 },
-        CipherCall::Apply { at: 15, len: 1 },
-    ];
     let mut answers = [CipherAnswer::Refused; 7];
-    run_cipher(cipher, &[], data, &calls, &mut answers);
+    run_cipher(cipher, &[], data, &IN_PIECES, &mut answers);
     answers
 }
 
+static IN_PIECES: [CipherCall; 7] = [
+    CipherCall::Seek(0),
+    CipherCall::Apply { at: 0, len: 3 },
+    CipherCall::Apply { at: 3, len: 3 },
+    CipherCall::Apply { at: 6, len: 3 },
+    CipherCall::Apply { at: 9, len: 3 },
+    CipherCall::Apply { at: 12, len: 3 },
+    CipherCall::Apply { at: 15, len: 1 },
+];
+
 // Row 11: the block with the greatest counter.
 fn row_11_as_a_list<K: StreamCipherSeekCore>(cipher: &mut Cipher<K>) -> Verdict {
-    let calls = [
-        CipherCall::Seek(274877906880),
-        CipherCall::Apply { at: 0, len: 0 },
-        CipherCall::Apply { at: 0, len: 1 },
-        CipherCall::Pos,
-        CipherCall::Seek(274877906881),
-        CipherCall::SeekI32(-1),
-        CipherCall::Pos,
-    ];
     let mut answers = [CipherAnswer::Overflow; 7];
-    run_cipher(cipher, &[], &mut [7], &calls, &mut answers);
-    let expected = [
-        CipherAnswer::Done,
-        CipherAnswer::Done,
-        CipherAnswer::Done,
-        CipherAnswer::Position(274877906881),
-        CipherAnswer::Done,
-        CipherAnswer::Refused,
-        CipherAnswer::Position(274877906881),
-    ];
-    failed(&[("row 11: answers at the last block", answers == expected)])
+    run_cipher(cipher, &[], &mut [7], &ROW_11_CALLS, &mut answers);
+    failed(&[(
+        "row 11: answers at the last block",
+        answers == ROW_11_ANSWERS,
+    )])
 }
+
+static ROW_11_CALLS: [CipherCall; 7] = [
+    CipherCall::Seek(274877906880),
+    CipherCall::Apply { at: 0, len: 0 },
+    CipherCall::Apply { at: 0, len: 1 },
+    CipherCall::Pos,
+    CipherCall::Seek(274877906881),
+    CipherCall::SeekI32(-1),
+    CipherCall::Pos,
+];
+
+static ROW_11_ANSWERS: [CipherAnswer; 7] = [
+    CipherAnswer::Done,
+    CipherAnswer::Done,
+    CipherAnswer::Done,
+    CipherAnswer::Position(274877906881),
+    CipherAnswer::Done,
+    CipherAnswer::Refused,
+    CipherAnswer::Position(274877906881),
+];
 
 // Row 18: the last byte.
 fn row_18_as_a_list<K: StreamCipherSeekCore>(cipher: &mut Cipher<K>) -> Verdict {
-    let calls = [
-        CipherCall::Pos,
-        CipherCall::Seek(274877906943),
-        CipherCall::Apply { at: 0, len: 1 },
-        CipherCall::Pos,
-        CipherCall::Apply { at: 0, len: 1 },
-    ];
     let mut answers = [CipherAnswer::Overflow; 5];
-    run_cipher(cipher, &[], &mut [0], &calls, &mut answers);
-    let expected = [
-        CipherAnswer::Position(0),
-        CipherAnswer::Done,
-        CipherAnswer::Done,
-        CipherAnswer::Position(274877906944),
-        CipherAnswer::Refused,
-    ];
-    failed(&[("row 18: answers at the last byte", answers == expected)])
+    run_cipher(cipher, &[], &mut [0], &ROW_18_CALLS, &mut answers);
+    failed(&[(
+        "row 18: answers at the last byte",
+        answers == ROW_18_ANSWERS,
+    )])
 }
+
+static ROW_18_CALLS: [CipherCall; 5] = [
+    CipherCall::Pos,
+    CipherCall::Seek(274877906943),
+    CipherCall::Apply { at: 0, len: 1 },
+    CipherCall::Pos,
+    CipherCall::Apply { at: 0, len: 1 },
+];
+
+static ROW_18_ANSWERS: [CipherAnswer; 5] = [
+    CipherAnswer::Position(0),
+    CipherAnswer::Done,
+    CipherAnswer::Done,
+    CipherAnswer::Position(274877906944),
+    CipherAnswer::Refused,
+];
 
 fn wrong_run<K: SeekCore<Nonce, u32>>() -> Verdict {
     run_as_a_list(&mut Cipher::<K>::new(&[0; 32], &[0; 12]))

@@ -37,7 +37,7 @@ fn ends<C: StreamCipherSeekCore>(core: &mut C, start: C::Counter) -> Option<Ends
 }
 
 // A counter of 32 bits wraps to 0, and the nonce behind it stays.
-const IETF_WRAP: Ends = (
+static IETF_WRAP: Ends = (
     [
         *b"\xfa\xff\xff\xff\0\0\0\0",
         *b"\xfe\xff\xff\xff\0\0\0\0",
@@ -48,7 +48,7 @@ const IETF_WRAP: Ends = (
 );
 
 // A counter of 64 bits carries into its high word.
-const LEGACY_CARRY: Ends = (
+static LEGACY_CARRY: Ends = (
     [
         *b"\xfa\xff\xff\xff\0\0\0\0",
         *b"\xfe\xff\xff\xff\0\0\0\0",
@@ -59,7 +59,7 @@ const LEGACY_CARRY: Ends = (
 );
 
 // And wraps to 0 as well.
-const LEGACY_WRAP: Ends = (
+static LEGACY_WRAP: Ends = (
     [
         *b"\xfa\xff\xff\xff\xfe\xff\xff\xff",
         *b"\xfe\xff\xff\xff\xfe\xff\xff\xff",

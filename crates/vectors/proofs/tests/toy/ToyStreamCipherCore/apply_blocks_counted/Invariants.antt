@@ -1,5 +1,5 @@
 use Rattle.std.proofs.Common.{◌≡◌, ℕ, ◌<◌, ◌≤◌, ◌+◌, ◌*◌, ◌/◌, ◌%◌, ◌^◌, slice_index, bit_xor}
-use Rattle.chacha_base.proofs.tests.toy.ToyStreamCipherCore.apply_blocks_counted.Given as goal
+use Rattle.vectors.proofs.tests.toy.ToyStreamCipherCore.apply_blocks_counted.Given as goal
 
 abbrev pub invariant-loop-i : goal.invariant-loop-i
 invariant-loop-i l = record {

@@ -3,7 +3,7 @@ use Rattle.std.specs.List.{range_with_len}
 use Rattle.std.proofs.lemmas.List.FromFn.{get_or-map-range_with_len}
 use Rattle.chacha_base.specs.Keystream.{keystream}
 use Rattle.chacha_base.proofs.KeystreamLemmas.{xor_stream-is}
-use Rattle.chacha_base.proofs.tests.toy.ToyStreamCipherCore.apply_blocks_counted.Goals as goal
+use Rattle.vectors.proofs.tests.toy.ToyStreamCipherCore.apply_blocks_counted.Goals as goal
 
 -- byte i from the front of a block on
 stream_byte : (seed counter i : ℕ)

@@ -1,7 +1,7 @@
 use Rattle.std.proofs.Common.{◌≡◌, ℕ, ◌<◌, ◌+◌, ◌*◌, ◌%◌, ◌^◌, map}
 use Rattle.std.specs.Prelude.{slice_get, Some}
 use Rattle.std.specs.List.{range_with_len}
-use Rattle.chacha_base.proofs.tests.toy.ToyStreamCipherCore.write_keystream_blocks.Given as goal
+use Rattle.vectors.proofs.tests.toy.ToyStreamCipherCore.write_keystream_blocks.Given as goal
 
 abbrev pub invariant-loop-i : goal.invariant-loop-i
 invariant-loop-i l = record {

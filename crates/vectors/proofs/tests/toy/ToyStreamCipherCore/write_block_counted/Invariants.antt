@@ -1,5 +1,5 @@
 use Rattle.std.proofs.Common.{◌≡◌, ℕ, ◌<◌, ◌+◌, ◌*◌, ◌%◌, length, slice_index}
-use Rattle.chacha_base.proofs.tests.toy.ToyStreamCipherCore.write_block_counted.Given as goal
+use Rattle.vectors.proofs.tests.toy.ToyStreamCipherCore.write_block_counted.Given as goal
 
 abbrev pub invariant-loop-i : goal.invariant-loop-i
 invariant-loop-i l = record {

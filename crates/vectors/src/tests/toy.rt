@@ -3,11 +3,11 @@
 
 ghost use Rattle.std.specs.Prelude.{◌≡◌, ◌<◌, ◌+◌, ◌*◌, ◌%◌};
 
-use crate::cipher::{
+use chacha20::Steps;
+use chacha20::cipher::{
     BlockSizeUser, IvSizeUser, KeyIvInit, KeySizeUser, Keystream, ParBlocksSizeUser,
     StreamCipherCore, StreamCipherSeekCore,
 };
-use crate::rounds::Steps;
 
 #[derive(Drop)]
 pub struct Toy {

@@ -1,6 +1,6 @@
 use Rattle.std.proofs.Common.{◌+◌, ◌*◌, ◌%◌, arith}
 use Rattle.std.proofs.lemmas.List.FromFn.{fill_by_all}
-use Rattle.chacha_base.proofs.tests.toy.ToyStreamCipherCore.write_block_counted.Goals as goal
+use Rattle.vectors.proofs.tests.toy.ToyStreamCipherCore.write_block_counted.Goals as goal
 
 pub returns-clause-block : goal.returns-clause-block
 returns-clause-block c =
