@@ -16,6 +16,21 @@ grows-none a = record {
   rounds_to = omega arith;
 }
 
+-- one other call, and then so many quarter rounds
+pub grows-other : (n : ℕ) (a b c : Counts) → b ≡ record a { other = a.other + 1 } → c ≡ record b { rounds = b.rounds + n } → Grows (for_call 0 1 n) a c
+grows-other n a b c other rounds =
+    let par : c.par ≡ a.par = ap (λ s. s.par) rounds ∙ ap (λ s. s.par) other in
+    let calls : c.other ≡ a.other + 1 = ap (λ s. s.other) rounds ∙ ap (λ s. s.other) other in
+    let made : c.rounds ≡ a.rounds + n = ap (λ s. s.rounds) rounds ∙ ap (λ s. s.rounds + n) other in
+    record {
+      par_from = omega (arith, par);
+      par_to = omega (arith, par);
+      other_from = omega (arith, calls);
+      other_to = omega (arith, calls);
+      rounds_from = omega (arith, made);
+      rounds_to = omega (arith, made);
+    }
+
 -- one after another
 pub grows-then : {x y z : Bounds} {a b c : Counts} → Grows x a b → Grows y b c → x.par + y.par ≤ z.par → x.other + y.other ≤ z.other
     → z.least ≤ x.least + y.least → x.most + y.most ≤ z.most → Grows z a c

@@ -1,5 +1,5 @@
 -- Blocks in the rows of vectors.
-use Rattle.std.proofs.Common.{◌≡◌, ℕ, zero, suc, ◌<◌, ◌+◌, ◌-◌, ◌*◌, ◌%◌, List, [], ◌∷◌, ◌++◌, length, drop, slice_index, refl, ap, ◌∙◌, arith}
+use Rattle.std.proofs.Common.{◌≡◌, ℕ, zero, suc, ◌<◌, ◌+◌, ◌-◌, ◌*◌, ◌%◌, List, [], ◌∷◌, ◌++◌, length, drop, refl, ap, ◌∙◌, arith}
 use Rattle.chacha_base.specs.declared.backends.vector.FourVectors.{FourVectors}
 use Rattle.chacha_base.specs.Layout.{Layout, ietf, legacy}
 use Rattle.chacha_base.specs.Lanes.{state_row, with_last_row}
@@ -18,6 +18,14 @@ of_columns p q r s =
 pub of_columns-same : {a b c d p q r s : ℕ × ℕ × ℕ × ℕ} → p ≡ a → q ≡ b → r ≡ c → s ≡ d → of_columns p q r s ≡ of_columns a b c d
 of_columns-same {a} {b} {c} {d} {p} {q} {r} {s} ea eb ec ed =
     ap (λ x. of_columns x q r s) ea ∙ ap (λ x. of_columns a x r s) eb ∙ ap (λ x. of_columns a b x s) ec ∙ ap (λ x. of_columns a b c x) ed
+
+-- a column, and it word by word
+abbrev pub column_of : (a b c d : ℕ) → ℕ × ℕ × ℕ × ℕ
+column_of a b c d = (a, b, c, d)
+
+pub column_of-same : {a b c d p q r s : ℕ} → p ≡ a → q ≡ b → r ≡ c → s ≡ d → column_of p q r s ≡ column_of a b c d
+column_of-same {a} {b} {c} {d} {p} {q} {r} {s} ea eb ec ed =
+    ap (λ x. column_of x q r s) ea ∙ ap (λ x. column_of a x r s) eb ∙ ap (λ x. column_of a b x s) ec ∙ ap (λ x. column_of a b c x) ed
 
 -- the quarter round of each lane is a round of the columns of each block
 pub columns-of-lanes : {V : Type 0} (n : ℕ) (lane : V → ℕ → ℕ) (x y : FourVectors V)

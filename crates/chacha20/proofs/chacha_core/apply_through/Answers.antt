@@ -1,4 +1,4 @@
-use Rattle.std.proofs.Common.{◌≡◌, ℕ, List, min, ◌<◌, ◌≤◌, ◌*◌, ◌+◌, ◌-◌, ◌/◌, ◌%◌, ◌∙◌, length, take, drop, ap, sym, refl, arith, length-drop}
+use Rattle.std.proofs.Common.{◌≡◌, ℕ, List, min, ◌<◌, ◌≤◌, ◌*◌, ◌+◌, ◌-◌, ◌/◌, ◌%◌, ◌∙◌, length, take, drop, sym, refl, arith, length-drop}
 use Rattle.std.proofs.Math.Nat.{mul-add, mul-div-le, div-add-mod, mod-lt, mod-le}
 use Rattle.std.proofs.lemmas.Nat.{column_fits}
 use Rattle.std.proofs.lemmas.List.{length-take-le}

@@ -1,4 +1,4 @@
-use Rattle.std.proofs.Common.{◌≡◌, ◌∙◌, ◌*◌, ◌++◌, [], ◌∷◌, length, sym, ap, append_assoc}
+use Rattle.std.proofs.Common.{◌≡◌, ◌∙◌, ◌++◌, [], ◌∷◌, length, sym, ap, append_assoc}
 use Rattle.chacha_base.specs.Bytes.{words}
 use Rattle.chacha_base.specs.Layout.{ietf}
 use Rattle.chacha_base.specs.Block.{constants}
