@@ -2,7 +2,7 @@
 use Rattle.std.proofs.Common.{◌≡◌, ℕ, zero, suc, ◌<◌, ◌+◌, ◌-◌, ◌*◌, ◌%◌, List, [], ◌∷◌, ◌++◌, length, drop, refl, ap, ◌∙◌, arith}
 use Rattle.chacha_base.specs.declared.backends.vector.FourVectors.{FourVectors}
 use Rattle.chacha_base.specs.Layout.{Layout, ietf, legacy}
-use Rattle.chacha_base.specs.Lanes.{state_row, with_last_row}
+use Rattle.chacha_base.specs.Lanes.{row, state_row, with_last_row}
 use Rattle.chacha_base.specs.Shifts.{rows_turned, shifted, shifted_back}
 use Rattle.chacha_base.specs.QuarterRound.{quarter}
 use Rattle.chacha_base.specs.Rounds.{columns, diagonals, rounds, add_states, mix}
@@ -26,6 +26,14 @@ column_of a b c d = (a, b, c, d)
 pub column_of-same : {a b c d p q r s : ℕ} → p ≡ a → q ≡ b → r ≡ c → s ≡ d → column_of p q r s ≡ column_of a b c d
 column_of-same {a} {b} {c} {d} {p} {q} {r} {s} ea eb ec ed =
     ap (λ x. column_of x q r s) ea ∙ ap (λ x. column_of a x r s) eb ∙ ap (λ x. column_of a b x s) ec ∙ ap (λ x. column_of a b c x) ed
+
+-- a row, word by word
+pub row-same : (f g : ℕ → ℕ) (k : ℕ) → ((j : ℕ) → j < 4 * k + 4 → f j ≡ g j) → row f k ≡ row g k
+row-same f g k same =
+    ap (λ x. x ∷ f (4 * k + 1) ∷ f (4 * k + 2) ∷ f (4 * k + 3) ∷ []) (same (4 * k) (omega arith))
+    ∙ ap (λ x. g (4 * k) ∷ x ∷ f (4 * k + 2) ∷ f (4 * k + 3) ∷ []) (same (4 * k + 1) (omega arith))
+    ∙ ap (λ x. g (4 * k) ∷ g (4 * k + 1) ∷ x ∷ f (4 * k + 3) ∷ []) (same (4 * k + 2) (omega arith))
+    ∙ ap (λ x. g (4 * k) ∷ g (4 * k + 1) ∷ g (4 * k + 2) ∷ x ∷ []) (same (4 * k + 3) (omega arith))
 
 -- the quarter round of each lane is a round of the columns of each block
 pub columns-of-lanes : {V : Type 0} (n : ℕ) (lane : V → ℕ → ℕ) (x y : FourVectors V)
