@@ -1,0 +1,31 @@
+use Rattle.std.proofs.Common.{◌≡◌, ◌≢◌, [], ◌<◌, slice_index, slice_index_or, length, ◌∙◌, arith, below_more}
+use Rattle.std.proofs.Math.ListN.{set}
+use Rattle.std.proofs.lemmas.List.{length-set, get_or-replicate, get_or-set_same, get_or-set_other}
+use Rattle.chacha_base.proofs.backends.columns.column.Goals as goal
+
+pub each-preserved : goal.each-preserved
+each-preserved g c =
+    let i = c.each.g in
+    let last = c.args.last_rows.now in
+    let word = slice_index (slice_index_or last i []) c.args.k in
+    let inside : i < length c.each.words = omega (arith, c.each.invariant.sixteen, g.met.V.Vector.fours_at_most) in
+    record {
+      sixteen = length-set c.each.words i word ∙ c.each.invariant.sixteen;
+      done =
+          below_more (λ h. slice_index (set c.each.words i word) h ≡ slice_index (slice_index_or last h []) c.args.k) i
+          (λ h less.
+          let apart : h ≢ i = omega arith in get_or-set_other c.each.words i h word 0 apart ∙ c.each.invariant.done h less)
+          (get_or-set_same c.each.words i word 0 inside);
+    }
+
+pub returns-clause-a : goal.returns-clause-a
+returns-clause-a g c j h = c.from_words.ensures j h ∙ get_or-replicate 16 j c.args.a 0 (omega (arith, h, g.met.V.Vector.fours_at_most))
+
+pub returns-clause-b : goal.returns-clause-b
+returns-clause-b g c j h = c.from_words-2.ensures j h ∙ get_or-replicate 16 j c.args.b 0 (omega (arith, h, g.met.V.Vector.fours_at_most))
+
+pub returns-clause-c : goal.returns-clause-c
+returns-clause-c g c j h = c.from_words-3.ensures j h ∙ get_or-replicate 16 j c.args.c 0 (omega (arith, h, g.met.V.Vector.fours_at_most))
+
+pub returns-clause-d : goal.returns-clause-d
+returns-clause-d g c j h = c.from_words-4.ensures j h ∙ c.each.invariant.done j (omega (arith, h))
