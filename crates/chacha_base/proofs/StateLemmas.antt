@@ -7,7 +7,7 @@ use Rattle.std.proofs.lemmas.List.FromFn.{length-map-range_with_len, get_or-map-
 use Rattle.std.proofs.lemmas.Option.{slice_get-get_or, get_or_from_slice_get}
 use Rattle.std.specs.Prelude.{slice_get, Some}
 use borrow.Rule.Slice.PartMut.{put_mid}
-use Rattle.chacha_base.specs.Layout.{Layout, ietf, legacy, modulus, counter_words, row_at}
+use Rattle.chacha_base.specs.Layout.{row_counter, Layout, ietf, legacy, modulus, counter_words, row_at}
 use Rattle.chacha_base.specs.Bytes.{bytes, words}
 use Rattle.chacha_base.specs.Block.{constants, start}
 use Rattle.chacha_base.specs.Rounds.{rounds, add_states, mix}
@@ -71,6 +71,11 @@ state_at-written ietf c s row h same =
     rw same (each 16 (λ t. put_mid 12 4 t (row_at ietf c (take 4 (drop 12 t))) ≡ state_at ietf c t) (λ x0 x1 x2 x3 x4 x5 x6 x7 x8 x9 x10 x11 x12 x13 x14 x15. refl) s h)
 state_at-written legacy c s row h same =
     rw same (each 16 (λ t. put_mid 12 4 t (row_at legacy c (take 4 (drop 12 t))) ≡ state_at legacy c t) (λ x0 x1 x2 x3 x4 x5 x6 x7 x8 x9 x10 x11 x12 x13 x14 x15. refl) s h)
+
+-- the counter at the front of a state's last row is the state's
+pub row_counter-state : (layout : Layout) (s : List ℕ) → length s ≡ 16 → row_counter layout (take 4 (drop 12 s)) ≡ state_counter layout s
+row_counter-state ietf s h = each 16 (λ t. row_counter ietf (take 4 (drop 12 t)) ≡ state_counter ietf t) (λ x0 x1 x2 x3 x4 x5 x6 x7 x8 x9 x10 x11 x12 x13 x14 x15. refl) s h
+row_counter-state legacy s h = each 16 (λ t. row_counter legacy (take 4 (drop 12 t)) ≡ state_counter legacy t) (λ x0 x1 x2 x3 x4 x5 x6 x7 x8 x9 x10 x11 x12 x13 x14 x15. refl) s h
 
 -- the state at its own counter
 state_at-own : (layout : Layout) (s : List ℕ) → length s ≡ 16 → Words s → state_at layout (state_counter layout s) s ≡ s
