@@ -8,19 +8,19 @@ ghost use Rattle.chacha20_c.specs.Answers.{Checked, Written, Xored, XoredInto};
 
 use crate::stateless;
 use chacha20::backends::Lanes16;
-use chacha20::{ChaChaCore, Ietf, Key, Nonce, R8, R12, R20, Rounds, StreamCipherCoreWrapper};
+use chacha20::{ChaChaCore, Ietf, Key, Nonce, R8, R12, R20, Rounds};
 
 // Where the streams of 2^32 blocks end.
 const LIMIT: u128 = 64 << 32;
 
-// The type of `ChaCha8`, `ChaCha12` and `ChaCha20`. The calls on it are proved once, for any number of rounds.
-type Cipher<R> = StreamCipherCoreWrapper<ChaChaCore<R, Ietf, Lanes16>>;
+// The core of `ChaCha8`, `ChaCha12` and `ChaCha20`. The calls are proved once, for any number of rounds.
+type Core<R> = ChaChaCore<R, Ietf, Lanes16>;
 
 fn xor_in_place<R: Rounds>(key: &Key, nonce: &Nonce, position: u64, data: &mut [u8]) -> u32
     ensures { Xored (limit_of (modulus ietf)) (keystream (modulus ietf)
         (block R.COUNT ietf key.now nonce.now)) position result «data».old «data».new }
 {
-    stateless::xor_in_place::<Cipher<R>>(key, nonce, u128::from(position), data)
+    stateless::xor_in_place::<Core<R>>(key, nonce, u128::from(position), data)
 }
 
 fn xor_between<R: Rounds>(
@@ -33,14 +33,14 @@ fn xor_between<R: Rounds>(
     ensures { XoredInto (limit_of (modulus ietf)) (keystream (modulus ietf)
         (block R.COUNT ietf key.now nonce.now)) position result input.now output.old output.new }
 {
-    stateless::xor_between::<Cipher<R>>(key, nonce, u128::from(position), input, output)
+    stateless::xor_between::<Core<R>>(key, nonce, u128::from(position), input, output)
 }
 
 fn write_keystream<R: Rounds>(key: &Key, nonce: &Nonce, position: u64, output: &mut [u8]) -> u32
     ensures { Written (limit_of (modulus ietf)) (keystream (modulus ietf)
         (block R.COUNT ietf key.now nonce.now)) position result output.old output.new }
 {
-    stateless::write_keystream::<Cipher<R>>(key, nonce, u128::from(position), output)
+    stateless::write_keystream::<Core<R>>(key, nonce, u128::from(position), output)
 }
 
 /// ChaCha with 8 rounds (this crate's own number):

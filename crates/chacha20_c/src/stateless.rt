@@ -1,109 +1,112 @@
-//! Calls on a cipher that is made for each of them, for any cipher, with answers as C has them: 0 where a call is
-//! accepted, and 1 where it is refused. A position has 128 bits, so that it reaches the end of each stream.
+//! Calls on a cipher that is made for each of them, over any core, with answers as C has them: 0 where a call is accepted,
+//! and 1 where it is refused. A position has 128 bits, so that it reaches the end of each stream.
 
 ghost use Rattle.std.specs.Prelude.{◌≡◌, ◌↔◌, ◌≤◌, ◌+◌, length, IsOk, OnOk, OnErr};
 ghost use Rattle.chacha20.specs.Keystream.{keystream, stream_part, xor_stream};
 ghost use Rattle.chacha20.specs.Limit.{limit_of};
 ghost use Rattle.chacha20_c.specs.Answers.{Checked, Written, Xored, XoredInto};
 
-use chacha20::cipher::{KeyIvInit, StreamCipher, StreamCipherError, StreamCipherSeek};
+use chacha20::StreamCipherCoreWrapper;
+use chacha20::cipher::{
+    KeyIvInit, StreamCipher, StreamCipherError, StreamCipherSeek, StreamCipherSeekCore,
+};
 
 /// Combines bytes with the keystream from a position on.
-pub(crate) fn xor_in_place<C: KeyIvInit + StreamCipherSeek + Drop>(
-    key: &C::Key,
-    nonce: &C::Iv,
+pub(crate) fn xor_in_place<K: KeyIvInit + StreamCipherSeekCore + Drop>(
+    key: &K::Key,
+    nonce: &K::Iv,
     position: u128,
     data: &mut [u8],
 ) -> u32
-    ensures { Xored (limit_of C.modulus) (keystream C.modulus (C.blocks_of key.now nonce.now))
+    ensures { Xored (limit_of K.modulus) (keystream K.modulus (K.blocks_of key.now nonce.now))
         position result «data».old «data».new }
 {
-    match try_xor_in_place::<C>(key, nonce, position, data) {
+    match try_xor_in_place::<K>(key, nonce, position, data) {
         Ok(()) => 0,
         Err(_) => 1,
     }
 }
 
-fn try_xor_in_place<C: KeyIvInit + StreamCipherSeek + Drop>(
-    key: &C::Key,
-    nonce: &C::Iv,
+fn try_xor_in_place<K: KeyIvInit + StreamCipherSeekCore + Drop>(
+    key: &K::Key,
+    nonce: &K::Iv,
     position: u128,
     data: &mut [u8],
 ) -> Result<(), StreamCipherError>
-    ensures accepted { IsOk result ↔ (position + length «data».old ≤ limit_of C.modulus) }
+    ensures accepted { IsOk result ↔ (position + length «data».old ≤ limit_of K.modulus) }
     ensures bytes { OnOk result («data».new
-        ≡ xor_stream (keystream C.modulus (C.blocks_of key.now nonce.now)) position «data».old) }
+        ≡ xor_stream (keystream K.modulus (K.blocks_of key.now nonce.now)) position «data».old) }
     ensures refused { OnErr result («data».new ≡ «data».old) }
 {
-    let mut cipher = C::new(key, nonce);
+    let mut cipher = StreamCipherCoreWrapper::<K>::new(key, nonce);
     cipher.try_seek(position)?;
     cipher.try_apply_keystream(data)
 }
 
 /// Combines an input with the keystream from a position on into an output.
-pub(crate) fn xor_between<C: KeyIvInit + StreamCipherSeek + Drop>(
-    key: &C::Key,
-    nonce: &C::Iv,
+pub(crate) fn xor_between<K: KeyIvInit + StreamCipherSeekCore + Drop>(
+    key: &K::Key,
+    nonce: &K::Iv,
     position: u128,
     input: &[u8],
     output: &mut [u8],
 ) -> u32
-    ensures { XoredInto (limit_of C.modulus) (keystream C.modulus (C.blocks_of key.now nonce.now))
+    ensures { XoredInto (limit_of K.modulus) (keystream K.modulus (K.blocks_of key.now nonce.now))
         position result input.now output.old output.new }
 {
-    match try_xor_between::<C>(key, nonce, position, input, output) {
+    match try_xor_between::<K>(key, nonce, position, input, output) {
         Ok(()) => 0,
         Err(_) => 1,
     }
 }
 
-fn try_xor_between<C: KeyIvInit + StreamCipherSeek + Drop>(
-    key: &C::Key,
-    nonce: &C::Iv,
+fn try_xor_between<K: KeyIvInit + StreamCipherSeekCore + Drop>(
+    key: &K::Key,
+    nonce: &K::Iv,
     position: u128,
     input: &[u8],
     output: &mut [u8],
 ) -> Result<(), StreamCipherError>
     ensures accepted { IsOk result ↔ ((length input.now ≡ length output.old)
-        × (position + length input.now ≤ limit_of C.modulus)) }
+        × (position + length input.now ≤ limit_of K.modulus)) }
     ensures bytes { OnOk result (output.new
-        ≡ xor_stream (keystream C.modulus (C.blocks_of key.now nonce.now)) position input.now) }
+        ≡ xor_stream (keystream K.modulus (K.blocks_of key.now nonce.now)) position input.now) }
     ensures refused { OnErr result (output.new ≡ output.old) }
 {
-    let mut cipher = C::new(key, nonce);
+    let mut cipher = StreamCipherCoreWrapper::<K>::new(key, nonce);
     cipher.try_seek(position)?;
     cipher.try_apply_keystream_b2b(input, output)
 }
 
 /// Writes the keystream from a position on.
-pub(crate) fn write_keystream<C: KeyIvInit + StreamCipherSeek + Drop>(
-    key: &C::Key,
-    nonce: &C::Iv,
+pub(crate) fn write_keystream<K: KeyIvInit + StreamCipherSeekCore + Drop>(
+    key: &K::Key,
+    nonce: &K::Iv,
     position: u128,
     output: &mut [u8],
 ) -> u32
-    ensures { Written (limit_of C.modulus) (keystream C.modulus (C.blocks_of key.now nonce.now))
+    ensures { Written (limit_of K.modulus) (keystream K.modulus (K.blocks_of key.now nonce.now))
         position result output.old output.new }
 {
-    match try_write_keystream::<C>(key, nonce, position, output) {
+    match try_write_keystream::<K>(key, nonce, position, output) {
         Ok(()) => 0,
         Err(_) => 1,
     }
 }
 
-fn try_write_keystream<C: KeyIvInit + StreamCipherSeek + Drop>(
-    key: &C::Key,
-    nonce: &C::Iv,
+fn try_write_keystream<K: KeyIvInit + StreamCipherSeekCore + Drop>(
+    key: &K::Key,
+    nonce: &K::Iv,
     position: u128,
     output: &mut [u8],
 ) -> Result<(), StreamCipherError>
-    ensures accepted { IsOk result ↔ (position + length output.old ≤ limit_of C.modulus) }
+    ensures accepted { IsOk result ↔ (position + length output.old ≤ limit_of K.modulus) }
     ensures bytes { OnOk result (output.new
-        ≡ stream_part (keystream C.modulus (C.blocks_of key.now nonce.now)) position
+        ≡ stream_part (keystream K.modulus (K.blocks_of key.now nonce.now)) position
         (length output.old)) }
     ensures refused { OnErr result (output.new ≡ output.old) }
 {
-    let mut cipher = C::new(key, nonce);
+    let mut cipher = StreamCipherCoreWrapper::<K>::new(key, nonce);
     cipher.try_seek(position)?;
     cipher.try_write_keystream(output)
 }

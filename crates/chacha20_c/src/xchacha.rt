@@ -10,17 +10,17 @@ ghost use Rattle.chacha20_c.specs.Answers.{Written, Xored, XoredInto};
 
 use crate::stateless;
 use chacha20::backends::Lanes16;
-use chacha20::{Key, R8, R12, R20, Rounds, StreamCipherCoreWrapper, XChaChaCore, XNonce, hchacha};
+use chacha20::{Key, R8, R12, R20, Rounds, XChaChaCore, XNonce, hchacha};
 
-// The type of `XChaCha8`, `XChaCha12` and `XChaCha20`. The calls on it are proved once, for any number of rounds.
-type Cipher<R> = StreamCipherCoreWrapper<XChaChaCore<R, Lanes16>>;
+// The core of `XChaCha8`, `XChaCha12` and `XChaCha20`. The calls are proved once, for any number of rounds.
+type Core<R> = XChaChaCore<R, Lanes16>;
 
 fn xor_in_place<R: Rounds>(key: &Key, nonce: &XNonce, position: u64, data: &mut [u8]) -> u32
     ensures { Xored (limit_of (modulus ietf)) (keystream (modulus ietf)
         (block R.COUNT ietf (subkey R.COUNT key.now nonce.now) (subnonce nonce.now)))
         position result «data».old «data».new }
 {
-    stateless::xor_in_place::<Cipher<R>>(key, nonce, u128::from(position), data)
+    stateless::xor_in_place::<Core<R>>(key, nonce, u128::from(position), data)
 }
 
 fn xor_between<R: Rounds>(
@@ -34,7 +34,7 @@ fn xor_between<R: Rounds>(
         (block R.COUNT ietf (subkey R.COUNT key.now nonce.now) (subnonce nonce.now)))
         position result input.now output.old output.new }
 {
-    stateless::xor_between::<Cipher<R>>(key, nonce, u128::from(position), input, output)
+    stateless::xor_between::<Core<R>>(key, nonce, u128::from(position), input, output)
 }
 
 fn write_keystream<R: Rounds>(key: &Key, nonce: &XNonce, position: u64, output: &mut [u8]) -> u32
@@ -42,7 +42,7 @@ fn write_keystream<R: Rounds>(key: &Key, nonce: &XNonce, position: u64, output: 
         (block R.COUNT ietf (subkey R.COUNT key.now nonce.now) (subnonce nonce.now)))
         position result output.old output.new }
 {
-    stateless::write_keystream::<Cipher<R>>(key, nonce, u128::from(position), output)
+    stateless::write_keystream::<Core<R>>(key, nonce, u128::from(position), output)
 }
 
 /// XChaCha with 8 rounds (this crate's own number):
