@@ -1,8 +1,9 @@
 -- Lists of calls that apply a keystream, and runs of any calls whose answers are written one after another.
-use Rattle.std.proofs.Common.{inl, inr, ◌≡◌, ℕ, ◌+◌, ◌-◌, ◌≤◌, List, [], ◌∷◌, ◌++◌, length, take, drop, arith, refl, sym, ap, ap₂, subst, ◌∙◌, append_assoc, append-nil, length-drop}
+use Rattle.std.proofs.Common.{inl, inr, ◌≡◌, ℕ, ◌+◌, ◌-◌, ◌≤◌, List, [], ◌∷◌, ◌++◌, length, get_or, take, drop, ◌<◌, arith, refl, sym, ap, ap₂, subst, ◌∙◌, append_assoc, append-nil, length-drop}
 use Rattle.std.specs.Prelude.{sum, nat_le}
 use Rattle.std.specs.List.{AllByRecursion}
-use Rattle.std.proofs.lemmas.List.{take_all, drop_all, drop-drop, length-take-le}
+use Rattle.std.proofs.Math.ListN.{set}
+use Rattle.std.proofs.lemmas.List.{take_all, take_more_set, drop_all, drop_more, drop-drop, length-take-le}
 use Rattle.std.proofs.lemmas.Slice.{take-put_mid, drop-put_mid, between-put_mid}
 use borrow.Rule.Slice.PartMut.{put_same, same_len_mid, take_put}
 use Rattle.std.proofs.lemmas.List.Sums.{sum_by-cons}
@@ -134,6 +135,19 @@ run-seek_back s c bytes at len inside done =
           ∙ put-put at len (xor_stream stream p old) old bytes (omega arith) size
           ∙ put_same at len bytes,
     )))
+
+-- one call more of a run whose answers are written one after another; `now` and `next` are the runs of what is left, before and after the call
+pub run-more : {K A S : Type 0} (whole : List A × S × List ℕ) (now next : List K → List A × S × List ℕ) (calls : List K) (answers : List A) (i : ℕ) (k : K) (a : A)
+    → i < length calls → i < length answers
+    → (let left = now (drop i calls) in whole ≡ (take i answers ++ left.0, left.1, left.2))
+    → (let left = next (drop (i + 1) calls) in now (get_or calls i k ∷ drop (i + 1) calls) ≡ (a ∷ left.0, left.1, left.2))
+    → (let left = next (drop (i + 1) calls) in whole ≡ (take (i + 1) (set answers i a) ++ left.0, left.1, left.2))
+run-more whole now next calls answers i k a some room ran made =
+    let left = next (drop (i + 1) calls) in
+    ran
+    ∙ ap (λ rest. (take i answers ++ rest.0, rest.1, rest.2)) (ap now (drop_more calls i k some) ∙ made)
+    ∙ ap (λ xs. (xs, left.1, left.2))
+    (sym (ap (λ front. front ++ left.0) (take_more_set answers i a room) ∙ append_assoc (take i answers) (a ∷ []) left.0))
 
 -- the end of a run whose answers have been written one after another; `rest` is the run of what is left, from there on
 pub run-all : {K A S : Type 0} (whole : List A × S × List ℕ) (rest : List K → List A × S × List ℕ) (end : S) (new : List ℕ) (calls : List K) (answers : List A) (i : ℕ)

@@ -1,8 +1,17 @@
-use Rattle.std.proofs.Common.{length, refl, arith}
+use Rattle.std.proofs.Common.{◌∷◌, ◌+◌, drop, length, refl, ap, arith}
 use Rattle.std.proofs.lemmas.List.Elements.{recursion_from_All}
-use Rattle.chacha20.specs.Runs.{setting, cipher_run}
-use Rattle.chacha20.proofs.RunLemmas.{run-all, law-seek_back, law-cut_anywhere}
+use Rattle.chacha20.specs.Runs.{CipherOutcome, setting, cipher_run}
+use Rattle.chacha20.proofs.RunLemmas.{run-more, run-all, law-seek_back, law-cut_anywhere}
 use Rattle.chacha20.proofs.runs.run_cipher.Goals as goal
+
+-- the search finds it too, but not soon that a wrong body has none
+pub calls-preserved : goal.calls-preserved
+calls-preserved g c =
+    let s = setting g.C.Keystream.modulus g.C.Keystream.block_at c.args.input.now in
+    run-more _ (cipher_run s c.calls.cipher c.calls.data) (cipher_run s c.call_cipher.new.cipher c.call_cipher.new.data) c.args.calls.now c.calls.answers c.calls.i _ c.call_cipher.result
+    (omega arith) (omega arith) c.calls.invariant
+    (ap (λ (o : CipherOutcome). let rest = cipher_run s o.cipher o.bytes (drop (c.calls.i + 1) c.args.calls.now) in (o.answer ∷ rest.0, rest.1, rest.2))
+    c.call_cipher.ensures)
 
 pub returns-clause-seek_back : goal.returns-clause-seek_back
 returns-clause-seek_back g c at len these done =

@@ -1,9 +1,16 @@
-use Rattle.std.proofs.Common.{◌≡◌, refl, subst, arith}
+use Rattle.std.proofs.Common.{◌≡◌, ◌∷◌, ◌+◌, drop, refl, ap, subst, arith}
 use Rattle.chacha20.specs.Generator.{GeneratorState}
-use Rattle.chacha20.specs.GeneratorRuns.{rng_run}
-use Rattle.chacha20.proofs.RunLemmas.{run-all}
+use Rattle.chacha20.specs.GeneratorRuns.{RngOutcome, rng_run}
+use Rattle.chacha20.proofs.RunLemmas.{run-more, run-all}
 use Rattle.chacha20.proofs.GeneratorEquality.{same-is}
 use Rattle.chacha20.proofs.runs.rng.run_rng.Goals as goal
+
+pub calls-preserved : goal.calls-preserved
+calls-preserved g c =
+    let n = g.R.Rounds.COUNT in
+    run-more _ (rng_run n c.calls.rng c.calls.data) (rng_run n c.call_rng.new.rng c.call_rng.new.data) c.args.calls.now c.calls.answers c.calls.i _ c.call_rng.result
+    (omega arith) (omega arith) c.calls.invariant
+    (ap (λ (o : RngOutcome). let rest = rng_run n o.rng o.bytes (drop (c.calls.i + 1) c.args.calls.now) in (o.answer ∷ rest.0, rest.1, rest.2)) c.call_rng.ensures)
 
 pub returns-clause-equality : goal.returns-clause-equality
 returns-clause-equality g c other equal =
