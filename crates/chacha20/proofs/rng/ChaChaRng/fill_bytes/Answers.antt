@@ -1,17 +1,56 @@
-use Rattle.std.proofs.Common.{◌≡◌, ◌<◌, ◌/◌, ◌++◌, ◌∙◌, length, take, ap, arith}
+use Rattle.std.proofs.Common.{◌≡◌, ℕ, List, Bool, true, false, ◌<◌, ◌≤◌, ◌+◌, ◌*◌, ◌/◌, ◌++◌, ◌∙◌, length, take, refl, sym, ap, arith}
+use Rattle.std.specs.Prelude.{◌==◌}
 use Rattle.std.proofs.lemmas.Grind.{common_steps}
-use Rattle.std.proofs.lemmas.List.{append-nil, nil_from_length}
+use Rattle.std.proofs.lemmas.List.{append-nil, nil_from_length, length-take-le}
 use Rattle.chacha20.proofs.ReadLemmas.{filled-whole, filled-over}
 use Rattle.chacha20.proofs.rng.ChaChaRng.fill_bytes.Goals as goal
+
+-- of a slice of len bytes, those of whole words, and the r behind them
+some_left : (r : ℕ) (empty : Bool) → empty ≡ (r == 0) → empty ≡ false → 0 < r
+some_left r empty test part = grind (arith, common_steps)
+
+none_left : (r : ℕ) (empty : Bool) → empty ≡ (r == 0) → empty ≡ true → r ≡ 0
+none_left r empty test whole = grind (arith, common_steps)
+
+all_parts : (len front r : ℕ) → front ≡ len / 4 * 4 → r + len / 4 * 4 ≡ len → len ≡ 4 * (front / 4) + r
+all_parts len front r words rest = omega arith
+
+all_whole : (len front r : ℕ) → front ≡ len / 4 * 4 → r + len / 4 * 4 ≡ len → r ≡ 0 → len ≡ 4 * (front / 4)
+all_whole len front r words rest none = omega arith
+
+part_short : (len r : ℕ) → r + len / 4 * 4 ≡ len → r < 4
+part_short len r rest = omega arith
+
+part_inside : (len r : ℕ) (word : List ℕ) → r + len / 4 * 4 ≡ len → length word ≡ 4 → r ≤ length word
+part_inside len r word rest four = omega (arith, part_short len r rest)
+
+part_long : (len r : ℕ) (word : List ℕ) → r + len / 4 * 4 ≡ len → length word ≡ 4 → r ≡ length (take r word)
+part_long len r word rest four = sym (length-take-le r word (part_inside len r word rest four))
+
+pub slice_bounds-word-end : goal.slice_bounds-word-end
+slice_bounds-word-end g c = part_inside _ _ c.to_le_bytes-word.result c.split_at_mut-words.ensures.back_len (ap length c.to_le_bytes-word.ensures)
+
+pub slice_bounds-copy_from_slice-end : goal.slice_bounds-copy_from_slice-end
+slice_bounds-copy_from_slice-end g c = part_long _ _ c.to_le_bytes-word.result c.split_at_mut-words.ensures.back_len (ap length c.to_le_bytes-word.ensures)
+
+pub copy_from_slice-requires : goal.copy_from_slice-requires
+copy_from_slice-requires g c = part_long _ _ c.to_le_bytes-word.result c.split_at_mut-words.ensures.back_len (ap length c.to_le_bytes-word.ensures)
+
+pub both_followed-dst : goal.both_followed-dst
+both_followed-dst g c = (refl, refl)
+
+pub slice_back_joined-dst : goal.slice_back_joined-dst
+slice_back_joined-dst g c = refl
 
 pub returns-then-not-is_empty-clause-value : goal.returns-then-not-is_empty-clause-value
 returns-then-not-is_empty-clause-value g c =
     let q = length c.split_at_mut-words.result.0.now / 4 in
     let last = c.split_at_mut-words.result.1.now in
-    let some : 0 < length last = grind (arith, common_steps) in
-    filled-over g.R.Rounds.COUNT c.args.self.now _ _ q (length last) (length c.args.dst.now) c.next_u32.result _ _
-    (omega (arith, c.split_at_mut-words.ensures.front_len, c.split_at_mut-words.ensures.back_len)) some
-    (omega (arith, c.split_at_mut-words.ensures.back_len))
+    let some = some_left (length last) _ c.is_empty.ensures c.if-not-is_empty.true in
+    filled-over g.R.Rounds.COUNT c.args.self.now c.fill_words.new.self c.next_u32.new.self q (length last) (length c.args.dst.now) c.next_u32.result c.fill_words.new.dst
+    c.copy_from_slice.new.self
+    (all_parts _ _ _ c.split_at_mut-words.ensures.front_len c.split_at_mut-words.ensures.back_len) some
+    (part_short _ _ c.split_at_mut-words.ensures.back_len)
     c.fill_words.ensures.dst c.fill_words.ensures.moved c.next_u32.ensures.value
     (c.copy_from_slice.ensures.after ∙ ap (take (length last)) c.to_le_bytes-word.ensures)
 
@@ -19,9 +58,9 @@ pub returns-else-not-is_empty-clause-value : goal.returns-else-not-is_empty-clau
 returns-else-not-is_empty-clause-value g c =
     let q = length c.split_at_mut-words.result.0.now / 4 in
     let last = c.split_at_mut-words.result.1.now in
-    let none : length last ≡ 0 = grind (arith, common_steps) in
+    let none = none_left (length last) _ c.is_empty.ensures c.if-not-is_empty.false in
     let all : c.fill_words.new.dst ++ last ≡ c.fill_words.new.dst =
     ap (λ l. c.fill_words.new.dst ++ l) (nil_from_length last none) ∙ append-nil c.fill_words.new.dst in
     filled-whole g.R.Rounds.COUNT c.args.self.now _ q (length c.args.dst.now) _
-    (omega (arith, none, c.split_at_mut-words.ensures.front_len, c.split_at_mut-words.ensures.back_len)) (all ∙ c.fill_words.ensures.dst)
+    (all_whole _ _ _ c.split_at_mut-words.ensures.front_len c.split_at_mut-words.ensures.back_len none) (all ∙ c.fill_words.ensures.dst)
     c.fill_words.ensures.moved
