@@ -1,5 +1,6 @@
 -- Blocks in the rows of vectors.
-use Rattle.std.proofs.Common.{◌≡◌, ℕ, zero, suc, ◌<◌, ◌+◌, ◌-◌, ◌*◌, ◌%◌, List, [], ◌∷◌, ◌++◌, length, drop, refl, ap, ◌∙◌, arith}
+use Rattle.std.proofs.Common.{◌≡◌, ℕ, zero, suc, ◌<◌, ◌+◌, ◌-◌, ◌*◌, ◌%◌, Bool, true, false, List, [], ◌∷◌, ◌++◌, length, drop, refl, ap, ◌∙◌, arith}
+use Rattle.std.specs.Prelude.{if◌then◌else◌}
 use Rattle.chacha_base.specs.declared.backends.vector.FourVectors.{FourVectors}
 use Rattle.chacha_base.specs.Layout.{Layout, ietf, legacy}
 use Rattle.chacha_base.specs.Lanes.{row, state_row, with_last_row}
@@ -26,6 +27,12 @@ column_of a b c d = (a, b, c, d)
 pub column_of-same : {a b c d p q r s : ℕ} → p ≡ a → q ≡ b → r ≡ c → s ≡ d → column_of p q r s ≡ column_of a b c d
 column_of-same {a} {b} {c} {d} {p} {q} {r} {s} ea eb ec ed =
     ap (λ x. column_of x q r s) ea ∙ ap (λ x. column_of a x r s) eb ∙ ap (λ x. column_of a b x s) ec ∙ ap (λ x. column_of a b c x) ed
+
+-- what is made of two lists, where one or the other pair is taken
+pub either-same : (f : List ℕ → List ℕ → List ℕ) (front : Bool) (a b p q r s : List ℕ) → (front ≡ true → a ≡ f p r) → (front ≡ false → b ≡ f q s)
+    → (if front then a else b) ≡ f (if front then p else q) (if front then r else s)
+either-same f true a b p q r s first second = first refl
+either-same f false a b p q r s first second = second refl
 
 -- a row, word by word
 pub row-same : (f g : ℕ → ℕ) (k : ℕ) → ((j : ℕ) → j < 4 * k + 4 → f j ≡ g j) → row f k ≡ row g k
