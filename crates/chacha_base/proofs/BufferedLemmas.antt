@@ -1,10 +1,10 @@
 -- Bytes of a block kept in a buffer.
-use Rattle.std.proofs.Common.{◌≡◌, ℕ, ◌+◌, ◌-◌, ◌*◌, ◌%◌, ◌<◌, ◌≤◌, Bool, true, false, List, length, take, drop, slice_index, bit_xor, arith, sym, ap, ◌∙◌}
+use Rattle.std.proofs.Common.{◌≡◌, ℕ, min, ◌+◌, ◌-◌, ◌*◌, ◌%◌, ◌<◌, ◌≤◌, Bool, true, false, List, length, take, drop, slice_index, bit_xor, arith, sym, ap, ◌∙◌}
 use Rattle.std.proofs.lemmas.List.{get_or-take, get_or-drop}
 use Rattle.std.proofs.Math.Nat.{mod-eq_of_lt}
 use Rattle.chacha_base.specs.Keystream.{keystream, xor_stream}
 use Rattle.chacha_base.specs.Limit.{limit_of}
-use Rattle.chacha_base.specs.Buffered.{IsBuffered, blocks_made, position_of}
+use Rattle.chacha_base.specs.Buffered.{IsBuffered, blocks_made, left_at, position_of}
 use Rattle.chacha_base.proofs.KeystreamLemmas.{xor_stream-is, xor_stream-block, keystream_byte}
 
 -- bytes combined with the front of a block
@@ -47,3 +47,10 @@ xor_stream-begun modulus block past counter left p buffer xs ys kept place fits 
     ∙ ap (λ b. slice_index b (64 - left + i)) (kept.held (omega arith) ∙ sym (ap block (mod-eq_of_lt below)))
     ∙ keystream_byte modulus block (made - 1) (64 - left + i) (omega arith)
     ∙ ap (keystream modulus block) next))
+
+-- where bytes are left after the begun block, whole blocks come from the front of a block on, and so does what follows them
+pub begun-front : (p len begun : ℕ) → begun ≡ min len (left_at p) → begun < len → (p + begun) % 64 ≡ 0
+begun-front p len begun front more = omega arith
+
+pub whole-front : (p len begun whole : ℕ) → begun ≡ min len (left_at p) → whole % 64 ≡ 0 → begun < len → (p + begun + whole) % 64 ≡ 0
+whole-front p len begun whole front blocks more = omega (arith, begun-front p len begun front more)
