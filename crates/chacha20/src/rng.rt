@@ -122,7 +122,6 @@ impl<R: Rounds, B: RngBackend<R>> ChaChaRng<R, B> {
     {
         let (words, last) = dst.split_at_mut(dst.len() / 4 * 4);
         self.fill_words(words);
-        #[tactic(none)]
         if !last.is_empty() {
             let word = self.next_u32().to_le_bytes();
             last.copy_from_slice(&word[..last.len()]);
@@ -206,7 +205,6 @@ impl<R: Rounds, B: RngBackend<R>> ChaChaRng<R, B> {
     }
 
     /// The generator of a state. Any 49 bytes are a state: the upper half of the last one is ignored.
-    #[tactic(none)]
     pub fn deserialize_state(state: &SerializedRngState) -> Self
         ensures value { result ≡ of_state_bytes state.now }
         ensures stored { state_bytes result ≡ take 48 state.now
