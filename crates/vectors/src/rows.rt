@@ -3,6 +3,7 @@
 
 pub mod ciphers;
 pub mod cores;
+pub mod draws;
 pub mod generators;
 pub mod steps;
 

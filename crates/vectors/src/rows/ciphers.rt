@@ -20,6 +20,8 @@ where
     C: KeyIvInit<Key = Key, Iv = N> + StreamCipherSeekCore<Counter = T> + Drop,
 {}
 
+type NamedStep = (&'static str, Step);
+
 static PLAINTEXT: [u8; 16] = [0, 1, 2, 3, 4, 5, 6, 7, 8, 9, 10, 11, 12, 13, 14, 15];
 
 static CIPHERTEXT: [u8; 16] = *b"\xe4\x05\x62\x6e\x4f\x12\x36\xb3\x67\x0e\xe4\x28\x33\x2e\xa2\x0e";
@@ -34,25 +36,42 @@ where
     [
         (1, "there and back", row_1::<K>()),
         (3, "HChaCha", row_3()),
-        (4, "a message from block 1 on", row_4::<K>()),
-        (5, "XChaCha20", row_5::<X>()),
+        (
+            4,
+            "a message from block 1 on",
+            wrong::<K>(&COUNTING, &NONCE_4, &ROW_4),
+        ),
+        (5, "XChaCha20", wrong::<X>(&FROM_80, &X_NONCE, &ROW_5)),
         (6, "the legacy cipher", row_6::<L>()),
-        (11, "the last block", row_11::<K>()),
+        (
+            11,
+            "the last block",
+            wrong::<K>(&COUNTING, &[0; 12], &ROW_11),
+        ),
         (12, "positions of types", row_12::<K, L>()),
-        (16, "slices of two lengths", row_16::<K>()),
+        (
+            16,
+            "slices of two lengths",
+            wrong::<K>(&COUNTING, &[0; 12], &ROW_16),
+        ),
         (18, "the last byte", row_18::<K>()),
         (22, "how much a fresh cipher takes", row_22::<K, L>()),
     ]
 }
 
-/// The first row's ciphertext; its plaintext, if the cipher refuses it.
-pub fn first_ciphertext() -> [u8; 16] {
-    applied(&mut ChaCha20::new(&[0x42; 32], &[0x24; 12]))
+// The first of these steps that a new cipher over a core answers otherwise.
+fn wrong<K: KeyIvInit + StreamCipherSeekCore + Drop>(
+    key: &K::Key,
+    nonce: &K::Iv,
+    steps: &[NamedStep],
+) -> Verdict {
+    wrong_step(&mut StreamCipherCoreWrapper::<K>::new(key, nonce), steps)
 }
 
-fn applied<C: StreamCipher>(cipher: &mut C) -> [u8; 16] {
+/// The first row's ciphertext; its plaintext, if the cipher refuses it.
+pub fn first_ciphertext() -> [u8; 16] {
     let mut data = PLAINTEXT;
-    let _ = cipher.try_apply_keystream(&mut data);
+    let _ = ChaCha20::new(&[0x42; 32], &[0x24; 12]).try_apply_keystream(&mut data);
     data
 }
 
@@ -99,15 +118,9 @@ fn row_3() -> Verdict {
 }
 
 // A message from block 1 on (RFC 8439, section 2.4.2).
-fn row_4<K: SeekCore<Nonce, u32>>() -> Verdict {
-    let mut cipher = StreamCipherCoreWrapper::<K>::new(
-        &COUNTING,
-        &[0, 0, 0, 0, 0, 0, 0, 0x4a, 0, 0, 0, 0],
-    );
-    wrong_step(&mut cipher, &ROW_4)
-}
+static NONCE_4: Nonce = [0, 0, 0, 0, 0, 0, 0, 0x4a, 0, 0, 0, 0];
 
-static ROW_4: [(&'static str, Step); 2] = [
+static ROW_4: [NamedStep; 2] = [
     ("block 0", Step::Skip(64)),
     (
         "the message",
@@ -119,12 +132,7 @@ static ROW_4: [(&'static str, Step); 2] = [
 ];
 
 // XChaCha20 from block 1 on.
-fn row_5<X: SeekCore<XNonce, u32>>() -> Verdict {
-    let mut cipher = StreamCipherCoreWrapper::<X>::new(&FROM_80, &X_NONCE);
-    wrong_step(&mut cipher, &ROW_5)
-}
-
-static ROW_5: [(&'static str, Step); 2] = [
+static ROW_5: [NamedStep; 2] = [
     ("block 0", Step::WriteSkip(64)),
     (
         "the front of block 1",
@@ -149,7 +157,7 @@ fn row_6<L: SeekCore<LegacyNonce, u64>>() -> Verdict {
     first_failure(&[start, wrong_step(&mut cipher, &ROW_6_FROM_17)])
 }
 
-static ROW_6_START: [(&'static str, Step); 1] = [(
+static ROW_6_START: [NamedStep; 1] = [(
     "32 bytes",
     Step::Write(
         b"\xde\xeb\x6b\x9d\x06\xdf\xf3\xe0\x91\xbf\x3a\xd4\xf4\xd4\x92\xb6\
@@ -157,19 +165,14 @@ static ROW_6_START: [(&'static str, Step); 1] = [(
     ),
 )];
 
-static ROW_6_FROM_17: [(&'static str, Step); 3] = [
+static ROW_6_FROM_17: [NamedStep; 3] = [
     ("three bytes from byte 17 on", Step::Write(b"\x98\x24\x6f")),
     ("no bytes", Step::Apply(b"", b"")),
     ("the position after them", Step::At(Place::U32(20))),
 ];
 
 // The block with the greatest counter is taken as any other.
-fn row_11<K: SeekCore<Nonce, u32>>() -> Verdict {
-    let mut cipher = StreamCipherCoreWrapper::<K>::new(&COUNTING, &[0; 12]);
-    wrong_step(&mut cipher, &ROW_11)
-}
-
-static ROW_11: [(&'static str, Step); 7] = [
+static ROW_11: [NamedStep; 7] = [
     (
         "a seek to the last block",
         Step::Seek(Place::U64(274877906880)),
@@ -187,16 +190,13 @@ static ROW_11: [(&'static str, Step); 7] = [
 
 // Positions that a type can't say.
 fn row_12<K: SeekCore<Nonce, u32>, L: SeekCore<LegacyNonce, u64>>() -> Verdict {
-    let mut legacy = StreamCipherCoreWrapper::<L>::new(&FROM_1, &LEGACY_NONCE);
+    let legacy = wrong::<L>(&FROM_1, &LEGACY_NONCE, &ROW_12_LEGACY);
     let mut cipher = StreamCipherCoreWrapper::<K>::new(&COUNTING, &[0; 12]);
     cipher.seek(2147483648u32);
-    first_failure(&[
-        wrong_step(&mut legacy, &ROW_12_LEGACY),
-        wrong_step(&mut cipher, &ROW_12),
-    ])
+    first_failure(&[legacy, wrong_step(&mut cipher, &ROW_12)])
 }
 
-static ROW_12_LEGACY: [(&'static str, Step); 3] = [
+static ROW_12_LEGACY: [NamedStep; 3] = [
     (
         "a seek past 64 bits",
         Step::Seek(Place::U128(1180591620717411303360)),
@@ -208,7 +208,7 @@ static ROW_12_LEGACY: [(&'static str, Step); 3] = [
     ),
 ];
 
-static ROW_12: [(&'static str, Step); 2] = [
+static ROW_12: [NamedStep; 2] = [
     ("a position past 31 bits, in 31", Step::NotInI32),
     (
         "a position past 31 bits, in 32",
@@ -217,30 +217,22 @@ static ROW_12: [(&'static str, Step); 2] = [
 ];
 
 // Two slices of different lengths.
-fn row_16<K: SeekCore<Nonce, u32>>() -> Verdict {
-    let mut cipher = StreamCipherCoreWrapper::<K>::new(&COUNTING, &[0; 12]);
-    wrong_step(&mut cipher, &ROW_16)
-}
-
-static ROW_16: [(&'static str, Step); 2] = [
+static ROW_16: [NamedStep; 2] = [
     ("three bytes into four", Step::NoBetween(&[5, 6, 7], 4)),
     ("the position after them", Step::At(Place::U32(0))),
 ];
 
 // The last byte: the stream ends after it, and a fresh cipher begins at its start.
 fn row_18<K: SeekCore<Nonce, u32>>() -> Verdict {
-    let mut cipher = StreamCipherCoreWrapper::<K>::new(&COUNTING, &[0; 12]);
-    let mut fresh = StreamCipherCoreWrapper::<K>::new(&COUNTING, &[0; 12]);
     first_failure(&[
-        wrong_step(&mut cipher, &ROW_18),
-        wrong_step(
-            &mut fresh,
-            &[("a fresh cipher's position", Step::At(Place::U64(0)))],
-        ),
+        wrong::<K>(&COUNTING, &[0; 12], &ROW_18),
+        wrong::<K>(&COUNTING, &[0; 12], &ROW_18_FRESH),
     ])
 }
 
-static ROW_18: [(&'static str, Step); 4] = [
+static ROW_18_FRESH: [NamedStep; 1] = [("a fresh cipher's position", Step::At(Place::U64(0)))];
+
+static ROW_18: [NamedStep; 4] = [
     (
         "a seek to the last byte",
         Step::Seek(Place::U64(274877906943)),
@@ -255,18 +247,15 @@ static ROW_18: [(&'static str, Step); 4] = [
 
 // How much a fresh cipher takes.
 fn row_22<K: SeekCore<Nonce, u32>, L: SeekCore<LegacyNonce, u64>>() -> Verdict {
-    let mut cipher = StreamCipherCoreWrapper::<K>::new(&COUNTING, &[0; 12]);
-    let mut legacy = StreamCipherCoreWrapper::<L>::new(&FROM_1, &LEGACY_NONCE);
     first_failure(&[
-        wrong_step(&mut cipher, &ROW_22),
-        wrong_step(
-            &mut legacy,
-            &[("all that a length says", Step::Left(usize::MAX))],
-        ),
+        wrong::<K>(&COUNTING, &[0; 12], &ROW_22),
+        wrong::<L>(&FROM_1, &LEGACY_NONCE, &ROW_22_LEGACY),
     ])
 }
 
-static ROW_22: [(&'static str, Step); 3] = [
+static ROW_22_LEGACY: [NamedStep; 1] = [("all that a length says", Step::Left(usize::MAX))];
+
+static ROW_22: [NamedStep; 3] = [
     ("all blocks but the last", Step::Left(274877906880)),
     ("one byte more", Step::Left(274877906881)),
     ("more than all", Step::NotLeft(274877906945)),

@@ -1,8 +1,9 @@
 //! Rows of generators.
 
-use super::{COUNTING, FROM_1, Row, Verdict, failed};
+use super::draws::{Draw, wrong_draw};
+use super::{COUNTING, FROM_1, Row, Verdict, failed, first_failure};
 use chacha20::cipher::RngBackend;
-use chacha20::{ChaChaRng, R8, R12, R20, Rounds, SerializedRngState};
+use chacha20::{ChaChaRng, R8, R12, R20, Rounds};
 
 /// Each row for generators over a backend.
 pub fn verdicts<B: RngBackend<R8> + RngBackend<R12> + RngBackend<R20>>() -> [Row; 11] {
@@ -24,161 +25,147 @@ pub fn verdicts<B: RngBackend<R8> + RngBackend<R12> + RngBackend<R20>>() -> [Row
 // How many word positions there are.
 const POSITIONS: u128 = 1 << 68;
 
+type NamedDraw = (&'static str, Draw);
+
 // Bytes in pieces: what is left of a word is lost.
 fn row_7<B: RngBackend<R20>>() -> Verdict {
-    let mut rng = ChaChaRng::<R20, B>::from_seed(FROM_1);
-    let mut first = [0; 13];
-    let mut second = [0; 13];
-    rng.fill_bytes(&mut first);
-    let after_first = rng.get_word_pos();
-    rng.fill_bytes(&mut second);
-    failed(&[
-        (
-            "the first 13 bytes",
-            first == *b"\xb1\x69\x7e\x9f\xc6\x46\x1e\x19\x83\xd1\x31\xcf\x69",
-        ),
-        (
-            "the next 13",
-            second == *b"\xa7\xa3\xfc\x13\x4f\x14\x98\x80\xe8\xbb\x2b\x5d\x23",
-        ),
-        ("the position after the first", after_first == 4),
-        ("the position after both", rng.get_word_pos() == 8),
-    ])
+    wrong_draw(&mut ChaChaRng::<R20, B>::from_seed(FROM_1), &ROW_7)
 }
+
+static ROW_7: [NamedDraw; 4] = [
+    (
+        "the first 13 bytes",
+        Draw::Fill(
+            13,
+            b"\xb1\x69\x7e\x9f\xc6\x46\x1e\x19\x83\xd1\x31\xcf\x69",
+            b"",
+        ),
+    ),
+    ("the position after the first", Draw::At(4)),
+    (
+        "the next 13",
+        Draw::Fill(
+            13,
+            b"\xa7\xa3\xfc\x13\x4f\x14\x98\x80\xe8\xbb\x2b\x5d\x23",
+            b"",
+        ),
+    ),
+    ("the position after both", Draw::At(8)),
+];
 
 // How far each kind of read moves.
 fn row_8<B: RngBackend<R20>>() -> Verdict {
     let mut seed = [0; 32];
     seed[1] = 0xff;
-    let mut rng = ChaChaRng::<R20, B>::from_seed(seed);
-    rng.set_word_pos(32);
-    let first = next_words(&mut rng);
-    for _ in 0..12 {
-        let _ = rng.next_u32();
-    }
-    let after_words = rng.get_word_pos();
-    rng.fill_bytes(&mut [0; 32]);
-    let after_32_bytes = rng.get_word_pos();
-    rng.fill_bytes(&mut [0; 25]);
-    let after_25_bytes = rng.get_word_pos();
-    let _ = rng.next_u64();
-    let after_u64 = rng.get_word_pos();
-    let _ = rng.next_u32();
-    let _ = rng.next_u64();
-    let after_both = rng.get_word_pos();
-    rng.fill_bytes(&mut [0]);
-    failed(&[
-        (
-            "four words",
-            first == [0xfb4d_d572, 0x4bc4_2ef1, 0xdf92_2636, 0x327f_1394],
-        ),
-        ("the position after 16 words", after_words == 48),
-        ("after 32 bytes", after_32_bytes == 56),
-        ("after 25 bytes", after_25_bytes == 63),
-        ("after a u64", after_u64 == 65),
-        ("after a u32 and a u64", after_both == 68),
-        ("after a byte", rng.get_word_pos() == 69),
-    ])
+    wrong_draw(&mut ChaChaRng::<R20, B>::from_seed(seed), &ROW_8)
 }
 
-fn next_words<B: RngBackend<R20>>(rng: &mut ChaChaRng<R20, B>) -> [u32; 4] {
-    let mut words = [0; 4];
-    for word in &mut words {
-        *word = rng.next_u32();
-    }
-    words
-}
+static ROW_8: [NamedDraw; 15] = [
+    ("a place", Draw::GoTo(32)),
+    (
+        "four words",
+        Draw::Words(&[0xfb4d_d572, 0x4bc4_2ef1, 0xdf92_2636, 0x327f_1394]),
+    ),
+    ("12 words more", Draw::SkipWords(12)),
+    ("the position after 16 words", Draw::At(48)),
+    ("32 bytes", Draw::Fill(32, b"", b"")),
+    ("after 32 bytes", Draw::At(56)),
+    ("25 bytes", Draw::Fill(25, b"", b"")),
+    ("after 25 bytes", Draw::At(63)),
+    ("a u64", Draw::SkipTwo),
+    ("after a u64", Draw::At(65)),
+    ("a u32", Draw::SkipWords(1)),
+    ("a u64 more", Draw::SkipTwo),
+    ("after a u32 and a u64", Draw::At(68)),
+    ("a byte", Draw::Fill(1, b"", b"")),
+    ("after a byte", Draw::At(69)),
+];
 
 // The last block, and then the first.
 fn row_9<B: RngBackend<R20>>() -> Verdict {
-    let mut rng = ChaChaRng::<R20, B>::from_seed([0; 32]);
-    rng.set_block_pos(u64::MAX);
-    let mut last = [0; 64];
-    let mut first = [0; 8];
-    rng.fill_bytes(&mut last);
-    let after_last = rng.get_block_pos();
-    rng.fill_bytes(&mut first);
-    failed(&[
-        (
-            "the last block",
-            last.starts_with(b"\xd7\x91\x8c\xd8\x62\x0c\xf8\x32\x53\x26\x52\xc0\x4c\x01\xa5\x53"),
-        ),
-        ("the block position after it", after_last == 0),
-        (
-            "the first bytes",
-            first == *b"\x76\xb8\xe0\xad\xa0\xf1\x3d\x90",
-        ),
-    ])
+    wrong_draw(&mut ChaChaRng::<R20, B>::from_seed([0; 32]), &ROW_9)
 }
+
+static ROW_9: [NamedDraw; 4] = [
+    ("a place", Draw::GoToBlock(u64::MAX)),
+    (
+        "the last block",
+        Draw::Fill(
+            64,
+            b"\xd7\x91\x8c\xd8\x62\x0c\xf8\x32\x53\x26\x52\xc0\x4c\x01\xa5\x53",
+            b"",
+        ),
+    ),
+    ("the block position after it", Draw::AtBlock(0)),
+    (
+        "the first bytes",
+        Draw::Fill(8, b"\x76\xb8\xe0\xad\xa0\xf1\x3d\x90", b""),
+    ),
+];
 
 // A carry into the upper 32 bits of the block's number.
 fn row_10<B: RngBackend<R20>>() -> Verdict {
-    let mut rng = ChaChaRng::<R20, B>::from_seed([0; 32]);
-    rng.set_block_pos(0xffff_ffff);
-    let mut bytes = [0; 80];
-    rng.fill_bytes(&mut bytes);
-    failed(&[
-        (
-            "block 2^32 - 1",
-            bytes.starts_with(b"\xac\xe4\xcd\x09\xe2\x94\xd1\x91\x2d\x4a\xd2\x05\xd0\x6f\x95\xd9"),
-        ),
-        (
-            "block 2^32",
-            bytes.ends_with(b"\x3d\xb4\x1d\x3a\xa0\xd3\x29\x28\x5d\xe6\xf2\x25\xe6\xe2\x4b\xd5"),
-        ),
-    ])
+    wrong_draw(&mut ChaChaRng::<R20, B>::from_seed([0; 32]), &ROW_10)
 }
+
+static ROW_10: [NamedDraw; 2] = [
+    ("a place", Draw::GoToBlock(0xffff_ffff)),
+    (
+        "block 2^32 - 1, and the front of block 2^32",
+        Draw::Fill(
+            80,
+            b"\xac\xe4\xcd\x09\xe2\x94\xd1\x91\x2d\x4a\xd2\x05\xd0\x6f\x95\xd9",
+            b"\x3d\xb4\x1d\x3a\xa0\xd3\x29\x28\x5d\xe6\xf2\x25\xe6\xe2\x4b\xd5",
+        ),
+    ),
+];
 
 // The state after 100 words, whatever the number of rounds.
 fn row_14<B: RngBackend<R8> + RngBackend<R12> + RngBackend<R20>>() -> Verdict {
-    failed(&[
-        (
-            "8 rounds",
-            is_stored(&mut ChaChaRng::<R8, B>::from_seed(FROM_1)),
-        ),
-        (
-            "12 rounds",
-            is_stored(&mut ChaChaRng::<R12, B>::from_seed(FROM_1)),
-        ),
-        (
-            "20 rounds",
-            is_stored(&mut ChaChaRng::<R20, B>::from_seed(FROM_1)),
-        ),
+    first_failure(&[
+        wrong_draw(&mut ChaChaRng::<R8, B>::from_seed(FROM_1), &ROW_14),
+        wrong_draw(&mut ChaChaRng::<R12, B>::from_seed(FROM_1), &ROW_14),
+        wrong_draw(&mut ChaChaRng::<R20, B>::from_seed(FROM_1), &ROW_14),
     ])
 }
 
-fn is_stored<R: Rounds, B: RngBackend<R>>(rng: &mut ChaChaRng<R, B>) -> bool {
-    rng.set_stream(0xf0f1_f2f3_f4f5_f6f7);
-    for _ in 0..100 {
-        let _ = rng.next_u32();
-    }
-    let mut expected: SerializedRngState = [0; 49];
-    expected[..32].copy_from_slice(&FROM_1);
-    expected[32..40].copy_from_slice(b"\xf7\xf6\xf5\xf4\xf3\xf2\xf1\xf0");
-    expected[40] = 0x64;
-    rng.serialize_state() == expected
-}
+static ROW_14: [NamedDraw; 3] = [
+    ("a stream", Draw::GoToStream(0xf0f1_f2f3_f4f5_f6f7)),
+    ("100 words", Draw::SkipWords(100)),
+    (
+        "the state after them",
+        Draw::Stored(&[
+            1, 2, 3, 4, 5, 6, 7, 8, 9, 10, 11, 12, 13, 14, 15, 16, 17, 18, 19, 20, 21, 22, 23, 24,
+            25, 26, 27, 28, 29, 30, 31, 32, 0xf7, 0xf6, 0xf5, 0xf4, 0xf3, 0xf2, 0xf1, 0xf0, 0x64,
+            0, 0, 0, 0, 0, 0, 0, 0,
+        ]),
+    ),
+];
 
 // The last position, and positions past it.
 fn row_15<B: RngBackend<R20>>() -> Verdict {
-    let mut rng = ChaChaRng::<R20, B>::deserialize_state(&[0xff; 49]);
-    let last = rng.get_word_pos();
-    let state = rng.serialize_state();
-    rng.set_word_pos(POSITIONS + 5);
-    let wrapped = rng.get_word_pos();
-    rng.set_word_pos(POSITIONS - 16);
-    let mut expected: SerializedRngState = [0xff; 49];
-    expected[48] = 0x0f;
-    failed(&[
-        ("the last position", last == POSITIONS - 1),
-        ("the state", state == expected),
-        ("a position past the last", wrapped == 5),
-        (
-            "the last block's position",
-            rng.get_word_pos() == POSITIONS - 16,
-        ),
-    ])
+    wrong_draw(
+        &mut ChaChaRng::<R20, B>::deserialize_state(&[0xff; 49]),
+        &ROW_15,
+    )
 }
+
+static ROW_15: [NamedDraw; 6] = [
+    ("the last position", Draw::At(POSITIONS - 1)),
+    (
+        "the state",
+        Draw::Stored(&[
+            0xff, 0xff, 0xff, 0xff, 0xff, 0xff, 0xff, 0xff, 0xff, 0xff, 0xff, 0xff, 0xff, 0xff,
+            0xff, 0xff, 0xff, 0xff, 0xff, 0xff, 0xff, 0xff, 0xff, 0xff, 0xff, 0xff, 0xff, 0xff,
+            0xff, 0xff, 0xff, 0xff, 0xff, 0xff, 0xff, 0xff, 0xff, 0xff, 0xff, 0xff, 0xff, 0xff,
+            0xff, 0xff, 0xff, 0xff, 0xff, 0xff, 0x0f,
+        ]),
+    ),
+    ("a place past the last", Draw::GoTo(POSITIONS + 5)),
+    ("a position past the last", Draw::At(5)),
+    ("the last block", Draw::GoTo(POSITIONS - 16)),
+    ("the last block's position", Draw::At(POSITIONS - 16)),
+];
 
 // A generator that another one seeds.
 fn row_17<B: RngBackend<R20>>() -> Verdict {
@@ -202,46 +189,45 @@ fn row_17<B: RngBackend<R20>>() -> Verdict {
 
 // A stream and a block whose start state is that of RFC 8439's example (section 2.3.2).
 fn row_19<B: RngBackend<R20>>() -> Verdict {
-    let mut rng = ChaChaRng::<R20, B>::from_seed(COUNTING);
-    rng.set_stream(0x0000_0000_4a00_0000);
-    rng.set_block_pos(0x0900_0000_0000_0000);
-    rng.fill_bytes(&mut [0; 64]);
-    failed(&[
-        (
-            "four words",
-            next_words(&mut rng) == [0xe4e7_f110, 0x1559_3bd1, 0x1fdd_0f50, 0xc471_20a3],
-        ),
-        (
-            "the block position",
-            rng.get_block_pos() == 0x0900_0000_0000_0001,
-        ),
-    ])
+    wrong_draw(&mut ChaChaRng::<R20, B>::from_seed(COUNTING), &ROW_19)
 }
+
+static ROW_19: [NamedDraw; 5] = [
+    ("a stream", Draw::GoToStream(0x0000_0000_4a00_0000)),
+    ("a place", Draw::GoToBlock(0x0900_0000_0000_0000)),
+    ("a block before", Draw::Fill(64, b"", b"")),
+    (
+        "four words",
+        Draw::Words(&[0xe4e7_f110, 0x1559_3bd1, 0x1fdd_0f50, 0xc471_20a3]),
+    ),
+    ("the block position", Draw::AtBlock(0x0900_0000_0000_0001)),
+];
 
 // Two words around the wrap: the last of a buffer, and the first after it.
 fn row_20<B: RngBackend<R20>>() -> Verdict {
-    let mut rng = ChaChaRng::<R20, B>::from_seed([0; 32]);
-    rng.set_word_pos(POSITIONS - 64);
-    rng.fill_bytes(&mut [0; 252]);
-    failed(&[
-        ("two words", rng.next_u64() == 0xade0_b876_8976_b107),
-        ("the position after them", rng.get_word_pos() == 1),
-    ])
+    wrong_draw(&mut ChaChaRng::<R20, B>::from_seed([0; 32]), &ROW_20)
 }
+
+static ROW_20: [NamedDraw; 4] = [
+    ("a place", Draw::GoTo(POSITIONS - 64)),
+    ("252 bytes", Draw::Fill(252, b"", b"")),
+    ("two words", Draw::Two(0xade0_b876_8976_b107)),
+    ("the position after them", Draw::At(1)),
+];
 
 // Another stream of the same seed.
 fn row_21<B: RngBackend<R20>>() -> Verdict {
-    let mut rng = ChaChaRng::<R20, B>::from_seed([0; 32]);
-    let _ = next_words(&mut rng);
-    let fifth = rng.next_u32();
-    rng.set_stream(0x0200_0000_0000_0000);
-    failed(&[
-        ("the fifth word", fifth == 0xb819_d2bd),
-        ("the position", rng.get_word_pos() == 0),
-        ("the seed", rng.get_seed() == [0; 32]),
-        ("the other stream's word", rng.next_u32() == 0x374d_c6c2),
-    ])
+    wrong_draw(&mut ChaChaRng::<R20, B>::from_seed([0; 32]), &ROW_21)
 }
+
+static ROW_21: [NamedDraw; 6] = [
+    ("four words", Draw::SkipWords(4)),
+    ("the fifth word", Draw::Words(&[0xb819_d2bd])),
+    ("a stream", Draw::GoToStream(0x0200_0000_0000_0000)),
+    ("the position", Draw::At(0)),
+    ("the seed", Draw::Seeded(&[0; 32])),
+    ("the other stream's word", Draw::Words(&[0x374d_c6c2])),
+];
 
 // Generators are equal where seed, stream and position are, however they came there.
 fn row_23<B: RngBackend<R20>>() -> Verdict {

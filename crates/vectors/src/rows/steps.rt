@@ -4,7 +4,7 @@
 use super::{Verdict, failed_check};
 use chacha20::StreamCipherCoreWrapper;
 use chacha20::cipher::{
-    OverflowError, SeekNum, StreamCipher, StreamCipherError, StreamCipherSeek, StreamCipherSeekCore,
+    SeekNum, StreamCipher, StreamCipherError, StreamCipherSeek, StreamCipherSeekCore,
 };
 
 type Cipher<K> = StreamCipherCoreWrapper<K>;
@@ -54,7 +54,8 @@ pub enum Step {
     NoBetween(&'static [u8], usize),
 }
 
-// These two promise nothing, so that a proof meets the contracts of `try_seek` and `try_current_pos` once, for any type.
+// This and the next one promise nothing, so that a proof meets the contracts of `try_seek` and `try_current_pos` once,
+// for any type.
 fn sought_by<K: StreamCipherSeekCore, T: SeekNum>(
     cipher: &mut Cipher<K>,
     place: T,
@@ -62,11 +63,15 @@ fn sought_by<K: StreamCipherSeekCore, T: SeekNum>(
     cipher.try_seek(place)
 }
 
-fn is_at_number<K: StreamCipherSeekCore, T: SeekNum + PartialEq>(
+/// Whether the position is this one, as the type of the number says it.
+pub fn is_at_number<K: StreamCipherSeekCore, T: SeekNum + PartialEq>(
     cipher: &Cipher<K>,
     place: T,
 ) -> bool {
-    cipher.try_current_pos() == Ok(place)
+    match cipher.try_current_pos::<T>() {
+        Ok(found) => found == place,
+        Err(_) => false,
+    }
 }
 
 fn sought<K: StreamCipherSeekCore>(
@@ -159,13 +164,13 @@ fn write_skipped<K: StreamCipherSeekCore>(cipher: &mut Cipher<K>, count: usize) 
 fn is_right<K: StreamCipherSeekCore>(cipher: &mut Cipher<K>, step: Step) -> bool {
     match step {
         Step::Seek(place) => sought(cipher, place).is_ok(),
-        Step::NoSeek(place) => sought(cipher, place) == Err(StreamCipherError),
+        Step::NoSeek(place) => sought(cipher, place).is_err(),
         Step::At(place) => is_at(cipher, place),
-        Step::NotInI32 => cipher.try_current_pos::<i32>() == Err(OverflowError),
-        Step::NotInU64 => cipher.try_current_pos::<u64>() == Err(OverflowError),
-        Step::NotInUsize => cipher.try_current_pos::<usize>() == Err(OverflowError),
+        Step::NotInI32 => cipher.try_current_pos::<i32>().is_err(),
+        Step::NotInU64 => cipher.try_current_pos::<u64>().is_err(),
+        Step::NotInUsize => cipher.try_current_pos::<usize>().is_err(),
         Step::Left(count) => cipher.check_remaining(count).is_ok(),
-        Step::NotLeft(count) => cipher.check_remaining(count) == Err(StreamCipherError),
+        Step::NotLeft(count) => cipher.check_remaining(count).is_err(),
         Step::Skip(count) => skipped(cipher, count),
         Step::WriteSkip(count) => write_skipped(cipher, count),
         Step::Apply(from, to) => applied(cipher, from, to, true),

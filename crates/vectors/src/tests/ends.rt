@@ -5,7 +5,7 @@ ghost use Rattle.std.specs.Prelude.{◌≤◌, ◌^◌, length};
 use super::all_right;
 use super::width3::Width3;
 use crate::rows::ciphers::SeekCore;
-use crate::rows::steps::{Place, Step, wrong_step};
+use crate::rows::steps::{Place, Step, is_at_number, wrong_step};
 use crate::rows::{COUNTING, FROM_1, LEGACY_NONCE, R0, Verdict, failed, failed_for, first_failure};
 use chacha20::backends::{Lanes4, Lanes8, Lanes16, Rows8, Soft};
 use chacha20::cipher::{
@@ -247,7 +247,7 @@ fn come_in_two<K: StreamCipherSeekCore>(
         && gives(cipher, by, &mut bytes[from..middle])
         && gives(cipher, by, &mut bytes[middle..])
         && bytes[from..] == last[from..LENGTH]
-        && cipher.try_current_pos() == Ok(start + LENGTH as u128)
+        && is_at_number(cipher, start + LENGTH as u128)
 }
 
 // The first number, from none to 33, for which they don't: so many whole blocks at once; from the middle of a block on,
@@ -279,7 +279,7 @@ fn wrong_rest<K: StreamCipherSeekCore>(cipher: &mut Cipher<K>, start: u128) -> O
     for rest in 0..66usize {
         let place = start + (LENGTH - rest) as u128;
         let right = cipher.try_seek(place).is_ok()
-            && cipher.try_current_pos() == Ok(place)
+            && is_at_number(cipher, place)
             && cipher.check_remaining(rest).is_ok()
             && cipher.check_remaining(rest + 1).is_err();
         if !right {

@@ -2,11 +2,10 @@
 
 use super::all_right;
 use crate::rows::ciphers::SeekCore;
+use crate::rows::steps::is_at_number;
 use crate::rows::{COUNTING, Verdict, failed};
 use chacha20::backends::Lanes16;
-use chacha20::cipher::{
-    KeyIvInit, OverflowError, SeekNum, StreamCipher, StreamCipherSeek, StreamCipherSeekCore,
-};
+use chacha20::cipher::{KeyIvInit, SeekNum, StreamCipher, StreamCipherSeek, StreamCipherSeekCore};
 use chacha20::variants::Ietf;
 use chacha20::{ChaCha20, ChaChaCore, Nonce, R20, StreamCipherCoreWrapper};
 
@@ -22,6 +21,17 @@ static PLACES: [u64; 6] = [
     LIMIT,
 ];
 
+// Whether the position is this number; where a type has none for it, whether the answer is an error.
+fn is_said<K: StreamCipherSeekCore, T: SeekNum + PartialEq>(
+    cipher: &StreamCipherCoreWrapper<K>,
+    number: Option<T>,
+) -> bool {
+    match number {
+        Some(number) => is_at_number(cipher, number),
+        None => cipher.try_current_pos::<T>().is_err(),
+    }
+}
+
 // At a place a cipher answers its position in each type that can say it, and an error in each other.
 fn answers<K: StreamCipherSeekCore>(
     cipher: &mut StreamCipherCoreWrapper<K>,
@@ -29,17 +39,11 @@ fn answers<K: StreamCipherSeekCore>(
 ) -> Verdict {
     failed(&[
         ("a seek", cipher.try_seek(place).is_ok()),
-        (
-            "in i32",
-            cipher.try_current_pos() == i32::try_from(place).map_err(|_| OverflowError),
-        ),
-        (
-            "in u32",
-            cipher.try_current_pos() == u32::try_from(place).map_err(|_| OverflowError),
-        ),
-        ("in u64", cipher.try_current_pos() == Ok(place)),
-        ("in u128", cipher.try_current_pos() == Ok(u128::from(place))),
-        ("in usize", cipher.try_current_pos() == Ok(place as usize)),
+        ("in i32", is_said(cipher, i32::try_from(place).ok())),
+        ("in u32", is_said(cipher, u32::try_from(place).ok())),
+        ("in u64", is_at_number(cipher, place)),
+        ("in u128", is_at_number(cipher, u128::from(place))),
+        ("in usize", is_at_number(cipher, place as usize)),
     ])
 }
 
@@ -49,9 +53,7 @@ fn is_sought<K: StreamCipherSeekCore, T: SeekNum>(
     number: T,
     place: u64,
 ) -> bool {
-    cipher.try_seek(70u32).is_ok()
-        && cipher.try_seek(number).is_ok()
-        && cipher.try_current_pos() == Ok(place)
+    cipher.try_seek(70u32).is_ok() && cipher.try_seek(number).is_ok() && is_at_number(cipher, place)
 }
 
 // A place is sought in each type that can say it.
@@ -94,29 +96,41 @@ fn in_each_type(rt: HostRuntime) {
     }
 }
 
-// Writing, two slices and applying give the same bytes, over several pieces and from the middle of a block on.
+// From the middle of the first block on, by each of the three calls for bytes.
+fn applied<K: StreamCipherSeekCore>(
+    cipher: &mut StreamCipherCoreWrapper<K>,
+    bytes: &mut [u8],
+) -> bool {
+    cipher.try_seek(13u32).is_ok() && cipher.try_apply_keystream(bytes).is_ok()
+}
+
+fn written<K: StreamCipherSeekCore>(
+    cipher: &mut StreamCipherCoreWrapper<K>,
+    bytes: &mut [u8],
+) -> bool {
+    cipher.try_seek(13u32).is_ok() && cipher.try_write_keystream(bytes).is_ok()
+}
+
+fn between<K: StreamCipherSeekCore>(
+    cipher: &mut StreamCipherCoreWrapper<K>,
+    input: &[u8],
+    bytes: &mut [u8],
+) -> bool {
+    cipher.try_seek(13u32).is_ok() && cipher.try_apply_keystream_b2b(input, bytes).is_ok()
+}
+
+// They give the same bytes, over several pieces.
 fn gives_the_same<K: StreamCipherSeekCore>(cipher: &mut StreamCipherCoreWrapper<K>) -> Verdict {
-    let mut applied = [0; 70000];
-    let mut written = [1; 70000];
-    let mut between = [2; 70000];
+    let mut by_applying = [0; 70000];
+    let mut by_writing = [1; 70000];
+    let mut by_two = [2; 70000];
     failed(&[
-        ("a seek", cipher.try_seek(13u32).is_ok()),
-        ("applied", cipher.try_apply_keystream(&mut applied).is_ok()),
-        ("a seek back", cipher.try_seek(13u32).is_ok()),
-        ("written", cipher.try_write_keystream(&mut written).is_ok()),
-        ("another seek back", cipher.try_seek(13u32).is_ok()),
-        (
-            "between slices",
-            cipher
-                .try_apply_keystream_b2b(&[0; 70000], &mut between)
-                .is_ok(),
-        ),
-        ("written as applied", applied == written),
-        ("between slices as applied", applied == between),
-        (
-            "the position at the end",
-            cipher.try_current_pos() == Ok(70013u32),
-        ),
+        ("applied", applied(cipher, &mut by_applying)),
+        ("written", written(cipher, &mut by_writing)),
+        ("between slices", between(cipher, &[0; 70000], &mut by_two)),
+        ("written as applied", by_applying == by_writing),
+        ("between slices as applied", by_applying == by_two),
+        ("the position at the end", is_at_number(cipher, 70013u32)),
     ])
 }
 

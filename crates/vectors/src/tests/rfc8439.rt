@@ -6,9 +6,10 @@ use chacha20::cipher::{KeyIvInit, StreamCipher};
 use chacha20::{ChaCha20, Key, Nonce};
 
 // The message of section 2.4.2, which begins at block 1.
-fn encrypted<C: StreamCipher>(cipher: &mut C) -> [u8; 114] {
+fn encrypted() -> [u8; 114] {
     let mut message =
         *b"Ladies and Gentlemen of the class of '99: If I could offer you only one tip for the future, sunscreen would be it.";
+    let mut cipher = ChaCha20::new(&COUNTING, &NONCE);
     let _ = cipher.try_apply_keystream(&mut [0; 64]);
     let _ = cipher.try_apply_keystream(&mut message);
     message
@@ -16,12 +17,12 @@ fn encrypted<C: StreamCipher>(cipher: &mut C) -> [u8; 114] {
 
 #[test]
 fn encryption(rt: HostRuntime) {
-    let message = encrypted(&mut ChaCha20::new(&COUNTING, &NONCE));
-    assert_eq!(rt; message.as_slice(), CIPHERTEXT.as_slice());
+    assert_eq!(rt; encrypted().as_slice(), CIPHERTEXT.as_slice());
 }
 
-// The block of a new cipher after so many others.
-fn block_after<C: StreamCipher>(cipher: &mut C, before: u32) -> [u8; 64] {
+// The block of a key and a nonce after so many others.
+fn block_after(key: &Key, nonce: &Nonce, before: u32) -> [u8; 64] {
+    let mut cipher = ChaCha20::new(key, nonce);
     let mut block = [0; 64];
     for _ in 0..before {
         let _ = cipher.try_apply_keystream(&mut [0; 64]);
@@ -30,7 +31,7 @@ fn block_after<C: StreamCipher>(cipher: &mut C, before: u32) -> [u8; 64] {
     block
 }
 
-// Appendix A.1: the block of a key and a nonce after so many others.
+// Appendix A.1.
 #[test]
 fn keystream_blocks(rt: HostRuntime) {
     let mut last_one: Key = [0; 32];
@@ -46,7 +47,7 @@ fn keystream_blocks(rt: HostRuntime) {
         (second_ff, [0; 12], 2, KEY_FF),
         ([0; 32], last_two, 0, NONCE_2),
     ] {
-        let block = block_after(&mut ChaCha20::new(&key, &nonce), before);
+        let block = block_after(&key, &nonce, before);
         assert_eq!(rt; block.as_slice(), expected.as_slice());
     }
 }
