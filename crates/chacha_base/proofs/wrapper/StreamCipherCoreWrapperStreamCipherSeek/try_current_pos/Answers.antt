@@ -10,7 +10,7 @@ returns-clause-accepted g c =
     let counter = g.C.StreamCipherCore.counter c.self.inside.core in
     let made : c.if-self.made ≡ blocks_made modulus c.self.inside.past counter =
     elim c.if-self.branch [
-      | then-self w ↦ omega (arith, w.made-is, w.from.ensures, w.last.ensures, g.met.C.StreamCipherSeekCore.counters)
+      | then-self w ↦ omega (arith, g.met.C.StreamCipherSeekCore.counters)
           ∙ sym (ap (λ past. blocks_made modulus past counter) w.if-self.true)
       | else-self w ↦ omega (arith, w.made-is, w.from-made.ensures, w.to_u64.ensures.value, w.get_block_pos.ensures)
           ∙ sym (ap (λ past. blocks_made modulus past counter) w.if-self.false)
@@ -29,7 +29,7 @@ returns-clause-value g c =
     let counter = g.C.StreamCipherCore.counter c.self.inside.core in
     let made : c.if-self.made ≡ blocks_made modulus c.self.inside.past counter =
     elim c.if-self.branch [
-      | then-self w ↦ omega (arith, w.made-is, w.from.ensures, w.last.ensures, g.met.C.StreamCipherSeekCore.counters)
+      | then-self w ↦ omega (arith, g.met.C.StreamCipherSeekCore.counters)
           ∙ sym (ap (λ past. blocks_made modulus past counter) w.if-self.true)
       | else-self w ↦ omega (arith, w.made-is, w.from-made.ensures, w.to_u64.ensures.value, w.get_block_pos.ensures)
           ∙ sym (ap (λ past. blocks_made modulus past counter) w.if-self.false)
