@@ -332,7 +332,7 @@ pub trait StreamCipher: Keystream {
 
     /// XORs bytes with the keystream (RFC 8439, section 2.4). `Err` exactly where the bytes would pass the limit; then
     /// nothing changes. Decryption is the same call.
-    fn try_apply_keystream(&mut self, buf: &mut [u8]) -> Result<(), StreamCipherError>
+    final fn try_apply_keystream(&mut self, buf: &mut [u8]) -> Result<(), StreamCipherError>
         ensures accepted { IsOk result ↔ (Self.position self.old + length buf.old ≤ limit) }
         ensures bytes { OnOk result
             (buf.new ≡ xor_stream (stream self.old) (Self.position self.old) buf.old) }
@@ -346,7 +346,7 @@ pub trait StreamCipher: Keystream {
 
     /// Writes the keystream over the bytes: each becomes the keystream's byte at its position. `Err` exactly where the
     /// bytes would pass the limit; then nothing changes.
-    fn try_write_keystream(&mut self, buf: &mut [u8]) -> Result<(), StreamCipherError>
+    final fn try_write_keystream(&mut self, buf: &mut [u8]) -> Result<(), StreamCipherError>
         ensures accepted { IsOk result ↔ (Self.position self.old + length buf.old ≤ limit) }
         ensures bytes { OnOk result
             (buf.new ≡ stream_part (stream self.old) (Self.position self.old) (length buf.old)) }
@@ -368,7 +368,7 @@ pub trait StreamCipher: Keystream {
 
     /// Writes the input XORed with the keystream into the output (RFC 8439, section 2.4). `Err` exactly where the
     /// lengths differ or the bytes would pass the limit; then nothing changes.
-    fn try_apply_keystream_b2b(
+    final fn try_apply_keystream_b2b(
         &mut self,
         input: &[u8],
         output: &mut [u8],
@@ -397,7 +397,7 @@ pub trait StreamCipher: Keystream {
     }
 
     /// XORs bytes with the keystream (RFC 8439, section 2.4). The caller proves that they stay within the limit.
-    fn apply_keystream(&mut self, buf: &mut [u8])
+    final fn apply_keystream(&mut self, buf: &mut [u8])
         requires { Self.position self.old + length buf.old ≤ limit }
         ensures bytes { buf.new ≡ xor_stream (stream self.old) (Self.position self.old) buf.old }
         ensures moved { self.new ≡ at self.old (Self.position self.old + length buf.old) }
@@ -406,7 +406,7 @@ pub trait StreamCipher: Keystream {
     }
 
     /// Writes the keystream over the bytes. The caller proves that they stay within the limit.
-    fn write_keystream(&mut self, buf: &mut [u8])
+    final fn write_keystream(&mut self, buf: &mut [u8])
         requires { Self.position self.old + length buf.old ≤ limit }
         ensures bytes { buf.new
             ≡ stream_part (stream self.old) (Self.position self.old) (length buf.old) }
@@ -417,7 +417,7 @@ pub trait StreamCipher: Keystream {
 
     /// Writes the input XORed with the keystream into the output (RFC 8439, section 2.4). The caller proves that the
     /// lengths are equal and that the bytes stay within the limit.
-    fn apply_keystream_b2b(&mut self, input: &[u8], output: &mut [u8])
+    final fn apply_keystream_b2b(&mut self, input: &[u8], output: &mut [u8])
         requires same { length input.now ≡ length output.old }
         requires fits { Self.position self.old + length input.now ≤ limit }
         ensures bytes { output.new
@@ -459,7 +459,7 @@ pub trait StreamCipherSeek: StreamCipher {
         ensures within { Self.position self.now ≤ Self.limit };
 
     /// Moves to a position. The caller proves that the number is not negative and within the limit.
-    fn seek<T: SeekNum>(&mut self, pos: T)
+    final fn seek<T: SeekNum>(&mut self, pos: T)
         requires { IsSomeAnd (T.position pos) (λ p. p ≤ Self.limit) }
         ensures { IfSome (T.position pos) (λ p. self.new ≡ Self.at self.old p) }
     {
@@ -467,7 +467,7 @@ pub trait StreamCipherSeek: StreamCipher {
     }
 
     /// The position. The caller proves that the type can represent it.
-    fn current_pos<T: SeekNum>(&self) -> T
+    final fn current_pos<T: SeekNum>(&self) -> T
         requires { Self.position self.now ≤ T.greatest }
         ensures { T.position result ≡ Some (Self.position self.now) }
     {

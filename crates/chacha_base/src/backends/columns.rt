@@ -1,6 +1,6 @@
 //! Groups of blocks with a vector for each word of a state: a lane has the words of one block.
 
-ghost use Rattle.std.specs.Prelude.{◌≡◌, ◌<◌, ℕ, ◌+◌, ◌*◌, [], length, slice_index, slice_index_or};
+ghost use Rattle.std.specs.Prelude.{◌≡◌, ◌<◌, ℕ, ◌+◌, ◌*◌, ⊤, [], length, slice_index, slice_index_or};
 ghost use Rattle.chacha_base.specs.Rounds.{columns, diagonals, rounds};
 ghost use Rattle.chacha_base.specs.ColumnVectors.{block_in_columns};
 ghost use Rattle.chacha_base.specs.Lanes.{row};
@@ -9,16 +9,29 @@ ghost use Rattle.chacha_base.specs.Vectors.{words_at, block_in_rows};
 use crate::backends::group::{BlockBuffer, Group, States, write_block};
 use crate::backends::vector::{FourVectors, Vector, quarter_round, sums};
 use crate::rounds::Steps;
+use std::alloc::AllocError;
 
 /// Sixteen vectors, in the four columns of a state: vector 0 of column k is word k of each block, 1 is word 4 + k, 2 is
 /// word 8 + k and 3 is word 12 + k.
-#[derive(Clone, Copy)]
 pub struct Columns<V>(
     pub FourVectors<V>,
     pub FourVectors<V>,
     pub FourVectors<V>,
     pub FourVectors<V>,
 );
+
+// By hand, as a copy: what a derive writes clones each field.
+impl<V: Copy> Clone for Columns<V> {
+    ghost is_clone = { λ x y. y ≡ x };
+
+    ghost is_infallible = { λ _. ⊤ };
+
+    fn clone(&self) -> Result<Columns<V>, AllocError> {
+        Ok(*self)
+    }
+}
+
+impl<V: Copy> Copy for Columns<V> {}
 
 // The first three words of a column, the same for each block, and the last one of each.
 #[inline(always)]

@@ -1,6 +1,6 @@
 //! Groups of blocks with a vector for each row of a state, as many states as a vector has fours.
 
-ghost use Rattle.std.specs.Prelude.{◌≡◌, ◌<◌, ℕ, ◌*◌, [], ◌∷◌, slice_index};
+ghost use Rattle.std.specs.Prelude.{◌≡◌, ◌<◌, ℕ, ◌*◌, ⊤, [], ◌∷◌, slice_index};
 ghost use Rattle.chacha_base.specs.Lanes.{row, state_row};
 ghost use Rattle.chacha_base.specs.Shifts.{rows_turned};
 ghost use Rattle.chacha_base.specs.Vectors.{block_in_rows};
@@ -8,12 +8,24 @@ ghost use Rattle.chacha_base.specs.Vectors.{block_in_rows};
 use crate::backends::group::{BlockBuffer, Group, States, write_block};
 use crate::backends::vector::{FourVectors, Vector, quarter_round, sums};
 use crate::rounds::Steps;
+use std::alloc::AllocError;
 
 /// States in rows. So that each diagonal becomes a column, row `STAYS` stays, and the rows after it, in a circle, move
 /// to the left by 1, 2 and 3 places. Where row b (1) stays, which a quarter round needs first and writes last, the
 /// moves wait for nothing.
-#[derive(Clone, Copy)]
 pub struct Rows<V, const STAYS: usize>(FourVectors<V>);
+
+impl<V: Copy, const STAYS: usize> Clone for Rows<V, STAYS> {
+    ghost is_clone = { λ x y. y ≡ x };
+
+    ghost is_infallible = { λ _. ⊤ };
+
+    fn clone(&self) -> Result<Rows<V, STAYS>, AllocError> {
+        Ok(*self)
+    }
+}
+
+impl<V: Copy, const STAYS: usize> Copy for Rows<V, STAYS> {}
 
 // A row of four words, the same for each block.
 #[inline(always)]

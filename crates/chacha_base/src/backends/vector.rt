@@ -1,12 +1,13 @@
 //! Vectors of words, and the quarter round of four of them.
 
-ghost use Rattle.std.specs.Prelude.{◌≡◌, ◌≤◌, ◌<◌, ℕ, ◌+◌, ◌*◌, bit_xor, slice_index};
+ghost use Rattle.std.specs.Prelude.{◌≡◌, ◌≤◌, ◌<◌, ℕ, ◌+◌, ◌*◌, ⊤, bit_xor, slice_index};
 ghost use Rattle.chacha_base.specs.Words.{add, rotl};
 ghost use Rattle.chacha_base.specs.QuarterRound.{quarter};
 ghost use Rattle.chacha_base.specs.Lanes.{row, interleaved_low, interleaved_high, turned};
 ghost use Rattle.chacha_base.specs.Vectors.{lanes_at, sums_at};
 
 use crate::rounds::Steps;
+use std::alloc::AllocError;
 use std::simd::prelude::*;
 
 /// A vector of words, one in each lane. The lanes lie in fours.
@@ -81,8 +82,20 @@ pub trait Vector: Copy {
 
 /// Words a, b, c and d of a quarter round in each lane: the four rows of some states, or a column or diagonal of one
 /// state in each lane.
-#[derive(Clone, Copy)]
 pub struct FourVectors<V>(pub V, pub V, pub V, pub V);
+
+// By hand, as a copy: what a derive writes clones each field.
+impl<V: Copy> Clone for FourVectors<V> {
+    ghost is_clone = { λ x y. y ≡ x };
+
+    ghost is_infallible = { λ _. ⊤ };
+
+    fn clone(&self) -> Result<FourVectors<V>, AllocError> {
+        Ok(*self)
+    }
+}
+
+impl<V: Copy> Copy for FourVectors<V> {}
 
 // The words in each lane XORed and rotated to the left by 8, as a permutation of bytes or by shifts.
 #[inline(always)]
