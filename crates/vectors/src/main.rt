@@ -27,9 +27,10 @@ fn print_row(rt: &impl Print, number: usize, failed: Verdict) -> io::Result<bool
 
 // Prints all lines, and answers whether all rows are right.
 fn print_rows(rt: &impl Print) -> io::Result<bool> {
-    print_bytes(rt, &rows::ciphers::first_ciphertext())?;
+    let (ciphertext, verdicts) = rows::worked();
+    print_bytes(rt, &ciphertext)?;
     let mut all_right = true;
-    for (number, verdict) in rows::verdicts().iter().enumerate() {
+    for (number, verdict) in verdicts.iter().enumerate() {
         if let Some(failed) = *verdict {
             all_right &= print_row(rt, number, failed)?;
         }

@@ -79,33 +79,27 @@ pub fn first_failure(verdicts: &[Verdict]) -> Verdict {
     None
 }
 
-/// A worked row: its number, its subject, and what fails in it.
-pub type Row = (usize, &'static str, Verdict);
+/// What fails in each worked row, at the place of its number. Other places are empty.
+pub type Verdicts = [Option<Verdict>; 24];
 
-/// Each row's verdict, at the place of its number, for the named ciphers and generators. Other places are empty.
-pub fn verdicts() -> [Option<Verdict>; 24] {
+/// Enters what fails in a row, or in a part of it. What failed in another part stays.
+pub fn enter(verdicts: &mut Verdicts, number: usize, failed: Verdict) {
+    if let Some(verdict) = verdicts.get_mut(number) {
+        *verdict = Some(verdict.flatten().or(failed));
+    }
+}
+
+/// The first row's ciphertext, and each row's verdict, for the named ciphers and generators.
+pub fn worked() -> ([u8; 16], Verdicts) {
     let mut verdicts = [None; 24];
-    enter(
-        &mut verdicts,
-        &ciphers::verdicts::<
-            ChaChaCore<R20, Ietf, Lanes16>,
-            ChaCha20LegacyCore,
-            XChaChaCore<R20, Lanes16>,
-        >(),
-    );
-    enter(&mut verdicts, &[(13, "a counter that wraps", no_rounds())]);
-    enter(&mut verdicts, &generators::verdicts::<Lanes8>());
-    verdicts
+    let ciphertext = ciphers::enter_ietf_rows::<ChaChaCore<R20, Ietf, Lanes16>>(&mut verdicts);
+    ciphers::enter_legacy_rows::<ChaCha20LegacyCore>(&mut verdicts);
+    ciphers::enter_x_rows::<XChaChaCore<R20, Lanes16>>(&mut verdicts);
+    enter(&mut verdicts, 13, no_rounds());
+    generators::enter_rows::<Lanes8>(&mut verdicts);
+    (ciphertext, verdicts)
 }
 
 fn no_rounds() -> Verdict {
     cores::row_13::<ChaChaCore<R0, Ietf, Lanes16>, ChaChaCore<R0, Legacy, Lanes16>>()
-}
-
-fn enter(verdicts: &mut [Option<Verdict>; 24], rows: &[Row]) {
-    for (number, _, failed) in rows {
-        if let Some(verdict) = verdicts.get_mut(*number) {
-            *verdict = Some(*failed);
-        }
-    }
 }

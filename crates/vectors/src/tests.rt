@@ -6,6 +6,7 @@ mod contracts;
 mod core_calls;
 mod draws;
 mod ends;
+mod everywhere;
 mod generator_cores;
 mod generator_runs;
 mod generator_states;
@@ -28,7 +29,7 @@ mod width3;
 mod wraps;
 mod xchacha;
 
-use crate::rows::{Row, Verdict};
+use crate::rows::{Failure, Verdict, Verdicts};
 use std::process::Abort;
 
 // Stops the test at the first of these that fails: what is named first, a backend or a type, and then the check.
@@ -40,11 +41,15 @@ fn all_right(rt: &impl Abort, verdicts: &[(&'static str, Verdict)]) {
     }
 }
 
-// The same of the rows over a backend, with each row's number and subject.
-fn rows_right(rt: &impl Abort, backend: &'static str, rows: &[Row]) {
-    for (number, subject, verdict) in rows {
-        if let Some(failure) = *verdict {
-            panic!(rt; "{backend}: row {number}, {subject}: {}", failure.check);
+// The first failure in worked rows, with its row's number.
+fn first_wrong_row(verdicts: &Verdicts) -> Verdict {
+    for (number, verdict) in verdicts.iter().enumerate() {
+        if let Some(failure) = verdict.flatten() {
+            return Some(Failure {
+                check: failure.check,
+                number,
+            });
         }
     }
+    None
 }

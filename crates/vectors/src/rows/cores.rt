@@ -1,7 +1,7 @@
 //! Rows of cores alone.
 
 use super::{Verdict, failed};
-use chacha20::cipher::{KeyIvInit, StreamCipherCore, StreamCipherSeekCore};
+use chacha20::cipher::{KeyIvInit, StreamCipherCore, StreamCipherCounter, StreamCipherSeekCore};
 use chacha20::rand_core::SeedableRng;
 use chacha20::{Key, Nonce, Seed};
 
@@ -25,40 +25,43 @@ fn is_first_block(block: &[u8; 64]) -> bool {
         && block.ends_with(&[0; 48])
 }
 
+// The last row of a block.
+fn last_row(block: &[u8; 64]) -> [u8; 16] {
+    let mut row = [0; 16];
+    row.copy_from_slice(&block[48..]);
+    row
+}
+
+// Whether the first block is right, the last rows of the two blocks from a counter on, and the counter after them.
+fn around<C: StreamCipherSeekCore>(
+    core: &mut C,
+    counter: C::Counter,
+) -> (bool, [[u8; 16]; 2], u64) {
+    let first = is_first_block(&next_block(core));
+    core.set_block_pos(counter);
+    let two = next_two(core);
+    let rows = [last_row(&two[0]), last_row(&two[1])];
+    (first, rows, core.get_block_pos().to_u64())
+}
+
+// The last rows of the blocks 2^32 - 1 and 2^32, without a carry and with one: the counter, doubled.
+static WRAPPED: [[u8; 16]; 2] = [*b"\xfe\xff\xff\xff\0\0\0\0\0\0\0\0\0\0\0\0", [0; 16]];
+
+static CARRIED: [[u8; 16]; 2] = [
+    *b"\xfe\xff\xff\xff\0\0\0\0\0\0\0\0\0\0\0\0",
+    *b"\0\0\0\0\x02\0\0\0\0\0\0\0\0\0\0\0",
+];
+
 /// A counter that wraps: without a carry where it has 32 bits, and with one where it has 64. Both cores make no rounds.
 pub fn row_13<I, L>() -> Verdict
 where
     I: KeyIvInit<Key = Key, Iv = Nonce> + StreamCipherSeekCore<Counter = u32> + Drop,
     L: SeedableRng<Seed = Seed> + StreamCipherSeekCore<Counter = u64> + Drop,
 {
-    let mut core = I::new(&[0; 32], &[0; 12]);
-    let first = next_block(&mut core);
-    core.set_block_pos(0xffff_ffff);
-    let two = next_two(&mut core);
-    let mut legacy = L::from_seed([0; 32]);
-    let legacy_first = next_block(&mut legacy);
-    legacy.set_block_pos(0xffff_ffff);
-    let legacy_two = next_two(&mut legacy);
+    let ietf = around(&mut I::new(&[0; 32], &[0; 12]), 0xffff_ffff);
+    let legacy = around(&mut L::from_seed([0; 32]), 0xffff_ffff);
     failed(&[
-        ("block 0", is_first_block(&first)),
-        (
-            "the last block",
-            two[0].ends_with(b"\xfe\xff\xff\xff\0\0\0\0\0\0\0\0\0\0\0\0"),
-        ),
-        ("the block after it", two[1].ends_with(&[0; 16])),
-        ("the position then", core.get_block_pos() == 1),
-        ("legacy block 0", is_first_block(&legacy_first)),
-        (
-            "legacy block 2^32 - 1",
-            legacy_two[0].ends_with(b"\xfe\xff\xff\xff\0\0\0\0\0\0\0\0\0\0\0\0"),
-        ),
-        (
-            "legacy block 2^32",
-            legacy_two[1].ends_with(b"\0\0\0\0\x02\0\0\0\0\0\0\0\0\0\0\0"),
-        ),
-        (
-            "the legacy position then",
-            legacy.get_block_pos() == 0x1_0000_0001,
-        ),
+        ("32 bits", ietf == (true, WRAPPED, 1)),
+        ("64 bits", legacy == (true, CARRIED, 0x1_0000_0001)),
     ])
 }

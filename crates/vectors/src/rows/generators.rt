@@ -1,25 +1,161 @@
 //! Rows of generators.
 
 use super::draws::{Draw, wrong_draw};
-use super::{COUNTING, FROM_1, Row, Verdict, failed, first_failure};
+use super::{FROM_1, Verdict, Verdicts, enter, failed};
 use chacha20::cipher::RngBackend;
-use chacha20::{ChaChaRng, R8, R12, R20, Rounds};
+use chacha20::{ChaChaRng, R8, R12, R20, Rounds, Seed};
 
-/// Each row for generators over a backend.
-pub fn verdicts<B: RngBackend<R8> + RngBackend<R12> + RngBackend<R20>>() -> [Row; 11] {
-    [
-        (7, "bytes in pieces", row_7::<B>()),
-        (8, "how far reads move", row_8::<B>()),
-        (9, "the last block", row_9::<B>()),
-        (10, "a carry into the upper word", row_10::<B>()),
-        (14, "the stored state", row_14::<B>()),
-        (15, "the last position", row_15::<B>()),
-        (17, "a generator seeded by another", row_17::<B>()),
-        (19, "the example of RFC 8439", row_19::<B>()),
-        (20, "words around the wrap", row_20::<B>()),
-        (21, "another stream", row_21::<B>()),
-        (23, "equality", row_23::<B>()),
-    ]
+/// Enters each row for generators over a backend.
+pub fn enter_rows<B: RngBackend<R8> + RngBackend<R12> + RngBackend<R20>>(verdicts: &mut Verdicts) {
+    enter(verdicts, 14, row_14::<R8, B>());
+    enter(verdicts, 14, row_14::<R12, B>());
+    enter_rows_of_20::<B>(verdicts);
+}
+
+fn enter_rows_of_20<B: RngBackend<R20>>(verdicts: &mut Verdicts) {
+    enter(verdicts, 14, row_14::<R20, B>());
+    enter(verdicts, 15, row_15::<B>());
+    enter(verdicts, 17, row_17::<B>());
+    enter(verdicts, 23, row_23::<B>());
+    for (number, seed, draws) in &TABLES {
+        enter(verdicts, *number, wrong_table::<B>(*seed, *draws));
+    }
+}
+
+// Rows that are calls on a new generator alone, with its seed.
+static TABLES: [(usize, Seed, &'static [NamedDraw]); 7] = [
+    // Bytes in pieces: what is left of a word is lost.
+    (
+        7,
+        *b"\x01\x02\x03\x04\x05\x06\x07\x08\x09\x0a\x0b\x0c\x0d\x0e\x0f\x10\
+            \x11\x12\x13\x14\x15\x16\x17\x18\x19\x1a\x1b\x1c\x1d\x1e\x1f\x20",
+        &[
+            (
+                "the first 13 bytes",
+                Draw::Fill(
+                    13,
+                    b"\xb1\x69\x7e\x9f\xc6\x46\x1e\x19\x83\xd1\x31\xcf\x69",
+                    b"",
+                ),
+            ),
+            ("the position after the first", Draw::At(4)),
+            (
+                "the next 13",
+                Draw::Fill(
+                    13,
+                    b"\xa7\xa3\xfc\x13\x4f\x14\x98\x80\xe8\xbb\x2b\x5d\x23",
+                    b"",
+                ),
+            ),
+            ("the position after both", Draw::At(8)),
+        ],
+    ),
+    // How far each kind of read moves.
+    (
+        8,
+        *b"\x00\xff\0\0\0\0\0\0\0\0\0\0\0\0\0\0\0\0\0\0\0\0\0\0\0\0\0\0\0\0\0\0",
+        &[
+            ("a place", Draw::GoTo(32)),
+            (
+                "four words",
+                Draw::Words(&[0xfb4d_d572, 0x4bc4_2ef1, 0xdf92_2636, 0x327f_1394]),
+            ),
+            ("12 words more", Draw::SkipWords(12)),
+            ("the position after 16 words", Draw::At(48)),
+            ("32 bytes", Draw::Fill(32, b"", b"")),
+            ("after 32 bytes", Draw::At(56)),
+            ("25 bytes", Draw::Fill(25, b"", b"")),
+            ("after 25 bytes", Draw::At(63)),
+            ("a u64", Draw::SkipTwo),
+            ("after a u64", Draw::At(65)),
+            ("a u32", Draw::SkipWords(1)),
+            ("a u64 more", Draw::SkipTwo),
+            ("after a u32 and a u64", Draw::At(68)),
+            ("a byte", Draw::Fill(1, b"", b"")),
+            ("after a byte", Draw::At(69)),
+        ],
+    ),
+    // The last block, and then the first.
+    (
+        9,
+        [0; 32],
+        &[
+            ("a place", Draw::GoToBlock(u64::MAX)),
+            (
+                "the last block",
+                Draw::Fill(
+                    64,
+                    b"\xd7\x91\x8c\xd8\x62\x0c\xf8\x32\x53\x26\x52\xc0\x4c\x01\xa5\x53",
+                    b"",
+                ),
+            ),
+            ("the block position after it", Draw::AtBlock(0)),
+            (
+                "the first bytes",
+                Draw::Fill(8, b"\x76\xb8\xe0\xad\xa0\xf1\x3d\x90", b""),
+            ),
+        ],
+    ),
+    // A carry into the upper 32 bits of the block's number.
+    (
+        10,
+        [0; 32],
+        &[
+            ("a place", Draw::GoToBlock(0xffff_ffff)),
+            (
+                "block 2^32 - 1, and the front of block 2^32",
+                Draw::Fill(
+                    80,
+                    b"\xac\xe4\xcd\x09\xe2\x94\xd1\x91\x2d\x4a\xd2\x05\xd0\x6f\x95\xd9",
+                    b"\x3d\xb4\x1d\x3a\xa0\xd3\x29\x28\x5d\xe6\xf2\x25\xe6\xe2\x4b\xd5",
+                ),
+            ),
+        ],
+    ),
+    // A stream and a block whose start state is that of RFC 8439's example (section 2.3.2).
+    (
+        19,
+        *b"\x00\x01\x02\x03\x04\x05\x06\x07\x08\x09\x0a\x0b\x0c\x0d\x0e\x0f\
+            \x10\x11\x12\x13\x14\x15\x16\x17\x18\x19\x1a\x1b\x1c\x1d\x1e\x1f",
+        &[
+            ("a stream", Draw::GoToStream(0x0000_0000_4a00_0000)),
+            ("a place", Draw::GoToBlock(0x0900_0000_0000_0000)),
+            ("a block before", Draw::Fill(64, b"", b"")),
+            (
+                "four words",
+                Draw::Words(&[0xe4e7_f110, 0x1559_3bd1, 0x1fdd_0f50, 0xc471_20a3]),
+            ),
+            ("the block position", Draw::AtBlock(0x0900_0000_0000_0001)),
+        ],
+    ),
+    // Two words around the wrap: the last of a buffer, and the first after it.
+    (
+        20,
+        [0; 32],
+        &[
+            ("a place", Draw::GoTo(POSITIONS - 64)),
+            ("252 bytes", Draw::Fill(252, b"", b"")),
+            ("two words", Draw::Two(0xade0_b876_8976_b107)),
+            ("the position after them", Draw::At(1)),
+        ],
+    ),
+    // Another stream of the same seed.
+    (
+        21,
+        [0; 32],
+        &[
+            ("four words", Draw::SkipWords(4)),
+            ("the fifth word", Draw::Words(&[0xb819_d2bd])),
+            ("a stream", Draw::GoToStream(0x0200_0000_0000_0000)),
+            ("the position", Draw::At(0)),
+            ("the seed", Draw::Seeded(&[0; 32])),
+            ("the other stream's word", Draw::Words(&[0x374d_c6c2])),
+        ],
+    ),
+];
+
+fn wrong_table<B: RngBackend<R20>>(seed: Seed, draws: &[NamedDraw]) -> Verdict {
+    wrong_draw(&mut ChaChaRng::<R20, B>::from_seed(seed), draws)
 }
 
 // How many word positions there are.
@@ -27,106 +163,9 @@ const POSITIONS: u128 = 1 << 68;
 
 type NamedDraw = (&'static str, Draw);
 
-// Bytes in pieces: what is left of a word is lost.
-fn row_7<B: RngBackend<R20>>() -> Verdict {
-    wrong_draw(&mut ChaChaRng::<R20, B>::from_seed(FROM_1), &ROW_7)
-}
-
-static ROW_7: [NamedDraw; 4] = [
-    (
-        "the first 13 bytes",
-        Draw::Fill(
-            13,
-            b"\xb1\x69\x7e\x9f\xc6\x46\x1e\x19\x83\xd1\x31\xcf\x69",
-            b"",
-        ),
-    ),
-    ("the position after the first", Draw::At(4)),
-    (
-        "the next 13",
-        Draw::Fill(
-            13,
-            b"\xa7\xa3\xfc\x13\x4f\x14\x98\x80\xe8\xbb\x2b\x5d\x23",
-            b"",
-        ),
-    ),
-    ("the position after both", Draw::At(8)),
-];
-
-// How far each kind of read moves.
-fn row_8<B: RngBackend<R20>>() -> Verdict {
-    let mut seed = [0; 32];
-    seed[1] = 0xff;
-    wrong_draw(&mut ChaChaRng::<R20, B>::from_seed(seed), &ROW_8)
-}
-
-static ROW_8: [NamedDraw; 15] = [
-    ("a place", Draw::GoTo(32)),
-    (
-        "four words",
-        Draw::Words(&[0xfb4d_d572, 0x4bc4_2ef1, 0xdf92_2636, 0x327f_1394]),
-    ),
-    ("12 words more", Draw::SkipWords(12)),
-    ("the position after 16 words", Draw::At(48)),
-    ("32 bytes", Draw::Fill(32, b"", b"")),
-    ("after 32 bytes", Draw::At(56)),
-    ("25 bytes", Draw::Fill(25, b"", b"")),
-    ("after 25 bytes", Draw::At(63)),
-    ("a u64", Draw::SkipTwo),
-    ("after a u64", Draw::At(65)),
-    ("a u32", Draw::SkipWords(1)),
-    ("a u64 more", Draw::SkipTwo),
-    ("after a u32 and a u64", Draw::At(68)),
-    ("a byte", Draw::Fill(1, b"", b"")),
-    ("after a byte", Draw::At(69)),
-];
-
-// The last block, and then the first.
-fn row_9<B: RngBackend<R20>>() -> Verdict {
-    wrong_draw(&mut ChaChaRng::<R20, B>::from_seed([0; 32]), &ROW_9)
-}
-
-static ROW_9: [NamedDraw; 4] = [
-    ("a place", Draw::GoToBlock(u64::MAX)),
-    (
-        "the last block",
-        Draw::Fill(
-            64,
-            b"\xd7\x91\x8c\xd8\x62\x0c\xf8\x32\x53\x26\x52\xc0\x4c\x01\xa5\x53",
-            b"",
-        ),
-    ),
-    ("the block position after it", Draw::AtBlock(0)),
-    (
-        "the first bytes",
-        Draw::Fill(8, b"\x76\xb8\xe0\xad\xa0\xf1\x3d\x90", b""),
-    ),
-];
-
-// A carry into the upper 32 bits of the block's number.
-fn row_10<B: RngBackend<R20>>() -> Verdict {
-    wrong_draw(&mut ChaChaRng::<R20, B>::from_seed([0; 32]), &ROW_10)
-}
-
-static ROW_10: [NamedDraw; 2] = [
-    ("a place", Draw::GoToBlock(0xffff_ffff)),
-    (
-        "block 2^32 - 1, and the front of block 2^32",
-        Draw::Fill(
-            80,
-            b"\xac\xe4\xcd\x09\xe2\x94\xd1\x91\x2d\x4a\xd2\x05\xd0\x6f\x95\xd9",
-            b"\x3d\xb4\x1d\x3a\xa0\xd3\x29\x28\x5d\xe6\xf2\x25\xe6\xe2\x4b\xd5",
-        ),
-    ),
-];
-
 // The state after 100 words, whatever the number of rounds.
-fn row_14<B: RngBackend<R8> + RngBackend<R12> + RngBackend<R20>>() -> Verdict {
-    first_failure(&[
-        wrong_draw(&mut ChaChaRng::<R8, B>::from_seed(FROM_1), &ROW_14),
-        wrong_draw(&mut ChaChaRng::<R12, B>::from_seed(FROM_1), &ROW_14),
-        wrong_draw(&mut ChaChaRng::<R20, B>::from_seed(FROM_1), &ROW_14),
-    ])
+fn row_14<R: Rounds, B: RngBackend<R>>() -> Verdict {
+    wrong_draw(&mut ChaChaRng::<R, B>::from_seed(FROM_1), &ROW_14)
 }
 
 static ROW_14: [NamedDraw; 3] = [
@@ -186,48 +225,6 @@ fn row_17<B: RngBackend<R20>>() -> Verdict {
         ("the first one's position", first.get_word_pos() == 9),
     ])
 }
-
-// A stream and a block whose start state is that of RFC 8439's example (section 2.3.2).
-fn row_19<B: RngBackend<R20>>() -> Verdict {
-    wrong_draw(&mut ChaChaRng::<R20, B>::from_seed(COUNTING), &ROW_19)
-}
-
-static ROW_19: [NamedDraw; 5] = [
-    ("a stream", Draw::GoToStream(0x0000_0000_4a00_0000)),
-    ("a place", Draw::GoToBlock(0x0900_0000_0000_0000)),
-    ("a block before", Draw::Fill(64, b"", b"")),
-    (
-        "four words",
-        Draw::Words(&[0xe4e7_f110, 0x1559_3bd1, 0x1fdd_0f50, 0xc471_20a3]),
-    ),
-    ("the block position", Draw::AtBlock(0x0900_0000_0000_0001)),
-];
-
-// Two words around the wrap: the last of a buffer, and the first after it.
-fn row_20<B: RngBackend<R20>>() -> Verdict {
-    wrong_draw(&mut ChaChaRng::<R20, B>::from_seed([0; 32]), &ROW_20)
-}
-
-static ROW_20: [NamedDraw; 4] = [
-    ("a place", Draw::GoTo(POSITIONS - 64)),
-    ("252 bytes", Draw::Fill(252, b"", b"")),
-    ("two words", Draw::Two(0xade0_b876_8976_b107)),
-    ("the position after them", Draw::At(1)),
-];
-
-// Another stream of the same seed.
-fn row_21<B: RngBackend<R20>>() -> Verdict {
-    wrong_draw(&mut ChaChaRng::<R20, B>::from_seed([0; 32]), &ROW_21)
-}
-
-static ROW_21: [NamedDraw; 6] = [
-    ("four words", Draw::SkipWords(4)),
-    ("the fifth word", Draw::Words(&[0xb819_d2bd])),
-    ("a stream", Draw::GoToStream(0x0200_0000_0000_0000)),
-    ("the position", Draw::At(0)),
-    ("the seed", Draw::Seeded(&[0; 32])),
-    ("the other stream's word", Draw::Words(&[0x374d_c6c2])),
-];
 
 // Generators are equal where seed, stream and position are, however they came there.
 fn row_23<B: RngBackend<R20>>() -> Verdict {

@@ -2,12 +2,7 @@
 //! nothing, and each entry of a `const` half a second.
 
 use super::{Verdict, failed_check};
-use chacha20::StreamCipherCoreWrapper;
-use chacha20::cipher::{
-    SeekNum, StreamCipher, StreamCipherError, StreamCipherSeek, StreamCipherSeekCore,
-};
-
-type Cipher<K> = StreamCipherCoreWrapper<K>;
+use chacha20::cipher::{SeekNum, StreamCipher, StreamCipherError, StreamCipherSeek};
 
 /// A position in each type that can say one.
 #[derive(Clone, Copy)]
@@ -19,6 +14,14 @@ pub enum Place {
     Usize(usize),
 }
 
+/// A call for bytes: over bytes that it applies to or writes, or from an input to them.
+#[derive(Clone, Copy)]
+pub enum Call {
+    Apply,
+    Write,
+    Between(&'static [u8]),
+}
+
 /// A call and its answer. No call has more than 64 bytes.
 #[derive(Clone, Copy)]
 pub enum Step {
@@ -28,56 +31,41 @@ pub enum Step {
     NoSeek(Place),
     /// The position is asked for in the type of this one, and is this one.
     At(Place),
-    /// The position is more than this type says.
-    NotInI32,
-    NotInU64,
-    NotInUsize,
+    /// The position is more than the type of this one says.
+    NotIn(Place),
     /// So many bytes are left.
     Left(usize),
     /// Fewer are left.
     NotLeft(usize),
-    /// So many bytes are applied to and dropped.
-    Skip(usize),
-    /// So many bytes are written and dropped.
-    WriteSkip(usize),
-    /// The first bytes become the second by applying.
-    Apply(&'static [u8], &'static [u8]),
-    /// Applying to bytes is refused, and they stay.
-    NoApply(&'static [u8]),
-    /// These bytes are written.
-    Write(&'static [u8]),
-    /// Writing so many bytes is refused, and they stay.
-    NoWrite(usize),
-    /// The first bytes become the second between slices.
-    Between(&'static [u8], &'static [u8]),
-    /// From the bytes to a slice of so many is refused, and those stay.
-    NoBetween(&'static [u8], usize),
+    /// Bytes that begin with the first ones, and go on with nines, become the second ones.
+    Gives(Call, &'static [u8], &'static [u8]),
+    /// The call is refused, and these bytes stay.
+    Refuses(Call, &'static [u8]),
+    /// The call is accepted for so many bytes, and they are dropped.
+    Skips(Call, usize),
 }
 
 // This and the next one promise nothing, so that a proof meets the contracts of `try_seek` and `try_current_pos` once,
 // for any type.
-fn sought_by<K: StreamCipherSeekCore, T: SeekNum>(
-    cipher: &mut Cipher<K>,
+fn sought_by<C: StreamCipherSeek, T: SeekNum>(
+    cipher: &mut C,
     place: T,
 ) -> Result<(), StreamCipherError> {
     cipher.try_seek(place)
 }
 
-/// Whether the position is this one, as the type of the number says it.
-pub fn is_at_number<K: StreamCipherSeekCore, T: SeekNum + PartialEq>(
-    cipher: &Cipher<K>,
+/// Whether the position is this number; nothing where its type can't say the position.
+pub fn asked_for<C: StreamCipherSeek, T: SeekNum + PartialEq>(
+    cipher: &C,
     place: T,
-) -> bool {
+) -> Option<bool> {
     match cipher.try_current_pos::<T>() {
-        Ok(found) => found == place,
-        Err(_) => false,
+        Ok(found) => Some(found == place),
+        Err(_) => None,
     }
 }
 
-fn sought<K: StreamCipherSeekCore>(
-    cipher: &mut Cipher<K>,
-    place: Place,
-) -> Result<(), StreamCipherError> {
+fn sought<C: StreamCipherSeek>(cipher: &mut C, place: Place) -> Result<(), StreamCipherError> {
     match place {
         Place::I32(place) => sought_by(cipher, place),
         Place::U32(place) => sought_by(cipher, place),
@@ -87,17 +75,26 @@ fn sought<K: StreamCipherSeekCore>(
     }
 }
 
-fn is_at<K: StreamCipherSeekCore>(cipher: &Cipher<K>, place: Place) -> bool {
+fn asked<C: StreamCipherSeek>(cipher: &C, place: Place) -> Option<bool> {
     match place {
-        Place::I32(place) => is_at_number(cipher, place),
-        Place::U32(place) => is_at_number(cipher, place),
-        Place::U64(place) => is_at_number(cipher, place),
-        Place::U128(place) => is_at_number(cipher, place),
-        Place::Usize(place) => is_at_number(cipher, place),
+        Place::I32(place) => asked_for(cipher, place),
+        Place::U32(place) => asked_for(cipher, place),
+        Place::U64(place) => asked_for(cipher, place),
+        Place::U128(place) => asked_for(cipher, place),
+        Place::Usize(place) => asked_for(cipher, place),
     }
 }
 
-// A buffer that begins with these bytes.
+// Whether a call is accepted.
+fn accepts<C: StreamCipher>(cipher: &mut C, call: Call, bytes: &mut [u8]) -> bool {
+    match call {
+        Call::Apply => cipher.try_apply_keystream(bytes).is_ok(),
+        Call::Write => cipher.try_write_keystream(bytes).is_ok(),
+        Call::Between(input) => cipher.try_apply_keystream_b2b(input, bytes).is_ok(),
+    }
+}
+
+// Bytes, and nines after them.
 fn beginning_with(bytes: &[u8]) -> [u8; 64] {
     let mut buffer = [9; 64];
     let len = bytes.len().min(64);
@@ -105,88 +102,35 @@ fn beginning_with(bytes: &[u8]) -> [u8; 64] {
     buffer
 }
 
-// Applies to bytes, and answers whether that is accepted or refused as given, and makes the others of them.
-fn applied<K: StreamCipherSeekCore>(
-    cipher: &mut Cipher<K>,
+// Whether a call is accepted or refused as given, and makes the second bytes of the first.
+fn turns<C: StreamCipher>(
+    cipher: &mut C,
+    call: Call,
     from: &[u8],
     to: &[u8],
     accepted: bool,
 ) -> bool {
     let mut buffer = beginning_with(from);
-    let bytes = &mut buffer[..from.len().min(64)];
-    cipher.try_apply_keystream(bytes).is_ok() == accepted && &*bytes == to
-}
-
-fn written<K: StreamCipherSeekCore>(cipher: &mut Cipher<K>, to: &[u8]) -> bool {
-    let mut buffer = [9; 64];
     let bytes = &mut buffer[..to.len().min(64)];
-    cipher.try_write_keystream(bytes).is_ok() && &*bytes == to
+    accepts(cipher, call, bytes) == accepted && &*bytes == to
 }
 
-fn write_refused<K: StreamCipherSeekCore>(cipher: &mut Cipher<K>, count: usize) -> bool {
-    let mut buffer = [9; 64];
-    cipher
-        .try_write_keystream(&mut buffer[..count.min(64)])
-        .is_err()
-        && buffer == [9; 64]
-}
-
-fn between<K: StreamCipherSeekCore>(cipher: &mut Cipher<K>, input: &[u8], to: &[u8]) -> bool {
-    let mut buffer = [9; 64];
-    let output = &mut buffer[..to.len().min(64)];
-    cipher.try_apply_keystream_b2b(input, output).is_ok() && &*output == to
-}
-
-fn between_refused<K: StreamCipherSeekCore>(
-    cipher: &mut Cipher<K>,
-    input: &[u8],
-    count: usize,
-) -> bool {
-    let mut buffer = [9; 64];
-    cipher
-        .try_apply_keystream_b2b(input, &mut buffer[..count.min(64)])
-        .is_err()
-        && buffer == [9; 64]
-}
-
-fn skipped<K: StreamCipherSeekCore>(cipher: &mut Cipher<K>, count: usize) -> bool {
-    cipher
-        .try_apply_keystream(&mut [0; 64][..count.min(64)])
-        .is_ok()
-}
-
-fn write_skipped<K: StreamCipherSeekCore>(cipher: &mut Cipher<K>, count: usize) -> bool {
-    cipher
-        .try_write_keystream(&mut [0; 64][..count.min(64)])
-        .is_ok()
-}
-
-fn is_right<K: StreamCipherSeekCore>(cipher: &mut Cipher<K>, step: Step) -> bool {
+fn is_right<C: StreamCipherSeek>(cipher: &mut C, step: Step) -> bool {
     match step {
         Step::Seek(place) => sought(cipher, place).is_ok(),
         Step::NoSeek(place) => sought(cipher, place).is_err(),
-        Step::At(place) => is_at(cipher, place),
-        Step::NotInI32 => cipher.try_current_pos::<i32>().is_err(),
-        Step::NotInU64 => cipher.try_current_pos::<u64>().is_err(),
-        Step::NotInUsize => cipher.try_current_pos::<usize>().is_err(),
+        Step::At(place) => asked(cipher, place) == Some(true),
+        Step::NotIn(place) => asked(cipher, place).is_none(),
         Step::Left(count) => cipher.check_remaining(count).is_ok(),
         Step::NotLeft(count) => cipher.check_remaining(count).is_err(),
-        Step::Skip(count) => skipped(cipher, count),
-        Step::WriteSkip(count) => write_skipped(cipher, count),
-        Step::Apply(from, to) => applied(cipher, from, to, true),
-        Step::NoApply(bytes) => applied(cipher, bytes, bytes, false),
-        Step::Write(to) => written(cipher, to),
-        Step::NoWrite(count) => write_refused(cipher, count),
-        Step::Between(input, to) => between(cipher, input, to),
-        Step::NoBetween(input, count) => between_refused(cipher, input, count),
+        Step::Gives(call, from, to) => turns(cipher, call, from, to, true),
+        Step::Refuses(call, bytes) => turns(cipher, call, bytes, bytes, false),
+        Step::Skips(call, count) => accepts(cipher, call, &mut [0; 64][..count.min(64)]),
     }
 }
 
 /// The name of the first step whose answer isn't the one that it says; nothing where all are.
-pub fn wrong_step<K: StreamCipherSeekCore>(
-    cipher: &mut Cipher<K>,
-    steps: &[(&'static str, Step)],
-) -> Verdict {
+pub fn wrong_step<C: StreamCipherSeek>(cipher: &mut C, steps: &[(&'static str, Step)]) -> Verdict {
     for (name, step) in steps {
         if !is_right(cipher, *step) {
             return failed_check(*name);

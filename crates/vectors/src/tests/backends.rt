@@ -1,104 +1,24 @@
-//! Every worked row and every published stream over each backend and a user's own, and wide backends beside the plain one.
+//! Worked rows and published streams of generators over each backend and a user's own; wide backends beside the plain one.
 
 ghost use Rattle.std.specs.Prelude.{◌≤◌};
 
 use super::width3::Width3;
-use super::{all_right, rows_right, streams};
-use crate::rows::{
-    COUNTING, R0, Row, Verdict, ciphers, cores, failed, failed_for, first_failure, generators,
-};
+use super::{all_right, first_wrong_row, streams};
+use crate::rows::{COUNTING, R0, Verdict, failed, failed_for, first_failure, generators};
 use chacha20::backends::{Lanes4, Lanes8, Lanes16, Rows8, Soft};
 use chacha20::cipher::{
     KeyIvInit, RngBackend, StreamCipherBackend, StreamCipherCounter, StreamCipherSeekCore,
 };
 use chacha20::rand_core::SeedableRng;
 use chacha20::variants::{Ietf, Legacy, Variant};
-use chacha20::{ChaChaCore, R8, R12, R20, Rounds, Steps, XChaChaCore};
+use chacha20::{ChaChaCore, R8, R12, R20, Rounds, Steps};
 use std::process::Abort;
 
-type IetfCore<B> = ChaChaCore<R20, Ietf, B>;
-
-type LegacyCore<B> = ChaChaCore<R20, Legacy, B>;
-
-fn cipher_rows<B>() -> [Row; 10]
-where
-    B: StreamCipherBackend<R20, Ietf> + StreamCipherBackend<R20, Legacy>,
-{
-    ciphers::verdicts::<IetfCore<B>, LegacyCore<B>, XChaChaCore<R20, B>>()
-}
-
-#[test]
-fn rows_of_ciphers(rt: HostRuntime) {
-    rows_right(&rt, "Soft", &cipher_rows::<Soft>());
-    rows_right(&rt, "Lanes4", &cipher_rows::<Lanes4>());
-    rows_right(&rt, "Lanes8", &cipher_rows::<Lanes8>());
-    rows_right(&rt, "Rows8", &cipher_rows::<Rows8>());
-    rows_right(&rt, "Lanes16", &cipher_rows::<Lanes16>());
-    rows_right(&rt, "Width3", &cipher_rows::<Width3>());
-}
-
-fn row_13<
-    B: StreamCipherBackend<R0, Ietf> + StreamCipherBackend<R0, Legacy> + RngBackend<R0>,
->() -> Verdict {
-    cores::row_13::<ChaChaCore<R0, Ietf, B>, ChaChaCore<R0, Legacy, B>>()
-}
-
-#[test]
-fn rows_of_cores(rt: HostRuntime) {
-    all_right(
-        &rt,
-        &[
-            ("row 13 over Soft", row_13::<Soft>()),
-            ("row 13 over Lanes4", row_13::<Lanes4>()),
-            ("row 13 over Lanes8", row_13::<Lanes8>()),
-            ("row 13 over Rows8", row_13::<Rows8>()),
-            ("row 13 over Lanes16", row_13::<Lanes16>()),
-            ("row 13 over Width3", row_13::<Width3>()),
-        ],
-    );
-}
-
-#[test]
-fn rows_of_generators(rt: HostRuntime) {
-    rows_right(&rt, "Soft", &generators::verdicts::<Soft>());
-    rows_right(&rt, "Lanes4", &generators::verdicts::<Lanes4>());
-    rows_right(&rt, "Lanes8", &generators::verdicts::<Lanes8>());
-    rows_right(&rt, "Rows8", &generators::verdicts::<Rows8>());
-    rows_right(&rt, "Lanes16", &generators::verdicts::<Lanes16>());
-    rows_right(&rt, "Width3", &generators::verdicts::<Width3>());
-}
-
-// The streams of ciphers; the legacy one between all places that are multiples of so many bytes.
-fn wrong_cipher_stream<B>(step: usize) -> Verdict
-where
-    B: StreamCipherBackend<R20, Ietf> + StreamCipherBackend<R20, Legacy>,
-{
-    failed(&[
-        ("RFC 8439's stream", streams::ietf_stream::<IetfCore<B>>()),
-        (
-            "XChaCha20's stream",
-            streams::xchacha_stream::<XChaChaCore<R20, B>>(),
-        ),
-        (
-            "the legacy stream",
-            streams::legacy_stream::<LegacyCore<B>>(step).is_none(),
-        ),
-    ])
-}
-
-#[test]
-fn cipher_streams(rt: HostRuntime) {
-    all_right(
-        &rt,
-        &[
-            ("Soft", wrong_cipher_stream::<Soft>(1)),
-            ("Lanes4", wrong_cipher_stream::<Lanes4>(17)),
-            ("Lanes8", wrong_cipher_stream::<Lanes8>(17)),
-            ("Rows8", wrong_cipher_stream::<Rows8>(17)),
-            ("Lanes16", wrong_cipher_stream::<Lanes16>(17)),
-            ("Width3", wrong_cipher_stream::<Width3>(17)),
-        ],
-    );
+// The worked rows and the published streams of generators.
+fn wrong_generators<B: RngBackend<R8> + RngBackend<R12> + RngBackend<R20>>() -> Verdict {
+    let mut rows = [None; 24];
+    generators::enter_rows::<B>(&mut rows);
+    first_failure(&[first_wrong_row(&rows), wrong_generator_stream::<B>()])
 }
 
 fn wrong_generator_stream<B: RngBackend<R20>>() -> Verdict {
@@ -116,16 +36,16 @@ fn wrong_generator_stream<B: RngBackend<R20>>() -> Verdict {
 }
 
 #[test]
-fn generator_streams(rt: HostRuntime) {
+fn generators_over_each(rt: HostRuntime) {
     all_right(
         &rt,
         &[
-            ("Soft", wrong_generator_stream::<Soft>()),
-            ("Lanes4", wrong_generator_stream::<Lanes4>()),
-            ("Lanes8", wrong_generator_stream::<Lanes8>()),
-            ("Rows8", wrong_generator_stream::<Rows8>()),
-            ("Lanes16", wrong_generator_stream::<Lanes16>()),
-            ("Width3", wrong_generator_stream::<Width3>()),
+            ("Soft", wrong_generators::<Soft>()),
+            ("Lanes4", wrong_generators::<Lanes4>()),
+            ("Lanes8", wrong_generators::<Lanes8>()),
+            ("Rows8", wrong_generators::<Rows8>()),
+            ("Lanes16", wrong_generators::<Lanes16>()),
+            ("Width3", wrong_generators::<Width3>()),
         ],
     );
 }

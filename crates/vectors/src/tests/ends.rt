@@ -1,19 +1,13 @@
-//! Ends of streams and greatest values, over each backend and a user's own: called directly, and as lists of calls.
+//! Ends of streams and greatest values, for any cipher of a kind: called directly, and as lists of calls.
 
 ghost use Rattle.std.specs.Prelude.{◌≤◌, ◌^◌, length};
 
-use super::all_right;
-use super::width3::Width3;
-use crate::rows::ciphers::SeekCore;
-use crate::rows::steps::{Place, Step, is_at_number, wrong_step};
-use crate::rows::{COUNTING, FROM_1, LEGACY_NONCE, R0, Verdict, failed, failed_for, first_failure};
-use chacha20::backends::{Lanes4, Lanes8, Lanes16, Rows8, Soft};
-use chacha20::cipher::{
-    KeyIvInit, StreamCipher, StreamCipherBackend, StreamCipherSeek, StreamCipherSeekCore,
-};
+use crate::rows::ciphers::{SeekCipher, SeekCore};
+use crate::rows::steps::{Call, Place, Step, asked_for, wrong_step};
+use crate::rows::{COUNTING, FROM_1, LEGACY_NONCE, Verdict, failed, failed_for, first_failure};
+use chacha20::cipher::{KeyIvInit, StreamCipher, StreamCipherSeek, StreamCipherSeekCore};
 use chacha20::runs::{CipherAnswer, CipherCall, run_cipher};
-use chacha20::variants::{Ietf, Legacy};
-use chacha20::{ChaChaCore, LegacyNonce, Nonce, R20, StreamCipherCoreWrapper, XChaChaCore, XNonce};
+use chacha20::{LegacyNonce, Nonce, StreamCipherCoreWrapper};
 
 type Cipher<K> = StreamCipherCoreWrapper<K>;
 
@@ -30,23 +24,33 @@ static LAST_BYTES: [NamedStep; 6] = [
         "a seek to the last sixteen bytes",
         Step::Seek(Place::U64(274877906928)),
     ),
-    ("seventeen bytes before the end", Step::NoApply(&[0; 17])),
+    (
+        "seventeen bytes before the end",
+        Step::Refuses(Call::Apply, &[0; 17]),
+    ),
     (
         "the last sixteen bytes",
-        Step::Apply(&[0; 16], b"\xfe\xff\xff\xff\0\0\0\0\0\0\0\0\0\0\0\0"),
+        Step::Gives(
+            Call::Apply,
+            &[0; 16],
+            b"\xfe\xff\xff\xff\0\0\0\0\0\0\0\0\0\0\0\0",
+        ),
     ),
     (
         "the position at the end",
         Step::At(Place::U64(274877906944)),
     ),
-    ("a byte at the end", Step::NoApply(&[0])),
-    ("no bytes at the end", Step::Apply(b"", b"")),
+    ("a byte at the end", Step::Refuses(Call::Apply, &[0])),
+    ("no bytes at the end", Step::Gives(Call::Apply, b"", b"")),
 ];
 
 // After them the start, by a seek.
 static FIRST_BYTES: [NamedStep; 3] = [
     ("a seek to the start", Step::Seek(Place::U32(0))),
-    ("the first bytes", Step::Apply(&[0; 4], b"\xca\xf0\xe0\xc2")),
+    (
+        "the first bytes",
+        Step::Gives(Call::Apply, &[0; 4], b"\xca\xf0\xe0\xc2"),
+    ),
     ("the position after them", Step::At(Place::U32(4))),
 ];
 
@@ -58,7 +62,11 @@ static INTO_THE_LAST_BLOCK: [NamedStep; 3] = [
     ),
     (
         "into the last block",
-        Step::Apply(&[0; 17], b"\xfc\xff\xff\xff\0\0\0\0\0\0\0\0\0\0\0\0\xca"),
+        Step::Gives(
+            Call::Apply,
+            &[0; 17],
+            b"\xfc\xff\xff\xff\0\0\0\0\0\0\0\0\0\0\0\0\xca",
+        ),
     ),
     ("the position in it", Step::At(Place::U64(274877906881))),
 ];
@@ -78,11 +86,20 @@ static AT_THE_LIMIT: [NamedStep; 11] = [
         "a seek to where it is",
         Step::Seek(Place::U64(274877906944)),
     ),
-    ("three bytes into four", Step::NoBetween(&[1, 2, 3], 4)),
-    ("a byte between slices", Step::NoBetween(&[1], 1)),
-    ("a byte written", Step::NoWrite(1)),
-    ("no bytes between slices", Step::Between(b"", b"")),
-    ("no bytes written", Step::Write(b"")),
+    (
+        "three bytes into four",
+        Step::Refuses(Call::Between(&[1, 2, 3]), &[9; 4]),
+    ),
+    (
+        "a byte between slices",
+        Step::Refuses(Call::Between(&[1]), &[9; 1]),
+    ),
+    ("a byte written", Step::Refuses(Call::Write, &[9; 1])),
+    (
+        "no bytes between slices",
+        Step::Gives(Call::Between(b""), b"", b""),
+    ),
+    ("no bytes written", Step::Gives(Call::Write, b"", b"")),
 ];
 
 // Numbers below 0, and the greatest of two types, are no positions: the cipher stays where it is.
@@ -118,13 +135,16 @@ static FAR_SEEKS: [NamedStep; 11] = [
 // The greatest position of 31 bits and the one after it, and the last block of a cipher and then none.
 static PAST_31_BITS: [NamedStep; 6] = [
     ("a position of 31 bits", Step::At(Place::I32(2147483647))),
-    ("a byte there", Step::Skip(1)),
-    ("the one after it", Step::NotInI32),
+    ("a byte there", Step::Skips(Call::Apply, 1)),
+    ("the one after it", Step::NotIn(Place::I32(0))),
     (
         "a seek to the last block",
         Step::Seek(Place::U128(LIMIT - 64)),
     ),
-    ("the last block", Step::Apply(&[0; 64], LAST_BLOCK)),
+    (
+        "the last block",
+        Step::Gives(Call::Apply, &[0; 64], LAST_BLOCK),
+    ),
     ("a byte after it", Step::NotLeft(1)),
 ];
 
@@ -139,7 +159,7 @@ static AT_THE_LEGACY_LIMIT: [NamedStep; 13] = [
         "a seek past the limit",
         Step::NoSeek(Place::U128(LEGACY_LIMIT + 1)),
     ),
-    ("the limit in 64 bits", Step::NotInU64),
+    ("the limit in 64 bits", Step::NotIn(Place::U64(0))),
     ("the limit", Step::At(Place::U128(LEGACY_LIMIT))),
     (
         "a seek to the last byte",
@@ -148,7 +168,7 @@ static AT_THE_LEGACY_LIMIT: [NamedStep; 13] = [
     ("one byte is left", Step::Left(1)),
     ("two aren't", Step::NotLeft(2)),
     ("all that a length says isn't", Step::NotLeft(usize::MAX)),
-    ("the last byte", Step::Skip(1)),
+    ("the last byte", Step::Skips(Call::Apply, 1)),
     ("none is left after it", Step::NotLeft(1)),
 ];
 
@@ -158,9 +178,9 @@ static PAST_64_BITS: [NamedStep; 8] = [
         "a position of 64 bits",
         Step::At(Place::U64(18446744073709551615)),
     ),
-    ("a byte there", Step::Skip(1)),
-    ("the one after it in 64 bits", Step::NotInU64),
-    ("the one after it as a length", Step::NotInUsize),
+    ("a byte there", Step::Skips(Call::Apply, 1)),
+    ("the one after it in 64 bits", Step::NotIn(Place::U64(0))),
+    ("the one after it as a length", Step::NotIn(Place::Usize(0))),
     (
         "the one after it",
         Step::At(Place::U128(18446744073709551616)),
@@ -169,7 +189,10 @@ static PAST_64_BITS: [NamedStep; 8] = [
         "a seek to the last block",
         Step::Seek(Place::U128(LEGACY_LIMIT - 64)),
     ),
-    ("the last block", Step::Apply(&[0; 64], LAST_LEGACY_BLOCK)),
+    (
+        "the last block",
+        Step::Gives(Call::Apply, &[0; 64], LAST_LEGACY_BLOCK),
+    ),
     ("a byte after it", Step::NotLeft(1)),
 ];
 
@@ -193,10 +216,7 @@ fn last_blocks_without_rounds() -> [[u8; 64]; 33] {
 }
 
 // They one by one, each after a seek.
-fn last_blocks_one_by_one<K: StreamCipherSeekCore>(
-    cipher: &mut Cipher<K>,
-    start: u128,
-) -> [[u8; 64]; 33]
+fn last_blocks_one_by_one<C: StreamCipherSeek>(cipher: &mut C, start: u128) -> [[u8; 64]; 33]
     requires { start ≤ 2 ^ 70 }
 {
     let mut blocks = [[0; 64]; 33];
@@ -216,7 +236,7 @@ enum By {
 }
 
 // Asks for bytes by one of the calls, from zeros, and answers whether they are given.
-fn gives<K: StreamCipherSeekCore>(cipher: &mut Cipher<K>, by: By, bytes: &mut [u8]) -> bool
+fn gives<C: StreamCipherSeek>(cipher: &mut C, by: By, bytes: &mut [u8]) -> bool
     requires { length bytes.old ≤ 2112 }
 {
     let zeros = [0; LENGTH];
@@ -229,8 +249,8 @@ fn gives<K: StreamCipherSeekCore>(cipher: &mut Cipher<K>, by: By, bytes: &mut [u
 }
 
 // Whether the last bytes of a stream, those from a place on, come in two parts up to the limit.
-fn come_in_two<K: StreamCipherSeekCore>(
-    cipher: &mut Cipher<K>,
+fn come_in_two<C: StreamCipherSeek>(
+    cipher: &mut C,
     start: u128,
     last: &[u8],
     by: By,
@@ -247,17 +267,12 @@ fn come_in_two<K: StreamCipherSeekCore>(
         && gives(cipher, by, &mut bytes[from..middle])
         && gives(cipher, by, &mut bytes[middle..])
         && bytes[from..] == last[from..LENGTH]
-        && is_at_number(cipher, start + LENGTH as u128)
+        && asked_for(cipher, start + LENGTH as u128) == Some(true)
 }
 
 // The first number, from none to 33, for which they don't: so many whole blocks at once; from the middle of a block on,
 // with a last part of so many bytes; and from the front of one on, with 32 more in the last part.
-fn wrong_end<K: StreamCipherSeekCore>(
-    cipher: &mut Cipher<K>,
-    start: u128,
-    last: &[u8],
-    by: By,
-) -> Option<usize>
+fn wrong_end<C: StreamCipherSeek>(cipher: &mut C, start: u128, last: &[u8], by: By) -> Option<usize>
     requires start { start ≤ 2 ^ 70 }
     requires length { 2112 ≤ length last.now }
 {
@@ -273,13 +288,13 @@ fn wrong_end<K: StreamCipherSeekCore>(
 }
 
 // The first number of bytes that isn't all that is left so far before the limit, from none to a block and one.
-fn wrong_rest<K: StreamCipherSeekCore>(cipher: &mut Cipher<K>, start: u128) -> Option<usize>
+fn wrong_rest<C: StreamCipherSeek>(cipher: &mut C, start: u128) -> Option<usize>
     requires { start ≤ 2 ^ 70 }
 {
     for rest in 0..66usize {
         let place = start + (LENGTH - rest) as u128;
         let right = cipher.try_seek(place).is_ok()
-            && is_at_number(cipher, place)
+            && asked_for(cipher, place) == Some(true)
             && cipher.check_remaining(rest).is_ok()
             && cipher.check_remaining(rest + 1).is_err();
         if !right {
@@ -290,7 +305,7 @@ fn wrong_rest<K: StreamCipherSeekCore>(cipher: &mut Cipher<K>, start: u128) -> O
 }
 
 // An ended cipher goes on wherever it is sought to: before the last byte, at the start, and from one end to the other.
-fn goes_on<K: StreamCipherSeekCore>(cipher: &mut Cipher<K>, limit: u128, last: &[u8]) -> Verdict
+fn goes_on<C: StreamCipherSeek>(cipher: &mut C, limit: u128, last: &[u8]) -> Verdict
     requires { 1 ≤ limit }
 {
     let mut byte = [0];
@@ -322,11 +337,7 @@ fn goes_on<K: StreamCipherSeekCore>(cipher: &mut Cipher<K>, limit: u128, last: &
 }
 
 // What goes wrong in a cipher that is asked for bytes up to its limit, of which the last 33 blocks are given.
-fn wrong_ends<K: StreamCipherSeekCore>(
-    cipher: &mut Cipher<K>,
-    start: u128,
-    last: &[[u8; 64]; 33],
-) -> Verdict
+fn wrong_ends<C: StreamCipherSeek>(cipher: &mut C, start: u128, last: &[[u8; 64]; 33]) -> Verdict
     requires { start ≤ 2 ^ 70 }
 {
     let last = last.as_flattened();
@@ -349,8 +360,8 @@ fn wrong_ends<K: StreamCipherSeekCore>(
 }
 
 // What goes wrong at the end of a cipher without rounds whose counter has 32 bits.
-fn wrong_zero_ends<N, K: SeekCore<N, u32>>(nonce: &N) -> Verdict {
-    let mut cipher = Cipher::<K>::new(&[0; 32], nonce);
+pub fn wrong_zero_ends<N, C: SeekCipher<N>>(nonce: &N) -> Verdict {
+    let mut cipher = C::new(&[0; 32], nonce);
     first_failure(&[
         wrong_step(&mut cipher, &LAST_BYTES),
         wrong_step(&mut cipher, &FIRST_BYTES),
@@ -359,8 +370,8 @@ fn wrong_zero_ends<N, K: SeekCore<N, u32>>(nonce: &N) -> Verdict {
     ])
 }
 
-fn wrong_zero_groups<K: SeekCore<Nonce, u32>>() -> Verdict {
-    let mut cipher = Cipher::<K>::new(&[0; 32], &[0; 12]);
+pub fn wrong_zero_groups<C: SeekCipher<Nonce>>() -> Verdict {
+    let mut cipher = C::new(&[0; 32], &[0; 12]);
     wrong_ends(
         &mut cipher,
         LIMIT - LENGTH as u128,
@@ -368,57 +379,29 @@ fn wrong_zero_groups<K: SeekCore<Nonce, u32>>() -> Verdict {
     )
 }
 
-fn wrong_ietf_ends<K: SeekCore<Nonce, u32>>() -> Verdict {
-    let mut cipher = Cipher::<K>::new(&COUNTING, &[0; 12]);
+pub fn wrong_ietf_ends<C: SeekCipher<Nonce>>() -> Verdict
+    requires { 2 ^ 32 ≤ C.limit }
+{
+    let mut cipher = C::new(&COUNTING, &[0; 12]);
     let far = wrong_step(&mut cipher, &FAR_SEEKS);
     cipher.seek(2147483647i32);
     first_failure(&[far, wrong_step(&mut cipher, &PAST_31_BITS)])
 }
 
-fn wrong_legacy_ends<K: SeekCore<LegacyNonce, u64>>() -> Verdict {
-    let mut cipher = Cipher::<K>::new(&FROM_1, &LEGACY_NONCE);
+pub fn wrong_legacy_ends<C: SeekCipher<LegacyNonce>>() -> Verdict
+    requires { 2 ^ 64 ≤ C.limit }
+{
+    let mut cipher = C::new(&FROM_1, &LEGACY_NONCE);
     let limit = wrong_step(&mut cipher, &AT_THE_LEGACY_LIMIT);
     cipher.seek(usize::MAX);
     first_failure(&[limit, wrong_step(&mut cipher, &PAST_64_BITS)])
 }
 
-fn wrong_legacy_groups<K: SeekCore<LegacyNonce, u64>>() -> Verdict {
-    let mut cipher = Cipher::<K>::new(&FROM_1, &LEGACY_NONCE);
+pub fn wrong_legacy_groups<C: SeekCipher<LegacyNonce>>() -> Verdict {
+    let mut cipher = C::new(&FROM_1, &LEGACY_NONCE);
     let start = LEGACY_LIMIT - LENGTH as u128;
     let last = last_blocks_one_by_one(&mut cipher, start);
     wrong_ends(&mut cipher, start, &last)
-}
-
-// The first end that is wrong, of each kind of cipher over a backend.
-fn directly_over<B>() -> Verdict
-where
-    B: StreamCipherBackend<R0, Ietf>
-        + StreamCipherBackend<R20, Ietf>
-        + StreamCipherBackend<R20, Legacy>,
-{
-    first_failure(&[
-        wrong_zero_ends::<Nonce, ChaChaCore<R0, Ietf, B>>(&[0; 12]),
-        wrong_zero_ends::<XNonce, XChaChaCore<R0, B>>(&[0; 24]),
-        wrong_zero_groups::<ChaChaCore<R0, Ietf, B>>(),
-        wrong_ietf_ends::<ChaChaCore<R20, Ietf, B>>(),
-        wrong_legacy_ends::<ChaChaCore<R20, Legacy, B>>(),
-        wrong_legacy_groups::<ChaChaCore<R20, Legacy, B>>(),
-    ])
-}
-
-#[test]
-fn directly(rt: HostRuntime) {
-    all_right(
-        &rt,
-        &[
-            ("Soft", directly_over::<Soft>()),
-            ("Lanes4", directly_over::<Lanes4>()),
-            ("Lanes8", directly_over::<Lanes8>()),
-            ("Rows8", directly_over::<Rows8>()),
-            ("Lanes16", directly_over::<Lanes16>()),
-            ("Width3", directly_over::<Width3>()),
-        ],
-    );
 }
 
 // The last bytes, the start after them, and from the block before the last one into the last.
@@ -657,7 +640,7 @@ fn wrong_end_as_a_list<K: StreamCipherSeekCore>(
     None
 }
 
-fn wrong_zero_lists<K: SeekCore<Nonce, u32>>() -> Verdict {
+pub fn wrong_zero_lists<K: SeekCore<Nonce, u32>>() -> Verdict {
     let mut cipher = Cipher::<K>::new(&[0; 32], &[0; 12]);
     first_failure(&[
         last_bytes_as_a_list(&mut cipher),
@@ -673,41 +656,12 @@ fn wrong_zero_lists<K: SeekCore<Nonce, u32>>() -> Verdict {
     ])
 }
 
-fn wrong_ietf_list<K: SeekCore<Nonce, u32>>() -> Verdict {
+pub fn wrong_ietf_list<K: SeekCore<Nonce, u32>>() -> Verdict {
     from_the_start_as_a_list(&mut Cipher::<K>::new(&COUNTING, &[0; 12]))
 }
 
-fn wrong_legacy_list<K: SeekCore<LegacyNonce, u64>>() -> Verdict {
+pub fn wrong_legacy_list<K: SeekCore<LegacyNonce, u64>>() -> Verdict {
     legacy_as_a_list(&mut Cipher::<K>::new(&FROM_1, &LEGACY_NONCE))
-}
-
-// The same by lists of calls.
-fn lists_over<B>() -> Verdict
-where
-    B: StreamCipherBackend<R0, Ietf>
-        + StreamCipherBackend<R20, Ietf>
-        + StreamCipherBackend<R20, Legacy>,
-{
-    first_failure(&[
-        wrong_zero_lists::<ChaChaCore<R0, Ietf, B>>(),
-        wrong_ietf_list::<ChaChaCore<R20, Ietf, B>>(),
-        wrong_legacy_list::<ChaChaCore<R20, Legacy, B>>(),
-    ])
-}
-
-#[test]
-fn as_lists(rt: HostRuntime) {
-    all_right(
-        &rt,
-        &[
-            ("Soft", lists_over::<Soft>()),
-            ("Lanes4", lists_over::<Lanes4>()),
-            ("Lanes8", lists_over::<Lanes8>()),
-            ("Rows8", lists_over::<Rows8>()),
-            ("Lanes16", lists_over::<Lanes16>()),
-            ("Width3", lists_over::<Width3>()),
-        ],
-    );
 }
 
 // Last blocks as OpenSSL 3.0.19 makes them: `openssl enc -chacha20` of zeros, under the key 00 to 1f with the iv ffffffff

@@ -1,16 +1,11 @@
-//! Odd cuts, over each backend: called directly, and as lists of calls.
+//! Odd cuts, for any cipher: called directly, and as lists of calls.
 
 ghost use Rattle.std.specs.Prelude.{◌≤◌, ◌+◌, length};
 
-use super::all_right;
-use crate::rows::{COUNTING, Verdict, failed_for, first_failure};
-use chacha20::backends::{Lanes4, Lanes8, Lanes16, Rows8, Soft};
-use chacha20::cipher::{
-    KeyIvInit, StreamCipher, StreamCipherBackend, StreamCipherSeek, StreamCipherSeekCore,
-};
+use crate::rows::{Verdict, failed_for, first_failure};
+use chacha20::StreamCipherCoreWrapper;
+use chacha20::cipher::{KeyIvInit, StreamCipher, StreamCipherSeek, StreamCipherSeekCore};
 use chacha20::runs::{CipherAnswer, CipherCall, run_cipher};
-use chacha20::variants::{Ietf, Legacy};
-use chacha20::{ChaChaCore, R8, R12, R20, Rounds, StreamCipherCoreWrapper, XChaChaCore};
 
 // A message of some blocks and one byte more than a group of any backend.
 const LENGTH: usize = 2049;
@@ -19,11 +14,7 @@ const LENGTH: usize = 2049;
 static SIZES: [usize; 9] = [1, 3, 63, 64, 65, 255, 257, 1023, 1025];
 
 // Whether pieces of a size, with an empty piece after each, come out as the whole.
-fn same_in_pieces<C: StreamCipherSeekCore>(
-    cipher: &mut StreamCipherCoreWrapper<C>,
-    whole: &[u8],
-    size: usize,
-) -> bool {
+fn same_in_pieces<C: StreamCipherSeek>(cipher: &mut C, whole: &[u8], size: usize) -> bool {
     let mut bytes = [0; LENGTH];
     let mut all_accepted = cipher.try_seek(0u32).is_ok();
     for piece in bytes.chunks_mut(size.max(1)) {
@@ -34,11 +25,7 @@ fn same_in_pieces<C: StreamCipherSeekCore>(
 }
 
 // Whether the rest from a byte on, after a seek to it, comes out as the whole does from there on.
-fn same_from<C: StreamCipherSeekCore>(
-    cipher: &mut StreamCipherCoreWrapper<C>,
-    whole: &[u8; LENGTH],
-    from: usize,
-) -> bool
+fn same_from<C: StreamCipherSeek>(cipher: &mut C, whole: &[u8; LENGTH], from: usize) -> bool
     requires { from ≤ 2049 }
 {
     let mut bytes = [0; LENGTH];
@@ -48,7 +35,7 @@ fn same_from<C: StreamCipherSeekCore>(
 }
 
 // The first size of pieces, or the first place of a seek, for which the bytes differ from those of one application.
-fn wrong_cut<C: StreamCipherSeekCore>(cipher: &mut StreamCipherCoreWrapper<C>) -> Option<usize> {
+fn wrong_cut<C: StreamCipherSeek>(cipher: &mut C) -> Option<usize> {
     let mut whole = [0; LENGTH];
     if cipher.try_apply_keystream(&mut whole).is_err() {
         return Some(LENGTH);
@@ -144,55 +131,15 @@ fn wrong_list<C: StreamCipherSeekCore>(cipher: &mut StreamCipherCoreWrapper<C>) 
     None
 }
 
-// A cipher of each kind over a backend: the size of the pieces, or the place of the seek.
-fn cuts_over<B>() -> Verdict
-where
-    B: StreamCipherBackend<R8, Ietf>
-        + StreamCipherBackend<R12, Ietf>
-        + StreamCipherBackend<R20, Ietf>
-        + StreamCipherBackend<R20, Legacy>,
-{
+/// What is wrong with cuts of a new cipher over a core: the size of the pieces, or the place of the seek.
+pub fn wrong_cuts<K: KeyIvInit + StreamCipherSeekCore + Drop>(
+    key: &K::Key,
+    nonce: &K::Iv,
+) -> Verdict {
+    let mut cipher = StreamCipherCoreWrapper::<K>::new(key, nonce);
+    let direct = failed_for("a cut", wrong_cut(&mut cipher));
     first_failure(&[
-        failed_for("ChaCha8", wrong_ietf::<R8, B>()),
-        failed_for("ChaCha12", wrong_ietf::<R12, B>()),
-        failed_for("ChaCha20", wrong_ietf::<R20, B>()),
-        failed_for(
-            "ChaCha20Legacy",
-            wrong_of::<ChaChaCore<R20, Legacy, B>>(&COUNTING, &[7; 8]),
-        ),
-        failed_for("XChaCha8", wrong_x::<R8, B>()),
-        failed_for("XChaCha12", wrong_x::<R12, B>()),
-        failed_for("XChaCha20", wrong_x::<R20, B>()),
+        direct,
+        failed_for("a cut by lists", wrong_list(&mut cipher)),
     ])
-}
-
-// Generic in the rounds, so that a proof meets each core once.
-fn wrong_ietf<R: Rounds, B: StreamCipherBackend<R, Ietf>>() -> Option<usize> {
-    wrong_of::<ChaChaCore<R, Ietf, B>>(&COUNTING, &[7; 12])
-}
-
-fn wrong_x<R: Rounds, B: StreamCipherBackend<R, Ietf>>() -> Option<usize> {
-    wrong_of::<XChaChaCore<R, B>>(&COUNTING, &[7; 24])
-}
-
-fn wrong_of<C: KeyIvInit + StreamCipherSeekCore + Drop>(
-    key: &C::Key,
-    nonce: &C::Iv,
-) -> Option<usize> {
-    let mut cipher = StreamCipherCoreWrapper::<C>::new(key, nonce);
-    wrong_cut(&mut cipher).or(wrong_list(&mut cipher))
-}
-
-#[test]
-fn cuts(rt: HostRuntime) {
-    all_right(
-        &rt,
-        &[
-            ("Soft", cuts_over::<Soft>()),
-            ("Lanes4", cuts_over::<Lanes4>()),
-            ("Lanes8", cuts_over::<Lanes8>()),
-            ("Rows8", cuts_over::<Rows8>()),
-            ("Lanes16", cuts_over::<Lanes16>()),
-        ],
-    );
 }

@@ -20,8 +20,8 @@ use chacha20::{
 type Cipher<K> = StreamCipherCoreWrapper<K>;
 
 // Applies a cipher to so many bytes, and then to the rest.
-fn apply_in_two<K: StreamCipherSeekCore>(
-    cipher: &mut Cipher<K>,
+fn apply_in_two<C: StreamCipher>(
+    cipher: &mut C,
     bytes: &mut [u8],
     first: usize,
 ) -> Result<(), StreamCipherError>

@@ -1,13 +1,12 @@
-//! Positions, in each type that can say them.
+//! Positions, in each type that can say them, of any cipher of RFC 8439.
 
-use super::all_right;
-use crate::rows::ciphers::SeekCore;
-use crate::rows::steps::is_at_number;
-use crate::rows::{COUNTING, Verdict, failed};
-use chacha20::backends::Lanes16;
-use chacha20::cipher::{KeyIvInit, SeekNum, StreamCipher, StreamCipherSeek, StreamCipherSeekCore};
-use chacha20::variants::Ietf;
-use chacha20::{ChaCha20, ChaChaCore, Nonce, R20, StreamCipherCoreWrapper};
+ghost use Rattle.std.specs.Prelude.{◌≤◌, ◌^◌};
+
+use crate::rows::ciphers::SeekCipher;
+use crate::rows::steps::asked_for;
+use crate::rows::{COUNTING, Verdict, failed, first_failure};
+use chacha20::Nonce;
+use chacha20::cipher::{KeyIvInit, SeekNum, StreamCipher, StreamCipherSeek};
 
 const LIMIT: u64 = 274877906944;
 
@@ -22,42 +21,37 @@ static PLACES: [u64; 6] = [
 ];
 
 // Whether the position is this number; where a type has none for it, whether the answer is an error.
-fn is_said<K: StreamCipherSeekCore, T: SeekNum + PartialEq>(
-    cipher: &StreamCipherCoreWrapper<K>,
-    number: Option<T>,
-) -> bool {
+fn is_said<C: StreamCipherSeek, T: SeekNum + PartialEq>(cipher: &C, number: Option<T>) -> bool {
     match number {
-        Some(number) => is_at_number(cipher, number),
+        Some(number) => asked_for(cipher, number) == Some(true),
         None => cipher.try_current_pos::<T>().is_err(),
     }
 }
 
 // At a place a cipher answers its position in each type that can say it, and an error in each other.
-fn answers<K: StreamCipherSeekCore>(
-    cipher: &mut StreamCipherCoreWrapper<K>,
-    place: u64,
-) -> Verdict {
+fn answers<C: StreamCipherSeek>(cipher: &mut C, place: u64) -> Verdict {
     failed(&[
         ("a seek", cipher.try_seek(place).is_ok()),
         ("in i32", is_said(cipher, i32::try_from(place).ok())),
         ("in u32", is_said(cipher, u32::try_from(place).ok())),
-        ("in u64", is_at_number(cipher, place)),
-        ("in u128", is_at_number(cipher, u128::from(place))),
-        ("in usize", is_at_number(cipher, place as usize)),
+        ("in u64", asked_for(cipher, place) == Some(true)),
+        (
+            "in u128",
+            asked_for(cipher, u128::from(place)) == Some(true),
+        ),
+        ("in usize", asked_for(cipher, place as usize) == Some(true)),
     ])
 }
 
 // Whether a seek in a type, from another position, comes to a place.
-fn is_sought<K: StreamCipherSeekCore, T: SeekNum>(
-    cipher: &mut StreamCipherCoreWrapper<K>,
-    number: T,
-    place: u64,
-) -> bool {
-    cipher.try_seek(70u32).is_ok() && cipher.try_seek(number).is_ok() && is_at_number(cipher, place)
+fn is_sought<C: StreamCipherSeek, T: SeekNum>(cipher: &mut C, number: T, place: u64) -> bool {
+    cipher.try_seek(70u32).is_ok()
+        && cipher.try_seek(number).is_ok()
+        && asked_for(cipher, place) == Some(true)
 }
 
 // A place is sought in each type that can say it.
-fn sought<K: StreamCipherSeekCore>(cipher: &mut StreamCipherCoreWrapper<K>, place: u64) -> Verdict {
+fn sought<C: StreamCipherSeek>(cipher: &mut C, place: u64) -> Verdict {
     failed(&[
         ("sought in u64", is_sought(cipher, place, place)),
         (
@@ -82,45 +76,31 @@ fn sought<K: StreamCipherSeekCore>(cipher: &mut StreamCipherCoreWrapper<K>, plac
     ])
 }
 
-#[test]
-fn in_each_type(rt: HostRuntime) {
-    let mut cipher = ChaCha20::new(&COUNTING, &[0; 12]);
+fn wrong_places<C: StreamCipherSeek>(cipher: &mut C) -> Verdict {
     for place in PLACES {
-        all_right(
-            &rt,
-            &[
-                ("a place's answers", answers(&mut cipher, place)),
-                ("a seek to a place", sought(&mut cipher, place)),
-            ],
-        );
+        let wrong = first_failure(&[answers(cipher, place), sought(cipher, place)]);
+        if wrong.is_some() {
+            return wrong;
+        }
     }
+    None
 }
 
 // From the middle of the first block on, by each of the three calls for bytes.
-fn applied<K: StreamCipherSeekCore>(
-    cipher: &mut StreamCipherCoreWrapper<K>,
-    bytes: &mut [u8],
-) -> bool {
+fn applied<C: StreamCipherSeek>(cipher: &mut C, bytes: &mut [u8]) -> bool {
     cipher.try_seek(13u32).is_ok() && cipher.try_apply_keystream(bytes).is_ok()
 }
 
-fn written<K: StreamCipherSeekCore>(
-    cipher: &mut StreamCipherCoreWrapper<K>,
-    bytes: &mut [u8],
-) -> bool {
+fn written<C: StreamCipherSeek>(cipher: &mut C, bytes: &mut [u8]) -> bool {
     cipher.try_seek(13u32).is_ok() && cipher.try_write_keystream(bytes).is_ok()
 }
 
-fn between<K: StreamCipherSeekCore>(
-    cipher: &mut StreamCipherCoreWrapper<K>,
-    input: &[u8],
-    bytes: &mut [u8],
-) -> bool {
+fn between<C: StreamCipherSeek>(cipher: &mut C, input: &[u8], bytes: &mut [u8]) -> bool {
     cipher.try_seek(13u32).is_ok() && cipher.try_apply_keystream_b2b(input, bytes).is_ok()
 }
 
 // They give the same bytes, over several pieces.
-fn gives_the_same<K: StreamCipherSeekCore>(cipher: &mut StreamCipherCoreWrapper<K>) -> Verdict {
+fn gives_the_same<C: StreamCipherSeek>(cipher: &mut C) -> Verdict {
     let mut by_applying = [0; 70000];
     let mut by_writing = [1; 70000];
     let mut by_two = [2; 70000];
@@ -130,19 +110,18 @@ fn gives_the_same<K: StreamCipherSeekCore>(cipher: &mut StreamCipherCoreWrapper<
         ("between slices", between(cipher, &[0; 70000], &mut by_two)),
         ("written as applied", by_applying == by_writing),
         ("between slices as applied", by_applying == by_two),
-        ("the position at the end", is_at_number(cipher, 70013u32)),
+        (
+            "the position at the end",
+            asked_for(cipher, 70013u32) == Some(true),
+        ),
     ])
 }
 
-#[test]
-fn written_and_between_slices(rt: HostRuntime) {
-    let mut cipher = ChaCha20::new(&COUNTING, &[0; 12]);
-    all_right(&rt, &[("70000 bytes", gives_the_same(&mut cipher))]);
-}
-
 // The forms that leave the refusals to the caller.
-fn without_refusals<K: SeekCore<Nonce, u32>>() -> Verdict {
-    let mut cipher = StreamCipherCoreWrapper::<K>::new(&[0; 32], &[0; 12]);
+fn without_refusals<C: SeekCipher<Nonce>>() -> Verdict
+    requires { 2 ^ 32 ≤ C.limit }
+{
+    let mut cipher = C::new(&[0; 32], &[0; 12]);
     let mut written = [9; 4];
     cipher.write_keystream(&mut written);
     let after_written = cipher.current_pos::<u64>();
@@ -160,8 +139,14 @@ fn without_refusals<K: SeekCore<Nonce, u32>>() -> Verdict {
     ])
 }
 
-#[test]
-fn refusals_left_to_the_caller(rt: HostRuntime) {
-    let verdict = without_refusals::<ChaChaCore<R20, Ietf, Lanes16>>();
-    all_right(&rt, &[("without refusals", verdict)]);
+/// What is wrong with positions of a cipher.
+pub fn wrong_positions<C: SeekCipher<Nonce>>() -> Verdict
+    requires { 2 ^ 32 ≤ C.limit }
+{
+    let mut cipher = C::new(&COUNTING, &[0; 12]);
+    first_failure(&[
+        wrong_places(&mut cipher),
+        gives_the_same(&mut cipher),
+        without_refusals::<C>(),
+    ])
 }

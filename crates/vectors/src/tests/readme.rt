@@ -6,8 +6,7 @@ ghost use Rattle.chacha20.specs.Keystream.{keystream, xor_stream};
 ghost use Rattle.chacha20.specs.Layout.{ietf};
 
 use chacha20::cipher::{KeyIvInit, StreamCipher, StreamCipherError, StreamCipherSeek};
-use chacha20::rand_core::{Rng, SeedableRng};
-use chacha20::{ChaCha20, ChaCha20Legacy, ChaCha20Rng, Key, Nonce, XChaCha20};
+use chacha20::{ChaCha20, ChaCha20Rng, Key, Nonce};
 use std::test::Fail;
 
 // A message under a key and a nonce, as RFC 8439 has it.
@@ -54,98 +53,16 @@ fn with_contracts(rt: HostRuntime) -> Result<(), Fail> {
 }
 
 #[test]
-fn encrypt_and_decrypt(rt: HostRuntime) -> Result<(), Fail> {
-    let key = [0x42; 32];
-    let nonce = [0x24; 12];
-    let mut message = *b"attack at dawn";
-
-    // What `openssl enc -chacha20` makes of it.
-    let ciphertext: [u8; 14] = [133, 112, 20, 12, 40, 124, 16, 213, 27, 39, 138, 66, 72, 77];
-    ChaCha20::new(&key, &nonce).try_apply_keystream(&mut message)?;
-    assert_eq!(rt; message, ciphertext);
-
-    ChaCha20::new(&key, &nonce).try_apply_keystream(&mut message)?;
-    assert_eq!(rt; message, *b"attack at dawn");
-    Ok(())
-}
-
-#[test]
-fn in_pieces(rt: HostRuntime) -> Result<(), Fail> {
-    let mut whole = [7; 1000];
-    let mut pieces = whole;
-    ChaCha20::new(&[1; 32], &[2; 12]).try_apply_keystream(&mut whole)?;
-
-    let mut cipher = ChaCha20::new(&[1; 32], &[2; 12]);
-    for piece in pieces.chunks_mut(300) {
-        cipher.try_apply_keystream(piece)?;
-    }
-    assert_eq!(rt; whole.as_slice(), pieces.as_slice());
-    Ok(())
-}
-
-#[test]
 fn into_the_middle(rt: HostRuntime) -> Result<(), Fail> {
     let mut whole = [7; 1000];
     let mut message = whole;
-    ChaCha20::new(&[1; 32], &[2; 12]).try_apply_keystream(&mut whole)?;
+    encrypt(&[1; 32], &[2; 12], &mut whole)?;
 
     let mut cipher = ChaCha20::new(&[1; 32], &[2; 12]);
     cipher.try_seek(500u32)?;
     cipher.try_apply_keystream(&mut message[500..])?;
-    assert_eq!(rt; cipher.try_current_pos(), Ok(1000u32));
     assert_eq!(rt; &whole[500..], &message[500..]);
     Ok(())
-}
-
-#[test]
-fn other_nonces(rt: HostRuntime) -> Result<(), Fail> {
-    let mut message = *b"attack at dawn";
-    XChaCha20::new(&[1; 32], &[2; 24]).try_apply_keystream(&mut message)?;
-    ChaCha20Legacy::new(&[1; 32], &[2; 8]).try_apply_keystream(&mut message)?;
-    assert_ne!(rt; message, *b"attack at dawn");
-
-    XChaCha20::new(&[1; 32], &[2; 24]).try_apply_keystream(&mut message)?;
-    ChaCha20Legacy::new(&[1; 32], &[2; 8]).try_apply_keystream(&mut message)?;
-    assert_eq!(rt; message, *b"attack at dawn");
-    Ok(())
-}
-
-#[test]
-fn refusal(rt: HostRuntime) -> Result<(), Fail> {
-    let mut cipher = ChaCha20::new(&[1; 32], &[2; 12]);
-    assert_eq!(rt; cipher.check_remaining(274877906944), Ok(()));
-    assert_eq!(rt;
-        cipher.check_remaining(274877906945),
-        Err(StreamCipherError)
-    );
-    cipher.try_seek(274877906944u64)?;
-    let mut byte = [7];
-    assert_eq!(rt;
-        cipher.try_apply_keystream(&mut byte),
-        Err(StreamCipherError)
-    );
-    assert_eq!(rt; byte, [7]);
-    Ok(())
-}
-
-// How many of 600 throws of two dice give seven.
-fn sevens<G: Rng>(rng: &mut G) -> u32 {
-    let mut sevens = 0;
-    for _ in 0..600u32 {
-        let first = rng.next_u32() % 6 + 1;
-        let second = rng.next_u32() % 6 + 1;
-        if first + second == 7 {
-            sevens += 1;
-        }
-    }
-    sevens
-}
-
-#[test]
-fn simulation(rt: HostRuntime) {
-    let estimate = sevens(&mut ChaCha20Rng::seed_from_u64(2024));
-    let again = sevens(&mut ChaCha20Rng::seed_from_u64(2024));
-    assert_eq!(rt; estimate, again);
 }
 
 #[test]
@@ -155,20 +72,4 @@ fn stored(rt: HostRuntime) {
     let mut restored = ChaCha20Rng::deserialize_state(&rng.serialize_state());
     assert_eq!(rt; restored, rng);
     assert_eq!(rt; restored.next_u64(), rng.next_u64());
-}
-
-// The generator of one worker of many.
-fn of_worker(worker: u64) -> ChaCha20Rng {
-    let mut rng = ChaCha20Rng::from_seed([1; 32]);
-    rng.set_stream(worker);
-    rng
-}
-
-#[test]
-fn workers(rt: HostRuntime) {
-    let mut first = of_worker(0);
-    let mut second = of_worker(1);
-    let word = second.next_u64();
-    assert_ne!(rt; first.next_u64(), word);
-    assert_eq!(rt; of_worker(1).next_u64(), word);
 }

@@ -3,9 +3,9 @@
 ghost use Rattle.std.specs.Prelude.{◌≡◌, ◌↔◌, ◌≤◌, ◌+◌, ◌*◌, length, IsOk, OnOk, OnErr};
 ghost use Rattle.chacha20.specs.Keystream.{xor_stream};
 
-use super::all_right;
+use crate::rows::ciphers::SeekCipher;
 use crate::rows::{COUNTING, Verdict, failed};
-use chacha20::ChaCha20;
+use chacha20::Nonce;
 use chacha20::cipher::{KeyIvInit, StreamCipher, StreamCipherError, StreamCipherSeek};
 
 // Encrypts record k of a file of records of one length, each at its own place in the keystream. `Err` exactly where
@@ -55,8 +55,7 @@ fn as_a_whole<S: StreamCipherSeek>(cipher: &mut S) -> Verdict {
     ])
 }
 
-#[test]
-fn records(rt: HostRuntime) {
-    let mut cipher = ChaCha20::new(&COUNTING, &[0; 12]);
-    all_right(&rt, &[("records", as_a_whole(&mut cipher))]);
+/// What is wrong with records of a file under a new cipher.
+pub fn wrong_records<C: SeekCipher<Nonce>>() -> Verdict {
+    as_a_whole(&mut C::new(&COUNTING, &[0; 12]))
 }

@@ -1,65 +1,53 @@
-//! A run on the cipher without rounds, and rows of ciphers as lists of calls, over each backend; the lists over a user's
-//! own as well.
+//! A run on the cipher without rounds, called directly and as a list, and rows of ciphers as lists of calls.
 
-use super::all_right;
-use super::width3::Width3;
-use crate::rows::ciphers::SeekCore;
-use crate::rows::steps::{Place, Step, wrong_step};
-use crate::rows::{COUNTING, R0, Verdict, failed, first_failure};
-use chacha20::backends::{Lanes4, Lanes8, Lanes16, Rows8, Soft};
-use chacha20::cipher::{KeyIvInit, StreamCipherBackend, StreamCipherSeekCore};
+use crate::rows::ciphers::{SeekCipher, SeekCore};
+use crate::rows::steps::{Call, Place, Step, wrong_step};
+use crate::rows::{COUNTING, Verdict, failed, first_failure};
+use chacha20::cipher::{KeyIvInit, StreamCipherSeekCore};
 use chacha20::runs::{CipherAnswer, CipherCall, run_cipher};
-use chacha20::variants::Ietf;
-use chacha20::{ChaChaCore, Nonce, R20, StreamCipherCoreWrapper};
+use chacha20::{Nonce, StreamCipherCoreWrapper};
 
 type Cipher<K> = StreamCipherCoreWrapper<K>;
 
 // A run on the cipher without rounds, for a key and a nonce of zeros: two refusals, which change nothing, the rest of the
 // first block, and the front of the next.
 static RUN: [(&'static str, Step); 10] = [
-    ("four bytes", Step::Apply(&[0; 4], b"\xca\xf0\xe0\xc2")),
+    (
+        "four bytes",
+        Step::Gives(Call::Apply, &[0; 4], b"\xca\xf0\xe0\xc2"),
+    ),
     ("a seek to the start", Step::Seek(Place::U128(0))),
     (
         "three bytes between slices",
-        Step::Between(&[1, 2, 3], b"\xcb\xf2\xe3"),
+        Step::Gives(Call::Between(&[1, 2, 3]), b"", b"\xcb\xf2\xe3"),
     ),
-    ("three bytes into four", Step::NoBetween(&[1, 2, 3], 4)),
+    (
+        "three bytes into four",
+        Step::Refuses(Call::Between(&[1, 2, 3]), &[9; 4]),
+    ),
     ("the position after them", Step::At(Place::U128(3))),
     ("a seek below 0", Step::NoSeek(Place::I32(-1))),
     ("the position then", Step::At(Place::I32(3))),
-    ("a byte written", Step::Write(b"\xc2")),
+    ("a byte written", Step::Gives(Call::Write, b"", b"\xc2")),
     (
         "the rest of the block",
-        Step::Apply(
+        Step::Gives(
+            Call::Apply,
             &[0; 60],
             b"\xdc\xc8\x40\x66\x64\x5a\xc4\xf2\xe8\xca\x40\xd6\
             \0\0\0\0\0\0\0\0\0\0\0\0\0\0\0\0\0\0\0\0\0\0\0\0\
             \0\0\0\0\0\0\0\0\0\0\0\0\0\0\0\0\0\0\0\0\0\0\0\0",
         ),
     ),
-    ("the next block", Step::Apply(&[0; 4], b"\xca\xf0\xe0\xc2")),
+    (
+        "the next block",
+        Step::Gives(Call::Apply, &[0; 4], b"\xca\xf0\xe0\xc2"),
+    ),
 ];
 
-fn all_directly<K: SeekCore<Nonce, u32>>() -> Verdict {
-    wrong_step(&mut Cipher::<K>::new(&[0; 32], &[0; 12]), &RUN)
-}
-
-fn directly_over<B: StreamCipherBackend<R0, Ietf>>() -> Verdict {
-    all_directly::<ChaChaCore<R0, Ietf, B>>()
-}
-
-#[test]
-fn directly(rt: HostRuntime) {
-    all_right(
-        &rt,
-        &[
-            ("Soft", directly_over::<Soft>()),
-            ("Lanes4", directly_over::<Lanes4>()),
-            ("Lanes8", directly_over::<Lanes8>()),
-            ("Rows8", directly_over::<Rows8>()),
-            ("Lanes16", directly_over::<Lanes16>()),
-        ],
-    );
+/// The first of these steps that a new cipher without rounds answers otherwise.
+pub fn wrong_steps<C: SeekCipher<Nonce>>() -> Verdict {
+    wrong_step(&mut C::new(&[0; 32], &[0; 12]), &RUN)
 }
 
 fn run_as_a_list<K: StreamCipherSeekCore>(cipher: &mut Cipher<K>) -> Verdict {
@@ -224,41 +212,17 @@ static ROW_18_ANSWERS: [CipherAnswer; 5] = [
     CipherAnswer::Refused,
 ];
 
-fn wrong_run<K: SeekCore<Nonce, u32>>() -> Verdict {
+/// The run as a list.
+pub fn wrong_run<K: SeekCore<Nonce, u32>>() -> Verdict {
     run_as_a_list(&mut Cipher::<K>::new(&[0; 32], &[0; 12]))
 }
 
-// Rows 1, 18 and 11; the first call of row 18 asks for a fresh cipher's position.
-fn wrong_rows<K: SeekCore<Nonce, u32>>() -> Verdict {
+/// Rows 1, 18 and 11; the first call of row 18 asks for a fresh cipher's position.
+pub fn wrong_rows<K: SeekCore<Nonce, u32>>() -> Verdict {
     let mut cipher = Cipher::<K>::new(&COUNTING, &[0; 12]);
     first_failure(&[
         row_1_as_a_list(&mut Cipher::<K>::new(&[0x42; 32], &[0x24; 12])),
         row_18_as_a_list(&mut cipher),
         row_11_as_a_list(&mut cipher),
     ])
-}
-
-fn all_as_lists<B>() -> Verdict
-where
-    B: StreamCipherBackend<R0, Ietf> + StreamCipherBackend<R20, Ietf>,
-{
-    first_failure(&[
-        wrong_run::<ChaChaCore<R0, Ietf, B>>(),
-        wrong_rows::<ChaChaCore<R20, Ietf, B>>(),
-    ])
-}
-
-#[test]
-fn as_lists(rt: HostRuntime) {
-    all_right(
-        &rt,
-        &[
-            ("Soft", all_as_lists::<Soft>()),
-            ("Lanes4", all_as_lists::<Lanes4>()),
-            ("Lanes8", all_as_lists::<Lanes8>()),
-            ("Rows8", all_as_lists::<Rows8>()),
-            ("Lanes16", all_as_lists::<Lanes16>()),
-            ("Width3", all_as_lists::<Width3>()),
-        ],
-    );
 }

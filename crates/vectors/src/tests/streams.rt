@@ -1,27 +1,25 @@
-//! Published streams, for the cipher over any core, and for any generator, of their kind.
+//! Published streams, for any cipher and any generator of their kind.
 
 ghost use Rattle.std.specs.Prelude.{◌≤◌};
 
-use crate::rows::ciphers::SeekCore;
+use crate::rows::ciphers::SeekCipher;
 use crate::rows::{COUNTING, FROM_1, LEGACY_NONCE};
-use chacha20::cipher::{
-    KeyIvInit, RngBackend, StreamCipher, StreamCipherError, StreamCipherSeek, StreamCipherSeekCore,
-};
-use chacha20::{ChaChaRng, Key, LegacyNonce, Nonce, R20, Seed, StreamCipherCoreWrapper, XNonce};
+use chacha20::cipher::{KeyIvInit, RngBackend, StreamCipher, StreamCipherError, StreamCipherSeek};
+use chacha20::{ChaChaRng, Key, LegacyNonce, Nonce, R20, Seed, XNonce};
 
 /// The keystream of RFC 8439, section 2.4.2: two blocks and a last part.
-pub fn ietf_stream<K: SeekCore<Nonce, u32>>() -> bool {
+pub fn ietf_stream<C: SeekCipher<Nonce>>() -> bool {
     let mut stream = [0; 178];
-    StreamCipherCoreWrapper::<K>::new(&COUNTING, &NONCE)
+    C::new(&COUNTING, &NONCE)
         .try_apply_keystream(&mut stream)
         .is_ok()
         && stream.ends_with(IETF_FROM_64)
 }
 
 /// XChaCha20 from block 1 on.
-pub fn xchacha_stream<X: SeekCore<XNonce, u32>>() -> bool {
+pub fn xchacha_stream<C: SeekCipher<XNonce>>() -> bool {
     let mut stream = [0; 368];
-    StreamCipherCoreWrapper::<X>::new(&X_KEY, &X_NONCE)
+    C::new(&X_KEY, &X_NONCE)
         .try_apply_keystream(&mut stream)
         .is_ok()
         && stream.ends_with(XCHACHA_FROM_64)
@@ -29,8 +27,8 @@ pub fn xchacha_stream<X: SeekCore<XNonce, u32>>() -> bool {
 
 /// Four blocks with a nonce of 8 bytes, between any three places that are multiples of so many bytes, in two parts.
 /// It answers the first places between which the stream is wrong.
-pub fn legacy_stream<L: SeekCore<LegacyNonce, u64>>(step: usize) -> Option<[usize; 3]> {
-    let mut cipher = StreamCipherCoreWrapper::<L>::new(&FROM_1, &LEGACY_NONCE);
+pub fn legacy_stream<C: SeekCipher<LegacyNonce>>(step: usize) -> Option<[usize; 3]> {
+    let mut cipher = C::new(&FROM_1, &LEGACY_NONCE);
     for from in 0..256usize {
         if is_place(from, step) {
             for middle in from..256 {
@@ -50,8 +48,8 @@ fn is_place(byte: usize, step: usize) -> bool {
 }
 
 // The first place, from the middle on, to which the stream is wrong.
-fn wrong_last<L: StreamCipherSeekCore>(
-    cipher: &mut StreamCipherCoreWrapper<L>,
+fn wrong_last<C: StreamCipherSeek>(
+    cipher: &mut C,
     from: usize,
     middle: usize,
     step: usize,
@@ -66,8 +64,8 @@ fn wrong_last<L: StreamCipherSeekCore>(
     None
 }
 
-fn is_part_of_legacy<L: StreamCipherSeekCore>(
-    cipher: &mut StreamCipherCoreWrapper<L>,
+fn is_part_of_legacy<C: StreamCipherSeek>(
+    cipher: &mut C,
     from: usize,
     middle: usize,
     last: usize,
@@ -87,8 +85,8 @@ fn is_part_of_legacy<L: StreamCipherSeekCore>(
 }
 
 // Moves to a byte, and applies in two parts.
-fn apply_from<L: StreamCipherSeekCore>(
-    cipher: &mut StreamCipherCoreWrapper<L>,
+fn apply_from<C: StreamCipherSeek>(
+    cipher: &mut C,
     from: usize,
     front: &mut [u8],
     back: &mut [u8],
