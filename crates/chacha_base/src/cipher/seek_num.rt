@@ -51,7 +51,7 @@ impl SeekNum for i32 {
     }
 
     fn from_position(place: u128) -> Result<i32, OverflowError> {
-        i32::try_from(place).map_err(|_| OverflowError)
+        i32::try_from(place).or(Err(OverflowError))
     }
 }
 
@@ -65,7 +65,7 @@ impl SeekNum for u32 {
     }
 
     fn from_position(place: u128) -> Result<u32, OverflowError> {
-        u32::try_from(place).map_err(|_| OverflowError)
+        u32::try_from(place).or(Err(OverflowError))
     }
 }
 
@@ -79,7 +79,7 @@ impl SeekNum for u64 {
     }
 
     fn from_position(place: u128) -> Result<u64, OverflowError> {
-        u64::try_from(place).map_err(|_| OverflowError)
+        u64::try_from(place).or(Err(OverflowError))
     }
 }
 
@@ -107,6 +107,6 @@ impl SeekNum for usize {
     }
 
     fn from_position(place: u128) -> Result<usize, OverflowError> {
-        usize::try_from(place).map_err(|_| OverflowError)
+        usize::try_from(place).or(Err(OverflowError))
     }
 }
