@@ -3,9 +3,8 @@
 
 pub mod ciphers;
 pub mod cores;
-pub mod draws;
 pub mod generators;
-pub mod steps;
+pub mod lists;
 
 use chacha20::backends::{Lanes8, Lanes16};
 use chacha20::variants::{Ietf, Legacy};

@@ -4,6 +4,7 @@ mod backends;
 mod base;
 mod contracts;
 mod core_calls;
+mod direct;
 mod draws;
 mod ends;
 mod everywhere;

@@ -3,12 +3,15 @@
 ghost use Rattle.std.specs.Prelude.{◌≡◌, ◌≤◌, ◌<◌, ◌+◌, ◌^◌, length};
 ghost use Rattle.chacha20.specs.Keystream.{xor_stream};
 
-use super::steps::{Call, Place, Step, wrong_step};
+use super::lists::{CipherList, Listed, wrong_list};
 use super::{COUNTING, FROM_1, LEGACY_NONCE, Verdict, Verdicts, enter, failed, first_failure};
 use chacha20::cipher::{
-    KeyIvInit, StreamCipher, StreamCipherCounter, StreamCipherSeek, StreamCipherSeekCore,
+    KeyIvInit, SeekNum, StreamCipher, StreamCipherCounter, StreamCipherSeek, StreamCipherSeekCore,
 };
-use chacha20::{Key, LegacyNonce, Nonce, R20, StreamCipherCoreWrapper, XNonce, hchacha};
+use chacha20::{
+    CipherAnswer, CipherCall, Key, LegacyNonce, Nonce, R20, StreamCipherCoreWrapper, XNonce,
+    hchacha,
+};
 
 /// A core with nonces of one type and counters of another, of which the wrapper makes a cipher.
 pub trait SeekCore<N, T: StreamCipherCounter>: KeyIvInit<Key = Key, Iv = N>
@@ -21,11 +24,12 @@ where
 {}
 
 /// A cipher with nonces of one type.
-pub trait SeekCipher<N>: KeyIvInit<Key = Key, Iv = N> + StreamCipherSeek + Drop {}
+pub trait SeekCipher<N>: KeyIvInit<Key = Key, Iv = N> + StreamCipherSeek + Listed + Drop {}
 
-impl<N, C: KeyIvInit<Key = Key, Iv = N> + StreamCipherSeek + Drop> SeekCipher<N> for C {}
+impl<N, C: KeyIvInit<Key = Key, Iv = N> + StreamCipherSeek + Listed + Drop> SeekCipher<N> for C {}
 
-type NamedStep = (&'static str, Step);
+/// Lists of a row, with its number.
+pub type NumberedLists = (usize, &'static [CipherList]);
 
 static PLAINTEXT: [u8; 16] = [0, 1, 2, 3, 4, 5, 6, 7, 8, 9, 10, 11, 12, 13, 14, 15];
 
@@ -63,138 +67,190 @@ fn enter_rows_of_legacy<C: SeekCipher<LegacyNonce>>(verdicts: &mut Verdicts)
     requires { 2 ^ 32 ≤ C.limit }
 {
     enter(verdicts, 6, row_6::<C>());
+    enter(verdicts, 12, legacy_row_12::<C>());
     enter_table::<C>(verdicts, &FROM_1, &LEGACY_NONCE, &LEGACY_ROWS);
 }
 
-// Rows, or parts of them, that are calls on a new cipher alone.
-fn enter_table<C: KeyIvInit + StreamCipherSeek + Drop>(
+// Rows, or parts of them, that are lists of calls on a new cipher alone.
+fn enter_table<C: KeyIvInit + Listed + Drop>(
     verdicts: &mut Verdicts,
     key: &C::Key,
     nonce: &C::Iv,
-    rows: &[(usize, &'static [NamedStep])],
+    rows: &[NumberedLists],
 ) {
-    for (number, steps) in rows {
+    for (number, lists) in rows {
         enter(
             verdicts,
             *number,
-            wrong_step(&mut C::new(key, nonce), *steps),
+            wrong_list(&mut C::new(key, nonce), *lists),
         );
     }
 }
 
-static NONCE_4: Nonce = [0, 0, 0, 0, 0, 0, 0, 0x4a, 0, 0, 0, 0];
+/// The nonce of row 4.
+pub static NONCE_4: Nonce = [0, 0, 0, 0, 0, 0, 0, 0x4a, 0, 0, 0, 0];
 
-static IETF_ROWS: [(usize, &'static [NamedStep]); 6] = [
+/// Rows that are lists of calls on a new cipher of `COUNTING` and `NONCE_4`.
+pub static IETF_ROWS: [NumberedLists; 6] = [
     // A message from block 1 on (RFC 8439, section 2.4.2).
     (
         4,
         &[
-            ("block 0", Step::Skips(Call::Apply, 64)),
-            (
-                "the message",
-                Step::Gives(
-                    Call::Apply,
-                    b"Ladies and Gentl",
-                    b"\x6e\x2e\x35\x9a\x25\x68\xf9\x80\x41\xba\x07\x28\xdd\x0d\x69\x81",
-                ),
-            ),
+            CipherList {
+                name: "block 0",
+                input: &[],
+                data: &[0; 64],
+                calls: &[CipherCall::Apply { at: 0, len: 64 }],
+                answers: &[CipherAnswer::Done],
+                after: &[],
+            },
+            CipherList {
+                name: "the message",
+                input: &[],
+                data: b"Ladies and Gentl",
+                calls: &[CipherCall::Apply { at: 0, len: 16 }],
+                answers: &[CipherAnswer::Done],
+                after: b"\x6e\x2e\x35\x9a\x25\x68\xf9\x80\x41\xba\x07\x28\xdd\x0d\x69\x81",
+            },
         ],
     ),
-    // The block with the greatest counter is taken as any other.
-    (
-        11,
-        &[
-            (
-                "a seek to the last block",
-                Step::Seek(Place::U64(274877906880)),
-            ),
-            ("no bytes", Step::Gives(Call::Apply, b"", b"")),
-            ("a byte", Step::Skips(Call::Apply, 1)),
-            ("the position after it", Step::At(Place::U64(274877906881))),
-            (
-                "a seek to byte 1 of it",
-                Step::Seek(Place::U64(274877906881)),
-            ),
-            ("a seek below 0", Step::NoSeek(Place::I32(-1))),
-            ("the position then", Step::At(Place::U64(274877906881))),
-        ],
-    ),
+    (11, &[LAST_BLOCK]),
     // Two slices of different lengths.
     (
         16,
-        &[
-            (
-                "three bytes into four",
-                Step::Refuses(Call::Between(&[5, 6, 7]), &[9; 4]),
-            ),
-            ("the position after them", Step::At(Place::U32(0))),
-        ],
+        &[CipherList {
+            name: "three bytes into four",
+            input: &[5, 6, 7],
+            data: &[9; 4],
+            calls: &[
+                CipherCall::ApplyFrom {
+                    from: 0,
+                    from_len: 3,
+                    at: 0,
+                    len: 4,
+                },
+                CipherCall::Pos,
+            ],
+            answers: &[CipherAnswer::Refused, CipherAnswer::Position(0)],
+            after: &[9; 4],
+        }],
     ),
-    // The last byte: the stream ends after it, and a fresh cipher begins at its start.
+    (18, &[LAST_BYTE]),
     (
         18,
-        &[
-            (
-                "a seek to the last byte",
-                Step::Seek(Place::U64(274877906943)),
-            ),
-            ("the last byte", Step::Skips(Call::Apply, 1)),
-            (
-                "the position at the end",
-                Step::At(Place::U64(274877906944)),
-            ),
-            ("a byte after the last", Step::Refuses(Call::Apply, &[0])),
-        ],
-    ),
-    (
-        18,
-        &[("a fresh cipher's position", Step::At(Place::U64(0)))],
+        &[CipherList {
+            name: "a fresh cipher's position",
+            input: &[],
+            data: &[],
+            calls: &[CipherCall::Pos],
+            answers: &[CipherAnswer::Position(0)],
+            after: &[],
+        }],
     ),
     // How much a fresh cipher takes.
     (
         22,
-        &[
-            ("all blocks but the last", Step::Left(274877906880)),
-            ("one byte more", Step::Left(274877906881)),
-            ("more than all", Step::NotLeft(274877906945)),
-        ],
+        &[CipherList {
+            name: "all blocks but the last, one byte more, and more than all",
+            input: &[],
+            data: &[],
+            calls: &[
+                CipherCall::CheckRemaining(274877906880),
+                CipherCall::CheckRemaining(274877906881),
+                CipherCall::CheckRemaining(274877906945),
+            ],
+            answers: &[
+                CipherAnswer::Done,
+                CipherAnswer::Done,
+                CipherAnswer::Refused,
+            ],
+            after: &[],
+        }],
     ),
 ];
 
-static LEGACY_ROWS: [(usize, &'static [NamedStep]); 2] = [
-    // Positions that a type can't say.
-    (
-        12,
-        &[
-            (
-                "a seek past 64 bits",
-                Step::Seek(Place::U128(1180591620717411303360)),
-            ),
-            ("its position in 64 bits", Step::NotIn(Place::U64(0))),
-            (
-                "its position in 128 bits",
-                Step::At(Place::U128(1180591620717411303360)),
-            ),
-        ],
-    ),
-    (22, &[("all that a length says", Step::Left(usize::MAX))]),
-];
+// The block with the greatest counter is taken as any other.
+const LAST_BLOCK: CipherList = CipherList {
+    name: "the block with the greatest counter",
+    input: &[],
+    data: &[7],
+    calls: &[
+        CipherCall::Seek(274877906880),
+        CipherCall::Apply { at: 0, len: 0 },
+        CipherCall::Apply { at: 0, len: 1 },
+        CipherCall::Pos,
+        CipherCall::Seek(274877906881),
+        CipherCall::SeekI32(-1),
+        CipherCall::Pos,
+    ],
+    answers: &[
+        CipherAnswer::Done,
+        CipherAnswer::Done,
+        CipherAnswer::Done,
+        CipherAnswer::Position(274877906881),
+        CipherAnswer::Done,
+        CipherAnswer::Refused,
+        CipherAnswer::Position(274877906881),
+    ],
+    after: &[],
+};
 
-static X_ROWS: [(usize, &'static [NamedStep]); 1] = [
+// The last byte: the stream ends after it.
+const LAST_BYTE: CipherList = CipherList {
+    name: "the last byte, and one after it",
+    input: &[],
+    data: &[0; 2],
+    calls: &[
+        CipherCall::Seek(274877906943),
+        CipherCall::Apply { at: 0, len: 1 },
+        CipherCall::Pos,
+        CipherCall::Apply { at: 1, len: 1 },
+    ],
+    answers: &[
+        CipherAnswer::Done,
+        CipherAnswer::Done,
+        CipherAnswer::Position(274877906944),
+        CipherAnswer::Refused,
+    ],
+    after: &[0],
+};
+
+/// How much a new cipher in the older layout takes.
+pub static LEGACY_ROWS: [NumberedLists; 1] = [(
+    22,
+    &[CipherList {
+        name: "all that a length says",
+        input: &[],
+        data: &[],
+        calls: &[CipherCall::CheckRemaining(usize::MAX)],
+        answers: &[CipherAnswer::Done],
+        after: &[],
+    }],
+)];
+
+/// Rows of a new cipher with a nonce of 24 bytes.
+pub static X_ROWS: [NumberedLists; 1] = [
     // XChaCha20 from block 1 on.
     (
         5,
         &[
-            ("block 0", Step::Skips(Call::Write, 64)),
-            (
-                "the front of block 1",
-                Step::Gives(
-                    Call::Write,
-                    b"",
-                    b"\x29\x62\x4b\x4b\x1b\x14\x0a\xce\x53\x74\x0e\x40\x5b\x21\x68\x54\
+            CipherList {
+                name: "block 0",
+                input: &[],
+                data: &[0; 64],
+                calls: &[CipherCall::Write { at: 0, len: 64 }],
+                answers: &[CipherAnswer::Done],
+                after: &[],
+            },
+            CipherList {
+                name: "the front of block 1",
+                input: &[],
+                data: &[0; 32],
+                calls: &[CipherCall::Write { at: 0, len: 32 }],
+                answers: &[CipherAnswer::Done],
+                after: b"\x29\x62\x4b\x4b\x1b\x14\x0a\xce\x53\x74\x0e\x40\x5b\x21\x68\x54\
                     \x0f\xd7\xd6\x30\xc1\xf5\x36\xfe\xcd\x72\x2f\xc3\xcd\xdb\xa7\xf4",
-                ),
-            ),
+            },
         ],
     ),
 ];
@@ -261,29 +317,37 @@ fn row_6<C: SeekCipher<LegacyNonce>>() -> Verdict
     requires { 2 ^ 32 ≤ C.limit }
 {
     let mut cipher = C::new(&FROM_1, &LEGACY_NONCE);
-    let start = wrong_step(&mut cipher, &ROW_6_START);
+    let start = wrong_list(&mut cipher, &ROW_6_START);
     cipher.seek(17u64);
-    first_failure(&[start, wrong_step(&mut cipher, &ROW_6_FROM_17)])
+    first_failure(&[start, wrong_list(&mut cipher, &ROW_6_FROM_17)])
 }
 
-static ROW_6_START: [NamedStep; 1] = [(
-    "32 bytes",
-    Step::Gives(
-        Call::Write,
-        b"",
-        b"\xde\xeb\x6b\x9d\x06\xdf\xf3\xe0\x91\xbf\x3a\xd4\xf4\xd4\x92\xb6\
+static ROW_6_START: [CipherList; 1] = [CipherList {
+    name: "32 bytes",
+    input: &[],
+    data: &[0; 32],
+    calls: &[CipherCall::Write { at: 0, len: 32 }],
+    answers: &[CipherAnswer::Done],
+    after: b"\xde\xeb\x6b\x9d\x06\xdf\xf3\xe0\x91\xbf\x3a\xd4\xf4\xd4\x92\xb6\
         \xdd\x98\x24\x6f\x69\x69\x18\x02\xe4\x66\xe0\x3b\xad\x23\x57\x87",
-    ),
-)];
+}];
 
-static ROW_6_FROM_17: [NamedStep; 3] = [
-    (
-        "three bytes from byte 17 on",
-        Step::Gives(Call::Write, b"", b"\x98\x24\x6f"),
-    ),
-    ("no bytes", Step::Gives(Call::Apply, b"", b"")),
-    ("the position after them", Step::At(Place::U32(20))),
-];
+static ROW_6_FROM_17: [CipherList; 1] = [CipherList {
+    name: "three bytes from byte 17 on, and no bytes",
+    input: &[],
+    data: &[0; 3],
+    calls: &[
+        CipherCall::Write { at: 0, len: 3 },
+        CipherCall::Apply { at: 3, len: 0 },
+        CipherCall::Pos,
+    ],
+    answers: &[
+        CipherAnswer::Done,
+        CipherAnswer::Done,
+        CipherAnswer::Position(20),
+    ],
+    after: b"\x98\x24\x6f",
+}];
 
 // Positions that a type can't say.
 fn row_12<C: SeekCipher<Nonce>>() -> Verdict
@@ -291,13 +355,29 @@ fn row_12<C: SeekCipher<Nonce>>() -> Verdict
 {
     let mut cipher = C::new(&COUNTING, &[0; 12]);
     cipher.seek(2147483648u32);
-    wrong_step(&mut cipher, &ROW_12)
+    failed(&[
+        ("past 31 bits, in 31", is_at::<C, i32>(&cipher, None)),
+        (
+            "past 31 bits, in 32",
+            is_at::<C, u32>(&cipher, Some(2147483648)),
+        ),
+    ])
 }
 
-static ROW_12: [NamedStep; 2] = [
-    ("a position past 31 bits, in 31", Step::NotIn(Place::I32(0))),
-    (
-        "a position past 31 bits, in 32",
-        Step::At(Place::U32(2147483648)),
-    ),
-];
+fn legacy_row_12<C: SeekCipher<LegacyNonce>>() -> Verdict {
+    let mut cipher = C::new(&FROM_1, &LEGACY_NONCE);
+    let sought = cipher.try_seek(1180591620717411303360u128).is_ok();
+    failed(&[
+        ("a seek past 64 bits", sought),
+        ("past 64 bits, in 64", is_at::<C, u64>(&cipher, None)),
+        (
+            "past 64 bits, in 128",
+            is_at::<C, u128>(&cipher, Some(1180591620717411303360)),
+        ),
+    ])
+}
+
+/// Whether a cipher answers this position; of none, whether it answers that the type can't say it.
+pub fn is_at<C: StreamCipherSeek, T: SeekNum + PartialEq>(cipher: &C, place: Option<T>) -> bool {
+    cipher.try_current_pos::<T>().ok() == place
+}

@@ -1,54 +1,17 @@
-//! Worked rows and published streams of generators over each backend and a user's own; wide backends beside the plain one.
+//! Wide backends beside the plain one.
 
 ghost use Rattle.std.specs.Prelude.{◌≤◌};
 
-use super::width3::Width3;
-use super::{all_right, first_wrong_row, streams};
-use crate::rows::{COUNTING, R0, Verdict, failed, failed_for, first_failure, generators};
+use super::all_right;
+use crate::rows::{COUNTING, R0, Verdict, failed_for, first_failure};
 use chacha20::backends::{Lanes4, Lanes8, Lanes16, Rows8, Soft};
 use chacha20::cipher::{
     KeyIvInit, RngBackend, StreamCipherBackend, StreamCipherCounter, StreamCipherSeekCore,
 };
 use chacha20::rand_core::SeedableRng;
 use chacha20::variants::{Ietf, Legacy, Variant};
-use chacha20::{ChaChaCore, R8, R12, R20, Rounds, Steps};
+use chacha20::{ChaChaCore, R20, Rounds, Steps};
 use std::process::Abort;
-
-// The worked rows and the published streams of generators.
-fn wrong_generators<B: RngBackend<R8> + RngBackend<R12> + RngBackend<R20>>() -> Verdict {
-    let mut rows = [None; 24];
-    generators::enter_rows::<B>(&mut rows);
-    first_failure(&[first_wrong_row(&rows), wrong_generator_stream::<B>()])
-}
-
-fn wrong_generator_stream<B: RngBackend<R20>>() -> Verdict {
-    first_failure(&[
-        failed_for("words of a zero seed", streams::zero_seed_words::<B>()),
-        failed_for("each 17th word", streams::every_17th_word::<B>()),
-        failed(&[
-            ("blocks around 2^32", streams::carry_blocks::<B>()),
-            (
-                "the first block after the last",
-                streams::wrap_to_start::<B>(),
-            ),
-        ]),
-    ])
-}
-
-#[test]
-fn generators_over_each(rt: HostRuntime) {
-    all_right(
-        &rt,
-        &[
-            ("Soft", wrong_generators::<Soft>()),
-            ("Lanes4", wrong_generators::<Lanes4>()),
-            ("Lanes8", wrong_generators::<Lanes8>()),
-            ("Rows8", wrong_generators::<Rows8>()),
-            ("Lanes16", wrong_generators::<Lanes16>()),
-            ("Width3", wrong_generators::<Width3>()),
-        ],
-    );
-}
 
 // So many blocks from a counter on, the single block after them, and the position after the many.
 fn made<C: StreamCipherSeekCore>(

@@ -1,61 +1,73 @@
 //! What `chacha20` doesn't export of `chacha_base`: the quarter round, and words as bytes; and counters in rows. Tests
 //! within `chacha_base` would cost a second proof of it.
 
+use super::all_right;
+use crate::rows::failed;
 use chacha_base::bytes::{read_words, write_bytes, xor_bytes};
 use chacha_base::rounds::{Steps, quarter_round};
 use chacha_base::variants::{Ietf, Legacy, StreamCipherCounter, Variant};
 
 // RFC 8439, 2.1.1, on four words of a state.
-#[test]
-fn quarter_round_of_words(rt: HostRuntime) {
-    let mut state: [u32; 16] = [
+fn mixes_words() -> bool {
+    let mut state = [
         0x11111111, 1, 2, 3, 4, 0x01020304, 6, 7, 8, 9, 0x9b8d6f43, 11, 12, 13, 14, 0x01234567,
     ];
     quarter_round(0, 5, 10, 15, &mut state, &mut Steps::new());
-    let expected: [u32; 16] = [
-        0xea2a92f4, 1, 2, 3, 4, 0xcb1cf8ce, 6, 7, 8, 9, 0x4581472e, 11, 12, 13, 14, 0x5881c4bb,
-    ];
-    assert_eq!(rt; state, expected);
+    state
+        == [
+            0xea2a92f4, 1, 2, 3, 4, 0xcb1cf8ce, 6, 7, 8, 9, 0x4581472e, 11, 12, 13, 14, 0x5881c4bb,
+        ]
 }
 
 // RFC 8439, 2.2.1.
-#[test]
-fn quarter_round_of_state(rt: HostRuntime) {
+fn mixes_state() -> bool {
     let mut state = [
         0x879531e0, 0xc5ecf37d, 0x516461b1, 0xc9a62f8a, 0x44c20ef3, 0x3390af7f, 0xd9fc690b,
         0x2a5f714c, 0x53372767, 0xb00a5631, 0x974c541a, 0x359e9963, 0x5c971061, 0x3d631689,
         0x2098d9d6, 0x91dbd320,
     ];
     quarter_round(2, 7, 8, 13, &mut state, &mut Steps::new());
-    let expected = [
-        0x879531e0, 0xc5ecf37d, 0xbdb886dc, 0xc9a62f8a, 0x44c20ef3, 0x3390af7f, 0xd9fc690b,
-        0xcfacafd2, 0xe46bea80, 0xb00a5631, 0x974c541a, 0x359e9963, 0x5c971061, 0xccc07c79,
-        0x2098d9d6, 0x91dbd320,
-    ];
-    assert_eq!(rt; state, expected);
+    state
+        == [
+            0x879531e0, 0xc5ecf37d, 0xbdb886dc, 0xc9a62f8a, 0x44c20ef3, 0x3390af7f, 0xd9fc690b,
+            0xcfacafd2, 0xe46bea80, 0xb00a5631, 0x974c541a, 0x359e9963, 0x5c971061, 0xccc07c79,
+            0x2098d9d6, 0x91dbd320,
+        ]
 }
 
 // The low byte of a word comes first (RFC 8439, section 2.3).
-#[test]
-fn words_as_bytes(rt: HostRuntime) {
-    let mut bytes: [u8; 8] = [0; 8];
+fn puts_the_low_byte_first() -> bool {
+    let mut bytes = [0; 8];
+    let mut words = [0; 2];
     write_bytes(&[0x0302_0100, 0xf000_0001], &mut bytes);
-    assert_eq!(rt; bytes, [0, 1, 2, 3, 1, 0, 0, 0xf0]);
-    let mut words: [u32; 2] = [0; 2];
+    let written = bytes;
     read_words(&bytes, &mut words);
-    assert_eq!(rt; words, [0x0302_0100, 0xf000_0001]);
     xor_bytes(&mut bytes, &[0xff, 1, 0, 0, 0, 0, 0, 0x0f]);
-    assert_eq!(rt; bytes, [0xff, 0, 2, 3, 1, 0, 0, 0xff]);
+    (written, words, bytes)
+        == (
+            [0, 1, 2, 3, 1, 0, 0, 0xf0],
+            [0x0302_0100, 0xf000_0001],
+            [0xff, 0, 2, 3, 1, 0, 0, 0xff],
+        )
 }
 
 // One word of the row is a counter, or two with the low one first; the others stay.
-#[test]
-fn counters_in_rows(rt: HostRuntime) {
-    let mut row: [u32; 4] = [1, 2, 3, 4];
-    assert_eq!(rt; Ietf::get_block_pos(&row), 1);
-    assert_eq!(rt; Legacy::get_block_pos(&row), 0x2_0000_0001);
+fn counts_in_rows() -> bool {
+    let mut row = [1, 2, 3, 4];
+    let positions = (Ietf::get_block_pos(&row), Legacy::get_block_pos(&row));
     Legacy::set_block_pos(&mut row, 0x6_0000_0005);
-    assert_eq!(rt; row, [5, 6, 3, 4]);
+    let after_legacy = row;
     Ietf::set_block_pos(&mut row, u32::from_u64(7));
-    assert_eq!(rt; row, [7, 6, 3, 4]);
+    positions == (1, 0x2_0000_0001) && [after_legacy, row] == [[5, 6, 3, 4], [7, 6, 3, 4]]
+}
+
+#[test]
+fn base(rt: HostRuntime) {
+    let right = failed(&[
+        ("a quarter round of words", mixes_words()),
+        ("a quarter round of a state", mixes_state()),
+        ("words as bytes", puts_the_low_byte_first()),
+        ("counters in rows", counts_in_rows()),
+    ]);
+    all_right(&rt, &[("chacha_base", right)]);
 }

@@ -294,5 +294,5 @@ fn counted(rt: HostRuntime) {
         apply_586_bytes_rows8(&mut steps),
         apply_586_bytes_lanes16(&mut steps),
     ];
-    assert_eq!(rt; accepted, [Ok(()); 5]);
+    assert!(rt; accepted == [Ok(()); 5]);
 }

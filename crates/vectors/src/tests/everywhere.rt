@@ -1,15 +1,24 @@
-//! Every test of a kind of cipher, over each backend and a user's own. A proof meets each named core once, here.
+//! Every test of a kind of cipher or generator, over each backend and a user's own. A proof meets each named core once, here.
 
 ghost use Rattle.std.specs.Prelude.{◌≤◌, ◌^◌};
 
+use super::direct::{Directly, stream_ends};
+use super::streams::{X_KEY, X_NONCE, XCHACHA_FROM_64, legacy_stream};
 use super::width3::Width3;
 use super::{
-    all_right, ends, first_wrong_row, odd_cuts, positions, records, rfc8439, runs, streams,
+    all_right, core_calls, ends, first_wrong_row, generator_runs, generator_traits, generators,
+    odd_cuts, positions, records, rfc8439, runs, streams, wraps,
 };
-use crate::rows::ciphers::{self, SeekCipher, SeekCore};
-use crate::rows::{COUNTING, LEGACY_NONCE, R0, Verdict, cores, failed, failed_for, first_failure};
+use crate::rows::ciphers::{
+    self, IETF_ROWS, LEGACY_ROWS, NONCE_4, NumberedLists, SeekCipher, SeekCore, X_ROWS,
+};
+use crate::rows::lists::{CipherList, wrong_list};
+use crate::rows::{
+    COUNTING, FROM_1, LEGACY_NONCE, R0, Verdict, cores, failed, failed_check, first_failure,
+    generators as row_generators,
+};
 use chacha20::backends::{Lanes4, Lanes8, Lanes16, Rows8, Soft};
-use chacha20::cipher::{RngBackend, StreamCipherBackend};
+use chacha20::cipher::{KeyIvInit, RngBackend, StreamCipherBackend, StreamCipherSeekCore};
 use chacha20::variants::{Ietf, Legacy};
 use chacha20::{
     ChaChaCore, LegacyNonce, Nonce, R8, R12, R20, Rounds, StreamCipherCoreWrapper, XChaChaCore,
@@ -18,14 +27,40 @@ use chacha20::{
 
 type Cipher<K> = StreamCipherCoreWrapper<K>;
 
+// Lists on a new cipher over a core: called directly, and as lists.
+fn wrong_lists<K: KeyIvInit + StreamCipherSeekCore + Drop>(
+    key: &K::Key,
+    nonce: &K::Iv,
+    lists: &[CipherList],
+) -> Verdict {
+    let direct = wrong_list(&mut Directly(&mut Cipher::<K>::new(key, nonce)), lists);
+    if direct.is_some() {
+        return direct;
+    }
+    wrong_list(&mut Cipher::<K>::new(key, nonce), lists)
+}
+
+fn wrong_rows<K: KeyIvInit + StreamCipherSeekCore + Drop>(
+    key: &K::Key,
+    nonce: &K::Iv,
+    rows: &[NumberedLists],
+) -> Verdict {
+    for (_, lists) in rows {
+        let wrong = wrong_lists::<K>(key, nonce, *lists);
+        if wrong.is_some() {
+            return wrong;
+        }
+    }
+    None
+}
+
 // A cipher of RFC 8439 with 20 rounds.
 fn wrong_ietf<C: SeekCipher<Nonce>>() -> Verdict
     requires { 2 ^ 32 ≤ C.limit }
 {
     first_failure(&[
-        failed(&[("the RFC's stream", streams::ietf_stream::<C>())]),
         rfc8439::wrong_example::<C>(),
-        ends::wrong_ietf_ends::<C>(),
+        ends::wrong_ietf_types::<C>(),
         positions::wrong_positions::<C>(),
         records::wrong_records::<C>(),
     ])
@@ -36,66 +71,72 @@ fn wrong_ietf_core<K: SeekCore<Nonce, u32>>() -> Verdict {
     let _ = ciphers::enter_ietf_rows::<K>(&mut rows);
     first_failure(&[
         first_wrong_row(&rows),
+        wrong_rows::<K>(&COUNTING, &NONCE_4, &IETF_ROWS),
+        wrong_lists::<K>(&[0x42; 32], &[0x24; 12], &runs::ROW_1),
+        wrong_lists::<K>(&COUNTING, &[0; 12], &ends::IETF_ENDS),
         wrong_ietf::<Cipher<K>>(),
-        ends::wrong_ietf_list::<K>(),
-        runs::wrong_rows::<K>(),
         odd_cuts::wrong_cuts::<K>(&COUNTING, &[7; 12]),
     ])
 }
 
 // A cipher in the layout before it.
-fn wrong_legacy<C: SeekCipher<LegacyNonce>>() -> Verdict
-    requires { 2 ^ 64 ≤ C.limit }
-{
-    let places = streams::legacy_stream::<C>(17);
-    first_failure(&[
-        failed(&[("the legacy stream", places.is_none())]),
-        ends::wrong_legacy_ends::<C>(),
-        ends::wrong_legacy_groups::<C>(),
-    ])
-}
-
 fn wrong_legacy_core<K: SeekCore<LegacyNonce, u64>>() -> Verdict {
     let mut rows = [None; 24];
     ciphers::enter_legacy_rows::<K>(&mut rows);
     first_failure(&[
         first_wrong_row(&rows),
-        wrong_legacy::<Cipher<K>>(),
-        ends::wrong_legacy_list::<K>(),
+        wrong_rows::<K>(&FROM_1, &LEGACY_NONCE, &LEGACY_ROWS),
+        wrong_lists::<K>(&FROM_1, &LEGACY_NONCE, &ends::LEGACY_ENDS),
+        ends::wrong_legacy_types::<Cipher<K>>(),
+        wrong_legacy_groups::<K>(),
         odd_cuts::wrong_cuts::<K>(&COUNTING, &LEGACY_NONCE),
     ])
+}
+
+fn wrong_legacy_groups<K: SeekCore<LegacyNonce, u64>>() -> Verdict {
+    if wrong_place::<K>(17).is_some() {
+        return failed_check("the legacy stream");
+    }
+    let mut cipher = Cipher::<K>::new(&FROM_1, &LEGACY_NONCE);
+    let direct = ends::wrong_legacy_groups(&mut Directly(&mut cipher));
+    first_failure(&[direct, ends::wrong_legacy_groups(&mut cipher)])
+}
+
+// The legacy stream between places that are multiples of a step.
+fn wrong_place<K: SeekCore<LegacyNonce, u64>>(step: usize) -> Option<[usize; 3]> {
+    legacy_stream(
+        &mut Directly(&mut Cipher::<K>::new(&FROM_1, &LEGACY_NONCE)),
+        step,
+    )
 }
 
 // A cipher with nonces of 24 bytes.
 fn wrong_x_core<K: SeekCore<XNonce, u32>>() -> Verdict {
     let mut rows = [None; 24];
     ciphers::enter_x_rows::<K>(&mut rows);
+    let stream = stream_ends(
+        &mut Cipher::<K>::new(&X_KEY, &X_NONCE),
+        368,
+        XCHACHA_FROM_64,
+    );
     first_failure(&[
         first_wrong_row(&rows),
-        failed(&[("XChaCha20's stream", streams::xchacha_stream::<Cipher<K>>())]),
+        wrong_rows::<K>(&X_KEY, &X_NONCE, &X_ROWS),
+        failed(&[("XChaCha20's stream", stream)]),
         odd_cuts::wrong_cuts::<K>(&COUNTING, &[7; 24]),
     ])
 }
 
 // Ciphers without rounds.
-fn wrong_zero<C: SeekCipher<Nonce>>() -> Verdict {
-    first_failure(&[
-        runs::wrong_steps::<C>(),
-        ends::wrong_zero_ends::<Nonce, C>(&[0; 12]),
-        ends::wrong_zero_groups::<C>(),
-    ])
-}
-
 fn wrong_zero_core<K: SeekCore<Nonce, u32>>() -> Verdict {
+    let mut cipher = Cipher::<K>::new(&[0; 32], &[0; 12]);
+    let direct = ends::wrong_zero_groups(&mut Directly(&mut cipher));
     first_failure(&[
-        wrong_zero::<Cipher<K>>(),
-        ends::wrong_zero_lists::<K>(),
-        runs::wrong_run::<K>(),
+        wrong_lists::<K>(&[0; 32], &[0; 12], &runs::RUN),
+        wrong_lists::<K>(&[0; 32], &[0; 12], &ends::ZERO_ENDS),
+        direct,
+        ends::wrong_zero_groups(&mut cipher),
     ])
-}
-
-fn wrong_zero_x_core<K: SeekCore<XNonce, u32>>() -> Verdict {
-    ends::wrong_zero_ends::<XNonce, Cipher<K>>(&[0; 24])
 }
 
 // Both kinds with other numbers of rounds.
@@ -112,8 +153,8 @@ where
 {
     first_failure(&[
         wrong_zero_core::<ChaChaCore<R0, Ietf, B>>(),
-        wrong_zero_x_core::<XChaChaCore<R0, B>>(),
-        cores::row_13::<ChaChaCore<R0, Ietf, B>, ChaChaCore<R0, Legacy, B>>(),
+        wrong_lists::<XChaChaCore<R0, B>>(&[0; 32], &[0; 24], &ends::ZERO_ENDS),
+        wrong_cores::<B>(),
     ])
 }
 
@@ -128,7 +169,38 @@ where
     ])
 }
 
-// Every kind of cipher over a backend.
+// Generators: worked rows, published streams, and without rounds what can be computed by hand.
+fn wrong_generators<B>() -> Verdict
+where
+    B: RngBackend<R0> + RngBackend<R8> + RngBackend<R12> + RngBackend<R20>,
+{
+    let mut rows = [None; 24];
+    row_generators::enter_rows::<B>(&mut rows);
+    first_failure(&[
+        first_wrong_row(&rows),
+        streams::wrong_generator_stream::<B>(),
+        generator_traits::wrong_row_7::<B>(),
+        generator_traits::wrong_reads::<B>(),
+        generators::wrong_reads::<B>(),
+        generator_runs::wrong_run::<B>(),
+        generator_runs::wrong_lists::<B>(),
+        wraps::wrong_generator::<B>(),
+    ])
+}
+
+// Cores without rounds.
+fn wrong_cores<B>() -> Verdict
+where
+    B: StreamCipherBackend<R0, Ietf> + StreamCipherBackend<R0, Legacy> + RngBackend<R0>,
+{
+    first_failure(&[
+        cores::row_13::<ChaChaCore<R0, Ietf, B>, ChaChaCore<R0, Legacy, B>>(),
+        core_calls::wrong_zeros::<B>(),
+        wraps::wrong_core::<B>(),
+    ])
+}
+
+// Every kind of cipher, and generators, over a backend.
 fn over<B>() -> Verdict
 where
     B: StreamCipherBackend<R0, Ietf>
@@ -137,13 +209,17 @@ where
         + StreamCipherBackend<R12, Ietf>
         + StreamCipherBackend<R20, Ietf>
         + StreamCipherBackend<R20, Legacy>
-        + RngBackend<R0>,
+        + RngBackend<R0>
+        + RngBackend<R8>
+        + RngBackend<R12>
+        + RngBackend<R20>,
 {
     first_failure(&[
         without_rounds::<B>(),
         wrong_cuts::<R8, B>(),
         wrong_cuts::<R12, B>(),
         with_20_rounds::<B>(),
+        wrong_generators::<B>(),
     ])
 }
 
@@ -180,6 +256,5 @@ fn width3(rt: HostRuntime) {
 // The legacy stream between all places.
 #[test]
 fn soft_between_all_places(rt: HostRuntime) {
-    let places = streams::legacy_stream::<Cipher<ChaChaCore<R20, Legacy, Soft>>>(1);
-    assert_eq!(rt; places, None);
+    assert!(rt; wrong_place::<ChaChaCore<R20, Legacy, Soft>>(1).is_none());
 }

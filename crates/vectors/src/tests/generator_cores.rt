@@ -1,8 +1,7 @@
 //! Cores as makers of words, 64 at a time.
 
-use super::all_right;
 use super::streams::{CARRY_BLOCKS, ZERO_SEED_WORDS};
-use crate::rows::{R0, failed};
+use crate::rows::R0;
 use chacha20::backends::Soft;
 use chacha20::rand_core::SeedableRng;
 use chacha20::variants::Legacy;
@@ -51,8 +50,7 @@ fn four_blocks_without_rounds(rt: HostRuntime) {
         doubled(0, 0),
         doubled(2, 0),
     ];
-    assert!(rt; words.as_slice() == expected.as_flattened());
-    assert_eq!(rt; core.get_block_pos(), 2);
+    assert!(rt; words.as_slice() == expected.as_flattened() && core.get_block_pos() == 2);
 }
 
 // The words of the four blocks from a counter on.
@@ -70,30 +68,20 @@ fn begin_with(words: &[u32; 64], bytes: &[u8; 192]) -> bool {
     right
 }
 
+// The block with the greatest counter, and then the first; a counter whose low word is full; and the position after each.
 #[test]
 fn four_blocks_of_20_rounds(rt: HostRuntime) {
     let mut core = ChaCha20LegacyCore::from_seed([0; 32]);
     let first = four_blocks(&mut core);
     let after_first = core.get_block_pos();
-    // The block with the greatest counter, and then the first.
     let over_the_end = words_from(&mut core, u64::MAX);
     let after_the_end = core.get_block_pos();
-    // The counter's low word is full.
     let with_carry = words_from(&mut core, 0xffff_ffff);
-    let right = failed(&[
-        ("the first four blocks", first.starts_with(&ZERO_SEED_WORDS)),
-        ("the position after them", after_first == 4),
-        (
-            "the last block",
-            over_the_end.starts_with(&[0xd88c_91d7, 0x32f8_0c62, 0xc052_2653, 0x53a5_014c]),
-        ),
-        (
-            "the first block after it",
-            over_the_end[16..].starts_with(&ZERO_SEED_WORDS),
-        ),
-        ("the position after those", after_the_end == 3),
-        ("blocks around 2^32", begin_with(&with_carry, CARRY_BLOCKS)),
-        ("the position then", core.get_block_pos() == 0x1_0000_0003),
-    ]);
-    all_right(&rt, &[("20 rounds", right)]);
+    let positions = [after_first, after_the_end, core.get_block_pos()];
+    assert!(rt; positions == [4, 3, 0x1_0000_0003]);
+    assert!(rt; first.starts_with(&ZERO_SEED_WORDS) && begin_with(&with_carry, CARRY_BLOCKS));
+    assert!(rt; over_the_end.starts_with(&LAST_WORDS));
+    assert!(rt; over_the_end[16..].starts_with(&ZERO_SEED_WORDS));
 }
+
+static LAST_WORDS: [u32; 4] = [0xd88c_91d7, 0x32f8_0c62, 0xc052_2653, 0x53a5_014c];

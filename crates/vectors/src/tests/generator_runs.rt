@@ -1,22 +1,22 @@
-//! A run on the generator without rounds, and rows of generators as lists of calls, over each backend; the lists over a
-//! user's own as well.
+//! Lists of calls on the generator without rounds, over each backend and a user's own; and a run of direct calls.
 
-use super::all_right;
-use super::width3::Width3;
-use crate::rows::{R0, Verdict, failed, first_failure};
-use chacha20::backends::{Lanes4, Lanes8, Lanes16, Rows8, Soft};
+use crate::rows::lists::{RngList, wrong_draw};
+use crate::rows::{R0, Verdict, failed};
 use chacha20::cipher::RngBackend;
-use chacha20::runs::{RngAnswer, RngCall, run_rng};
-use chacha20::{ChaChaRng, R20, SerializedRngState};
+use chacha20::{ChaChaRng, RngAnswer, RngCall};
 
 type ZeroGenerator<B> = ChaChaRng<R0, B>;
+
+// How many word positions there are.
+const POSITIONS: u128 = 1 << 68;
 
 const STREAM: u64 = 0x8000_0001_0000_0003;
 
 // 2^68 + 14, which is position 14.
 const PAST_THE_LAST: u128 = 295147905179352825870;
 
-fn run_directly<B: RngBackend<R0>>() -> Verdict {
+/// What is wrong with the run of direct calls.
+pub fn wrong_run<B: RngBackend<R0>>() -> Verdict {
     let mut rng = ZeroGenerator::<B>::from_seed([0; 32]);
     rng.set_stream(STREAM);
     rng.set_word_pos(PAST_THE_LAST);
@@ -35,158 +35,136 @@ fn run_directly<B: RngBackend<R0>>() -> Verdict {
     ])
 }
 
-#[test]
-fn directly(rt: HostRuntime) {
-    all_right(
-        &rt,
-        &[
-            ("Soft", run_directly::<Soft>()),
-            ("Lanes4", run_directly::<Lanes4>()),
-            ("Lanes8", run_directly::<Lanes8>()),
-            ("Rows8", run_directly::<Rows8>()),
-            ("Lanes16", run_directly::<Lanes16>()),
+// One after another on a generator of a zero seed. What the run leaves, a list after it sets anew. The state is that of
+// position 2^68 - 16.
+static LISTS: [RngList; 6] = [
+    RngList {
+        name: "no calls",
+        len: 1,
+        calls: &[],
+        answers: &[],
+        first: &[0],
+        last: &[],
+    },
+    RngList {
+        name: "the run",
+        len: 5,
+        calls: &[
+            RngCall::SetStream(STREAM),
+            RngCall::SetWordPos(PAST_THE_LAST),
+            RngCall::NextU64,
+            RngCall::GetWordPos,
+            RngCall::GetBlockPos,
+            RngCall::Fill { at: 0, len: 5 },
+            RngCall::Reload,
+            RngCall::GetWordPos,
+            RngCall::GetBlockPos,
+            RngCall::GetStream,
         ],
-    );
-}
-
-fn run_as_a_list<B: RngBackend<R0>>() -> Verdict {
-    let mut rng = ZeroGenerator::<B>::from_seed([0; 32]);
-    let mut data = [0; 5];
-    let mut answers = [RngAnswer::U32(7); 10];
-    run_rng(&mut rng, &mut data, &RUN_CALLS, &mut answers);
-    failed(&[
-        ("the run's data", data == *b"\xca\xf0\xe0\xc2\xdc"),
-        ("the run's answers", answers == RUN_ANSWERS),
-    ])
-}
-
-static RUN_CALLS: [RngCall; 10] = [
-    RngCall::SetStream(STREAM),
-    RngCall::SetWordPos(PAST_THE_LAST),
-    RngCall::NextU64,
-    RngCall::GetWordPos,
-    RngCall::GetBlockPos,
-    RngCall::Fill { at: 0, len: 5 },
-    RngCall::Reload,
-    RngCall::GetWordPos,
-    RngCall::GetBlockPos,
-    RngCall::GetStream,
-];
-
-static RUN_ANSWERS: [RngAnswer; 10] = [
-    RngAnswer::Done,
-    RngAnswer::Done,
-    RngAnswer::U64(0x0000_0002_0000_0006),
-    RngAnswer::U128(16),
-    RngAnswer::U64(1),
-    RngAnswer::Done,
-    RngAnswer::Done,
-    RngAnswer::U128(18),
-    RngAnswer::U64(1),
-    RngAnswer::U64(STREAM),
-];
-
-// Row 20: two words around the wrap.
-fn row_20_as_a_list<B: RngBackend<R20>>() -> Verdict {
-    let mut answers = [RngAnswer::Done; 4];
-    let mut rng = ChaChaRng::<R20, B>::from_seed([0; 32]);
-    run_rng(&mut rng, &mut [0; 252], &ROW_20_CALLS, &mut answers);
-    failed(&[("row 20: answers", answers == ROW_20_ANSWERS)])
-}
-
-static ROW_20_CALLS: [RngCall; 4] = [
-    RngCall::SetWordPos((1 << 68) - 64),
-    RngCall::Fill { at: 0, len: 252 },
-    RngCall::NextU64,
-    RngCall::GetWordPos,
-];
-
-static ROW_20_ANSWERS: [RngAnswer; 4] = [
-    RngAnswer::Done,
-    RngAnswer::Done,
-    RngAnswer::U64(0xade0_b876_8976_b107),
-    RngAnswer::U128(1),
-];
-
-// Row 21: another stream of the same seed.
-fn row_21_as_a_list<B: RngBackend<R20>>() -> Verdict {
-    let mut answers = [RngAnswer::Done; 6];
-    let mut rng = ChaChaRng::<R20, B>::from_seed([0; 32]);
-    run_rng(&mut rng, &mut [0; 16], &ROW_21_CALLS, &mut answers);
-    failed(&[("row 21: answers", answers == ROW_21_ANSWERS)])
-}
-
-static ROW_21_CALLS: [RngCall; 6] = [
-    RngCall::Fill { at: 0, len: 16 },
-    RngCall::NextU32,
-    RngCall::SetStream(0x0200_0000_0000_0000),
-    RngCall::GetWordPos,
-    RngCall::GetSeed,
-    RngCall::NextU32,
-];
-
-static ROW_21_ANSWERS: [RngAnswer; 6] = [
-    RngAnswer::Done,
-    RngAnswer::U32(0xb819_d2bd),
-    RngAnswer::Done,
-    RngAnswer::U128(0),
-    RngAnswer::Seed([0; 32]),
-    RngAnswer::U32(0x374d_c6c2),
-];
-
-fn all_as_lists<B: RngBackend<R0> + RngBackend<R20>>() -> Verdict {
-    first_failure(&[
-        run_as_a_list::<B>(),
-        row_20_as_a_list::<B>(),
-        row_21_as_a_list::<B>(),
-    ])
-}
-
-#[test]
-fn as_lists(rt: HostRuntime) {
-    all_right(
-        &rt,
-        &[
-            ("Soft", all_as_lists::<Soft>()),
-            ("Lanes4", all_as_lists::<Lanes4>()),
-            ("Lanes8", all_as_lists::<Lanes8>()),
-            ("Rows8", all_as_lists::<Rows8>()),
-            ("Lanes16", all_as_lists::<Lanes16>()),
-            ("Width3", all_as_lists::<Width3>()),
+        answers: &[
+            RngAnswer::Done,
+            RngAnswer::Done,
+            RngAnswer::U64(0x0000_0002_0000_0006),
+            RngAnswer::U128(16),
+            RngAnswer::U64(1),
+            RngAnswer::Done,
+            RngAnswer::Done,
+            RngAnswer::U128(18),
+            RngAnswer::U64(1),
+            RngAnswer::U64(STREAM),
         ],
-    );
-}
-
-// The calls that the run above doesn't make.
-#[test]
-fn other_calls(rt: HostRuntime) {
-    let mut rng = ZeroGenerator::<Soft>::from_seed([0; 32]);
-    let mut answers = [RngAnswer::Done; 4];
-    run_rng(&mut rng, &mut [], &OTHER_CALLS, &mut answers);
-    // Position 2^68 - 16.
-    let mut state: SerializedRngState = [0; 49];
-    state[40..].copy_from_slice(b"\xf0\xff\xff\xff\xff\xff\xff\xff\x0f");
-    let expected = [
-        RngAnswer::U32(0xc2e0_f0ca),
-        RngAnswer::Seed([0; 32]),
-        RngAnswer::Done,
-        RngAnswer::State(state),
-    ];
-    assert_eq!(rt; answers, expected);
-}
-
-static OTHER_CALLS: [RngCall; 4] = [
-    RngCall::NextU32,
-    RngCall::GetSeed,
-    RngCall::SetBlockPos(u64::MAX),
-    RngCall::Serialize,
+        first: b"\xca\xf0\xe0\xc2\xdc",
+        last: &[],
+    },
+    RngList {
+        name: "the last words, and the first ones",
+        len: 0,
+        calls: &[
+            RngCall::SetStream(STREAM),
+            RngCall::SetWordPos(POSITIONS - 4),
+            RngCall::NextU64,
+            RngCall::NextU64,
+            RngCall::GetWordPos,
+            RngCall::NextU32,
+        ],
+        answers: &[
+            RngAnswer::Done,
+            RngAnswer::Done,
+            RngAnswer::U64(0xffff_fffe_ffff_fffe),
+            RngAnswer::U64(0x0000_0002_0000_0006),
+            RngAnswer::U128(0),
+            RngAnswer::U32(0xc2e0_f0ca),
+        ],
+        first: &[],
+        last: &[],
+    },
+    RngList {
+        name: "five bytes over the end",
+        len: 5,
+        calls: &[
+            RngCall::SetStream(STREAM),
+            RngCall::SetWordPos(POSITIONS - 1),
+            RngCall::Fill { at: 0, len: 5 },
+            RngCall::GetWordPos,
+        ],
+        answers: &[
+            RngAnswer::Done,
+            RngAnswer::Done,
+            RngAnswer::Done,
+            RngAnswer::U128(1),
+        ],
+        first: b"\x02\0\0\0\xca",
+        last: &[],
+    },
+    RngList {
+        name: "the calls that the run does not make",
+        len: 0,
+        calls: &[
+            RngCall::SetStream(0),
+            RngCall::SetBlockPos(0),
+            RngCall::NextU32,
+            RngCall::GetSeed,
+            RngCall::SetBlockPos(u64::MAX),
+            RngCall::Serialize,
+        ],
+        answers: &[
+            RngAnswer::Done,
+            RngAnswer::Done,
+            RngAnswer::U32(0xc2e0_f0ca),
+            RngAnswer::Seed([0; 32]),
+            RngAnswer::Done,
+            RngAnswer::State(
+                *b"\0\0\0\0\0\0\0\0\0\0\0\0\0\0\0\0\0\0\0\0\0\0\0\0\0\0\0\0\0\0\0\0\0\0\0\0\0\0\0\0\xf0\xff\xff\xff\xff\xff\xff\xff\x0f",
+            ),
+        ],
+        first: &[],
+        last: &[],
+    },
+    RngList {
+        name: "the worked reads",
+        len: 5,
+        calls: &[
+            RngCall::SetBlockPos(0),
+            RngCall::NextU32,
+            RngCall::NextU64,
+            RngCall::Fill { at: 0, len: 5 },
+            RngCall::Fill { at: 0, len: 0 },
+            RngCall::NextU32,
+        ],
+        answers: &[
+            RngAnswer::Done,
+            RngAnswer::U32(0xc2e0_f0ca),
+            RngAnswer::U64(0xf2c4_5a64_6640_c8dc),
+            RngAnswer::Done,
+            RngAnswer::Done,
+            RngAnswer::U32(0),
+        ],
+        first: b"\xe8\xca\x40\xd6\x00",
+        last: &[],
+    },
 ];
 
-#[test]
-fn no_calls(rt: HostRuntime) {
-    let mut rng = ZeroGenerator::<Soft>::from_seed([0; 32]);
-    let mut data = [5];
-    run_rng(&mut rng, &mut data, &[], &mut []);
-    assert_eq!(rt; data, [5]);
-    assert_eq!(rt; rng.get_word_pos(), 0);
+/// What is wrong with the lists.
+pub fn wrong_lists<B: RngBackend<R0>>() -> Verdict {
+    wrong_draw(&mut ZeroGenerator::<B>::from_seed([0; 32]), &LISTS)
 }

@@ -6,10 +6,7 @@ use chacha20::ChaCha20Rng;
 // Equal position and stream are not enough.
 #[test]
 fn other_seed(rt: HostRuntime) {
-    assert_ne!(rt;
-        ChaCha20Rng::from_seed(FROM_1),
-        ChaCha20Rng::from_seed(COUNTING)
-    );
+    assert!(rt; ChaCha20Rng::from_seed(FROM_1) != ChaCha20Rng::from_seed(COUNTING));
 }
 
 // A state that is taken and given back at each place of a buffer, and past it, with the same words after it.

@@ -2,79 +2,54 @@
 
 use super::all_right;
 use crate::rows::{FROM_1, R0, Verdict, failed};
-use chacha20::backends::{Lanes4, Lanes8, Lanes16, Rows8, Soft};
 use chacha20::cipher::{RngBackend, StreamCipherCore};
 use chacha20::rand_core::{self, CryptoRng, Rng, SeedableRng, TryRng};
 use chacha20::{ChaCha8Rng, ChaCha12Rng, ChaCha20LegacyCore, ChaCha20Rng, ChaChaRng, R20, Seed};
 
-// What a list of reads answers: a word, two words, 5 bytes, no bytes, a word.
-#[derive(Clone, Copy, PartialEq, Eq)]
-struct Answers {
-    word: u32,
-    two_words: u64,
-    bytes: [u8; 5],
-    last: u32,
-}
-
-// The worked answers of a generator without rounds.
-static WORKED: Answers = Answers {
-    word: 0xc2e0_f0ca,
-    two_words: 0xf2c4_5a64_6640_c8dc,
-    bytes: *b"\xe8\xca\x40\xd6\x00",
-    last: 0,
-};
-
-fn reads<G: Rng>(rng: &mut G) -> Answers {
+// A list of reads: a word, two words, 5 bytes, no bytes, a word.
+fn reads<G: Rng>(rng: &mut G) -> (u32, u64, [u8; 5], u32) {
     let word = rng.next_u32();
     let two_words = rng.next_u64();
     let mut bytes = [0; 5];
     rng.fill_bytes(&mut bytes);
     rng.fill_bytes(&mut []);
-    let last = rng.next_u32();
-    Answers {
-        word,
-        two_words,
-        bytes,
-        last,
-    }
+    (word, two_words, bytes, rng.next_u32())
 }
 
-fn try_reads<G: TryRng>(rng: &mut G) -> Result<Answers, G::Error> {
-    let word = rng.try_next_u32()?;
-    let two_words = rng.try_next_u64()?;
+fn try_reads<G: TryRng>(
+    rng: &mut G,
+) -> (Option<u32>, Option<u64>, bool, [u8; 5], bool, Option<u32>) {
+    let word = rng.try_next_u32().ok();
+    let two_words = rng.try_next_u64().ok();
     let mut bytes = [0; 5];
-    rng.try_fill_bytes(&mut bytes)?;
-    rng.try_fill_bytes(&mut [])?;
-    let last = rng.try_next_u32()?;
-    Ok(Answers {
+    let filled = rng.try_fill_bytes(&mut bytes).is_ok();
+    let filled_none = rng.try_fill_bytes(&mut []).is_ok();
+    (
         word,
         two_words,
+        filled,
         bytes,
-        last,
-    })
+        filled_none,
+        rng.try_next_u32().ok(),
+    )
 }
 
-fn reads_without_rounds<B: RngBackend<R0>>() -> Verdict {
+/// What is wrong with the worked reads of a generator without rounds.
+pub fn wrong_reads<B: RngBackend<R0>>() -> Verdict {
     let mut rng = ChaChaRng::<R0, B>::from_seed([0; 32]);
     let mut other = ChaChaRng::<R0, B>::from_seed([0; 32]);
+    let bytes = *b"\xe8\xca\x40\xd6\x00";
+    let (word, two_words) = (0xc2e0_f0ca, 0xf2c4_5a64_6640_c8dc);
     failed(&[
-        ("through Rng", reads(&mut rng) == WORKED),
-        ("through TryRng", try_reads(&mut other) == Ok(WORKED)),
+        (
+            "reads through Rng",
+            reads(&mut rng) == (word, two_words, bytes, 0),
+        ),
+        (
+            "reads through TryRng",
+            try_reads(&mut other) == (Some(word), Some(two_words), true, bytes, true, Some(0)),
+        ),
     ])
-}
-
-#[test]
-fn without_rounds(rt: HostRuntime) {
-    all_right(
-        &rt,
-        &[
-            ("Soft", reads_without_rounds::<Soft>()),
-            ("Lanes4", reads_without_rounds::<Lanes4>()),
-            ("Lanes8", reads_without_rounds::<Lanes8>()),
-            ("Rows8", reads_without_rounds::<Rows8>()),
-            ("Lanes16", reads_without_rounds::<Lanes16>()),
-        ],
-    );
 }
 
 // Two reads of 13 bytes.
@@ -85,40 +60,29 @@ fn fills<G: Rng>(rng: &mut G) -> [[u8; 13]; 2] {
     bytes
 }
 
-fn try_fills<G: TryRng>(rng: &mut G) -> Result<[[u8; 13]; 2], G::Error> {
+fn try_fills<G: TryRng>(rng: &mut G) -> ([[u8; 13]; 2], [bool; 2]) {
     let mut bytes = [[0; 13]; 2];
-    rng.try_fill_bytes(&mut bytes[0])?;
-    rng.try_fill_bytes(&mut bytes[1])?;
-    Ok(bytes)
+    let first = rng.try_fill_bytes(&mut bytes[0]).is_ok();
+    let second = rng.try_fill_bytes(&mut bytes[1]).is_ok();
+    (bytes, [first, second])
 }
 
-fn reads_of_row_7<B: RngBackend<R20>>() -> Verdict {
+/// What is wrong with the reads of row 7.
+pub fn wrong_row_7<B: RngBackend<R20>>() -> Verdict {
     let expected = [
         *b"\xb1\x69\x7e\x9f\xc6\x46\x1e\x19\x83\xd1\x31\xcf\x69",
         *b"\xa7\xa3\xfc\x13\x4f\x14\x98\x80\xe8\xbb\x2b\x5d\x23",
     ];
     let mut rng = ChaChaRng::<R20, B>::from_seed(FROM_1);
     let mut other = ChaChaRng::<R20, B>::from_seed(FROM_1);
+    let right = fills(&mut rng) == expected && try_fills(&mut other) == (expected, [true; 2]);
     failed(&[
-        ("through Rng", fills(&mut rng) == expected),
-        ("the position after Rng", rng.get_word_pos() == 8),
-        ("through TryRng", try_fills(&mut other) == Ok(expected)),
-        ("the position after TryRng", other.get_word_pos() == 8),
+        ("row 7 through Rng and TryRng", right),
+        (
+            "the positions after it",
+            [rng.get_word_pos(), other.get_word_pos()] == [8; 2],
+        ),
     ])
-}
-
-#[test]
-fn row_7(rt: HostRuntime) {
-    all_right(
-        &rt,
-        &[
-            ("Soft", reads_of_row_7::<Soft>()),
-            ("Lanes4", reads_of_row_7::<Lanes4>()),
-            ("Lanes8", reads_of_row_7::<Lanes8>()),
-            ("Rows8", reads_of_row_7::<Rows8>()),
-            ("Lanes16", reads_of_row_7::<Lanes16>()),
-        ],
-    );
 }
 
 // A generator that another one seeds.
@@ -128,53 +92,37 @@ fn seeded_by<G: SeedableRng + Rng>(first: &mut G) -> G {
 
 #[test]
 fn row_17(rt: HostRuntime) {
-    let mut first = ChaCha20Rng::from_seed([
-        0, 0, 0, 0, 0, 0, 0, 0, 1, 0, 0, 0, 0, 0, 0, 0, 2, 0, 0, 0, 0, 0, 0, 0, 3, 0, 0, 0, 0, 0,
-        0, 0,
-    ]);
-    assert_eq!(rt; first.next_u32(), 137206642);
+    let mut first = ChaCha20Rng::from_seed(
+        *b"\0\0\0\0\0\0\0\0\x01\0\0\0\0\0\0\0\x02\0\0\0\0\0\0\0\x03\0\0\0\0\0\0\0",
+    );
+    let word = first.next_u32();
     let mut second = seeded_by(&mut first);
-    assert_eq!(rt; second.next_u32(), 1325750369);
-    assert_eq!(rt; first.get_word_pos(), 9);
+    assert!(rt; [word, second.next_u32()] == [137206642, 1325750369]);
+    assert!(rt; first.get_word_pos() == 9);
 }
 
-// A generator of a number.
-fn of_number<G: SeedableRng>(number: u64) -> G {
-    G::seed_from_u64(number)
+// Whether the generator of a number is that of the seed that rand_core makes of it.
+fn is_of_seed<G: SeedableRng<Seed = Seed> + PartialEq + Drop>(number: u64) -> bool {
+    G::seed_from_u64(number) == G::from_seed(rand_core::Seed::from_u64(number))
 }
 
-// The first block of a core, and of a generator.
-fn first_block(number: u64) -> [u8; 64] {
+// Whether the core of a number gives the first block of the generator of the number.
+fn core_is_of_seed(number: u64) -> bool {
     let mut block = [0; 64];
-    of_number::<ChaCha20LegacyCore>(number).write_keystream_block(&mut block);
-    block
-}
-
-fn first_bytes(seed: Seed) -> [u8; 64] {
     let mut bytes = [0; 64];
-    ChaCha20Rng::from_seed(seed).fill_bytes(&mut bytes);
-    bytes
+    ChaCha20LegacyCore::seed_from_u64(number).write_keystream_block(&mut block);
+    ChaCha20Rng::from_seed(rand_core::Seed::from_u64(number)).fill_bytes(&mut bytes);
+    block == bytes
 }
 
-// The seed of a number is the one that rand_core makes of it.
 #[test]
 fn seed_from_u64(rt: HostRuntime) {
     for number in [0, 1, 0x0123_4567_89ab_cdef, u64::MAX] {
-        let seed: Seed = rand_core::Seed::from_u64(number);
         let right = failed(&[
-            (
-                "8 rounds",
-                of_number::<ChaCha8Rng>(number) == ChaCha8Rng::from_seed(seed),
-            ),
-            (
-                "12 rounds",
-                of_number::<ChaCha12Rng>(number) == ChaCha12Rng::from_seed(seed),
-            ),
-            (
-                "20 rounds",
-                of_number::<ChaCha20Rng>(number) == ChaCha20Rng::from_seed(seed),
-            ),
-            ("a core's block", first_block(number) == first_bytes(seed)),
+            ("8 rounds", is_of_seed::<ChaCha8Rng>(number)),
+            ("12 rounds", is_of_seed::<ChaCha12Rng>(number)),
+            ("20 rounds", is_of_seed::<ChaCha20Rng>(number)),
+            ("a core's block", core_is_of_seed(number)),
         ]);
         all_right(&rt, &[("the seed of a number", right)]);
     }
@@ -189,9 +137,6 @@ fn draw_key<G: CryptoRng>(rng: &mut G) -> [u8; 16] {
 
 #[test]
 fn key(rt: HostRuntime) {
-    let mut rng = ChaCha20Rng::from_seed([0; 32]);
-    assert_eq!(rt;
-        draw_key(&mut rng),
-        *b"\x76\xb8\xe0\xad\xa0\xf1\x3d\x90\x40\x5d\x6a\xe5\x53\x86\xbd\x28"
-    );
+    let key = draw_key(&mut ChaCha20Rng::from_seed([0; 32]));
+    assert!(rt; key == *b"\x76\xb8\xe0\xad\xa0\xf1\x3d\x90\x40\x5d\x6a\xe5\x53\x86\xbd\x28");
 }

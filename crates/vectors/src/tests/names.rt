@@ -1,8 +1,9 @@
-//! Every public name by the crate's root, and by the module that it stands in.
+//! Every public name by the crate's root, and by the module that it stands in; and what the named types stand for. Some
+//! names are only imported: that they are found is the test.
 
 use super::all_right;
 use crate::rows::failed;
-use chacha20::rand_core::{Rng, SeedableRng};
+use chacha20::rand_core::SeedableRng;
 use chacha20::{
     BlockSizeUser, ChaCha8, ChaCha8Rng, ChaCha12, ChaCha12Rng, ChaCha20, ChaCha20Legacy,
     ChaCha20LegacyCore, ChaCha20Rng, ChaChaCore, ChaChaRng, CipherAnswer, CipherCall, Generator,
@@ -11,8 +12,28 @@ use chacha20::{
     RngCall, Rounds, Rows8, Seed, SeekNum, SerializedRngState, Soft, Steps, StreamCipher,
     StreamCipherBackend, StreamCipherCore, StreamCipherCoreWrapper, StreamCipherCounter,
     StreamCipherError, StreamCipherSeek, StreamCipherSeekCore, Variant, XChaCha8, XChaCha12,
-    XChaCha20, XChaChaCore, XNonce, backends, cipher, hchacha, run_cipher, run_rng, runs, variants,
+    XChaCha20, XChaChaCore, XNonce, backends, cipher, hchacha, rand_core, run_cipher, run_rng,
+    runs, variants,
 };
+
+// Names that stand in bounds.
+trait Core<T: StreamCipherCounter + SeekNum>: Keystream
+    + StreamCipherCore
+    + StreamCipherSeekCore<Counter = T>
+    + Generator<Output = [u32; 64]> {}
+
+impl<T, C> Core<T> for C
+where
+    T: StreamCipherCounter + SeekNum,
+    C: Keystream
+        + StreamCipherCore
+        + StreamCipherSeekCore<Counter = T>
+        + Generator<Output = [u32; 64]>,
+{}
+
+trait Backend<R: Rounds, V: Variant>: StreamCipherBackend<R, V> + RngBackend<R> {}
+
+impl<R: Rounds, V: Variant, B: StreamCipherBackend<R, V> + RngBackend<R>> Backend<R, V> for B {}
 
 // Sizes of blocks, keys and nonces, and blocks in a parallel call.
 fn sizes<C>() -> [usize; 4]
@@ -32,133 +53,101 @@ fn sizes_of_cores(rt: HostRuntime) {
         sizes::<XChaChaCore<R20, Rows8>>(),
         sizes::<XChaChaCore<R20, Lanes16>>(),
     ];
-    let expected = [
-        [64, 32, 12, 1],
-        [64, 32, 12, 4],
-        [64, 32, 8, 4],
-        [64, 32, 8, 16],
-        [64, 32, 24, 8],
-        [64, 32, 24, 16],
-    ];
-    assert_eq!(rt; found, expected);
+    assert!(rt; found == SIZES);
 }
 
-fn number<C: StreamCipherCounter>(counter: C) -> u64 {
-    counter.to_u64()
-}
+static SIZES: [[usize; 4]; 6] = [
+    [64, 32, 12, 1],
+    [64, 32, 12, 4],
+    [64, 32, 8, 4],
+    [64, 32, 8, 16],
+    [64, 32, 24, 8],
+    [64, 32, 24, 16],
+];
 
-// By a backend and a layout: the counter after the next block.
-fn after_block<R: Rounds, V: Variant, B: StreamCipherBackend<R, V>>() -> u64 {
-    let mut state = [0; 16];
-    B::gen_ks_block(&mut state, &mut [0; 64], &mut Steps::new());
-    number(V::get_block_pos(&state[12..]))
-}
-
-// By a backend of generators: the first word of a state of zeros, which rounds leave as it is.
-fn word_of_zeros<R: Rounds, B: RngBackend<R>>() -> u32 {
-    let mut words = [1; 64];
-    B::gen_ks_blocks(&mut [0; 16], &mut words, &mut Steps::new());
-    words[0]
-}
-
-// By a core: the counter after the next block.
-fn after_core_block<C>(core: &mut C) -> u64
-where
-    C: Keystream + StreamCipherCore + StreamCipherSeekCore,
-{
-    core.write_keystream_block(&mut [0; 64]);
-    number(core.get_block_pos())
-}
-
-// By a maker of words: the first of the next ones.
-fn first_word<G: Generator<Output = [u32; 64]>>(core: &mut G) -> u32 {
+// The first word and the position of a core after four blocks, and its position after one more.
+fn after_blocks<T: StreamCipherCounter + SeekNum, C: Core<T>>(core: &mut C) -> (u32, [u64; 2]) {
     let mut words = [0; 64];
     core.generate(&mut words);
-    words[0]
+    let after_four = core.get_block_pos().to_u64();
+    core.write_keystream_block(&mut [0; 64]);
+    (words[0], [after_four, core.get_block_pos().to_u64()])
+}
+
+// The counter of a state of zeros after a block, and the first word that rounds make of zeros.
+fn after_zeros<R: Rounds, V: Variant, B: Backend<R, V>>() -> (u64, u32) {
+    let mut state = [0; 16];
+    let mut words = [1; 64];
+    B::gen_ks_block(&mut state, &mut [0; 64], &mut Steps::new());
+    B::gen_ks_blocks(&mut [0; 16], &mut words, &mut Steps::new());
+    (V::get_block_pos(&state[12..]).to_u64(), words[0])
 }
 
 #[test]
 fn cores(rt: HostRuntime) {
     let mut core = ChaCha20LegacyCore::from_seed([0; 32]);
-    let word = first_word(&mut core);
-    assert_eq!(rt; [word, word_of_zeros::<R12, Rows8>()], [0xade0_b876, 0]);
-    let counters = [
-        after_block::<R8, Ietf, Lanes4>(),
-        after_core_block(&mut core),
-    ];
-    assert_eq!(rt; counters, [1, 5]);
-}
-
-fn position<C: StreamCipherSeek>(cipher: &C) -> Result<i32, OverflowError> {
-    cipher.try_current_pos()
+    let right = after_blocks(&mut core) == (0xade0_b876, [4, 5])
+        && after_zeros::<R8, Ietf, Lanes4>() == (1, 0)
+        && after_zeros::<R12, Ietf, Rows8>() == (1, 0);
+    assert!(rt; right);
 }
 
 // The sizes of a cipher's key and nonce. No cipher is handed over: the argument names its type.
-fn sizes_of_type<K>(_cipher: Option<&StreamCipherCoreWrapper<K>>) -> (usize, usize)
-where
-    K: StreamCipherSeekCore + KeySizeUser + IvSizeUser,
-{
-    (
-        StreamCipherCoreWrapper::<K>::KEY_SIZE,
-        StreamCipherCoreWrapper::<K>::IV_SIZE,
-    )
+fn sizes_of_type<C: KeySizeUser + IvSizeUser>(_cipher: Option<&C>) -> (usize, usize) {
+    (C::KEY_SIZE, C::IV_SIZE)
 }
 
-// The same, after the first bytes of a new cipher.
-fn of_type<K>(
-    key: &K::Key,
-    nonce: &K::Iv,
-    cipher: Option<&StreamCipherCoreWrapper<K>>,
-) -> ([u8; 32], usize, usize)
-where
-    K: KeyIvInit + KeySizeUser + IvSizeUser + StreamCipherSeekCore + Drop,
-{
-    let (key_size, nonce_size) = sizes_of_type(cipher);
-    let mut cipher = StreamCipherCoreWrapper::<K>::new(key, nonce);
+// Whether a cipher has these sizes, and its stream begins so.
+fn is_of_type<C: KeyIvInit + KeySizeUser + IvSizeUser + StreamCipher + Drop>(
+    key: &C::Key,
+    nonce: &C::Iv,
+    sizes: (usize, usize),
+    first: &[u8; 32],
+) -> bool {
     let mut bytes = [0; 32];
-    let _ = cipher.try_apply_keystream(&mut bytes);
-    (bytes, key_size, nonce_size)
+    let mut cipher = C::new(key, nonce);
+    let done = cipher.try_apply_keystream(&mut bytes).is_ok();
+    done && bytes == *first && (C::KEY_SIZE, C::IV_SIZE) == sizes
 }
+
+static OF_8: [u8; 32] = *b"\x3e\x00\xef\x2f\x89\x5f\x40\xd6\x7f\x5b\xb8\xe8\x1f\x09\xa5\xa1\
+    \x2c\x84\x0e\xc3\xce\x9a\x7f\x3b\x18\x1b\xe1\x88\xef\x71\x1a\x1e";
+
+static OF_12: [u8; 32] = *b"\x9b\xf4\x9a\x6a\x07\x55\xf9\x53\x81\x1f\xce\x12\x5f\x26\x83\xd5\
+    \x04\x29\xc3\xbb\x49\xe0\x74\x14\x7e\x00\x89\xa5\x2e\xae\x15\x5f";
+
+static OF_20: [u8; 32] = *b"\x76\xb8\xe0\xad\xa0\xf1\x3d\x90\x40\x5d\x6a\xe5\x53\x86\xbd\x28\
+    \xbd\xd2\x19\xb8\xa0\x8d\xed\x1a\xa8\x36\xef\xcc\x8b\x77\x0d\xc7";
+
+static KEY: Key = [0; 32];
+
+static NONCE: Nonce = [0; 12];
+
+static LEGACY_NONCE: LegacyNonce = [0; 8];
 
 // What the names stand for. The bytes are those of draft-strombergson-chacha-test-vectors (TC1, keys of 256 bits), for a
 // key and a nonce of zeros. The nonce there is that of the legacy layout; at block 0 the layouts agree.
 #[test]
 fn ciphers(rt: HostRuntime) {
-    let key: Key = [0; 32];
-    let nonce: Nonce = [0; 12];
-    let legacy_nonce: LegacyNonce = [0; 8];
-    let found = [
-        of_type(&key, &nonce, None::<&ChaCha8>),
-        of_type(&key, &nonce, None::<&ChaCha12>),
-        of_type(&key, &nonce, None::<&ChaCha20>),
-        of_type(&key, &legacy_nonce, None::<&ChaCha20Legacy>),
-    ];
-    let expected_of_8 = *b"\x3e\x00\xef\x2f\x89\x5f\x40\xd6\x7f\x5b\xb8\xe8\x1f\x09\xa5\xa1\
-        \x2c\x84\x0e\xc3\xce\x9a\x7f\x3b\x18\x1b\xe1\x88\xef\x71\x1a\x1e";
-    let expected_of_12 = *b"\x9b\xf4\x9a\x6a\x07\x55\xf9\x53\x81\x1f\xce\x12\x5f\x26\x83\xd5\
-        \x04\x29\xc3\xbb\x49\xe0\x74\x14\x7e\x00\x89\xa5\x2e\xae\x15\x5f";
-    let expected_of_20 = *b"\x76\xb8\xe0\xad\xa0\xf1\x3d\x90\x40\x5d\x6a\xe5\x53\x86\xbd\x28\
-        \xbd\xd2\x19\xb8\xa0\x8d\xed\x1a\xa8\x36\xef\xcc\x8b\x77\x0d\xc7";
-    let expected = [
-        (expected_of_8, 32, 12),
-        (expected_of_12, 32, 12),
-        (expected_of_20, 32, 12),
-        (expected_of_20, 32, 8),
-    ];
-    assert_eq!(rt; found, expected);
-}
-
-// The first byte from a place on.
-fn byte_from<K, T>(key: &K::Key, nonce: &K::Iv, place: T) -> Result<u8, StreamCipherError>
-where
-    K: KeyIvInit + StreamCipherSeekCore + Drop,
-    T: SeekNum,
-{
-    let mut cipher = StreamCipherCoreWrapper::<K>::new(key, nonce);
-    let mut byte = [0];
-    cipher.try_seek(place)?;
-    cipher.try_apply_keystream(&mut byte)?;
-    Ok(byte[0])
+    let right = failed(&[
+        (
+            "ChaCha8",
+            is_of_type::<ChaCha8>(&KEY, &NONCE, (32, 12), &OF_8),
+        ),
+        (
+            "ChaCha12",
+            is_of_type::<ChaCha12>(&KEY, &NONCE, (32, 12), &OF_12),
+        ),
+        (
+            "ChaCha20",
+            is_of_type::<ChaCha20>(&KEY, &NONCE, (32, 12), &OF_20),
+        ),
+        (
+            "ChaCha20Legacy",
+            is_of_type::<ChaCha20Legacy>(&KEY, &LEGACY_NONCE, (32, 8), &OF_20),
+        ),
+    ]);
+    all_right(&rt, &[("names", right)]);
 }
 
 // The subkey of zeros is that of the tests of golang.org/x/crypto, of which the first bytes are given.
@@ -169,68 +158,40 @@ fn x_ciphers(rt: HostRuntime) {
         sizes_of_type(None::<&XChaCha12>),
         sizes_of_type(None::<&XChaCha20>),
     ];
-    let right = failed(&[
-        ("sizes of keys and nonces", sizes == [(32, 24); 3]),
-        (
-            "the subkey of zeros",
-            hchacha::<R20>(&[0; 32], &[0; 16]).starts_with(b"\x11\x40\x70\x4c\x32\x8d\x1d\x5d"),
-        ),
-        (
-            "byte 2",
-            byte_from::<ChaChaCore<R20, Ietf, Soft>, u32>(&[0; 32], &[0; 12], 2) == Ok(0xe0),
-        ),
-    ]);
-    all_right(&rt, &[("XChaCha", right)]);
+    let subkey = hchacha::<R20>(&KEY, &[0; 16]);
+    assert!(rt; sizes == [(32, 24); 3]);
+    assert!(rt; subkey.starts_with(b"\x11\x40\x70\x4c\x32\x8d\x1d\x5d"));
 }
 
-// By a list of calls: a seek, and the position after it.
-fn sought<K: StreamCipherSeekCore>(cipher: &mut StreamCipherCoreWrapper<K>) -> bool {
-    let calls = [CipherCall::Seek(7), CipherCall::Pos];
-    let mut answers = [CipherAnswer::Refused; 2];
-    run_cipher(cipher, &[], &mut [], &calls, &mut answers);
-    answers == [CipherAnswer::Done, CipherAnswer::Position(7)] && position(cipher) == Ok(7)
-}
-
-fn sought_by_modules<K: cipher::StreamCipherSeekCore>(
+// By the modules: a list of calls, and the position after it.
+fn sought<K: cipher::StreamCipherSeekCore>(
     cipher: &mut cipher::StreamCipherCoreWrapper<K>,
 ) -> bool {
     let calls = [runs::CipherCall::Seek(9)];
     let mut answers = [runs::CipherAnswer::Refused];
     runs::run_cipher(cipher, &[], &mut [], &calls, &mut answers);
-    answers == [runs::CipherAnswer::Done] && position_by_module(cipher) == Ok(9)
+    answers == [runs::CipherAnswer::Done] && position(cipher) == Ok(9)
 }
 
-fn position_by_module<C: cipher::StreamCipherSeek>(
-    cipher: &C,
-) -> Result<i32, cipher::OverflowError> {
-    position(cipher)
+fn position<C: cipher::StreamCipherSeek>(cipher: &C) -> Result<i32, cipher::OverflowError> {
+    cipher.try_current_pos()
 }
 
-// The same items by the root and by its modules.
 #[test]
 fn modules(rt: HostRuntime) {
-    let mut cipher = StreamCipherCoreWrapper::<ChaChaCore<R20, Ietf, Soft>>::new(
-        &[0; 32], &[0; 12],
-    );
-    let by_root = sought(&mut cipher);
-    let same: &mut cipher::StreamCipherCoreWrapper<
+    let mut cipher = cipher::StreamCipherCoreWrapper::<
         ChaChaCore<R20, variants::Ietf, backends::Soft>,
-    > = &mut cipher;
-    assert_eq!(rt; [by_root, sought_by_modules(same)], [true; 2]);
+    >::new(&KEY, &NONCE);
+    assert!(rt; sought(&mut cipher));
 }
 
 #[test]
 fn generators(rt: HostRuntime) {
     let seed: Seed = [0; 32];
     let state: SerializedRngState = [0; 49];
-    let words = [
-        ChaCha8Rng::from_seed(seed).next_u32(),
-        ChaCha12Rng::from_seed(seed).next_u32(),
-    ];
-    assert_eq!(rt; words, [0x2fef_003e, 0x6a9a_f49b]);
     assert!(rt; ChaCha20Rng::from_seed(seed).serialize_state() == state);
     let mut rng = ChaChaRng::<R20, Lanes16>::deserialize_state(&state);
-    let mut answers = [RngAnswer::Done];
-    run_rng(&mut rng, &mut [], &[RngCall::NextU32], &mut answers);
-    assert_eq!(rt; answers, [RngAnswer::U32(0xade0_b876)]);
+    let mut answers = [runs::RngAnswer::Done];
+    runs::run_rng(&mut rng, &mut [], &[runs::RngCall::NextU32], &mut answers);
+    assert!(rt; answers == [runs::RngAnswer::U32(0xade0_b876)]);
 }

@@ -1,60 +1,47 @@
 //! A backend of a user's own beside the plain one. The worked rows and streams over it stand with those over the others.
 
-ghost use Rattle.std.specs.Prelude.{◌≤◌, length};
+ghost use Rattle.std.specs.Prelude.{◌≤◌};
 
 use super::all_right;
+use super::direct::all_done;
 use super::width3::Width3;
 use crate::rows::ciphers::SeekCore;
-use crate::rows::{COUNTING, LEGACY_NONCE, failed_for};
+use crate::rows::lists::Listed;
+use crate::rows::{COUNTING, LEGACY_NONCE, Verdict, failed_for};
 use chacha20::backends::Soft;
-use chacha20::cipher::{
-    KeyIvInit, StreamCipher, StreamCipherCounter, StreamCipherError, StreamCipherSeekCore,
-};
+use chacha20::cipher::{KeyIvInit, StreamCipherCounter};
 use chacha20::rand_core::{Rng, SeedableRng};
 use chacha20::variants::{Ietf, Legacy};
 use chacha20::{
-    ChaChaCore, ChaChaRng, LegacyNonce, Nonce, R20, Seed, StreamCipherCoreWrapper, XChaChaCore,
-    XNonce,
+    ChaChaCore, ChaChaRng, CipherCall, R20, Seed, StreamCipherCoreWrapper, XChaChaCore,
 };
-
-type Cipher<K> = StreamCipherCoreWrapper<K>;
-
-// Applies a cipher to so many bytes, and then to the rest.
-fn apply_in_two<C: StreamCipher>(
-    cipher: &mut C,
-    bytes: &mut [u8],
-    first: usize,
-) -> Result<(), StreamCipherError>
-    requires { first ≤ length bytes.old }
-{
-    let (front, rest) = bytes.split_at_mut(first);
-    cipher.try_apply_keystream(front)?;
-    cipher.try_apply_keystream(rest)
-}
 
 // Whether one cipher takes back what the other gives, over ten blocks and a last part of 63 bytes, of which both take so
 // many bytes at first.
-fn takes_back<N, T: StreamCipherCounter, A: SeekCore<N, T>, B: SeekCore<N, T>>(
-    nonce: &N,
-    first: usize,
-) -> bool
+fn takes_back<A: Listed, B: Listed>(cipher: &mut A, other: &mut B, first: usize) -> bool
     requires { first ≤ 703 }
 {
     let mut bytes = [0; 703];
-    apply_in_two(&mut Cipher::<A>::new(&COUNTING, nonce), &mut bytes, first).is_ok()
-        && apply_in_two(&mut Cipher::<B>::new(&COUNTING, nonce), &mut bytes, first).is_ok()
+    let calls = [
+        CipherCall::Seek(0),
+        CipherCall::Apply { at: 0, len: first },
+        CipherCall::Apply {
+            at: first,
+            len: 703 - first,
+        },
+    ];
+    all_done(cipher, &[], &mut bytes, &calls)
+        && all_done(other, &[], &mut bytes, &calls)
         && bytes == [0; 703]
 }
 
 // The first number of blocks, from 1 to 10, after which two ciphers differ with a last part of 0, 1 or 63 bytes.
-fn wrong_length<N, T: StreamCipherCounter, A: SeekCore<N, T>, B: SeekCore<N, T>>(
-    nonce: &N,
-) -> Option<usize> {
+fn wrong_length<A: Listed, B: Listed>(cipher: &mut A, other: &mut B) -> Option<usize> {
     for blocks in 1..11usize {
         let whole = 64 * blocks;
-        if !(takes_back::<N, T, A, B>(nonce, whole)
-            && takes_back::<N, T, A, B>(nonce, whole + 1)
-            && takes_back::<N, T, A, B>(nonce, whole + 63))
+        if !(takes_back(cipher, other, whole)
+            && takes_back(cipher, other, whole + 1)
+            && takes_back(cipher, other, whole + 63))
         {
             return Some(blocks);
         }
@@ -62,27 +49,33 @@ fn wrong_length<N, T: StreamCipherCounter, A: SeekCore<N, T>, B: SeekCore<N, T>>
     None
 }
 
+// The same of new ciphers over two cores.
+fn wrong_beside<N, T: StreamCipherCounter, A: SeekCore<N, T>, B: SeekCore<N, T>>(
+    nonce: &N,
+) -> Verdict {
+    let mut cipher = StreamCipherCoreWrapper::<A>::new(&COUNTING, nonce);
+    let mut other = StreamCipherCoreWrapper::<B>::new(&COUNTING, nonce);
+    failed_for("so many blocks", wrong_length(&mut cipher, &mut other))
+}
+
 #[test]
 fn ciphers_beside_soft(rt: HostRuntime) {
-    let ietf = wrong_length::<
-        Nonce,
-        u32,
-        ChaChaCore<R20, Ietf, Width3>,
-        ChaChaCore<R20, Ietf, Soft>,
-    >(&[7; 12]);
-    let legacy = wrong_length::<
-        LegacyNonce,
-        u64,
+    let ietf = wrong_beside::<_, _, ChaChaCore<R20, Ietf, Width3>, ChaChaCore<R20, Ietf, Soft>>(
+        &[7; 12],
+    );
+    let legacy = wrong_beside::<
+        _,
+        _,
         ChaChaCore<R20, Legacy, Width3>,
         ChaChaCore<R20, Legacy, Soft>,
     >(&LEGACY_NONCE);
-    let x = wrong_length::<XNonce, u32, XChaChaCore<R20, Width3>, XChaChaCore<R20, Soft>>(&[7; 24]);
+    let x = wrong_beside::<_, _, XChaChaCore<R20, Width3>, XChaChaCore<R20, Soft>>(&[7; 24]);
     all_right(
         &rt,
         &[
-            ("ChaCha20", failed_for("so many blocks", ietf)),
-            ("ChaCha20Legacy", failed_for("so many blocks", legacy)),
-            ("XChaCha20", failed_for("so many blocks", x)),
+            ("ChaCha20", ietf),
+            ("ChaCha20Legacy", legacy),
+            ("XChaCha20", x),
         ],
     );
 }

@@ -2,11 +2,12 @@
 
 ghost use Rattle.std.specs.Prelude.{◌≤◌, ◌^◌};
 
-use crate::rows::ciphers::SeekCipher;
-use crate::rows::steps::asked_for;
+use super::direct::Directly;
+use crate::rows::ciphers::{SeekCipher, is_at};
+use crate::rows::lists::{Listed, answers_are};
 use crate::rows::{COUNTING, Verdict, failed, first_failure};
-use chacha20::Nonce;
 use chacha20::cipher::{KeyIvInit, SeekNum, StreamCipher, StreamCipherSeek};
+use chacha20::{CipherAnswer, CipherCall, Nonce};
 
 const LIMIT: u64 = 274877906944;
 
@@ -20,34 +21,21 @@ static PLACES: [u64; 6] = [
     LIMIT,
 ];
 
-// Whether the position is this number; where a type has none for it, whether the answer is an error.
-fn is_said<C: StreamCipherSeek, T: SeekNum + PartialEq>(cipher: &C, number: Option<T>) -> bool {
-    match number {
-        Some(number) => asked_for(cipher, number) == Some(true),
-        None => cipher.try_current_pos::<T>().is_err(),
-    }
-}
-
 // At a place a cipher answers its position in each type that can say it, and an error in each other.
 fn answers<C: StreamCipherSeek>(cipher: &mut C, place: u64) -> Verdict {
     failed(&[
         ("a seek", cipher.try_seek(place).is_ok()),
-        ("in i32", is_said(cipher, i32::try_from(place).ok())),
-        ("in u32", is_said(cipher, u32::try_from(place).ok())),
-        ("in u64", asked_for(cipher, place) == Some(true)),
-        (
-            "in u128",
-            asked_for(cipher, u128::from(place)) == Some(true),
-        ),
-        ("in usize", asked_for(cipher, place as usize) == Some(true)),
+        ("in i32", is_at(cipher, i32::try_from(place).ok())),
+        ("in u32", is_at(cipher, u32::try_from(place).ok())),
+        ("in u64", is_at(cipher, Some(place))),
+        ("in u128", is_at(cipher, Some(u128::from(place)))),
+        ("in usize", is_at(cipher, Some(place as usize))),
     ])
 }
 
 // Whether a seek in a type, from another position, comes to a place.
 fn is_sought<C: StreamCipherSeek, T: SeekNum>(cipher: &mut C, number: T, place: u64) -> bool {
-    cipher.try_seek(70u32).is_ok()
-        && cipher.try_seek(number).is_ok()
-        && asked_for(cipher, place) == Some(true)
+    cipher.try_seek(70u32).is_ok() && cipher.try_seek(number).is_ok() && is_at(cipher, Some(place))
 }
 
 // A place is sought in each type that can say it.
@@ -86,35 +74,41 @@ fn wrong_places<C: StreamCipherSeek>(cipher: &mut C) -> Verdict {
     None
 }
 
-// From the middle of the first block on, by each of the three calls for bytes.
-fn applied<C: StreamCipherSeek>(cipher: &mut C, bytes: &mut [u8]) -> bool {
-    cipher.try_seek(13u32).is_ok() && cipher.try_apply_keystream(bytes).is_ok()
+static ZEROS: [u8; 70000] = [0; 70000];
+
+// From the middle of the first block on the calls for bytes give the same bytes, over several pieces.
+fn gives_the_same<C: Listed>(cipher: &mut C) -> bool {
+    let mut applied = [0; 70000];
+    let mut written = [1; 70000];
+    let mut between = [2; 70000];
+    let all = CipherCall::ApplyFrom {
+        from: 0,
+        from_len: 70000,
+        at: 0,
+        len: 70000,
+    };
+    given(
+        cipher,
+        &mut applied,
+        CipherCall::Apply { at: 0, len: 70000 },
+    ) && given(
+        cipher,
+        &mut written,
+        CipherCall::Write { at: 0, len: 70000 },
+    ) && given(cipher, &mut between, all)
+        && applied == written
+        && applied == between
 }
 
-fn written<C: StreamCipherSeek>(cipher: &mut C, bytes: &mut [u8]) -> bool {
-    cipher.try_seek(13u32).is_ok() && cipher.try_write_keystream(bytes).is_ok()
-}
-
-fn between<C: StreamCipherSeek>(cipher: &mut C, input: &[u8], bytes: &mut [u8]) -> bool {
-    cipher.try_seek(13u32).is_ok() && cipher.try_apply_keystream_b2b(input, bytes).is_ok()
-}
-
-// They give the same bytes, over several pieces.
-fn gives_the_same<C: StreamCipherSeek>(cipher: &mut C) -> Verdict {
-    let mut by_applying = [0; 70000];
-    let mut by_writing = [1; 70000];
-    let mut by_two = [2; 70000];
-    failed(&[
-        ("applied", applied(cipher, &mut by_applying)),
-        ("written", written(cipher, &mut by_writing)),
-        ("between slices", between(cipher, &[0; 70000], &mut by_two)),
-        ("written as applied", by_applying == by_writing),
-        ("between slices as applied", by_applying == by_two),
-        (
-            "the position at the end",
-            asked_for(cipher, 70013u32) == Some(true),
-        ),
-    ])
+// Whether a call for 70000 bytes from byte 13 on is done, and moves so far.
+fn given<C: Listed>(cipher: &mut C, bytes: &mut [u8; 70000], call: CipherCall) -> bool {
+    let answers = [
+        CipherAnswer::Done,
+        CipherAnswer::Done,
+        CipherAnswer::Position(70013),
+    ];
+    let calls = [CipherCall::Seek(13), call, CipherCall::Pos];
+    answers_are(cipher, &ZEROS, bytes, &calls, &answers)
 }
 
 // The forms that leave the refusals to the caller.
@@ -144,9 +138,11 @@ pub fn wrong_positions<C: SeekCipher<Nonce>>() -> Verdict
     requires { 2 ^ 32 ≤ C.limit }
 {
     let mut cipher = C::new(&COUNTING, &[0; 12]);
+    let places = wrong_places(&mut cipher);
+    let same = gives_the_same(&mut Directly(&mut cipher)) && gives_the_same(&mut cipher);
     first_failure(&[
-        wrong_places(&mut cipher),
-        gives_the_same(&mut cipher),
+        places,
+        failed(&[("the same bytes", same)]),
         without_refusals::<C>(),
     ])
 }

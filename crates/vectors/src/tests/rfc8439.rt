@@ -1,43 +1,39 @@
 //! The examples of RFC 8439, for any cipher of its layout with 20 rounds.
 
-use super::streams::NONCE;
+use super::direct::{all_done, stream_ends};
+use super::streams::{IETF_FROM_64, NONCE};
 use crate::rows::ciphers::SeekCipher;
-use crate::rows::{COUNTING, Verdict, failed};
-use chacha20::cipher::{KeyIvInit, StreamCipher};
-use chacha20::{Key, Nonce};
+use crate::rows::{COUNTING, Verdict, failed, failed_check};
+use chacha20::cipher::KeyIvInit;
+use chacha20::{CipherCall, Key, Nonce};
 
 // The message of section 2.4.2, which begins at block 1.
-fn encrypted<C: SeekCipher<Nonce>>() -> [u8; 114] {
-    let mut message =
-        *b"Ladies and Gentlemen of the class of '99: If I could offer you only one tip for the future, sunscreen would be it.";
-    let mut cipher = C::new(&COUNTING, &NONCE);
-    let _ = cipher.try_apply_keystream(&mut [0; 64]);
-    let _ = cipher.try_apply_keystream(&mut message);
-    message
+fn encrypts<C: SeekCipher<Nonce>>() -> bool {
+    let mut data = [0; 178];
+    data[64..].copy_from_slice(
+        b"Ladies and Gentlemen of the class of '99: If I could offer you only one tip for the future, sunscreen would be it.",
+    );
+    let calls = [
+        CipherCall::Apply { at: 0, len: 64 },
+        CipherCall::Apply { at: 64, len: 114 },
+    ];
+    all_done(&mut C::new(&COUNTING, &NONCE), &[], &mut data, &calls) && data.ends_with(CIPHERTEXT)
 }
 
-// The block of a key and a nonce after so many others.
-fn block_after<C: SeekCipher<Nonce>>(key: &Key, nonce: &Nonce, before: u32) -> [u8; 64] {
-    let mut cipher = C::new(key, nonce);
-    let mut block = [0; 64];
-    for _ in 0..before {
-        let _ = cipher.try_apply_keystream(&mut [0; 64]);
-    }
-    let _ = cipher.try_apply_keystream(&mut block);
-    block
-}
-
-/// The first example that comes out otherwise: the encryption, and the blocks of appendix A.1.
+/// The first example that comes out otherwise: the blocks of appendix A.1, the encryption, and its keystream.
 pub fn wrong_example<C: SeekCipher<Nonce>>() -> Verdict {
-    for (key, nonce, before, expected) in &BLOCKS {
-        if block_after::<C>(key, nonce, *before) != *expected {
-            return failed(&[("a block of appendix A.1", false)]);
+    for (key, nonce, before, block) in &BLOCKS {
+        if !stream_ends(&mut C::new(key, nonce), 64 * *before + 64, block) {
+            return failed_check("a block of appendix A.1");
         }
     }
-    failed(&[(
-        "the message of section 2.4.2",
-        encrypted::<C>() == *CIPHERTEXT,
-    )])
+    failed(&[
+        ("the message of section 2.4.2", encrypts::<C>()),
+        (
+            "the RFC's stream",
+            stream_ends(&mut C::new(&COUNTING, &NONCE), 178, IETF_FROM_64),
+        ),
+    ])
 }
 
 static CIPHERTEXT: &[u8; 114] = b"\
@@ -48,7 +44,7 @@ static CIPHERTEXT: &[u8; 114] = b"\
     \x5a\xf9\x0b\xbf\x74\xa3\x5b\xe6\xb4\x0b\x8e\xed\xf2\x78\x5e\x42\x87\x4d";
 
 // Keys and nonces, how many blocks come before, and the block.
-static BLOCKS: [(Key, Nonce, u32, [u8; 64]); 5] = [
+static BLOCKS: [(Key, Nonce, usize, [u8; 64]); 5] = [
     (
         [0; 32],
         [0; 12],

@@ -2,38 +2,21 @@
 
 ghost use Rattle.std.specs.Prelude.{◌≤◌};
 
-use crate::rows::ciphers::SeekCipher;
-use crate::rows::{COUNTING, FROM_1, LEGACY_NONCE};
-use chacha20::cipher::{KeyIvInit, RngBackend, StreamCipher, StreamCipherError, StreamCipherSeek};
-use chacha20::{ChaChaRng, Key, LegacyNonce, Nonce, R20, Seed, XNonce};
-
-/// The keystream of RFC 8439, section 2.4.2: two blocks and a last part.
-pub fn ietf_stream<C: SeekCipher<Nonce>>() -> bool {
-    let mut stream = [0; 178];
-    C::new(&COUNTING, &NONCE)
-        .try_apply_keystream(&mut stream)
-        .is_ok()
-        && stream.ends_with(IETF_FROM_64)
-}
-
-/// XChaCha20 from block 1 on.
-pub fn xchacha_stream<C: SeekCipher<XNonce>>() -> bool {
-    let mut stream = [0; 368];
-    C::new(&X_KEY, &X_NONCE)
-        .try_apply_keystream(&mut stream)
-        .is_ok()
-        && stream.ends_with(XCHACHA_FROM_64)
-}
+use super::direct::all_done;
+use crate::rows::generators::wrong_table;
+use crate::rows::lists::{Listed, RngList};
+use crate::rows::{Verdict, failed_check};
+use chacha20::cipher::RngBackend;
+use chacha20::{ChaChaRng, CipherCall, Key, Nonce, R20, RngAnswer, RngCall, Seed, XNonce};
 
 /// Four blocks with a nonce of 8 bytes, between any three places that are multiples of so many bytes, in two parts.
 /// It answers the first places between which the stream is wrong.
-pub fn legacy_stream<C: SeekCipher<LegacyNonce>>(step: usize) -> Option<[usize; 3]> {
-    let mut cipher = C::new(&FROM_1, &LEGACY_NONCE);
+pub fn legacy_stream<C: Listed>(cipher: &mut C, step: usize) -> Option<[usize; 3]> {
     for from in 0..256usize {
         if is_place(from, step) {
             for middle in from..256 {
                 if is_place(middle, step) {
-                    if let Some(last) = wrong_last(&mut cipher, from, middle, step) {
+                    if let Some(last) = wrong_last(cipher, from, middle, step) {
                         return Some([from, middle, last]);
                     }
                 }
@@ -48,12 +31,7 @@ fn is_place(byte: usize, step: usize) -> bool {
 }
 
 // The first place, from the middle on, to which the stream is wrong.
-fn wrong_last<C: StreamCipherSeek>(
-    cipher: &mut C,
-    from: usize,
-    middle: usize,
-    step: usize,
-) -> Option<usize>
+fn wrong_last<C: Listed>(cipher: &mut C, from: usize, middle: usize, step: usize) -> Option<usize>
     requires { from ≤ middle }
 {
     for last in middle..256 {
@@ -64,72 +42,44 @@ fn wrong_last<C: StreamCipherSeek>(
     None
 }
 
-fn is_part_of_legacy<C: StreamCipherSeek>(
-    cipher: &mut C,
-    from: usize,
-    middle: usize,
-    last: usize,
-) -> bool
+fn is_part_of_legacy<C: Listed>(cipher: &mut C, from: usize, middle: usize, last: usize) -> bool
     requires first { from ≤ middle }
     requires second { middle ≤ last }
     requires within { last ≤ 256 }
 {
     let stream = LEGACY.as_slice();
-    let mut front = [0; 256];
-    let mut back = [0; 256];
-    let front = &mut front[..middle - from];
-    let back = &mut back[..last - middle];
-    apply_from(cipher, from, front, back).is_ok()
-        && &*front == &stream[from..middle]
-        && &*back == &stream[middle..last]
+    let mut data = [0; 256];
+    let calls = [
+        CipherCall::Seek(from as u128),
+        CipherCall::Apply {
+            at: from,
+            len: middle - from,
+        },
+        CipherCall::Apply {
+            at: middle,
+            len: last - middle,
+        },
+    ];
+    all_done(cipher, &[], &mut data, &calls) && data[from..last] == stream[from..last]
 }
 
-// Moves to a byte, and applies in two parts.
-fn apply_from<C: StreamCipherSeek>(
-    cipher: &mut C,
-    from: usize,
-    front: &mut [u8],
-    back: &mut [u8],
-) -> Result<(), StreamCipherError> {
-    cipher.try_seek(from)?;
-    cipher.try_apply_keystream(front)?;
-    cipher.try_apply_keystream(back)
-}
-
-/// The first words of a zero seed. It answers the number of the first one that is wrong.
-pub fn zero_seed_words<B: RngBackend<R20>>() -> Option<usize> {
-    let mut rng = ChaChaRng::<R20, B>::from_seed([0; 32]);
-    for (i, word) in ZERO_SEED_WORDS.iter().enumerate() {
-        if rng.next_u32() != *word {
-            return Some(i);
+/// What is wrong with the published streams of generators.
+pub fn wrong_generator_stream<B: RngBackend<R20>>() -> Verdict {
+    for (seed, lists) in &GENERATOR_STREAMS {
+        let wrong = wrong_table::<B>(*seed, *lists);
+        if wrong.is_some() {
+            return wrong;
         }
     }
-    None
-}
-
-/// Words from many blocks of another seed. It answers the place in the table of the first one that is wrong.
-pub fn every_17th_word<B: RngBackend<R20>>() -> Option<usize> {
-    let mut rng = ChaChaRng::<R20, B>::from_seed(WORDS_0_TO_7);
-    for (i, word) in EVERY_17TH_WORD.iter().enumerate() {
-        if rng.next_u32() != *word {
-            return Some(i);
-        }
-        rng.fill_bytes(&mut [0; 64]);
+    if wraps_to_start::<B>() {
+        None
+    } else {
+        failed_check("the first block after the last")
     }
-    None
 }
 
-/// Blocks on both sides of 2^32.
-pub fn carry_blocks<B: RngBackend<R20>>() -> bool {
-    let mut rng = ChaChaRng::<R20, B>::from_seed([0; 32]);
-    rng.set_block_pos(0xffff_ffff);
-    let mut blocks = [0; 192];
-    rng.fill_bytes(&mut blocks);
-    blocks == *CARRY_BLOCKS
-}
-
-/// The block after the last one is the first.
-pub fn wrap_to_start<B: RngBackend<R20>>() -> bool {
+// The block after the last one is the first.
+fn wraps_to_start<B: RngBackend<R20>>() -> bool {
     let mut first = ChaChaRng::<R20, B>::from_seed([0; 32]);
     let mut last = ChaChaRng::<R20, B>::from_seed([0; 32]);
     last.set_block_pos(u64::MAX);
@@ -210,31 +160,135 @@ pub static ZERO_SEED_WORDS: [u32; 16] = [
     0x8665_eeb2,
 ];
 
+// Seeds, and what their generators give: the first words, words from many blocks, and blocks on both sides of 2^32.
+static GENERATOR_STREAMS: [(Seed, &'static [RngList]); 3] = [
+    (
+        [0; 32],
+        &[RngList {
+            name: "words of a zero seed",
+            len: 0,
+            calls: &[RngCall::NextU32; 16],
+            answers: &[
+                RngAnswer::U32(0xade0_b876),
+                RngAnswer::U32(0x903d_f1a0),
+                RngAnswer::U32(0xe56a_5d40),
+                RngAnswer::U32(0x28bd_8653),
+                RngAnswer::U32(0xb819_d2bd),
+                RngAnswer::U32(0x1aed_8da0),
+                RngAnswer::U32(0xccef_36a8),
+                RngAnswer::U32(0xc70d_778b),
+                RngAnswer::U32(0x7c59_41da),
+                RngAnswer::U32(0x8d48_5751),
+                RngAnswer::U32(0x3fe0_2477),
+                RngAnswer::U32(0x374a_d8b8),
+                RngAnswer::U32(0xf4b8_436a),
+                RngAnswer::U32(0x1ca1_1815),
+                RngAnswer::U32(0x69b6_87c3),
+                RngAnswer::U32(0x8665_eeb2),
+            ],
+            first: &[],
+            last: &[],
+        }],
+    ),
+    (
+        WORDS_0_TO_7,
+        &[RngList {
+            name: "each 17th word",
+            len: 64,
+            calls: &[
+                RngCall::NextU32,
+                RngCall::Fill { at: 0, len: 64 },
+                RngCall::NextU32,
+                RngCall::Fill { at: 0, len: 64 },
+                RngCall::NextU32,
+                RngCall::Fill { at: 0, len: 64 },
+                RngCall::NextU32,
+                RngCall::Fill { at: 0, len: 64 },
+                RngCall::NextU32,
+                RngCall::Fill { at: 0, len: 64 },
+                RngCall::NextU32,
+                RngCall::Fill { at: 0, len: 64 },
+                RngCall::NextU32,
+                RngCall::Fill { at: 0, len: 64 },
+                RngCall::NextU32,
+                RngCall::Fill { at: 0, len: 64 },
+                RngCall::NextU32,
+                RngCall::Fill { at: 0, len: 64 },
+                RngCall::NextU32,
+                RngCall::Fill { at: 0, len: 64 },
+                RngCall::NextU32,
+                RngCall::Fill { at: 0, len: 64 },
+                RngCall::NextU32,
+                RngCall::Fill { at: 0, len: 64 },
+                RngCall::NextU32,
+                RngCall::Fill { at: 0, len: 64 },
+                RngCall::NextU32,
+                RngCall::Fill { at: 0, len: 64 },
+                RngCall::NextU32,
+                RngCall::Fill { at: 0, len: 64 },
+                RngCall::NextU32,
+                RngCall::Fill { at: 0, len: 64 },
+            ],
+            answers: &[
+                RngAnswer::U32(0xf225_c81a),
+                RngAnswer::Done,
+                RngAnswer::U32(0x6ab1_be57),
+                RngAnswer::Done,
+                RngAnswer::U32(0x04d4_2951),
+                RngAnswer::Done,
+                RngAnswer::U32(0x7085_8036),
+                RngAnswer::Done,
+                RngAnswer::U32(0x4988_4684),
+                RngAnswer::Done,
+                RngAnswer::U32(0x64ef_ec72),
+                RngAnswer::Done,
+                RngAnswer::U32(0x4be2_d186),
+                RngAnswer::Done,
+                RngAnswer::U32(0x3615_b384),
+                RngAnswer::Done,
+                RngAnswer::U32(0x11cf_a18e),
+                RngAnswer::Done,
+                RngAnswer::U32(0xd3c5_0049),
+                RngAnswer::Done,
+                RngAnswer::U32(0x75c7_75f6),
+                RngAnswer::Done,
+                RngAnswer::U32(0x434c_6530),
+                RngAnswer::Done,
+                RngAnswer::U32(0x2c5b_ad8f),
+                RngAnswer::Done,
+                RngAnswer::U32(0x8988_81dc),
+                RngAnswer::Done,
+                RngAnswer::U32(0x5f1c_86d9),
+                RngAnswer::Done,
+                RngAnswer::U32(0xc1f8_e7f4),
+                RngAnswer::Done,
+            ],
+            first: &[],
+            last: &[],
+        }],
+    ),
+    (
+        [0; 32],
+        &[RngList {
+            name: "blocks around 2^32",
+            len: 192,
+            calls: &[
+                RngCall::SetBlockPos(0xffff_ffff),
+                RngCall::Fill { at: 0, len: 192 },
+            ],
+            answers: &[RngAnswer::Done, RngAnswer::Done],
+            first: CARRY_BLOCKS,
+            last: &[],
+        }],
+    ),
+];
+
 // The words 0 to 7.
-static WORDS_0_TO_7: Seed = [
+const WORDS_0_TO_7: Seed = [
     0, 0, 0, 0, 1, 0, 0, 0, 2, 0, 0, 0, 3, 0, 0, 0, 4, 0, 0, 0, 5, 0, 0, 0, 6, 0, 0, 0, 7, 0, 0, 0,
 ];
 
-static EVERY_17TH_WORD: [u32; 16] = [
-    0xf225_c81a,
-    0x6ab1_be57,
-    0x04d4_2951,
-    0x7085_8036,
-    0x4988_4684,
-    0x64ef_ec72,
-    0x4be2_d186,
-    0x3615_b384,
-    0x11cf_a18e,
-    0xd3c5_0049,
-    0x75c7_75f6,
-    0x434c_6530,
-    0x2c5b_ad8f,
-    0x8988_81dc,
-    0x5f1c_86d9,
-    0xc1f8_e7f4,
-];
-
-pub static CARRY_BLOCKS: &[u8; 192] = b"\
+pub const CARRY_BLOCKS: &[u8; 192] = b"\
     \xac\xe4\xcd\x09\xe2\x94\xd1\x91\x2d\x4a\xd2\x05\xd0\x6f\x95\xd9\
     \xc2\xf2\xbf\xcf\x45\x3e\x87\x53\xf1\x28\x76\x5b\x62\x21\x5f\x4d\
     \x92\xc7\x4f\x2f\x62\x6c\x6a\x64\x0c\x0b\x12\x84\xd8\x39\xec\x81\

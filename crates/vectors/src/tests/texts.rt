@@ -15,7 +15,8 @@ fn has_text<T: Debug>(
     value: &T,
     expected: &str,
 ) -> Result<(), Fail> {
-    assert_eq!(rt; format!(in alloc; "{value:?}")?.as_str(), expected);
+    let text = format!(in alloc; "{value:?}")?;
+    assert!(rt; text.as_str() == expected, "{expected}");
     Ok(())
 }
 
@@ -28,16 +29,6 @@ fn cores_over<B>(rt: &impl Abort, alloc: Global) -> Result<(), Fail> {
     has_text(rt, alloc, &legacy, "ChaChaCore<R: 10, V: 64-bit)> { ... }")
 }
 
-#[test]
-fn cores(rt: HostRuntime) -> Result<(), Fail> {
-    cores_over::<Soft>(&rt, rt.alloc())?;
-    cores_over::<Lanes4>(&rt, rt.alloc())?;
-    cores_over::<Lanes8>(&rt, rt.alloc())?;
-    cores_over::<Rows8>(&rt, rt.alloc())?;
-    // With 16 lanes these are the cores of the named ciphers.
-    cores_over::<Lanes16>(&rt, rt.alloc())
-}
-
 fn generators_over<B>(rt: &impl Abort, alloc: Global) -> Result<(), Fail>
 where
     B: RngBackend<R8> + RngBackend<R12> + RngBackend<R20>,
@@ -47,14 +38,15 @@ where
     let of_20 = ChaChaRng::<R20, B>::from_seed([0; 32]);
     has_text(rt, alloc, &of_8, "ChaCha8Rng { ... }")?;
     has_text(rt, alloc, &of_12, "ChaCha12Rng { ... }")?;
-    has_text(rt, alloc, &of_20, "ChaCha20Rng { ... }")
+    has_text(rt, alloc, &of_20, "ChaCha20Rng { ... }")?;
+    cores_over::<B>(rt, alloc)
 }
 
+// With 16 lanes the cores are those of the named ciphers, with 8 lanes the generators are the named ones.
 #[test]
-fn generators(rt: HostRuntime) -> Result<(), Fail> {
+fn texts(rt: HostRuntime) -> Result<(), Fail> {
     generators_over::<Soft>(&rt, rt.alloc())?;
     generators_over::<Lanes4>(&rt, rt.alloc())?;
-    // With 8 lanes these are the named generators.
     generators_over::<Lanes8>(&rt, rt.alloc())?;
     generators_over::<Rows8>(&rt, rt.alloc())?;
     generators_over::<Lanes16>(&rt, rt.alloc())

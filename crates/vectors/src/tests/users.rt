@@ -11,9 +11,9 @@ use chacha20::cipher::{
 };
 use chacha20::variants::Ietf;
 use chacha20::{
-    ChaCha20Legacy, ChaChaCore, ChaChaRng, Key, Nonce, R20, Rounds, StreamCipherCoreWrapper,
+    ChaCha20, ChaCha20Legacy, ChaChaCore, ChaChaRng, Key, Nonce, R20, Rounds,
+    StreamCipherCoreWrapper,
 };
-use std::test::Fail;
 
 // Three double rounds. Clauses see the number that stands behind `ghost`; the code has the constant.
 #[derive(Clone, Copy)]
@@ -38,13 +38,12 @@ fn encrypt_6(key: &Key, nonce: &Nonce, message: &mut [u8]) -> Result<(), StreamC
 }
 
 #[test]
-fn own_rounds(rt: HostRuntime) -> Result<(), Fail> {
+fn own_rounds(rt: HostRuntime) {
     let mut message = *b"attack at dawn";
-    encrypt_6(&[1; 32], &[2; 12], &mut message)?;
-    assert_ne!(rt; message, *b"attack at dawn");
-    encrypt_6(&[1; 32], &[2; 12], &mut message)?;
-    assert_eq!(rt; message, *b"attack at dawn");
-    Ok(())
+    let there = encrypt_6(&[1; 32], &[2; 12], &mut message).is_ok();
+    let encrypted = message;
+    let back = encrypt_6(&[1; 32], &[2; 12], &mut message).is_ok();
+    assert!(rt; there && back && encrypted != message && message == *b"attack at dawn");
 }
 
 // The first bytes of a cipher of any kind. It is let go at the end, which a type parameter allows by `Drop` alone.
@@ -60,7 +59,7 @@ fn first_bytes<C: KeyIvInit + StreamCipher + Drop>(
 #[test]
 fn any_cipher(rt: HostRuntime) {
     let found = first_bytes::<ChaCha20Legacy>(&[0; 32], &[0; 8]);
-    assert_eq!(rt; found, Ok(*b"\x76\xb8\xe0\xad\xa0\xf1\x3d\x90"));
+    assert!(rt; found == Ok(*b"\x76\xb8\xe0\xad\xa0\xf1\x3d\x90"));
 }
 
 // A message under a key that a generator draws. One backend serves both: a bound for each kind.
@@ -75,15 +74,21 @@ fn encrypt_drawn<B: StreamCipherBackend<R20, Ietf> + RngBackend<R20>>(
     Ok(key)
 }
 
+// The same key and message over two backends, and `ChaCha20` takes the message back.
 #[test]
-fn one_backend(rt: HostRuntime) -> Result<(), Fail> {
+fn one_backend(rt: HostRuntime) {
     let mut message = *b"attack at dawn";
     let mut other_message = message;
     let mut rng = ChaChaRng::<R20, Lanes8>::from_seed([1; 32]);
     let mut other_rng = ChaChaRng::<R20, Soft>::from_seed([1; 32]);
-    let key = encrypt_drawn(&mut rng, &mut message)?;
-    let other_key = encrypt_drawn(&mut other_rng, &mut other_message)?;
-    assert!(rt; key == other_key && message == other_message);
-    assert_ne!(rt; message, *b"attack at dawn");
-    Ok(())
+    let key = encrypt_drawn(&mut rng, &mut message);
+    assert!(rt; key == encrypt_drawn(&mut other_rng, &mut other_message));
+    assert!(rt; message == other_message);
+    if let Ok(key) = key {
+        let decrypted = ChaCha20::new(&key, &[0; 12])
+            .try_apply_keystream(&mut message)
+            .is_ok();
+        assert!(rt; decrypted && other_message != message);
+    }
+    assert!(rt; message == *b"attack at dawn");
 }

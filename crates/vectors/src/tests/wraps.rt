@@ -1,9 +1,7 @@
 //! Counters and positions that wrap, and states of any bytes, over each backend. Nothing here makes rounds, so that words
 //! can be computed by hand.
 
-use super::all_right;
 use crate::rows::{R0, Verdict, failed, failed_for, first_failure};
-use chacha20::backends::{Lanes4, Lanes8, Lanes16, Rows8, Soft};
 use chacha20::cipher::{
     KeyIvInit, RngBackend, StreamCipherBackend, StreamCipherCounter, StreamCipherSeekCore,
 };
@@ -69,7 +67,8 @@ static LEGACY_WRAP: Ends = (
     17,
 );
 
-fn wrong_core<B>() -> Verdict
+/// What is wrong with twenty blocks of cores around the ends of counters.
+pub fn wrong_core<B>() -> Verdict
 where
     B: StreamCipherBackend<R0, Ietf> + StreamCipherBackend<R0, Legacy> + RngBackend<R0>,
 {
@@ -88,50 +87,10 @@ where
     ])
 }
 
-#[test]
-fn cores(rt: HostRuntime) {
-    all_right(
-        &rt,
-        &[
-            ("Soft", wrong_core::<Soft>()),
-            ("Lanes4", wrong_core::<Lanes4>()),
-            ("Lanes8", wrong_core::<Lanes8>()),
-            ("Rows8", wrong_core::<Rows8>()),
-            ("Lanes16", wrong_core::<Lanes16>()),
-        ],
-    );
-}
-
 // How many word positions there are.
 const POSITIONS: u128 = 1 << 68;
 
 const STREAM: u64 = 0x8000_0001_0000_0003;
-
-// The last four words of a stream, and the first again.
-fn words_over_the_end<B: RngBackend<R0>>() -> Verdict {
-    let mut rng = ChaChaRng::<R0, B>::from_seed([0; 32]);
-    rng.set_stream(STREAM);
-    rng.set_word_pos(POSITIONS - 4);
-    failed(&[
-        ("the last words", rng.next_u64() == 0xffff_fffe_ffff_fffe),
-        ("the first words", rng.next_u64() == 0x0000_0002_0000_0006),
-        ("the position after four", rng.get_word_pos() == 0),
-        ("the word after them", rng.next_u32() == 0xc2e0_f0ca),
-    ])
-}
-
-// Five bytes from the last word on: all of it, and one byte of the first.
-fn bytes_over_the_end<B: RngBackend<R0>>() -> Verdict {
-    let mut rng = ChaChaRng::<R0, B>::from_seed([0; 32]);
-    rng.set_stream(STREAM);
-    rng.set_word_pos(POSITIONS - 1);
-    let mut bytes = [0; 5];
-    rng.fill_bytes(&mut bytes);
-    failed(&[
-        ("five bytes over the end", bytes == *b"\x02\0\0\0\xca"),
-        ("the position after five bytes", rng.get_word_pos() == 1),
-    ])
-}
 
 // The first of 131 numbers of words around the wrap after which a position is wrong, or asking for it changes a word.
 fn wrong_position<B: RngBackend<R0>>() -> Option<usize> {
@@ -167,25 +126,10 @@ fn wrong_last_byte<B: RngBackend<R0>>() -> Option<usize> {
     None
 }
 
-fn wrong_generator<B: RngBackend<R0>>() -> Verdict {
+/// What is wrong with positions of generators around the wrap, and with states of any last byte.
+pub fn wrong_generator<B: RngBackend<R0>>() -> Verdict {
     first_failure(&[
-        words_over_the_end::<B>(),
-        bytes_over_the_end::<B>(),
         failed_for("so many words around the wrap", wrong_position::<B>()),
         failed_for("a state's last byte", wrong_last_byte::<B>()),
     ])
-}
-
-#[test]
-fn generators(rt: HostRuntime) {
-    all_right(
-        &rt,
-        &[
-            ("Soft", wrong_generator::<Soft>()),
-            ("Lanes4", wrong_generator::<Lanes4>()),
-            ("Lanes8", wrong_generator::<Lanes8>()),
-            ("Rows8", wrong_generator::<Rows8>()),
-            ("Lanes16", wrong_generator::<Lanes16>()),
-        ],
-    );
 }

@@ -1,0 +1,168 @@
+//! Tables of lists of calls with their answers. A table that is a `static` costs a proof nothing.
+
+ghost use Rattle.std.specs.Prelude.{◌≤◌, ◌+◌, IsTrue, All, length};
+ghost use Rattle.chacha20.specs.Runs.{InSlices};
+ghost use Rattle.chacha20.specs.GeneratorRuns.{InData};
+
+use super::{Verdict, failed_check};
+use chacha20::cipher::{RngBackend, StreamCipherSeekCore};
+use chacha20::{
+    ChaChaRng, CipherAnswer, CipherCall, RngAnswer, RngCall, Rounds, StreamCipherCoreWrapper,
+    run_cipher, run_rng,
+};
+
+/// At most 32 calls on a cipher, over at most 128 bytes of data.
+pub struct CipherList {
+    pub name: &'static str,
+    pub input: &'static [u8],
+    pub data: &'static [u8],
+    pub calls: &'static [CipherCall],
+    /// The last answers.
+    pub answers: &'static [CipherAnswer],
+    /// The last bytes of the data after the calls.
+    pub after: &'static [u8],
+}
+
+/// At most 128 calls on a generator, over at most 256 bytes of data, which are zeros at first.
+pub struct RngList {
+    pub name: &'static str,
+    pub len: usize,
+    pub calls: &'static [RngCall],
+    /// The last answers.
+    pub answers: &'static [RngAnswer],
+    /// The first and the last bytes of the data after the calls.
+    pub first: &'static [u8],
+    pub last: &'static [u8],
+}
+
+/// A cipher that is called by lists. It promises nothing, so that a proof of a row or of a test meets the contract of a list
+/// once, here.
+pub trait Listed {
+    /// Makes the calls and writes their answers. Answers false where nothing is done: where a range lies past its slice, or
+    /// there are not as many answers as calls.
+    fn runs(
+        &mut self,
+        input: &[u8],
+        data: &mut [u8],
+        calls: &[CipherCall],
+        answers: &mut [CipherAnswer],
+    ) -> bool;
+}
+
+impl<K: StreamCipherSeekCore> Listed for StreamCipherCoreWrapper<K> {
+    fn runs(
+        &mut self,
+        input: &[u8],
+        data: &mut [u8],
+        calls: &[CipherCall],
+        answers: &mut [CipherAnswer],
+    ) -> bool {
+        if answers.len() != calls.len() || !all_in_slices(calls, input.len(), data.len()) {
+            return false;
+        }
+        run_cipher(self, input, data, calls, answers);
+        true
+    }
+}
+
+/// Whether the ranges of a call lie in slices of these lengths.
+pub fn in_slices(call: CipherCall, input: usize, bytes: usize) -> bool
+    ensures { IsTrue result → InSlices input bytes call }
+{
+    match call {
+        CipherCall::Apply { at, len } | CipherCall::Write { at, len } => in_range(at, len, bytes),
+        CipherCall::ApplyFrom {
+            from,
+            from_len,
+            at,
+            len,
+        } => in_range(from, from_len, input) && in_range(at, len, bytes),
+        _ => true,
+    }
+}
+
+fn in_range(at: usize, len: usize, bytes: usize) -> bool
+    ensures { IsTrue result → at + len ≤ bytes }
+{
+    at <= bytes && len <= bytes - at
+}
+
+fn all_in_slices(calls: &[CipherCall], input: usize, bytes: usize) -> bool
+    ensures { IsTrue result → All (InSlices input bytes) calls.now }
+{
+    'each: for i in 0..calls.len() {
+        if !in_slices(calls[i], input, bytes) {
+            return false;
+        }
+    }
+    true
+}
+
+fn all_in_data(calls: &[RngCall], bytes: usize) -> bool
+    ensures { IsTrue result → All (InData bytes) calls.now }
+{
+    'each: for i in 0..calls.len() {
+        if let RngCall::Fill { at, len } = calls[i] {
+            if !in_range(at, len, bytes) {
+                return false;
+            }
+        }
+    }
+    true
+}
+
+/// Whether at most 32 calls are made, and the last answers are these.
+pub fn answers_are<C: Listed>(
+    cipher: &mut C,
+    input: &[u8],
+    data: &mut [u8],
+    calls: &[CipherCall],
+    last: &[CipherAnswer],
+) -> bool {
+    let mut buffer = [CipherAnswer::Overflow; 32];
+    let answers = &mut buffer[..calls.len().min(32)];
+    cipher.runs(input, data, calls, answers) && answers.ends_with(last)
+}
+
+fn is_right<C: Listed>(cipher: &mut C, list: &CipherList) -> bool {
+    let mut buffer = [0; 128];
+    let len = list.data.len().min(128);
+    let data = &mut buffer[..len];
+    data.copy_from_slice(&list.data[..len]);
+    answers_are(cipher, list.input, data, list.calls, list.answers) && data.ends_with(list.after)
+}
+
+/// The name of the first list that a cipher answers otherwise, of lists one after another; nothing where there is none.
+pub fn wrong_list<C: Listed>(cipher: &mut C, lists: &[CipherList]) -> Verdict {
+    for list in lists {
+        if !is_right(cipher, list) {
+            return failed_check(list.name);
+        }
+    }
+    None
+}
+
+fn draws_as<R: Rounds, B: RngBackend<R>>(rng: &mut ChaChaRng<R, B>, list: &RngList) -> bool {
+    let mut buffer = [0; 256];
+    let mut answers = [RngAnswer::U32(7); 128];
+    let data = &mut buffer[..list.len.min(256)];
+    let answers = &mut answers[..list.calls.len().min(128)];
+    if answers.len() != list.calls.len() || !all_in_data(list.calls, data.len()) {
+        return false;
+    }
+    run_rng(rng, data, list.calls, answers);
+    answers.ends_with(list.answers) && data.starts_with(list.first) && data.ends_with(list.last)
+}
+
+/// The same of a generator.
+pub fn wrong_draw<R: Rounds, B: RngBackend<R>>(
+    rng: &mut ChaChaRng<R, B>,
+    lists: &[RngList],
+) -> Verdict {
+    for list in lists {
+        if !draws_as(rng, list) {
+            return failed_check(list.name);
+        }
+    }
+    None
+}

@@ -1,0 +1,94 @@
+//! Direct calls in the place of a list, so that one test runs both ways; and calls that tests make in either.
+
+ghost use Rattle.std.specs.Prelude.{length};
+ghost use Rattle.chacha20.specs.Runs.{InSlices};
+
+use crate::rows::lists::{Listed, answers_are, in_slices};
+use chacha20::cipher::{StreamCipher, StreamCipherError, StreamCipherSeek};
+use chacha20::{CipherAnswer, CipherCall};
+
+/// A cipher that makes the calls of a list directly, one after another.
+#[derive(Drop)]
+pub struct Directly<'a, C>(pub &'a mut C);
+
+impl<C: StreamCipherSeek> Listed for Directly<'_, C> {
+    fn runs(
+        &mut self,
+        input: &[u8],
+        data: &mut [u8],
+        calls: &[CipherCall],
+        answers: &mut [CipherAnswer],
+    ) -> bool {
+        for (call, answer) in calls.iter().zip(answers.iter_mut()) {
+            if !in_slices(*call, input.len(), data.len()) {
+                return false;
+            }
+            *answer = answered(self.0, input, data, *call);
+        }
+        answers.len() == calls.len()
+    }
+}
+
+fn of_outcome(outcome: Result<(), StreamCipherError>) -> CipherAnswer {
+    match outcome {
+        Ok(()) => CipherAnswer::Done,
+        Err(_) => CipherAnswer::Refused,
+    }
+}
+
+fn answered<C: StreamCipherSeek>(
+    cipher: &mut C,
+    input: &[u8],
+    data: &mut [u8],
+    call: CipherCall,
+) -> CipherAnswer
+    requires { InSlices (length input.now) (length «data».old) call }
+{
+    match call {
+        CipherCall::CheckRemaining(len) => of_outcome(cipher.check_remaining(len)),
+        CipherCall::Apply { at, len } => of_outcome(cipher.try_apply_keystream(
+            &mut data[at..at + len],
+        )),
+        CipherCall::Write { at, len } => of_outcome(cipher.try_write_keystream(
+            &mut data[at..at + len],
+        )),
+        CipherCall::ApplyFrom {
+            from,
+            from_len,
+            at,
+            len,
+        } => of_outcome(cipher.try_apply_keystream_b2b(
+            &input[from..from + from_len],
+            &mut data[at..at + len],
+        )),
+        CipherCall::Seek(place) => of_outcome(cipher.try_seek(place)),
+        CipherCall::SeekI32(place) => of_outcome(cipher.try_seek(place)),
+        CipherCall::Pos => match cipher.try_current_pos() {
+            Ok(place) => CipherAnswer::Position(place),
+            Err(_) => CipherAnswer::Overflow,
+        },
+        CipherCall::PosI32 => match cipher.try_current_pos() {
+            Ok(place) => CipherAnswer::PositionI32(place),
+            Err(_) => CipherAnswer::Overflow,
+        },
+    }
+}
+
+/// Whether each of at most eight calls is done.
+pub fn all_done<C: Listed>(
+    cipher: &mut C,
+    input: &[u8],
+    data: &mut [u8],
+    calls: &[CipherCall],
+) -> bool {
+    answers_are(cipher, input, data, calls, &DONE[..calls.len().min(8)])
+}
+
+static DONE: [CipherAnswer; 8] = [CipherAnswer::Done; 8];
+
+/// Whether the first bytes of a new cipher's stream, so many and at most 368, end with these.
+pub fn stream_ends<C: Listed>(cipher: &mut C, len: usize, last: &[u8]) -> bool {
+    let mut buffer = [0; 368];
+    let stream = &mut buffer[..len.min(368)];
+    all_done(cipher, &[], stream, &[CipherCall::Apply { at: 0, len }]) && stream.ends_with(last)
+}
