@@ -2,16 +2,14 @@
 
 ghost use Rattle.std.specs.Prelude.{◌≤◌};
 
-use super::all_right;
 use crate::rows::{COUNTING, R0, Verdict, failed_for, first_failure};
-use chacha20::backends::{Lanes4, Lanes8, Lanes16, Rows8, Soft};
+use chacha20::backends::Soft;
 use chacha20::cipher::{
     KeyIvInit, RngBackend, StreamCipherBackend, StreamCipherCounter, StreamCipherSeekCore,
 };
 use chacha20::rand_core::SeedableRng;
 use chacha20::variants::{Ietf, Legacy, Variant};
 use chacha20::{ChaChaCore, R20, Rounds, Steps};
-use std::process::Abort;
 
 // So many blocks from a counter on, the single block after them, and the position after the many.
 fn made<C: StreamCipherSeekCore>(
@@ -61,7 +59,7 @@ fn wrong_single_block<R: Rounds, V: Variant, B: StreamCipherBackend<R, V>>() -> 
         let mut block = [1; 64];
         <Soft as StreamCipherBackend<R, V>>::gen_ks_block(&mut plain_state, &mut plain, &mut steps);
         B::gen_ks_block(&mut state, &mut block, &mut steps);
-        if block != plain || state != plain_state {
+        if (block, state) != (plain, plain_state) {
             return Some(place);
         }
     }
@@ -77,7 +75,7 @@ fn wrong_tail<R: Rounds, V: Variant, B: StreamCipherBackend<R, V>>() -> Option<u
         let mut state = START_STATE;
         let mut blocks = [[0; 64]; 16];
         B::gen_tail_blocks(&mut state, &mut blocks[..count], &mut steps);
-        if blocks != plain || state != plain_state {
+        if (blocks, state) != (plain, plain_state) {
             return Some(count);
         }
         <Soft as StreamCipherBackend<R, V>>::gen_ks_block(
@@ -99,7 +97,7 @@ fn wrong_words<R: Rounds, B: RngBackend<R>>() -> Option<usize> {
         let mut words = [1; 64];
         <Soft as RngBackend<R>>::gen_ks_blocks(&mut plain_state, &mut plain, &mut steps);
         B::gen_ks_blocks(&mut state, &mut words, &mut steps);
-        if words != plain || state != plain_state {
+        if (words, state) != (plain, plain_state) {
             return Some(call);
         }
     }
@@ -107,7 +105,7 @@ fn wrong_words<R: Rounds, B: RngBackend<R>>() -> Option<usize> {
 }
 
 // What goes wrong in cores beside those over the plain backend, in either layout: the number of blocks.
-fn wrong_cores<R: Rounds, B>() -> [Verdict; 2]
+fn wrong_cores<R: Rounds, B>() -> Verdict
 where
     B: StreamCipherBackend<R, Ietf> + StreamCipherBackend<R, Legacy> + RngBackend<R>,
 {
@@ -115,31 +113,31 @@ where
     let mut wide = ChaChaCore::<R, Ietf, B>::new(&COUNTING, &[7; 12]);
     let mut plain_legacy = ChaChaCore::<R, Legacy, Soft>::from_seed(COUNTING);
     let mut wide_legacy = ChaChaCore::<R, Legacy, B>::from_seed(COUNTING);
-    [
+    first_failure(&[
         failed_for("core", wrong_count(&mut wide, &mut plain, START)),
         failed_for(
             "legacy core",
             wrong_count(&mut wide_legacy, &mut plain_legacy, u64::from(START)),
         ),
-    ]
+    ])
 }
 
 // What goes wrong in the calls of a backend: the number of the block, the length of the tail, or the number of the call.
-fn wrong_calls<R: Rounds, B>() -> [Verdict; 5]
+fn wrong_calls<R: Rounds, B>() -> Verdict
 where
     B: StreamCipherBackend<R, Ietf> + StreamCipherBackend<R, Legacy> + RngBackend<R>,
 {
-    [
+    first_failure(&[
         failed_for("single block", wrong_single_block::<R, Ietf, B>()),
         failed_for("legacy single block", wrong_single_block::<R, Legacy, B>()),
         failed_for("tail", wrong_tail::<R, Ietf, B>()),
         failed_for("legacy tail", wrong_tail::<R, Legacy, B>()),
         failed_for("words", wrong_words::<R, B>()),
-    ]
+    ])
 }
 
-// With no rounds, and with 20.
-fn beside_soft<B>(rt: &impl Abort)
+/// What goes wrong in a backend beside the plain one, with no rounds and with 20.
+pub fn wrong_beside_soft<B>() -> Verdict
 where
     B: StreamCipherBackend<R0, Ietf>
         + StreamCipherBackend<R0, Legacy>
@@ -148,45 +146,10 @@ where
         + StreamCipherBackend<R20, Legacy>
         + RngBackend<R20>,
 {
-    all_right(
-        rt,
-        &[
-            (
-                "cores without rounds",
-                first_failure(&wrong_cores::<R0, B>()),
-            ),
-            (
-                "calls without rounds",
-                first_failure(&wrong_calls::<R0, B>()),
-            ),
-            (
-                "cores of 20 rounds",
-                first_failure(&wrong_cores::<R20, B>()),
-            ),
-            (
-                "calls of 20 rounds",
-                first_failure(&wrong_calls::<R20, B>()),
-            ),
-        ],
-    );
-}
-
-#[test]
-fn lanes4_beside_soft(rt: HostRuntime) {
-    beside_soft::<Lanes4>(&rt);
-}
-
-#[test]
-fn lanes8_beside_soft(rt: HostRuntime) {
-    beside_soft::<Lanes8>(&rt);
-}
-
-#[test]
-fn rows8_beside_soft(rt: HostRuntime) {
-    beside_soft::<Rows8>(&rt);
-}
-
-#[test]
-fn lanes16_beside_soft(rt: HostRuntime) {
-    beside_soft::<Lanes16>(&rt);
+    first_failure(&[
+        wrong_cores::<R0, B>(),
+        wrong_calls::<R0, B>(),
+        wrong_cores::<R20, B>(),
+        wrong_calls::<R20, B>(),
+    ])
 }

@@ -4,14 +4,16 @@ ghost use Rattle.std.specs.Prelude.{length};
 ghost use Rattle.chacha20.specs.Runs.{InSlices};
 
 use crate::rows::lists::{Listed, answers_are, in_slices};
-use chacha20::cipher::{StreamCipher, StreamCipherError, StreamCipherSeek};
-use chacha20::{CipherAnswer, CipherCall};
+use chacha20::cipher::{
+    KeyIvInit, StreamCipher, StreamCipherError, StreamCipherSeek, StreamCipherSeekCore,
+};
+use chacha20::{CipherAnswer, CipherCall, Key, StreamCipherCoreWrapper};
 
 /// A cipher that makes the calls of a list directly, one after another.
 #[derive(Drop)]
 pub struct Directly<'a, C>(pub &'a mut C);
 
-impl<C: StreamCipherSeek> Listed for Directly<'_, C> {
+impl<C: Direct> Listed for Directly<'_, C> {
     fn runs(
         &mut self,
         input: &[u8],
@@ -23,9 +25,39 @@ impl<C: StreamCipherSeek> Listed for Directly<'_, C> {
             if !in_slices(*call, input.len(), data.len()) {
                 return false;
             }
-            *answer = answered(self.0, input, data, *call);
+            *answer = self.0.answers(input, data, *call);
         }
         answers.len() == calls.len()
+    }
+}
+
+/// A cipher that is called directly. It promises nothing, as `Listed`.
+pub trait Direct {
+    /// Makes a call. Answers `Overflow` where a range lies past its slice.
+    fn answers(&mut self, input: &[u8], data: &mut [u8], call: CipherCall) -> CipherAnswer;
+}
+
+impl<C: StreamCipherSeek> Direct for C {
+    fn answers(&mut self, input: &[u8], data: &mut [u8], call: CipherCall) -> CipherAnswer {
+        if in_slices(call, input.len(), data.len()) {
+            answered(self, input, data, call)
+        } else {
+            CipherAnswer::Overflow
+        }
+    }
+}
+
+/// A cipher with nonces of one type, as tests make it.
+pub trait Fresh<N>: Listed + Direct + Drop {
+    fn fresh(key: &Key, nonce: &N) -> Self;
+}
+
+impl<N, K> Fresh<N> for StreamCipherCoreWrapper<K>
+where
+    K: KeyIvInit<Key = Key, Iv = N> + StreamCipherSeekCore + Drop,
+{
+    fn fresh(key: &Key, nonce: &N) -> Self {
+        StreamCipherCoreWrapper::new(key, nonce)
     }
 }
 

@@ -47,20 +47,20 @@ fn shuffled_deck<R: Rng>(rng: &mut R) -> [u8; 52] {
     deck
 }
 
-#[test]
-fn rolls_of_a_die(rt: HostRuntime) {
-    let mut rng = ChaCha20Rng::from_seed([1; 32]);
-    for roll in rolls(&mut rng) {
-        assert!(rt; 1 <= roll && roll <= 6, "a {roll}");
+fn are_of_a_die(rolls: &[u32; 100]) -> bool {
+    let mut right = true;
+    for roll in rolls {
+        right &= 1 <= *roll && *roll <= 6;
     }
+    right
 }
 
-#[test]
-fn every_card_once(rt: HostRuntime) {
-    let deck = shuffled_deck(&mut ChaCha20Rng::from_seed([2; 32]));
+fn has_every_card(deck: &[u8; 52]) -> bool {
+    let mut right = true;
     for card in 0..52u8 {
-        assert!(rt; deck.contains(&card), "no card {card}");
+        right &= deck.contains(&card);
     }
+    right
 }
 
 // Two generators of one seed, and a third from the state of one of them, draw the same.
@@ -68,10 +68,10 @@ fn every_card_once(rt: HostRuntime) {
 fn drawn_again(rt: HostRuntime) {
     let mut first = ChaCha20Rng::from_seed([3; 32]);
     let mut second = ChaCha20Rng::from_seed([3; 32]);
-    assert!(rt; rolls(&mut first) == rolls(&mut second));
+    let rolls_of_first = rolls(&mut first);
+    assert!(rt; are_of_a_die(&rolls_of_first) && rolls(&mut second) == rolls_of_first);
     let mut restored = ChaCha20Rng::deserialize_state(&first.serialize_state());
     let deck = shuffled_deck(&mut first);
-    assert!(rt; shuffled_deck(&mut second) == deck);
-    assert!(rt; shuffled_deck(&mut restored) == deck);
-    assert!(rt; restored == first);
+    let others = [shuffled_deck(&mut second), shuffled_deck(&mut restored)];
+    assert!(rt; has_every_card(&deck) && others == [deck; 2] && restored == first);
 }

@@ -2,12 +2,12 @@
 
 ghost use Rattle.std.specs.Prelude.{◌≤◌, ◌^◌};
 
-use super::direct::{Directly, stream_ends};
+use super::direct::{Directly, Fresh, stream_ends};
 use super::streams::{X_KEY, X_NONCE, XCHACHA_FROM_64, legacy_stream};
 use super::width3::Width3;
 use super::{
-    all_right, core_calls, ends, first_wrong_row, generator_runs, generator_traits, generators,
-    odd_cuts, positions, records, rfc8439, runs, streams, wraps,
+    all_right, backends, core_calls, ends, first_wrong_row, generator_runs, generator_traits,
+    generators, odd_cuts, positions, records, rfc8439, runs, streams, wraps,
 };
 use crate::rows::ciphers::{
     self, IETF_ROWS, LEGACY_ROWS, NONCE_4, NumberedLists, SeekCipher, SeekCore, X_ROWS,
@@ -18,35 +18,27 @@ use crate::rows::{
     generators as row_generators,
 };
 use chacha20::backends::{Lanes4, Lanes8, Lanes16, Rows8, Soft};
-use chacha20::cipher::{KeyIvInit, RngBackend, StreamCipherBackend, StreamCipherSeekCore};
+use chacha20::cipher::{RngBackend, StreamCipherBackend};
 use chacha20::variants::{Ietf, Legacy};
 use chacha20::{
-    ChaChaCore, LegacyNonce, Nonce, R8, R12, R20, Rounds, StreamCipherCoreWrapper, XChaChaCore,
-    XNonce,
+    ChaChaCore, Key, LegacyNonce, Nonce, R8, R12, R20, Rounds, StreamCipherCoreWrapper,
+    XChaChaCore, XNonce,
 };
 
 type Cipher<K> = StreamCipherCoreWrapper<K>;
 
-// Lists on a new cipher over a core: called directly, and as lists.
-fn wrong_lists<K: KeyIvInit + StreamCipherSeekCore + Drop>(
-    key: &K::Key,
-    nonce: &K::Iv,
-    lists: &[CipherList],
-) -> Verdict {
-    let direct = wrong_list(&mut Directly(&mut Cipher::<K>::new(key, nonce)), lists);
+// Lists on a new cipher: called directly, and as lists.
+fn wrong_lists<N, C: Fresh<N>>(key: &Key, nonce: &N, lists: &[CipherList]) -> Verdict {
+    let direct = wrong_list(&mut Directly(&mut C::fresh(key, nonce)), lists);
     if direct.is_some() {
         return direct;
     }
-    wrong_list(&mut Cipher::<K>::new(key, nonce), lists)
+    wrong_list(&mut C::fresh(key, nonce), lists)
 }
 
-fn wrong_rows<K: KeyIvInit + StreamCipherSeekCore + Drop>(
-    key: &K::Key,
-    nonce: &K::Iv,
-    rows: &[NumberedLists],
-) -> Verdict {
+fn wrong_rows<N, C: Fresh<N>>(key: &Key, nonce: &N, rows: &[NumberedLists]) -> Verdict {
     for (_, lists) in rows {
-        let wrong = wrong_lists::<K>(key, nonce, *lists);
+        let wrong = wrong_lists::<N, C>(key, nonce, *lists);
         if wrong.is_some() {
             return wrong;
         }
@@ -59,10 +51,19 @@ fn wrong_ietf<C: SeekCipher<Nonce>>() -> Verdict
     requires { 2 ^ 32 ≤ C.limit }
 {
     first_failure(&[
-        rfc8439::wrong_example::<C>(),
         ends::wrong_ietf_types::<C>(),
         positions::wrong_positions::<C>(),
         records::wrong_records::<C>(),
+    ])
+}
+
+fn wrong_ietf_lists<C: Fresh<Nonce>>() -> Verdict {
+    first_failure(&[
+        wrong_rows::<Nonce, C>(&COUNTING, &NONCE_4, &IETF_ROWS),
+        wrong_lists::<Nonce, C>(&[0x42; 32], &[0x24; 12], &runs::ROW_1),
+        wrong_lists::<Nonce, C>(&COUNTING, &[0; 12], &ends::IETF_ENDS),
+        rfc8439::wrong_example::<C>(),
+        odd_cuts::wrong_cuts::<Nonce, C>(&[7; 12]),
     ])
 }
 
@@ -71,69 +72,68 @@ fn wrong_ietf_core<K: SeekCore<Nonce, u32>>() -> Verdict {
     let _ = ciphers::enter_ietf_rows::<K>(&mut rows);
     first_failure(&[
         first_wrong_row(&rows),
-        wrong_rows::<K>(&COUNTING, &NONCE_4, &IETF_ROWS),
-        wrong_lists::<K>(&[0x42; 32], &[0x24; 12], &runs::ROW_1),
-        wrong_lists::<K>(&COUNTING, &[0; 12], &ends::IETF_ENDS),
         wrong_ietf::<Cipher<K>>(),
-        odd_cuts::wrong_cuts::<K>(&COUNTING, &[7; 12]),
+        wrong_ietf_lists::<Cipher<K>>(),
     ])
 }
 
 // A cipher in the layout before it.
+fn wrong_legacy_lists<C: Fresh<LegacyNonce>>() -> Verdict {
+    let mut cipher = C::fresh(&FROM_1, &LEGACY_NONCE);
+    let direct = ends::wrong_legacy_groups(&mut Directly(&mut cipher));
+    first_failure(&[
+        wrong_rows::<LegacyNonce, C>(&FROM_1, &LEGACY_NONCE, &LEGACY_ROWS),
+        wrong_lists::<LegacyNonce, C>(&FROM_1, &LEGACY_NONCE, &ends::LEGACY_ENDS),
+        direct,
+        ends::wrong_legacy_groups(&mut cipher),
+        odd_cuts::wrong_cuts::<LegacyNonce, C>(&LEGACY_NONCE),
+    ])
+}
+
 fn wrong_legacy_core<K: SeekCore<LegacyNonce, u64>>() -> Verdict {
+    if wrong_place::<K>(17).is_some() {
+        return failed_check("the legacy stream");
+    }
     let mut rows = [None; 24];
     ciphers::enter_legacy_rows::<K>(&mut rows);
     first_failure(&[
         first_wrong_row(&rows),
-        wrong_rows::<K>(&FROM_1, &LEGACY_NONCE, &LEGACY_ROWS),
-        wrong_lists::<K>(&FROM_1, &LEGACY_NONCE, &ends::LEGACY_ENDS),
         ends::wrong_legacy_types::<Cipher<K>>(),
-        wrong_legacy_groups::<K>(),
-        odd_cuts::wrong_cuts::<K>(&COUNTING, &LEGACY_NONCE),
+        wrong_legacy_lists::<Cipher<K>>(),
     ])
-}
-
-fn wrong_legacy_groups<K: SeekCore<LegacyNonce, u64>>() -> Verdict {
-    if wrong_place::<K>(17).is_some() {
-        return failed_check("the legacy stream");
-    }
-    let mut cipher = Cipher::<K>::new(&FROM_1, &LEGACY_NONCE);
-    let direct = ends::wrong_legacy_groups(&mut Directly(&mut cipher));
-    first_failure(&[direct, ends::wrong_legacy_groups(&mut cipher)])
 }
 
 // The legacy stream between places that are multiples of a step.
 fn wrong_place<K: SeekCore<LegacyNonce, u64>>(step: usize) -> Option<[usize; 3]> {
     legacy_stream(
-        &mut Directly(&mut Cipher::<K>::new(&FROM_1, &LEGACY_NONCE)),
+        &mut Directly(&mut Cipher::<K>::fresh(&FROM_1, &LEGACY_NONCE)),
         step,
     )
 }
 
 // A cipher with nonces of 24 bytes.
-fn wrong_x_core<K: SeekCore<XNonce, u32>>() -> Verdict {
-    let mut rows = [None; 24];
-    ciphers::enter_x_rows::<K>(&mut rows);
-    let stream = stream_ends(
-        &mut Cipher::<K>::new(&X_KEY, &X_NONCE),
-        368,
-        XCHACHA_FROM_64,
-    );
+fn wrong_x_lists<C: Fresh<XNonce>>() -> Verdict {
+    let stream = stream_ends(&mut C::fresh(&X_KEY, &X_NONCE), 368, XCHACHA_FROM_64);
     first_failure(&[
-        first_wrong_row(&rows),
-        wrong_rows::<K>(&X_KEY, &X_NONCE, &X_ROWS),
+        wrong_rows::<XNonce, C>(&X_KEY, &X_NONCE, &X_ROWS),
         failed(&[("XChaCha20's stream", stream)]),
-        odd_cuts::wrong_cuts::<K>(&COUNTING, &[7; 24]),
+        odd_cuts::wrong_cuts::<XNonce, C>(&[7; 24]),
     ])
 }
 
+fn wrong_x_core<K: SeekCore<XNonce, u32>>() -> Verdict {
+    let mut rows = [None; 24];
+    ciphers::enter_x_rows::<K>(&mut rows);
+    first_failure(&[first_wrong_row(&rows), wrong_x_lists::<Cipher<K>>()])
+}
+
 // Ciphers without rounds.
-fn wrong_zero_core<K: SeekCore<Nonce, u32>>() -> Verdict {
-    let mut cipher = Cipher::<K>::new(&[0; 32], &[0; 12]);
+fn wrong_zero<C: Fresh<Nonce>>() -> Verdict {
+    let mut cipher = C::fresh(&[0; 32], &[0; 12]);
     let direct = ends::wrong_zero_groups(&mut Directly(&mut cipher));
     first_failure(&[
-        wrong_lists::<K>(&[0; 32], &[0; 12], &runs::RUN),
-        wrong_lists::<K>(&[0; 32], &[0; 12], &ends::ZERO_ENDS),
+        wrong_lists::<Nonce, C>(&[0; 32], &[0; 12], &runs::RUN),
+        wrong_lists::<Nonce, C>(&[0; 32], &[0; 12], &ends::ZERO_ENDS),
         direct,
         ends::wrong_zero_groups(&mut cipher),
     ])
@@ -142,8 +142,8 @@ fn wrong_zero_core<K: SeekCore<Nonce, u32>>() -> Verdict {
 // Both kinds with other numbers of rounds.
 fn wrong_cuts<R: Rounds, B: StreamCipherBackend<R, Ietf>>() -> Verdict {
     first_failure(&[
-        odd_cuts::wrong_cuts::<ChaChaCore<R, Ietf, B>>(&COUNTING, &[7; 12]),
-        odd_cuts::wrong_cuts::<XChaChaCore<R, B>>(&COUNTING, &[7; 24]),
+        odd_cuts::wrong_cuts::<Nonce, Cipher<ChaChaCore<R, Ietf, B>>>(&[7; 12]),
+        odd_cuts::wrong_cuts::<XNonce, Cipher<XChaChaCore<R, B>>>(&[7; 24]),
     ])
 }
 
@@ -152,8 +152,8 @@ where
     B: StreamCipherBackend<R0, Ietf> + StreamCipherBackend<R0, Legacy> + RngBackend<R0>,
 {
     first_failure(&[
-        wrong_zero_core::<ChaChaCore<R0, Ietf, B>>(),
-        wrong_lists::<XChaChaCore<R0, B>>(&[0; 32], &[0; 24], &ends::ZERO_ENDS),
+        wrong_zero::<Cipher<ChaChaCore<R0, Ietf, B>>>(),
+        wrong_lists::<XNonce, Cipher<XChaChaCore<R0, B>>>(&[0; 32], &[0; 24], &ends::ZERO_ENDS),
         wrong_cores::<B>(),
     ])
 }
@@ -220,6 +220,7 @@ where
         wrong_cuts::<R12, B>(),
         with_20_rounds::<B>(),
         wrong_generators::<B>(),
+        backends::wrong_beside_soft::<B>(),
     ])
 }
 

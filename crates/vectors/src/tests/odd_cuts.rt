@@ -2,11 +2,10 @@
 
 ghost use Rattle.std.specs.Prelude.{◌≤◌};
 
-use super::direct::{Directly, all_done};
+use super::direct::{Directly, Fresh, all_done};
 use crate::rows::lists::Listed;
-use crate::rows::{Verdict, failed_for, first_failure};
-use chacha20::cipher::{KeyIvInit, StreamCipherSeekCore};
-use chacha20::{CipherCall, StreamCipherCoreWrapper};
+use crate::rows::{COUNTING, Verdict, failed_for, first_failure};
+use chacha20::CipherCall;
 
 // A message of some blocks and one byte more than a group of any backend.
 const LENGTH: usize = 2049;
@@ -69,13 +68,10 @@ fn wrong_cut<C: Listed>(cipher: &mut C) -> Option<usize> {
     None
 }
 
-/// What is wrong with cuts of a new cipher over a core: the size of the pieces, or the place of the seek.
-pub fn wrong_cuts<K: KeyIvInit + StreamCipherSeekCore + Drop>(
-    key: &K::Key,
-    nonce: &K::Iv,
-) -> Verdict {
-    let direct = wrong_cut(&mut Directly(&mut StreamCipherCoreWrapper::<K>::new(key, nonce)));
-    let listed = wrong_cut(&mut StreamCipherCoreWrapper::<K>::new(key, nonce));
+/// What is wrong with cuts of a new cipher: the size of the pieces, or the place of the seek.
+pub fn wrong_cuts<N, C: Fresh<N>>(nonce: &N) -> Verdict {
+    let direct = wrong_cut(&mut Directly(&mut C::fresh(&COUNTING, nonce)));
+    let listed = wrong_cut(&mut C::fresh(&COUNTING, nonce));
     first_failure(&[
         failed_for("a cut", direct),
         failed_for("a cut by lists", listed),

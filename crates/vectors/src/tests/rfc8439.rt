@@ -1,14 +1,12 @@
 //! The examples of RFC 8439, for any cipher of its layout with 20 rounds.
 
-use super::direct::{all_done, stream_ends};
+use super::direct::{Fresh, all_done, stream_ends};
 use super::streams::{IETF_FROM_64, NONCE};
-use crate::rows::ciphers::SeekCipher;
 use crate::rows::{COUNTING, Verdict, failed, failed_check};
-use chacha20::cipher::KeyIvInit;
 use chacha20::{CipherCall, Key, Nonce};
 
 // The message of section 2.4.2, which begins at block 1.
-fn encrypts<C: SeekCipher<Nonce>>() -> bool {
+fn encrypts<C: Fresh<Nonce>>() -> bool {
     let mut data = [0; 178];
     data[64..].copy_from_slice(
         b"Ladies and Gentlemen of the class of '99: If I could offer you only one tip for the future, sunscreen would be it.",
@@ -17,13 +15,13 @@ fn encrypts<C: SeekCipher<Nonce>>() -> bool {
         CipherCall::Apply { at: 0, len: 64 },
         CipherCall::Apply { at: 64, len: 114 },
     ];
-    all_done(&mut C::new(&COUNTING, &NONCE), &[], &mut data, &calls) && data.ends_with(CIPHERTEXT)
+    all_done(&mut C::fresh(&COUNTING, &NONCE), &[], &mut data, &calls) && data.ends_with(CIPHERTEXT)
 }
 
 /// The first example that comes out otherwise: the blocks of appendix A.1, the encryption, and its keystream.
-pub fn wrong_example<C: SeekCipher<Nonce>>() -> Verdict {
+pub fn wrong_example<C: Fresh<Nonce>>() -> Verdict {
     for (key, nonce, before, block) in &BLOCKS {
-        if !stream_ends(&mut C::new(key, nonce), 64 * *before + 64, block) {
+        if !stream_ends(&mut C::fresh(key, nonce), 64 * *before + 64, block) {
             return failed_check("a block of appendix A.1");
         }
     }
@@ -31,7 +29,7 @@ pub fn wrong_example<C: SeekCipher<Nonce>>() -> Verdict {
         ("the message of section 2.4.2", encrypts::<C>()),
         (
             "the RFC's stream",
-            stream_ends(&mut C::new(&COUNTING, &NONCE), 178, IETF_FROM_64),
+            stream_ends(&mut C::fresh(&COUNTING, &NONCE), 178, IETF_FROM_64),
         ),
     ])
 }
