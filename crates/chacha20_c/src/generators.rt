@@ -89,8 +89,8 @@ pub extern "C" fn chacha_rng_set_stream(state: &mut SerializedRngState, stream: 
 /// Takes the next word of the generator with 8 rounds (this crate).
 #[unsafe(no_mangle)]
 pub extern "C" fn chacha8_rng_next_u32(state: &mut SerializedRngState) -> u32
-    ensures value { (result, of_state_bytes state.new)
-        ≡ next_u32 4 (of_state_bytes state.old) }
+    ensures word { result ≡ (next_u32 4 (of_state_bytes state.old)).0 }
+    ensures moved { of_state_bytes state.new ≡ (next_u32 4 (of_state_bytes state.old)).1 }
     ensures stored { state.new ≡ state_bytes (of_state_bytes state.new) }
 {
     next_u32(ChaCha8Rng::deserialize_state(state), state)
@@ -99,8 +99,8 @@ pub extern "C" fn chacha8_rng_next_u32(state: &mut SerializedRngState) -> u32
 /// Takes the next two words of the generator with 8 rounds; the first is the low half of the answer (this crate).
 #[unsafe(no_mangle)]
 pub extern "C" fn chacha8_rng_next_u64(state: &mut SerializedRngState) -> u64
-    ensures value { (result, of_state_bytes state.new)
-        ≡ next_u64 4 (of_state_bytes state.old) }
+    ensures words { result ≡ (next_u64 4 (of_state_bytes state.old)).0 }
+    ensures moved { of_state_bytes state.new ≡ (next_u64 4 (of_state_bytes state.old)).1 }
     ensures stored { state.new ≡ state_bytes (of_state_bytes state.new) }
 {
     next_u64(ChaCha8Rng::deserialize_state(state), state)
@@ -111,8 +111,9 @@ pub extern "C" fn chacha8_rng_next_u64(state: &mut SerializedRngState) -> u64
 /// `state` do not overlap.
 #[unsafe(no_mangle)]
 pub extern "C" fn chacha8_rng_fill_bytes(state: &mut SerializedRngState, output: &mut [u8])
-    ensures value { (output.new, of_state_bytes state.new)
-        ≡ fill 4 (of_state_bytes state.old) (length output.old) }
+    ensures bytes { output.new ≡ (fill 4 (of_state_bytes state.old) (length output.old)).0 }
+    ensures moved { of_state_bytes state.new
+        ≡ (fill 4 (of_state_bytes state.old) (length output.old)).1 }
     ensures stored { state.new ≡ state_bytes (of_state_bytes state.new) }
 {
     fill_bytes(ChaCha8Rng::deserialize_state(state), state, output);
@@ -121,8 +122,8 @@ pub extern "C" fn chacha8_rng_fill_bytes(state: &mut SerializedRngState, output:
 /// Takes the next word of the generator with 12 rounds (this crate).
 #[unsafe(no_mangle)]
 pub extern "C" fn chacha12_rng_next_u32(state: &mut SerializedRngState) -> u32
-    ensures value { (result, of_state_bytes state.new)
-        ≡ next_u32 6 (of_state_bytes state.old) }
+    ensures word { result ≡ (next_u32 6 (of_state_bytes state.old)).0 }
+    ensures moved { of_state_bytes state.new ≡ (next_u32 6 (of_state_bytes state.old)).1 }
     ensures stored { state.new ≡ state_bytes (of_state_bytes state.new) }
 {
     next_u32(ChaCha12Rng::deserialize_state(state), state)
@@ -131,8 +132,8 @@ pub extern "C" fn chacha12_rng_next_u32(state: &mut SerializedRngState) -> u32
 /// Takes the next two words of the generator with 12 rounds; the first is the low half of the answer (this crate).
 #[unsafe(no_mangle)]
 pub extern "C" fn chacha12_rng_next_u64(state: &mut SerializedRngState) -> u64
-    ensures value { (result, of_state_bytes state.new)
-        ≡ next_u64 6 (of_state_bytes state.old) }
+    ensures words { result ≡ (next_u64 6 (of_state_bytes state.old)).0 }
+    ensures moved { of_state_bytes state.new ≡ (next_u64 6 (of_state_bytes state.old)).1 }
     ensures stored { state.new ≡ state_bytes (of_state_bytes state.new) }
 {
     next_u64(ChaCha12Rng::deserialize_state(state), state)
@@ -143,8 +144,9 @@ pub extern "C" fn chacha12_rng_next_u64(state: &mut SerializedRngState) -> u64
 /// `state` do not overlap.
 #[unsafe(no_mangle)]
 pub extern "C" fn chacha12_rng_fill_bytes(state: &mut SerializedRngState, output: &mut [u8])
-    ensures value { (output.new, of_state_bytes state.new)
-        ≡ fill 6 (of_state_bytes state.old) (length output.old) }
+    ensures bytes { output.new ≡ (fill 6 (of_state_bytes state.old) (length output.old)).0 }
+    ensures moved { of_state_bytes state.new
+        ≡ (fill 6 (of_state_bytes state.old) (length output.old)).1 }
     ensures stored { state.new ≡ state_bytes (of_state_bytes state.new) }
 {
     fill_bytes(ChaCha12Rng::deserialize_state(state), state, output);
@@ -153,8 +155,8 @@ pub extern "C" fn chacha12_rng_fill_bytes(state: &mut SerializedRngState, output
 /// Takes the next word of the generator with 20 rounds (this crate).
 #[unsafe(no_mangle)]
 pub extern "C" fn chacha20_rng_next_u32(state: &mut SerializedRngState) -> u32
-    ensures value { (result, of_state_bytes state.new)
-        ≡ next_u32 10 (of_state_bytes state.old) }
+    ensures word { result ≡ (next_u32 10 (of_state_bytes state.old)).0 }
+    ensures moved { of_state_bytes state.new ≡ (next_u32 10 (of_state_bytes state.old)).1 }
     ensures stored { state.new ≡ state_bytes (of_state_bytes state.new) }
 {
     next_u32(ChaCha20Rng::deserialize_state(state), state)
@@ -163,8 +165,8 @@ pub extern "C" fn chacha20_rng_next_u32(state: &mut SerializedRngState) -> u32
 /// Takes the next two words of the generator with 20 rounds; the first is the low half of the answer (this crate).
 #[unsafe(no_mangle)]
 pub extern "C" fn chacha20_rng_next_u64(state: &mut SerializedRngState) -> u64
-    ensures value { (result, of_state_bytes state.new)
-        ≡ next_u64 10 (of_state_bytes state.old) }
+    ensures words { result ≡ (next_u64 10 (of_state_bytes state.old)).0 }
+    ensures moved { of_state_bytes state.new ≡ (next_u64 10 (of_state_bytes state.old)).1 }
     ensures stored { state.new ≡ state_bytes (of_state_bytes state.new) }
 {
     next_u64(ChaCha20Rng::deserialize_state(state), state)
@@ -175,8 +177,9 @@ pub extern "C" fn chacha20_rng_next_u64(state: &mut SerializedRngState) -> u64
 /// `state` do not overlap.
 #[unsafe(no_mangle)]
 pub extern "C" fn chacha20_rng_fill_bytes(state: &mut SerializedRngState, output: &mut [u8])
-    ensures value { (output.new, of_state_bytes state.new)
-        ≡ fill 10 (of_state_bytes state.old) (length output.old) }
+    ensures bytes { output.new ≡ (fill 10 (of_state_bytes state.old) (length output.old)).0 }
+    ensures moved { of_state_bytes state.new
+        ≡ (fill 10 (of_state_bytes state.old) (length output.old)).1 }
     ensures stored { state.new ≡ state_bytes (of_state_bytes state.new) }
 {
     fill_bytes(ChaCha20Rng::deserialize_state(state), state, output);
@@ -188,7 +191,8 @@ fn next_u32<R: Rounds, B: RngBackend<R>>(
     mut rng: ChaChaRng<R, B>,
     state: &mut SerializedRngState,
 ) -> u32
-    ensures value { (result, of_state_bytes state.new) ≡ next_u32 R.COUNT rng }
+    ensures word { result ≡ (next_u32 R.COUNT rng).0 }
+    ensures moved { of_state_bytes state.new ≡ (next_u32 R.COUNT rng).1 }
     ensures stored { state.new ≡ state_bytes (of_state_bytes state.new) }
 {
     let word = rng.next_u32();
@@ -200,7 +204,8 @@ fn next_u64<R: Rounds, B: RngBackend<R>>(
     mut rng: ChaChaRng<R, B>,
     state: &mut SerializedRngState,
 ) -> u64
-    ensures value { (result, of_state_bytes state.new) ≡ next_u64 R.COUNT rng }
+    ensures words { result ≡ (next_u64 R.COUNT rng).0 }
+    ensures moved { of_state_bytes state.new ≡ (next_u64 R.COUNT rng).1 }
     ensures stored { state.new ≡ state_bytes (of_state_bytes state.new) }
 {
     let words = rng.next_u64();
@@ -213,7 +218,9 @@ fn fill_bytes<R: Rounds, B: RngBackend<R>>(
     state: &mut SerializedRngState,
     output: &mut [u8],
 )
-    ensures value { (output.new, of_state_bytes state.new) ≡ fill R.COUNT rng (length output.old) }
+    ensures bytes { output.new ≡ (fill R.COUNT rng (length output.old)).0 }
+    ensures moved { of_state_bytes state.new
+        ≡ (fill R.COUNT rng (length output.old)).1 }
     ensures stored { state.new ≡ state_bytes (of_state_bytes state.new) }
 {
     rng.fill_bytes(output);
