@@ -2,6 +2,7 @@
 
 mod backends;
 mod base;
+mod beside;
 mod contracts;
 mod core_calls;
 mod direct;
@@ -15,7 +16,6 @@ mod generator_traits;
 mod generators;
 mod names;
 mod odd_cuts;
-mod own_backend;
 mod positions;
 mod readme;
 mod records;

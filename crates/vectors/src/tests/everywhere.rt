@@ -2,12 +2,13 @@
 
 ghost use Rattle.std.specs.Prelude.{◌≤◌, ◌^◌};
 
+use super::beside::wrong_beside;
 use super::direct::{Directly, Fresh, stream_ends};
 use super::streams::{X_KEY, X_NONCE, XCHACHA_FROM_64, legacy_stream};
 use super::width3::Width3;
 use super::{
-    all_right, backends, core_calls, ends, first_wrong_row, generator_runs, generator_traits,
-    generators, odd_cuts, positions, records, rfc8439, runs, streams, wraps,
+    all_right, backends, beside, core_calls, ends, first_wrong_row, generator_runs,
+    generator_traits, generators, odd_cuts, positions, records, rfc8439, runs, streams, wraps,
 };
 use crate::rows::ciphers::{
     self, IETF_ROWS, LEGACY_ROWS, NONCE_4, NumberedLists, SeekCipher, SeekCore, X_ROWS,
@@ -21,7 +22,7 @@ use chacha20::backends::{Lanes4, Lanes8, Lanes16, Rows8, Soft};
 use chacha20::cipher::{RngBackend, StreamCipherBackend};
 use chacha20::variants::{Ietf, Legacy};
 use chacha20::{
-    ChaChaCore, Key, LegacyNonce, Nonce, R8, R12, R20, Rounds, StreamCipherCoreWrapper,
+    ChaChaCore, ChaChaRng, Key, LegacyNonce, Nonce, R8, R12, R20, Rounds, StreamCipherCoreWrapper,
     XChaChaCore, XNonce,
 };
 
@@ -133,18 +134,26 @@ fn wrong_zero<C: Fresh<Nonce>>() -> Verdict {
     let direct = ends::wrong_zero_groups(&mut Directly(&mut cipher));
     first_failure(&[
         wrong_lists::<Nonce, C>(&[0; 32], &[0; 12], &runs::RUN),
-        wrong_lists::<Nonce, C>(&[0; 32], &[0; 12], &ends::ZERO_ENDS),
         direct,
         ends::wrong_zero_groups(&mut cipher),
     ])
 }
 
+// At their ends both kinds are the same: the first and the last row of a block have no word of the key.
+fn zero_ends_of_core<N, K: SeekCore<N, u32>>(nonce: &N) -> Verdict {
+    wrong_lists::<N, Cipher<K>>(&[0; 32], nonce, &ends::ZERO_ENDS)
+}
+
 // Both kinds with other numbers of rounds.
 fn wrong_cuts<R: Rounds, B: StreamCipherBackend<R, Ietf>>() -> Verdict {
     first_failure(&[
-        odd_cuts::wrong_cuts::<Nonce, Cipher<ChaChaCore<R, Ietf, B>>>(&[7; 12]),
-        odd_cuts::wrong_cuts::<XNonce, Cipher<XChaChaCore<R, B>>>(&[7; 24]),
+        cuts_of_core::<Nonce, ChaChaCore<R, Ietf, B>>(&[7; 12]),
+        cuts_of_core::<XNonce, XChaChaCore<R, B>>(&[7; 24]),
     ])
+}
+
+fn cuts_of_core<N, K: SeekCore<N, u32>>(nonce: &N) -> Verdict {
+    odd_cuts::wrong_cuts::<N, Cipher<K>>(nonce)
 }
 
 fn without_rounds<B>() -> Verdict
@@ -153,7 +162,8 @@ where
 {
     first_failure(&[
         wrong_zero::<Cipher<ChaChaCore<R0, Ietf, B>>>(),
-        wrong_lists::<XNonce, Cipher<XChaChaCore<R0, B>>>(&[0; 32], &[0; 24], &ends::ZERO_ENDS),
+        zero_ends_of_core::<Nonce, ChaChaCore<R0, Ietf, B>>(&[0; 12]),
+        zero_ends_of_core::<XNonce, XChaChaCore<R0, B>>(&[0; 24]),
         wrong_cores::<B>(),
     ])
 }
@@ -166,6 +176,21 @@ where
         wrong_ietf_core::<ChaChaCore<R20, Ietf, B>>(),
         wrong_legacy_core::<ChaChaCore<R20, Legacy, B>>(),
         wrong_x_core::<XChaChaCore<R20, B>>(),
+        wrong_beside_soft::<B>(),
+    ])
+}
+
+// Beside ciphers over the plain backend, which hand out the blocks of the RFC one by one.
+fn wrong_beside_soft<B>() -> Verdict
+where
+    B: StreamCipherBackend<R20, Ietf> + StreamCipherBackend<R20, Legacy>,
+{
+    first_failure(&[
+        wrong_beside::<_, _, ChaChaCore<R20, Ietf, B>, ChaChaCore<R20, Ietf, Soft>>(&[7; 12]),
+        wrong_beside::<_, _, ChaChaCore<R20, Legacy, B>, ChaChaCore<R20, Legacy, Soft>>(
+            &LEGACY_NONCE,
+        ),
+        wrong_beside::<_, _, XChaChaCore<R20, B>, XChaChaCore<R20, Soft>>(&[7; 24]),
     ])
 }
 
@@ -185,6 +210,7 @@ where
         generator_runs::wrong_run::<B>(),
         generator_runs::wrong_lists::<B>(),
         wraps::wrong_generator::<B>(),
+        beside::wrong_fill::<ChaChaRng<R20, B>, ChaChaRng<R20, Soft>>(),
     ])
 }
 
@@ -225,33 +251,18 @@ where
 }
 
 #[test]
-fn soft(rt: HostRuntime) {
-    all_right(&rt, &[("Soft", over::<Soft>())]);
-}
-
-#[test]
-fn lanes4(rt: HostRuntime) {
-    all_right(&rt, &[("Lanes4", over::<Lanes4>())]);
-}
-
-#[test]
-fn lanes8(rt: HostRuntime) {
-    all_right(&rt, &[("Lanes8", over::<Lanes8>())]);
-}
-
-#[test]
-fn rows8(rt: HostRuntime) {
-    all_right(&rt, &[("Rows8", over::<Rows8>())]);
-}
-
-#[test]
-fn lanes16(rt: HostRuntime) {
-    all_right(&rt, &[("Lanes16", over::<Lanes16>())]);
-}
-
-#[test]
-fn width3(rt: HostRuntime) {
-    all_right(&rt, &[("Width3", over::<Width3>())]);
+fn everywhere(rt: HostRuntime) {
+    all_right(
+        &rt,
+        &[
+            ("Soft", over::<Soft>()),
+            ("Lanes4", over::<Lanes4>()),
+            ("Lanes8", over::<Lanes8>()),
+            ("Rows8", over::<Rows8>()),
+            ("Lanes16", over::<Lanes16>()),
+            ("Width3", over::<Width3>()),
+        ],
+    );
 }
 
 // The legacy stream between all places.

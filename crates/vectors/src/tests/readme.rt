@@ -40,15 +40,12 @@ fn with_contracts(rt: HostRuntime) -> Result<(), Fail> {
     let mut message = *b"attack at dawn";
     encrypt(&[0x42; 32], &[0x24; 12], &mut message)?;
     // What `openssl enc -chacha20` makes of it.
-    assert_eq!(rt;
-        message,
-        [133, 112, 20, 12, 40, 124, 16, 213, 27, 39, 138, 66, 72, 77]
-    );
+    assert!(rt; message == [133, 112, 20, 12, 40, 124, 16, 213, 27, 39, 138, 66, 72, 77]);
 
     encrypt_short(&[0x42; 32], &[0x24; 12], &mut message);
-    assert_eq!(rt; message, *b"attack at dawn");
+    assert!(rt; message == *b"attack at dawn");
     assert!(rt; apply_next(&mut ChaCha20::new(&[0x42; 32], &[0x24; 12]), &mut message));
-    assert_ne!(rt; message, *b"attack at dawn");
+    assert!(rt; message != *b"attack at dawn");
     Ok(())
 }
 
@@ -61,7 +58,7 @@ fn into_the_middle(rt: HostRuntime) -> Result<(), Fail> {
     let mut cipher = ChaCha20::new(&[1; 32], &[2; 12]);
     cipher.try_seek(500u32)?;
     cipher.try_apply_keystream(&mut message[500..])?;
-    assert_eq!(rt; &whole[500..], &message[500..]);
+    assert!(rt; whole[500..] == message[500..]);
     Ok(())
 }
 
@@ -70,6 +67,5 @@ fn stored(rt: HostRuntime) {
     let mut rng = ChaCha20Rng::from_seed([1; 32]);
     rng.fill_bytes(&mut [0; 1000]);
     let mut restored = ChaCha20Rng::deserialize_state(&rng.serialize_state());
-    assert_eq!(rt; restored, rng);
     assert_eq!(rt; restored.next_u64(), rng.next_u64());
 }

@@ -10,10 +10,7 @@ use chacha20::cipher::{
     KeyIvInit, RngBackend, StreamCipher, StreamCipherBackend, StreamCipherError,
 };
 use chacha20::variants::Ietf;
-use chacha20::{
-    ChaCha20, ChaCha20Legacy, ChaChaCore, ChaChaRng, Key, Nonce, R20, Rounds,
-    StreamCipherCoreWrapper,
-};
+use chacha20::{ChaCha20, ChaChaCore, ChaChaRng, Key, Nonce, R20, Rounds, StreamCipherCoreWrapper};
 
 // Three double rounds. Clauses see the number that stands behind `ghost`; the code has the constant.
 #[derive(Clone, Copy)]
@@ -44,22 +41,6 @@ fn own_rounds(rt: HostRuntime) {
     let encrypted = message;
     let back = encrypt_6(&[1; 32], &[2; 12], &mut message).is_ok();
     assert!(rt; there && back && encrypted != message && message == *b"attack at dawn");
-}
-
-// The first bytes of a cipher of any kind. It is let go at the end, which a type parameter allows by `Drop` alone.
-fn first_bytes<C: KeyIvInit + StreamCipher + Drop>(
-    key: &C::Key,
-    nonce: &C::Iv,
-) -> Result<[u8; 8], StreamCipherError> {
-    let mut bytes = [0; 8];
-    C::new(key, nonce).try_write_keystream(&mut bytes)?;
-    Ok(bytes)
-}
-
-#[test]
-fn any_cipher(rt: HostRuntime) {
-    let found = first_bytes::<ChaCha20Legacy>(&[0; 32], &[0; 8]);
-    assert!(rt; found == Ok(*b"\x76\xb8\xe0\xad\xa0\xf1\x3d\x90"));
 }
 
 // A message under a key that a generator draws. One backend serves both: a bound for each kind.

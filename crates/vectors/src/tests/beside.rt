@@ -1,20 +1,14 @@
-//! A backend of a user's own beside the plain one. The worked rows and streams over it stand with those over the others.
+//! Ciphers and generators beside those over another backend.
 
 ghost use Rattle.std.specs.Prelude.{◌≤◌};
 
-use super::all_right;
 use super::direct::all_done;
-use super::width3::Width3;
 use crate::rows::ciphers::SeekCore;
 use crate::rows::lists::Listed;
-use crate::rows::{COUNTING, LEGACY_NONCE, Verdict, failed_for};
-use chacha20::backends::Soft;
+use crate::rows::{COUNTING, Verdict, failed_for};
 use chacha20::cipher::{KeyIvInit, StreamCipherCounter};
 use chacha20::rand_core::{Rng, SeedableRng};
-use chacha20::variants::{Ietf, Legacy};
-use chacha20::{
-    ChaChaCore, ChaChaRng, CipherCall, R20, Seed, StreamCipherCoreWrapper, XChaChaCore,
-};
+use chacha20::{CipherCall, Seed, StreamCipherCoreWrapper};
 
 // Whether one cipher takes back what the other gives, over ten blocks and a last part of 63 bytes, of which both take so
 // many bytes at first.
@@ -49,35 +43,16 @@ fn wrong_length<A: Listed, B: Listed>(cipher: &mut A, other: &mut B) -> Option<u
     None
 }
 
-// The same of new ciphers over two cores.
-fn wrong_beside<N, T: StreamCipherCounter, A: SeekCore<N, T>, B: SeekCore<N, T>>(
+/// The same of new ciphers over two cores.
+pub fn wrong_beside<N, T: StreamCipherCounter, A: SeekCore<N, T>, B: SeekCore<N, T>>(
     nonce: &N,
 ) -> Verdict {
     let mut cipher = StreamCipherCoreWrapper::<A>::new(&COUNTING, nonce);
     let mut other = StreamCipherCoreWrapper::<B>::new(&COUNTING, nonce);
-    failed_for("so many blocks", wrong_length(&mut cipher, &mut other))
-}
-
-#[test]
-fn ciphers_beside_soft(rt: HostRuntime) {
-    let ietf = wrong_beside::<_, _, ChaChaCore<R20, Ietf, Width3>, ChaChaCore<R20, Ietf, Soft>>(
-        &[7; 12],
-    );
-    let legacy = wrong_beside::<
-        _,
-        _,
-        ChaChaCore<R20, Legacy, Width3>,
-        ChaChaCore<R20, Legacy, Soft>,
-    >(&LEGACY_NONCE);
-    let x = wrong_beside::<_, _, XChaChaCore<R20, Width3>, XChaChaCore<R20, Soft>>(&[7; 24]);
-    all_right(
-        &rt,
-        &[
-            ("ChaCha20", ietf),
-            ("ChaCha20Legacy", legacy),
-            ("XChaCha20", x),
-        ],
-    );
+    failed_for(
+        "a cipher beside another",
+        wrong_length(&mut cipher, &mut other),
+    )
 }
 
 // Whether two generators fill so many bytes alike, and then give the same words.
@@ -96,8 +71,8 @@ where
     bytes == others && rng.next_u64() == other.next_u64()
 }
 
-// The first number of blocks, from 1 to 10, for which two generators differ with 0, 1 or 63 bytes more.
-fn wrong_fill<A, B>() -> Option<usize>
+/// The number of blocks, from 1 to 10, for which two generators differ with 0, 1 or 63 bytes more.
+pub fn wrong_fill<A, B>() -> Verdict
 where
     A: SeedableRng<Seed = Seed> + Rng + Drop,
     B: SeedableRng<Seed = Seed> + Rng + Drop,
@@ -108,14 +83,8 @@ where
             && same_fill::<A, B>(whole + 1)
             && same_fill::<A, B>(whole + 63))
         {
-            return Some(blocks);
+            return failed_for("a generator beside another", Some(blocks));
         }
     }
     None
-}
-
-#[test]
-fn generators_beside_soft(rt: HostRuntime) {
-    let wrong = wrong_fill::<ChaChaRng<R20, Width3>, ChaChaRng<R20, Soft>>();
-    all_right(&rt, &[("ChaCha20Rng", failed_for("so many blocks", wrong))]);
 }
