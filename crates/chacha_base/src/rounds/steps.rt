@@ -49,11 +49,22 @@ impl Count {
 /// How many steps were taken: parallel calls of a backend (`par`), other calls for a block (`other`), and quarter
 /// rounds on words or on vectors (`rounds`). Only clauses see the three numbers, which have no greatest value; the type
 /// takes no memory, and no running code reads it. This crate's own.
-#[derive(Drop)]
 pub struct Steps {
     par: Count,
     other: Count,
     rounds: Count,
+}
+
+// By hand, as one call: what a derive writes takes the fields apart wherever a value is dropped.
+impl Drop for Steps {
+    #[inline(always)]
+    fn drop(self) {
+        let Steps {
+            par: _par,
+            other: _other,
+            rounds: _rounds,
+        } = self;
+    }
 }
 
 impl Model for Steps {
