@@ -33,14 +33,14 @@ impl<V: Copy> Clone for Columns<V> {
 
 impl<V: Copy> Copy for Columns<V> {}
 
-// The first three words of a column, the same for each block, and the last one of each.
+// The first three words of column k of a state, the same for each block, and the last one of each.
 #[inline(always)]
-fn column<V: Vector>(a: u32, b: u32, c: u32, last_rows: &[[u32; 4]], k: usize) -> FourVectors<V>
+fn column<V: Vector>(state: &[u32; 16], last_rows: &[[u32; 4]], k: usize) -> FourVectors<V>
     requires each { length last_rows.now ≡ 4 * V.FOURS }
     requires within { k < 4 }
-    ensures a { (j : ℕ) → j < 4 * V.FOURS → V.lane result.0 j ≡ a }
-    ensures b { (j : ℕ) → j < 4 * V.FOURS → V.lane result.1 j ≡ b }
-    ensures c { (j : ℕ) → j < 4 * V.FOURS → V.lane result.2 j ≡ c }
+    ensures a { (j : ℕ) → j < 4 * V.FOURS → V.lane result.0 j ≡ slice_index state.now k }
+    ensures b { (j : ℕ) → j < 4 * V.FOURS → V.lane result.1 j ≡ slice_index state.now (4 + k) }
+    ensures c { (j : ℕ) → j < 4 * V.FOURS → V.lane result.2 j ≡ slice_index state.now (8 + k) }
     ensures d { (j : ℕ) → j < 4 * V.FOURS
         → V.lane result.3 j ≡ slice_index (slice_index_or last_rows.now j []) k }
 {
@@ -49,9 +49,9 @@ fn column<V: Vector>(a: u32, b: u32, c: u32, last_rows: &[[u32; 4]], k: usize) -
         words[g] = last_rows[g][k];
     }
     FourVectors(
-        V::from_words(&[a; 16]),
-        V::from_words(&[b; 16]),
-        V::from_words(&[c; 16]),
+        V::from_words(&[state[k]; 16]),
+        V::from_words(&[state[4 + k]; 16]),
+        V::from_words(&[state[8 + k]; 16]),
         V::from_words(&words),
     )
 }
@@ -113,24 +113,12 @@ impl<V: Vector> States for Columns<V> {
 impl<V: Vector> Group for Columns<V> {
     #[inline(always)]
     fn start(state: &[u32; 16], last_rows: &[[u32; 4]]) -> Columns<V> {
-        let [w0, w1, w2, w3, w4, w5, w6, w7, w8, w9, w10, w11, _, _, _, _] = *state;
         Columns(
-            column(w0, w4, w8, last_rows, 0),
-            column(w1, w5, w9, last_rows, 1),
-            column(w2, w6, w10, last_rows, 2),
-            column(w3, w7, w11, last_rows, 3),
+            column(state, last_rows, 0),
+            column(state, last_rows, 1),
+            column(state, last_rows, 2),
+            column(state, last_rows, 3),
         )
-    }
-
-    /// `count` double rounds of the sixteen words in each lane, of eight vector quarter rounds each (RFC 8439, section
-    /// 2.3).
-    #[inline(always)]
-    fn rounds(self, count: usize, steps: &mut Steps) -> Columns<V>
-        ensures lanes { (j : ℕ) → j < 4 * V.FOURS
-            → block_in_columns V.lane result j ≡ rounds count (block_in_columns V.lane self j) }
-        ensures steps { steps.new ≡ record steps.old { rounds = steps.old.rounds + 8 * count } }
-    {
-        self.double_rounds(count, steps)
     }
 
     #[inline(always)]

@@ -1,6 +1,6 @@
 //! What the kernel needs of a group of blocks, in rows or in columns, and two groups side by side.
 
-ghost use Rattle.std.specs.Prelude.{◌≡◌, ◌<◌, ℕ, ◌+◌, ◌-◌, ◌*◌, nat_lt, if◌then◌else◌, List, [], length, slice_get, slice_index, slice_index_or, Some};
+ghost use Rattle.std.specs.Prelude.{◌≡◌, ◌<◌, ℕ, ◌+◌, ◌-◌, ◌*◌, ⊤, nat_lt, if◌then◌else◌, List, [], length, slice_get, slice_index, slice_index_or, Some};
 ghost use Rattle.chacha_base.specs.Bytes.{bytes};
 ghost use Rattle.chacha_base.specs.Rounds.{columns, diagonals, rounds, add_states};
 ghost use Rattle.chacha_base.specs.Lanes.{row, with_last_row};
@@ -8,6 +8,7 @@ ghost use Rattle.chacha_base.specs.Vectors.{block_in_rows};
 
 use crate::backends::vector::{FourVectors, Vector};
 use crate::rounds::Steps;
+use std::alloc::AllocError;
 use std::simd::prelude::*;
 
 /// The states of some blocks, one after another, and the rounds on them.
@@ -54,13 +55,6 @@ pub trait Group: States {
         ensures { (g : ℕ) → g < Self.BLOCKS → Self.words_of result g
             ≡ with_last_row state.now (slice_index_or last_rows.now g []) };
 
-    /// `count` double rounds of each state.
-    fn rounds(self, count: usize, steps: &mut Steps) -> Self
-        ensures blocks { (g : ℕ) → g < Self.BLOCKS
-            → Self.words_of result g ≡ rounds count (Self.words_of self g) }
-        ensures steps { steps.new
-            ≡ record steps.old { rounds = steps.old.rounds + 2 * Self.ROUND_STEPS * count } };
-
     /// The sums of the states of two groups, word by word.
     fn sums(self, other: Self) -> Self
         ensures { (g : ℕ) → g < Self.BLOCKS → Self.words_of result g
@@ -74,8 +68,20 @@ pub trait Group: States {
 }
 
 /// Two groups, one after the other. The rounds of both are made side by side.
-#[derive(Clone, Copy)]
 pub struct Twice<G>(G, G);
+
+// By hand, as a copy: what a derive writes clones each field.
+impl<G: Copy> Clone for Twice<G> {
+    ghost is_clone = { λ x y. y ≡ x };
+
+    ghost is_infallible = { λ _. ⊤ };
+
+    fn clone(&self) -> Result<Twice<G>, AllocError> {
+        Ok(*self)
+    }
+}
+
+impl<G: Copy> Copy for Twice<G> {}
 
 impl<G: States> States for Twice<G> {
     ghost BLOCKS = { G.BLOCKS + G.BLOCKS };
@@ -101,11 +107,6 @@ impl<G: Group> Group for Twice<G> {
     fn start(state: &[u32; 16], last_rows: &[[u32; 4]]) -> Twice<G> {
         let (front, back) = last_rows.split_at(last_rows.len() / 2);
         Twice(G::start(state, front), G::start(state, back))
-    }
-
-    #[inline(always)]
-    fn rounds(self, count: usize, steps: &mut Steps) -> Twice<G> {
-        self.double_rounds(count, steps)
     }
 
     #[inline(always)]

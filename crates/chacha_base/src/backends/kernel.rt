@@ -49,7 +49,7 @@ fn mixed_group<R: Rounds, V: Variant, G: Group, const W: usize>(
     let mut rows = [[0; 4]; W];
     write_last_rows::<V>(state, &mut rows);
     let start = G::start(state, &rows);
-    start.rounds(R::COUNT, steps).sums(start)
+    start.double_rounds(R::COUNT, steps).sums(start)
 }
 
 // The words of the next blocks, as many as a group has. The state stays.
