@@ -6,7 +6,7 @@ ghost use Rattle.chacha_base.specs.ColumnVectors.{block_in_columns};
 ghost use Rattle.chacha_base.specs.Lanes.{row};
 ghost use Rattle.chacha_base.specs.Vectors.{words_at, block_in_rows};
 
-use crate::backends::group::{BlockBuffer, Group, States, write_block};
+use crate::backends::group::{BlockBuffer, Group, write_block};
 use crate::backends::vector::{FourVectors, Vector, quarter_round, sums};
 use crate::rounds::Steps;
 use std::alloc::AllocError;
@@ -76,7 +76,7 @@ fn transposed<V: Vector>(w0: V, w1: V, w2: V, w3: V) -> FourVectors<V>
     FourVectors(first, second, third, fourth)
 }
 
-impl<V: Vector> States for Columns<V> {
+impl<V: Vector> Group for Columns<V> {
     ghost BLOCKS = { 4 * V.FOURS };
 
     ghost ROUND_STEPS = { 4 };
@@ -108,9 +108,7 @@ impl<V: Vector> States for Columns<V> {
             FourVectors(s.0, r.1, q.2, p.3),
         )
     }
-}
 
-impl<V: Vector> Group for Columns<V> {
     #[inline(always)]
     fn start(state: &[u32; 16], last_rows: &[[u32; 4]]) -> Columns<V> {
         Columns(

@@ -11,8 +11,8 @@ use crate::rounds::Steps;
 use std::alloc::AllocError;
 use std::simd::prelude::*;
 
-/// The states of some blocks, one after another, and the rounds on them.
-pub trait States: Copy {
+/// The states of some blocks, one after another, with the rounds on them, that become blocks.
+pub trait Group: Copy {
     ghost BLOCKS: { ℕ };
 
     // Quarter rounds that a round of the columns counts, and one of the diagonals.
@@ -45,26 +45,23 @@ pub trait States: Copy {
         }
         states
     }
-}
 
-/// States that become blocks.
-pub trait Group: States {
     /// States that differ only in the last row.
     fn start(state: &[u32; 16], last_rows: &[[u32; 4]]) -> Self
-        requires { length last_rows.now ≡ Self.BLOCKS }
-        ensures { (g : ℕ) → g < Self.BLOCKS → Self.words_of result g
+        requires { length last_rows.now ≡ BLOCKS }
+        ensures { (g : ℕ) → g < BLOCKS → words_of result g
             ≡ with_last_row state.now (slice_index_or last_rows.now g []) };
 
     /// The sums of the states of two groups, word by word.
     fn sums(self, other: Self) -> Self
-        ensures { (g : ℕ) → g < Self.BLOCKS → Self.words_of result g
-            ≡ add_states (Self.words_of self g) (Self.words_of other g) };
+        ensures { (g : ℕ) → g < BLOCKS → words_of result g
+            ≡ add_states (words_of self g) (words_of other g) };
 
     /// Writes the words of each state into its buffer.
     fn store<B: BlockBuffer>(self, buffers: &mut [B])
-        requires { length buffers.old ≡ Self.BLOCKS }
-        ensures { (g : ℕ) → g < Self.BLOCKS
-            → slice_get buffers.new g ≡ Some (B.of_words (Self.words_of self g)) };
+        requires { length buffers.old ≡ BLOCKS }
+        ensures { (g : ℕ) → g < BLOCKS
+            → slice_get buffers.new g ≡ Some (B.of_words (words_of self g)) };
 }
 
 /// Two groups, one after the other. The rounds of both are made side by side.
@@ -83,7 +80,7 @@ impl<G: Copy> Clone for Twice<G> {
 
 impl<G: Copy> Copy for Twice<G> {}
 
-impl<G: States> States for Twice<G> {
+impl<G: Group> Group for Twice<G> {
     ghost BLOCKS = { G.BLOCKS + G.BLOCKS };
 
     ghost ROUND_STEPS = { G.ROUND_STEPS + G.ROUND_STEPS };
@@ -100,9 +97,7 @@ impl<G: States> States for Twice<G> {
     fn diagonal_round(self, steps: &mut Steps) -> Twice<G> {
         Twice(self.0.diagonal_round(steps), self.1.diagonal_round(steps))
     }
-}
 
-impl<G: Group> Group for Twice<G> {
     #[inline(always)]
     fn start(state: &[u32; 16], last_rows: &[[u32; 4]]) -> Twice<G> {
         let (front, back) = last_rows.split_at(last_rows.len() / 2);

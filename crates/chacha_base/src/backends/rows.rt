@@ -5,7 +5,7 @@ ghost use Rattle.chacha_base.specs.Lanes.{row, state_row};
 ghost use Rattle.chacha_base.specs.Shifts.{rows_turned};
 ghost use Rattle.chacha_base.specs.Vectors.{block_in_rows};
 
-use crate::backends::group::{BlockBuffer, Group, States, write_block};
+use crate::backends::group::{BlockBuffer, Group, write_block};
 use crate::backends::vector::{FourVectors, Vector, quarter_round, sums};
 use crate::rounds::Steps;
 use std::alloc::AllocError;
@@ -76,7 +76,7 @@ fn rows_turned<V: Vector>(
     )
 }
 
-impl<V: Vector, const STAYS: usize> States for Rows<V, STAYS> {
+impl<V: Vector, const STAYS: usize> Group for Rows<V, STAYS> {
     ghost BLOCKS = { V.FOURS };
 
     ghost ROUND_STEPS = { 1 };
@@ -96,9 +96,7 @@ impl<V: Vector, const STAYS: usize> States for Rows<V, STAYS> {
         let right = 4 + STAYS % 4;
         Rows(rows_turned(mixed, right, right - 1, right - 2, right - 3))
     }
-}
 
-impl<V: Vector, const STAYS: usize> Group for Rows<V, STAYS> {
     #[inline(always)]
     fn start(state: &[u32; 16], last_rows: &[[u32; 4]]) -> Rows<V, STAYS> {
         let mut d = [0; 16];

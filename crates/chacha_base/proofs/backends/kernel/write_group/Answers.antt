@@ -5,6 +5,6 @@ use Rattle.chacha_base.proofs.backends.kernel.write_group.Goals as goal
 
 pub returns-clause-blocks : goal.returns-clause-blocks
 returns-clause-blocks g c i h =
-    let inside : i < g.G.States.BLOCKS = omega arith in
+    let inside : i < g.G.Group.BLOCKS = omega arith in
     let here : i < g.row.W = omega arith in
     c.store.ensures i inside ∙ ap (λ s. Some (bytes s)) (c.mixed_group.ensures.blocks i here)

@@ -7,5 +7,5 @@ returns-clause-rounds g c = c.write_tail.ensures.rounds ∙ ap (λ m. c.args.ste
 
 pub returns-clause-steps : goal.returns-clause-steps
 returns-clause-steps g c =
-    grows-of-16 (2 * g.G.States.ROUND_STEPS * g.R.Rounds.COUNT) g.R.Rounds.COUNT (length c.args.blocks.now) c.args.steps.now c.write_tail.new.steps
+    grows-of-16 (2 * g.G.Group.ROUND_STEPS * g.R.Rounds.COUNT) g.R.Rounds.COUNT (length c.args.blocks.now) c.args.steps.now c.write_tail.new.steps
     c.write_tail.ensures.steps (returns-clause-rounds g c)

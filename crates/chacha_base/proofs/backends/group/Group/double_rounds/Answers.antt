@@ -1,12 +1,12 @@
 use Rattle.std.proofs.Common.{◌≡◌, ◌+◌, ◌*◌, refl, ap, ◌∙◌, arith, add-one}
 use Rattle.chacha_base.specs.Rounds.{columns, diagonals, rounds}
 use Rattle.chacha_base.proofs.CountsLemmas.{counted-double_round}
-use Rattle.chacha_base.proofs.backends.group.States.double_rounds.Goals as goal
+use Rattle.chacha_base.proofs.backends.group.Group.double_rounds.Goals as goal
 
 pub rounds-init : goal.rounds-init
 unfolding rounds
 rounds-init g c =
-    let none : c.args.steps.now.rounds ≡ c.args.steps.now.rounds + 2 * g.Self.States.ROUND_STEPS * 0 = omega arith in
+    let none : c.args.steps.now.rounds ≡ c.args.steps.now.rounds + 2 * g.Self.Group.ROUND_STEPS * 0 = omega arith in
     record {
       blocks = λ b h. refl;
       steps = ap (λ n. record c.args.steps.now { rounds = n }) none;
@@ -19,6 +19,6 @@ rounds-preserved g c =
     record {
       blocks = λ b h. rw (add-one n)
           (c.diagonal_round-states.ensures.blocks b h ∙ ap diagonals (c.column_round.ensures.blocks b h ∙ ap columns (c.rounds.invariant.blocks b h)));
-      steps = counted-double_round g.Self.States.ROUND_STEPS n c.args.steps.now c.rounds.steps c.column_round.new.steps c.diagonal_round-states.new.steps
+      steps = counted-double_round g.Self.Group.ROUND_STEPS n c.args.steps.now c.rounds.steps c.column_round.new.steps c.diagonal_round-states.new.steps
           c.rounds.invariant.steps c.column_round.ensures.steps c.diagonal_round-states.ensures.steps;
     }

@@ -1,6 +1,6 @@
 use Rattle.chacha_base.specs.Rounds.{columns}
 use Rattle.chacha_base.proofs.RowLemmas.{of_columns-same}
-use Rattle.chacha_base.proofs.backends.columns.ColumnsStates.column_round.Goals as goal
+use Rattle.chacha_base.proofs.backends.columns.ColumnsGroup.column_round.Goals as goal
 
 pub returns-clause-blocks : goal.returns-clause-blocks
 unfolding columns

@@ -1,6 +1,6 @@
 use Rattle.std.proofs.Common.{refl}
 use Rattle.chacha_base.specs.Rounds.{diagonals}
-use Rattle.chacha_base.proofs.backends.columns.ColumnsStates.diagonal_round.Goals as goal
+use Rattle.chacha_base.proofs.backends.columns.ColumnsGroup.diagonal_round.Goals as goal
 
 pub returns-clause-blocks : goal.returns-clause-blocks
 unfolding diagonals

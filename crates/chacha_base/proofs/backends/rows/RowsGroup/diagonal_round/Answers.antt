@@ -2,7 +2,7 @@ use Rattle.std.proofs.Common.{◌∙◌, ap}
 use Rattle.chacha_base.specs.Rounds.{columns}
 use Rattle.chacha_base.specs.Shifts.{shifted_back}
 use Rattle.chacha_base.proofs.RowLemmas.{columns-of-lanes, shifted-columns}
-use Rattle.chacha_base.proofs.backends.rows.RowsStates.diagonal_round.Goals as goal
+use Rattle.chacha_base.proofs.backends.rows.RowsGroup.diagonal_round.Goals as goal
 
 pub returns-clause-blocks : goal.returns-clause-blocks
 returns-clause-blocks g c b h =

@@ -1,5 +1,5 @@
 use Rattle.chacha_base.proofs.RowLemmas.{columns-of-lanes}
-use Rattle.chacha_base.proofs.backends.rows.RowsStates.column_round.Goals as goal
+use Rattle.chacha_base.proofs.backends.rows.RowsGroup.column_round.Goals as goal
 
 pub returns-clause-blocks : goal.returns-clause-blocks
 returns-clause-blocks g c b h =

@@ -1,9 +1,0 @@
-use Rattle.std.proofs.Common.{◌≡◌, ℕ, ◌<◌, ◌+◌, ◌*◌}
-use Rattle.chacha_base.specs.Rounds.{rounds}
-use Rattle.chacha_base.proofs.backends.group.States.double_rounds.Given as goal
-
-abbrev pub invariant-rounds : goal.invariant-rounds
-invariant-rounds g l = record {
-  blocks : (b : ℕ) → b < g.Self.States.BLOCKS → g.Self.States.words_of l.states b ≡ rounds l._round (g.Self.States.words_of l.fn.self b);
-  steps : l.steps ≡ record l.initial.steps { rounds = l.initial.steps.rounds + 2 * g.Self.States.ROUND_STEPS * l._round };
-}
