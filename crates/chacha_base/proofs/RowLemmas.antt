@@ -1,5 +1,5 @@
 -- Blocks in the rows of vectors.
-use Rattle.std.proofs.Common.{◌≡◌, ℕ, zero, suc, ◌<◌, ◌+◌, ◌-◌, ◌*◌, ◌%◌, Bool, true, false, List, [], ◌∷◌, ◌++◌, length, drop, slice_index, refl, ap, ◌∙◌, arith}
+use Rattle.std.proofs.Common.{◌≡◌, ℕ, zero, suc, ◌<◌, ◌+◌, ◌-◌, ◌*◌, ◌%◌, Bool, true, false, List, [], ◌∷◌, ◌++◌, length, drop, refl, ap, ◌∙◌, arith}
 use Rattle.std.specs.Prelude.{if◌then◌else◌}
 use Rattle.chacha_base.specs.declared.backends.vector.FourVectors.{FourVectors}
 use Rattle.chacha_base.specs.Layout.{Layout, ietf, legacy}
@@ -41,15 +41,6 @@ row-same f g k same =
     ∙ ap (λ x. g (4 * k) ∷ x ∷ f (4 * k + 2) ∷ f (4 * k + 3) ∷ []) (same (4 * k + 1) (omega arith))
     ∙ ap (λ x. g (4 * k) ∷ g (4 * k + 1) ∷ x ∷ f (4 * k + 3) ∷ []) (same (4 * k + 2) (omega arith))
     ∙ ap (λ x. g (4 * k) ∷ g (4 * k + 1) ∷ g (4 * k + 2) ∷ x ∷ []) (same (4 * k + 3) (omega arith))
-
--- each row of four words that stand four times
-pub four_times : (w0 w1 w2 w3 k : ℕ) → k < 4
-    → row (slice_index (w0 ∷ w1 ∷ w2 ∷ w3 ∷ w0 ∷ w1 ∷ w2 ∷ w3 ∷ w0 ∷ w1 ∷ w2 ∷ w3 ∷ w0 ∷ w1 ∷ w2 ∷ w3 ∷ [])) k ≡ w0 ∷ w1 ∷ w2 ∷ w3 ∷ []
-four_times w0 w1 w2 w3 zero h = refl
-four_times w0 w1 w2 w3 (suc zero) h = refl
-four_times w0 w1 w2 w3 (suc (suc zero)) h = refl
-four_times w0 w1 w2 w3 (suc (suc (suc zero))) h = refl
-four_times w0 w1 w2 w3 (suc (suc (suc (suc k)))) h = absurd (omega arith)
 
 -- the quarter round of each lane is a round of the columns of each block
 pub columns-of-lanes : {V : Type 0} (n : ℕ) (lane : V → ℕ → ℕ) (x y : FourVectors V)

@@ -1,6 +1,6 @@
 //! Groups of blocks with a vector for each row of a state, as many states as a vector has fours.
 
-ghost use Rattle.std.specs.Prelude.{◌≡◌, ◌<◌, ℕ, ◌*◌, ⊤, slice_index};
+ghost use Rattle.std.specs.Prelude.{◌≡◌, ◌<◌, ℕ, ◌*◌, ⊤, [], ◌∷◌, slice_index};
 ghost use Rattle.chacha_base.specs.Lanes.{row, state_row};
 ghost use Rattle.chacha_base.specs.Shifts.{rows_turned};
 ghost use Rattle.chacha_base.specs.Vectors.{block_in_rows};
@@ -27,16 +27,11 @@ impl<V: Copy, const STAYS: usize> Clone for Rows<V, STAYS> {
 
 impl<V: Copy, const STAYS: usize> Copy for Rows<V, STAYS> {}
 
-// Row r of a state, the same for each block.
+// A row of four words, the same for each block.
 #[inline(always)]
-fn repeated<V: Vector>(state: &[u32; 16], r: usize) -> V
-    requires { r < 4 }
-    ensures { (g : ℕ) → g < V.FOURS → row (V.lane result) g ≡ state_row state.now r }
+fn repeated<V: Vector>(w0: u32, w1: u32, w2: u32, w3: u32) -> V
+    ensures { (g : ℕ) → g < V.FOURS → row (V.lane result) g ≡ w0 ∷ w1 ∷ w2 ∷ w3 ∷ [] }
 {
-    let w0 = state[4 * r];
-    let w1 = state[4 * r + 1];
-    let w2 = state[4 * r + 2];
-    let w3 = state[4 * r + 3];
     V::from_words(&[
         w0, w1, w2, w3, w0, w1, w2, w3, w0, w1, w2, w3, w0, w1, w2, w3,
     ])
@@ -99,14 +94,15 @@ impl<V: Vector, const STAYS: usize> Group for Rows<V, STAYS> {
 
     #[inline(always)]
     fn start(state: &[u32; 16], last_rows: &[[u32; 4]]) -> Rows<V, STAYS> {
+        let [w0, w1, w2, w3, w4, w5, w6, w7, w8, w9, w10, w11, _, _, _, _] = *state;
         let mut d = [0; 16];
         'each: for g in 0..V::FOURS {
             set_row(&mut d, g, &last_rows[g]);
         }
         Rows(FourVectors(
-            repeated(state, 0),
-            repeated(state, 1),
-            repeated(state, 2),
+            repeated(w0, w1, w2, w3),
+            repeated(w4, w5, w6, w7),
+            repeated(w8, w9, w10, w11),
             V::from_words(&d),
         ))
     }
