@@ -50,6 +50,8 @@ pub trait Listed {
 }
 
 impl<K: StreamCipherSeekCore> Listed for StreamCipherCoreWrapper<K> {
+    // Compiled once for a cipher, and not into each row or test.
+    #[inline(never)]
     fn runs(
         &mut self,
         input: &[u8],

@@ -38,6 +38,7 @@ pub trait Direct {
 }
 
 impl<C: StreamCipherSeek> Direct for C {
+    #[inline(never)]
     fn answers(&mut self, input: &[u8], data: &mut [u8], call: CipherCall) -> CipherAnswer {
         if in_slices(call, input.len(), data.len()) {
             answered(self, input, data, call)

@@ -251,18 +251,33 @@ where
 }
 
 #[test]
-fn everywhere(rt: HostRuntime) {
-    all_right(
-        &rt,
-        &[
-            ("Soft", over::<Soft>()),
-            ("Lanes4", over::<Lanes4>()),
-            ("Lanes8", over::<Lanes8>()),
-            ("Rows8", over::<Rows8>()),
-            ("Lanes16", over::<Lanes16>()),
-            ("Width3", over::<Width3>()),
-        ],
-    );
+fn soft(rt: HostRuntime) {
+    all_right(&rt, &[("Soft", over::<Soft>())]);
+}
+
+#[test]
+fn lanes4(rt: HostRuntime) {
+    all_right(&rt, &[("Lanes4", over::<Lanes4>())]);
+}
+
+#[test]
+fn lanes8(rt: HostRuntime) {
+    all_right(&rt, &[("Lanes8", over::<Lanes8>())]);
+}
+
+#[test]
+fn rows8(rt: HostRuntime) {
+    all_right(&rt, &[("Rows8", over::<Rows8>())]);
+}
+
+#[test]
+fn lanes16(rt: HostRuntime) {
+    all_right(&rt, &[("Lanes16", over::<Lanes16>())]);
+}
+
+#[test]
+fn width3(rt: HostRuntime) {
+    all_right(&rt, &[("Width3", over::<Width3>())]);
 }
 
 // The legacy stream between all places.
