@@ -35,7 +35,7 @@ impl Rounds for R0 {
     const COUNT: usize = 0;
 }
 
-/// A check that fails: its name, and in a loop the number for which it does, else 0.
+/// A check that fails: its name, and in a loop the number for which it does, else the place of the part that fails.
 #[derive(Clone, Copy)]
 pub struct Failure {
     pub check: &'static str,
@@ -50,11 +50,11 @@ pub fn failed_check(check: &'static str) -> Verdict {
     Some(Failure { check, number: 0 })
 }
 
-/// The first check that fails, of names and whether what they say holds.
-pub fn failed(checks: &[(&'static str, bool)]) -> Verdict {
-    for (check, right) in checks {
-        if !*right {
-            return failed_check(*check);
+/// A failure of the check of this name where not all of its parts hold, with the place of the first that doesn't.
+pub fn failed(check: &'static str, parts: &[bool]) -> Verdict {
+    for (number, holds) in parts.iter().enumerate() {
+        if !*holds {
+            return Some(Failure { check, number });
         }
     }
     None

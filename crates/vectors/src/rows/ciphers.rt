@@ -275,11 +275,10 @@ fn row_1<C: SeekCipher<Nonce>>() -> Verdict
     let back = data;
     cipher.seek(0u32);
     apply_in_pieces(&mut cipher, &mut data, 3);
-    failed(&[
-        ("there", there == CIPHERTEXT),
-        ("back", back == PLAINTEXT),
-        ("in pieces", data == CIPHERTEXT),
-    ])
+    failed(
+        "there, back, and in pieces",
+        &[there == CIPHERTEXT, back == PLAINTEXT, data == CIPHERTEXT],
+    )
 }
 
 /// Applies a cipher to bytes in pieces of one size, of which the last may be shorter. The bytes and the cipher become
@@ -303,7 +302,10 @@ fn row_3() -> Verdict {
     let input = *b"\x00\x00\x00\x09\x00\x00\x00\x4a\x00\x00\x00\x00\x31\x41\x59\x27";
     let expected = b"\x82\x41\x3b\x42\x27\xb2\x7b\xfe\xd3\x0e\x42\x50\x8a\x87\x7d\x73\
         \xa0\xf9\xe4\xd5\x8a\x74\xa8\x53\xc1\x2e\xc4\x13\x26\xd3\xec\xdc";
-    failed(&[("the subkey", hchacha::<R20>(&COUNTING, &input) == *expected)])
+    failed(
+        "the subkey",
+        &[hchacha::<R20>(&COUNTING, &input) == *expected],
+    )
 }
 
 // The key 80 to 9f and its nonce.
@@ -355,26 +357,26 @@ fn row_12<C: SeekCipher<Nonce>>() -> Verdict
 {
     let mut cipher = C::new(&COUNTING, &[0; 12]);
     cipher.seek(2147483648u32);
-    failed(&[
-        ("past 31 bits, in 31", is_at::<C, i32>(&cipher, None)),
-        (
-            "past 31 bits, in 32",
+    failed(
+        "past 31 bits, in 31 and in 32",
+        &[
+            is_at::<C, i32>(&cipher, None),
             is_at::<C, u32>(&cipher, Some(2147483648)),
-        ),
-    ])
+        ],
+    )
 }
 
 fn legacy_row_12<C: SeekCipher<LegacyNonce>>() -> Verdict {
     let mut cipher = C::new(&FROM_1, &LEGACY_NONCE);
     let sought = cipher.try_seek(1180591620717411303360u128).is_ok();
-    failed(&[
-        ("a seek past 64 bits", sought),
-        ("past 64 bits, in 64", is_at::<C, u64>(&cipher, None)),
-        (
-            "past 64 bits, in 128",
+    failed(
+        "a seek past 64 bits, and the position in 64 and in 128",
+        &[
+            sought,
+            is_at::<C, u64>(&cipher, None),
             is_at::<C, u128>(&cipher, Some(1180591620717411303360)),
-        ),
-    ])
+        ],
+    )
 }
 
 /// Whether a cipher answers this position; of none, whether it answers that the type can't say it.

@@ -25,8 +25,8 @@ fn is_first_block(block: &[u8; 64]) -> bool {
         && block.ends_with(&[0; 48])
 }
 
-// The last row of a block.
-fn last_row(block: &[u8; 64]) -> [u8; 16] {
+/// The last row of a block.
+pub fn last_row(block: &[u8; 64]) -> [u8; 16] {
     let mut row = [0; 16];
     row.copy_from_slice(&block[48..]);
     row
@@ -60,8 +60,11 @@ where
 {
     let ietf = around(&mut I::new(&[0; 32], &[0; 12]), 0xffff_ffff);
     let legacy = around(&mut L::from_seed([0; 32]), 0xffff_ffff);
-    failed(&[
-        ("32 bits", ietf == (true, WRAPPED, 1)),
-        ("64 bits", legacy == (true, CARRIED, 0x1_0000_0001)),
-    ])
+    failed(
+        "counters of 32 and of 64 bits",
+        &[
+            ietf == (true, WRAPPED, 1),
+            legacy == (true, CARRIED, 0x1_0000_0001),
+        ],
+    )
 }

@@ -355,14 +355,14 @@ fn row_17<B: RngBackend<R20>>() -> Verdict {
     let word = first.next_u32();
     let mut second_seed = [0; 32];
     first.fill_bytes(&mut second_seed);
-    failed(&[
-        ("the first word", word == 137206642),
-        (
-            "the second generator's",
+    failed(
+        "the first words of two generators, and the first one's position",
+        &[
+            word == 137206642,
             ChaChaRng::<R20, B>::from_seed(second_seed).next_u32() == 1325750369,
-        ),
-        ("the first one's position", first.get_word_pos() == 9),
-    ])
+            first.get_word_pos() == 9,
+        ],
+    )
 }
 
 // Generators are equal where seed, stream and position are, however they came there.
@@ -378,9 +378,8 @@ fn row_23<B: RngBackend<R20>>() -> Verdict {
     second.set_word_pos(1);
     let at_1 = first == second;
     second.set_stream(1);
-    failed(&[
-        ("at 0", at_0),
-        ("at 1", at_1),
-        ("in another stream", first != second),
-    ])
+    failed(
+        "equal at 0 and at 1, and not in another stream",
+        &[at_0, at_1, first != second],
+    )
 }

@@ -2,7 +2,7 @@
 
 ghost use Rattle.std.specs.Prelude.{◌≤◌};
 
-use crate::rows::{COUNTING, R0, Verdict, failed_for, first_failure};
+use crate::rows::{COUNTING, R0, Verdict, failed, failed_for, first_failure};
 use chacha20::backends::Soft;
 use chacha20::cipher::{
     KeyIvInit, RngBackend, StreamCipherBackend, StreamCipherCounter, StreamCipherSeekCore,
@@ -49,21 +49,18 @@ static START_STATE: [u32; 16] = [
     0x61707865, 0x3320646e, 0x79622d32, 0x6b206574, 1, 2, 3, 4, 5, 6, 7, 8, START, 9, 10, 11,
 ];
 
-// The first of nine single blocks that isn't the plain backend's, or after which the state isn't.
-fn wrong_single_block<R: Rounds, V: Variant, B: StreamCipherBackend<R, V>>() -> Option<usize> {
+// Nine single blocks, and the state after them.
+fn single_blocks<R: Rounds, V: Variant, B: StreamCipherBackend<R, V>>() -> (
+    [[u8; 64]; 9],
+    [u32; 16],
+) {
     let mut steps = Steps::new();
-    let mut plain_state = START_STATE;
     let mut state = START_STATE;
-    for place in 0..9usize {
-        let mut plain = [0; 64];
-        let mut block = [1; 64];
-        <Soft as StreamCipherBackend<R, V>>::gen_ks_block(&mut plain_state, &mut plain, &mut steps);
-        B::gen_ks_block(&mut state, &mut block, &mut steps);
-        if (block, state) != (plain, plain_state) {
-            return Some(place);
-        }
+    let mut blocks = [[1; 64]; 9];
+    for block in &mut blocks {
+        B::gen_ks_block(&mut state, block, &mut steps);
     }
-    None
+    (blocks, state)
 }
 
 // The shortest tail whose blocks aren't the plain backend's, or after which the state isn't.
@@ -87,21 +84,15 @@ fn wrong_tail<R: Rounds, V: Variant, B: StreamCipherBackend<R, V>>() -> Option<u
     None
 }
 
-// The first of two calls for a generator's words whose words aren't the plain backend's, or after which the state isn't.
-fn wrong_words<R: Rounds, B: RngBackend<R>>() -> Option<usize> {
+// The words of two calls for a generator's, and the state after them.
+fn two_words<R: Rounds, B: RngBackend<R>>() -> ([[u32; 64]; 2], [u32; 16]) {
     let mut steps = Steps::new();
-    let mut plain_state = START_STATE;
     let mut state = START_STATE;
-    for call in 0..2usize {
-        let mut plain = [0; 64];
-        let mut words = [1; 64];
-        <Soft as RngBackend<R>>::gen_ks_blocks(&mut plain_state, &mut plain, &mut steps);
-        B::gen_ks_blocks(&mut state, &mut words, &mut steps);
-        if (words, state) != (plain, plain_state) {
-            return Some(call);
-        }
+    let mut words = [[1; 64]; 2];
+    for four_blocks in &mut words {
+        B::gen_ks_blocks(&mut state, four_blocks, &mut steps);
     }
-    None
+    (words, state)
 }
 
 // What goes wrong in cores beside those over the plain backend, in either layout: the number of blocks.
@@ -122,17 +113,21 @@ where
     ])
 }
 
-// What goes wrong in the calls of a backend: the number of the block, the length of the tail, or the number of the call.
+// What goes wrong in the calls of a backend; of tails, the length.
 fn wrong_calls<R: Rounds, B>() -> Verdict
 where
     B: StreamCipherBackend<R, Ietf> + StreamCipherBackend<R, Legacy> + RngBackend<R>,
 {
+    let single = single_blocks::<R, Ietf, B>() == single_blocks::<R, Ietf, Soft>();
+    let legacy = single_blocks::<R, Legacy, B>() == single_blocks::<R, Legacy, Soft>();
+    let words = two_words::<R, B>() == two_words::<R, Soft>();
     first_failure(&[
-        failed_for("single block", wrong_single_block::<R, Ietf, B>()),
-        failed_for("legacy single block", wrong_single_block::<R, Legacy, B>()),
+        failed(
+            "single blocks in both layouts, and words",
+            &[single, legacy, words],
+        ),
         failed_for("tail", wrong_tail::<R, Ietf, B>()),
         failed_for("legacy tail", wrong_tail::<R, Legacy, B>()),
-        failed_for("words", wrong_words::<R, B>()),
     ])
 }
 

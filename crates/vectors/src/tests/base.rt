@@ -1,8 +1,6 @@
 //! What `chacha20` doesn't export of `chacha_base`: the quarter round, and words as bytes; and counters in rows. Tests
 //! within `chacha_base` would cost a second proof of it.
 
-use super::all_right;
-use crate::rows::failed;
 use chacha_base::bytes::{read_words, write_bytes, xor_bytes};
 use chacha_base::rounds::{Steps, quarter_round};
 use chacha_base::variants::{Ietf, Legacy, StreamCipherCounter, Variant};
@@ -63,11 +61,11 @@ fn counts_in_rows() -> bool {
 
 #[test]
 fn base(rt: HostRuntime) {
-    let right = failed(&[
-        ("a quarter round of words", mixes_words()),
-        ("a quarter round of a state", mixes_state()),
-        ("words as bytes", puts_the_low_byte_first()),
-        ("counters in rows", counts_in_rows()),
-    ]);
-    all_right(&rt, &[("chacha_base", right)]);
+    let right = [
+        mixes_words(),
+        mixes_state(),
+        puts_the_low_byte_first(),
+        counts_in_rows(),
+    ];
+    assert!(rt; right == [true; 4]);
 }

@@ -2,13 +2,11 @@
 
 ghost use Rattle.std.specs.Prelude.{◌≤◌};
 
-use super::direct::all_done;
-use crate::rows::ciphers::SeekCore;
+use super::direct::{Fresh, all_done};
 use crate::rows::lists::Listed;
 use crate::rows::{COUNTING, Verdict, failed_for};
-use chacha20::cipher::{KeyIvInit, StreamCipherCounter};
 use chacha20::rand_core::{Rng, SeedableRng};
-use chacha20::{CipherCall, Seed, StreamCipherCoreWrapper};
+use chacha20::{CipherCall, Seed};
 
 // Whether one cipher takes back what the other gives, over ten blocks and a last part of 63 bytes, of which both take so
 // many bytes at first.
@@ -43,12 +41,10 @@ fn wrong_length<A: Listed, B: Listed>(cipher: &mut A, other: &mut B) -> Option<u
     None
 }
 
-/// The same of new ciphers over two cores.
-pub fn wrong_beside<N, T: StreamCipherCounter, A: SeekCore<N, T>, B: SeekCore<N, T>>(
-    nonce: &N,
-) -> Verdict {
-    let mut cipher = StreamCipherCoreWrapper::<A>::new(&COUNTING, nonce);
-    let mut other = StreamCipherCoreWrapper::<B>::new(&COUNTING, nonce);
+/// The same of two new ciphers.
+pub fn wrong_beside<N, A: Fresh<N>, B: Fresh<N>>(nonce: &N) -> Verdict {
+    let mut cipher = A::fresh(&COUNTING, nonce);
+    let mut other = B::fresh(&COUNTING, nonce);
     failed_for(
         "a cipher beside another",
         wrong_length(&mut cipher, &mut other),

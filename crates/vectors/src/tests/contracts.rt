@@ -9,6 +9,7 @@ ghost use Rattle.chacha20.specs.Limit.{limit_of};
 ghost use Rattle.chacha20.specs.XChaCha.{subkey, subnonce};
 ghost use Rattle.chacha20.specs.Counts.{Grows, for_bytes};
 
+use super::readme;
 use super::streams::{IETF_FROM_64, LEGACY, NONCE, X_KEY, X_NONCE, XCHACHA_FROM_64};
 use crate::rows::{COUNTING, FROM_1, LEGACY_NONCE};
 use chacha20::backends::{Lanes4, Lanes8, Lanes16, Rows8, Soft};
@@ -18,7 +19,7 @@ use chacha20::cipher::{
 };
 use chacha20::variants::{Ietf, Legacy, Variant};
 use chacha20::{
-    ChaCha20, ChaCha20Legacy, ChaChaCore, Key, LegacyNonce, Nonce, R20, Rounds, Steps,
+    ChaCha20Legacy, ChaChaCore, Key, LegacyNonce, Nonce, R20, Rounds, Steps,
     StreamCipherCoreWrapper, XChaCha20, XChaChaCore, XNonce, hchacha,
 };
 
@@ -37,16 +38,6 @@ fn encrypt<C: KeyIvInit + StreamCipher + Drop>(
     ensures refused { OnErr result (message.new ≡ message.old) }
 {
     C::new(key, nonce).try_apply_keystream(message)
-}
-
-// A message under a key and a nonce, as RFC 8439 has it.
-fn encrypt_ietf(key: &Key, nonce: &Nonce, message: &mut [u8]) -> Result<(), StreamCipherError>
-    ensures accepted { IsOk result ↔ (length message.old ≤ 274877906944) }
-    ensures bytes { OnOk result (message.new
-        ≡ xor_stream (keystream (2 ^ 32) (block 10 ietf key.now nonce.now)) 0 message.old) }
-    ensures refused { OnErr result (message.new ≡ message.old) }
-{
-    encrypt::<ChaCha20>(key, nonce, message)
 }
 
 // A message under a key and a nonce. No message is too long for a new cipher.
@@ -78,7 +69,9 @@ fn encrypted(rt: HostRuntime) {
     let mut ietf = [0; 178];
     let mut legacy = [0; 256];
     let mut x = [0; 368];
-    assert!(rt; encrypt_ietf(&COUNTING, &NONCE, &mut ietf).is_ok() && ietf.ends_with(IETF_FROM_64));
+    assert!(rt;
+        readme::encrypt(&COUNTING, &NONCE, &mut ietf).is_ok() && ietf.ends_with(IETF_FROM_64)
+    );
     assert!(rt; encrypt_legacy(&FROM_1, &LEGACY_NONCE, &mut legacy).is_ok() && legacy == *LEGACY);
     assert!(rt; encrypt_xchacha(&X_KEY, &X_NONCE, &mut x).is_ok() && x.ends_with(XCHACHA_FROM_64));
 }

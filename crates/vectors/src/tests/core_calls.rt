@@ -1,13 +1,12 @@
 //! Calls on a core alone.
 
-use super::all_right;
-use crate::rows::{COUNTING, R0, Verdict, failed};
-use chacha20::backends::{Lanes16, Soft};
+use crate::rows::ciphers::SeekCore;
+use crate::rows::{COUNTING, R0, Verdict, failed, failed_for};
 use chacha20::cipher::{
     KeyIvInit, StreamCipherBackend, StreamCipherCore, StreamCipherCounter, StreamCipherSeekCore,
 };
 use chacha20::variants::{Ietf, Legacy, Variant};
-use chacha20::{ChaCha20LegacyCore, ChaChaCore, R20, Steps, XChaChaCore};
+use chacha20::{ChaChaCore, Steps};
 
 /// What is wrong with the blocks of a core of zeros.
 pub fn wrong_zeros<B: StreamCipherBackend<R0, Ietf>>() -> Verdict {
@@ -17,10 +16,10 @@ pub fn wrong_zeros<B: StreamCipherBackend<R0, Ietf>>() -> Verdict {
     core.write_keystream_blocks(&mut blocks);
     let mut second = [0; 64];
     second[48] = 2;
-    failed(&[
-        ("two blocks of zeros", blocks == [[0; 64], second]),
-        ("the position after them", core.get_block_pos() == 2),
-    ])
+    failed(
+        "two blocks of zeros, and the position after them",
+        &[blocks == [[0; 64], second], core.get_block_pos() == 2],
+    )
 }
 
 // The block with the greatest counter counts. 2^64 blocks are more than a number of blocks says.
@@ -32,17 +31,10 @@ fn remaining_blocks(rt: HostRuntime) {
         Legacy::remaining_blocks(1),
         Legacy::remaining_blocks(u64::MAX),
     ];
-    let right = failed(&[
-        ("of 32 bits", of_ietf == [Some(4294967296), Some(1)]),
-        (
-            "of 64 bits",
-            of_legacy == [None, Some(18446744073709551615), Some(1)],
-        ),
-    ]);
-    all_right(&rt, &[("remaining blocks", right)]);
+    let right = of_ietf == [Some(4294967296), Some(1)]
+        && of_legacy == [None, Some(18446744073709551615), Some(1)];
+    assert!(rt; right);
 }
-
-type PlainCore = ChaChaCore<R20, Ietf, Soft>;
 
 // Four single blocks.
 fn single_blocks<C: StreamCipherCore>(core: &mut C) -> [[u8; 64]; 4] {
@@ -83,44 +75,63 @@ fn applied_and_counted<C: StreamCipherCore>(core: &mut C) -> [[u8; 64]; 4] {
     blocks
 }
 
-// Whether calls for four blocks from a counter on give four single blocks, and move as far.
-fn wrong_blocks<C: StreamCipherSeekCore>(core: &mut C, start: C::Counter, end: u64) -> Verdict {
-    core.set_block_pos(start);
-    let single = single_blocks(core);
-    let moved = core.get_block_pos().to_u64() == end;
-    core.set_block_pos(start);
-    let written = written_at_once(core) == single && core.get_block_pos().to_u64() == end;
-    core.set_block_pos(start);
-    let applied = applied_at_once(core) == single && core.get_block_pos().to_u64() == end;
-    core.set_block_pos(start);
-    let counted = applied_and_counted(core) == single && core.get_block_pos().to_u64() == end;
-    failed(&[
-        ("single blocks", moved),
-        ("written at once", written),
-        ("applied at once", applied),
-        ("applied and counted", counted),
-    ])
+// By which calls four blocks come.
+#[derive(Clone, Copy)]
+enum By {
+    Single,
+    Written,
+    Applied,
+    Counted,
 }
 
-// At the start, over 2^32, and with a nonce of 24 bytes, where blocks of another backend come after them.
-#[test]
-fn blocks_at_once(rt: HostRuntime) {
-    let mut core = PlainCore::new(&COUNTING, &[7; 12]);
-    let mut legacy = ChaCha20LegacyCore::new(&COUNTING, &[7; 8]);
-    let mut x = XChaChaCore::<R20, Lanes16>::new(&COUNTING, &[7; 24]);
-    let mut plain_x = XChaChaCore::<R20, Soft>::new(&COUNTING, &[7; 24]);
-    all_right(
-        &rt,
-        &[
-            ("12 bytes", wrong_blocks(&mut core, 0, 4)),
-            (
-                "8 bytes",
-                wrong_blocks(&mut legacy, 0xffff_ffff, 0x1_0000_0003),
-            ),
-            ("24 bytes", wrong_blocks(&mut x, 0, 4)),
-        ],
-    );
-    assert!(rt; single_blocks(&mut x) == after_four(&mut plain_x));
+fn four_blocks<C: StreamCipherCore>(core: &mut C, by: By) -> [[u8; 64]; 4] {
+    match by {
+        By::Single => single_blocks(core),
+        By::Written => written_at_once(core),
+        By::Applied => applied_at_once(core),
+        By::Counted => applied_and_counted(core),
+    }
+}
+
+// The first kind of calls for four blocks that doesn't give four single ones, or doesn't move as far.
+fn wrong_kind<C: StreamCipherSeekCore>(core: &mut C, start: C::Counter, end: u64) -> Option<usize> {
+    core.set_block_pos(start);
+    let single = single_blocks(core);
+    for (number, by) in [By::Single, By::Written, By::Applied, By::Counted]
+        .iter()
+        .enumerate()
+    {
+        core.set_block_pos(start);
+        if four_blocks(core, *by) != single || core.get_block_pos().to_u64() != end {
+            return Some(number);
+        }
+    }
+    None
+}
+
+/// What is wrong with calls of a new core for the four blocks from a counter on.
+pub fn wrong_blocks<N, T: StreamCipherCounter, K: SeekCore<N, T>>(
+    nonce: &N,
+    start: T,
+    end: u64,
+) -> Verdict {
+    let mut core = K::new(&COUNTING, nonce);
+    failed_for(
+        "four blocks by other calls",
+        wrong_kind(&mut core, start, end),
+    )
+}
+
+/// What is wrong with blocks 4 to 7 of a core, beside those of another one.
+pub fn wrong_beside<N, T: StreamCipherCounter, A: SeekCore<N, T>, B: SeekCore<N, T>>(
+    nonce: &N,
+) -> Verdict {
+    let mut core = A::new(&COUNTING, nonce);
+    let mut other = B::new(&COUNTING, nonce);
+    failed(
+        "blocks beside another core's",
+        &[after_four(&mut core) == after_four(&mut other)],
+    )
 }
 
 // The four blocks after the first four.

@@ -480,7 +480,7 @@ fn wrong_ends<C: Listed>(cipher: &mut C, start: u128, last: &[[u8; 64]; 33]) -> 
         failed_for("last bytes written", written),
         failed_for("last bytes between slices", between),
         failed_for("so many bytes left", rest),
-        failed(&[("an ended cipher goes on", goes_on)]),
+        failed("an ended cipher goes on", &[goes_on]),
     ])
 }
 
@@ -509,11 +509,10 @@ pub fn wrong_ietf_types<C: SeekCipher<Nonce>>() -> Verdict
     cipher.seek(2147483647i32);
     let at = is_at::<C, i32>(&cipher, Some(2147483647));
     let _ = cipher.try_apply_keystream(&mut [0]);
-    failed(&[
-        ("the greatest length", far),
-        ("31 bits", at),
-        ("one more", is_at::<C, i32>(&cipher, None)),
-    ])
+    failed(
+        "the greatest length, 31 bits, and one more",
+        &[far, at, is_at::<C, i32>(&cipher, None)],
+    )
 }
 
 /// Positions of 64 bits and of a length, and past them, in their own types.
@@ -524,15 +523,15 @@ pub fn wrong_legacy_types<C: SeekCipher<LegacyNonce>>() -> Verdict
     cipher.seek(usize::MAX);
     let at = is_at::<C, u64>(&cipher, Some(18446744073709551615));
     let _ = cipher.try_apply_keystream(&mut [0]);
-    failed(&[
-        ("64 bits", at),
-        ("one more in 64 bits", is_at::<C, u64>(&cipher, None)),
-        ("one more as a length", is_at::<C, usize>(&cipher, None)),
-        (
-            "one more",
+    failed(
+        "64 bits; one more in 64 bits, as a length, and in 128",
+        &[
+            at,
+            is_at::<C, u64>(&cipher, None),
+            is_at::<C, usize>(&cipher, None),
             is_at::<C, u128>(&cipher, Some(18446744073709551616)),
-        ),
-    ])
+        ],
+    )
 }
 
 // Last blocks as OpenSSL 3.0.19 makes them: `openssl enc -chacha20` of zeros, under the key 00 to 1f with the iv ffffffff

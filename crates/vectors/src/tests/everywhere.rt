@@ -1,4 +1,4 @@
-//! Every test of a kind of cipher or generator, over each backend and a user's own. A proof meets each named core once, here.
+//! Every test of a kind of cipher or generator, over each backend and a user's own. A proof meets each core once, here.
 
 ghost use Rattle.std.specs.Prelude.{◌≤◌, ◌^◌};
 
@@ -15,15 +15,18 @@ use crate::rows::ciphers::{
 };
 use crate::rows::lists::{CipherList, wrong_list};
 use crate::rows::{
-    COUNTING, FROM_1, LEGACY_NONCE, R0, Verdict, cores, failed, failed_check, first_failure,
+    COUNTING, FROM_1, LEGACY_NONCE, R0, Verdict, cores, failed, first_failure,
     generators as row_generators,
 };
 use chacha20::backends::{Lanes4, Lanes8, Lanes16, Rows8, Soft};
-use chacha20::cipher::{RngBackend, StreamCipherBackend};
+use chacha20::cipher::{
+    RngBackend, StreamCipherBackend, StreamCipherCounter, StreamCipherSeekCore,
+};
+use chacha20::rand_core::SeedableRng;
 use chacha20::variants::{Ietf, Legacy};
 use chacha20::{
-    ChaChaCore, ChaChaRng, Key, LegacyNonce, Nonce, R8, R12, R20, Rounds, StreamCipherCoreWrapper,
-    XChaChaCore, XNonce,
+    ChaChaCore, ChaChaRng, Key, LegacyNonce, Nonce, R8, R12, R20, Rounds, Seed,
+    StreamCipherCoreWrapper, XChaChaCore, XNonce,
 };
 
 type Cipher<K> = StreamCipherCoreWrapper<K>;
@@ -48,17 +51,7 @@ fn wrong_rows<N, C: Fresh<N>>(key: &Key, nonce: &N, rows: &[NumberedLists]) -> V
 }
 
 // A cipher of RFC 8439 with 20 rounds.
-fn wrong_ietf<C: SeekCipher<Nonce>>() -> Verdict
-    requires { 2 ^ 32 ≤ C.limit }
-{
-    first_failure(&[
-        ends::wrong_ietf_types::<C>(),
-        positions::wrong_positions::<C>(),
-        records::wrong_records::<C>(),
-    ])
-}
-
-fn wrong_ietf_lists<C: Fresh<Nonce>>() -> Verdict {
+fn wrong_ietf<C: Fresh<Nonce>>() -> Verdict {
     first_failure(&[
         wrong_rows::<Nonce, C>(&COUNTING, &NONCE_4, &IETF_ROWS),
         wrong_lists::<Nonce, C>(&[0x42; 32], &[0x24; 12], &runs::ROW_1),
@@ -68,21 +61,13 @@ fn wrong_ietf_lists<C: Fresh<Nonce>>() -> Verdict {
     ])
 }
 
-fn wrong_ietf_core<K: SeekCore<Nonce, u32>>() -> Verdict {
-    let mut rows = [None; 24];
-    let _ = ciphers::enter_ietf_rows::<K>(&mut rows);
-    first_failure(&[
-        first_wrong_row(&rows),
-        wrong_ietf::<Cipher<K>>(),
-        wrong_ietf_lists::<Cipher<K>>(),
-    ])
-}
-
 // A cipher in the layout before it.
-fn wrong_legacy_lists<C: Fresh<LegacyNonce>>() -> Verdict {
+fn wrong_legacy<C: Fresh<LegacyNonce>>() -> Verdict {
     let mut cipher = C::fresh(&FROM_1, &LEGACY_NONCE);
+    let place = legacy_stream(&mut Directly(&mut cipher), 17);
     let direct = ends::wrong_legacy_groups(&mut Directly(&mut cipher));
     first_failure(&[
+        failed("the legacy stream", &[place.is_none()]),
         wrong_rows::<LegacyNonce, C>(&FROM_1, &LEGACY_NONCE, &LEGACY_ROWS),
         wrong_lists::<LegacyNonce, C>(&FROM_1, &LEGACY_NONCE, &ends::LEGACY_ENDS),
         direct,
@@ -91,44 +76,17 @@ fn wrong_legacy_lists<C: Fresh<LegacyNonce>>() -> Verdict {
     ])
 }
 
-fn wrong_legacy_core<K: SeekCore<LegacyNonce, u64>>() -> Verdict {
-    if wrong_place::<K>(17).is_some() {
-        return failed_check("the legacy stream");
-    }
-    let mut rows = [None; 24];
-    ciphers::enter_legacy_rows::<K>(&mut rows);
-    first_failure(&[
-        first_wrong_row(&rows),
-        ends::wrong_legacy_types::<Cipher<K>>(),
-        wrong_legacy_lists::<Cipher<K>>(),
-    ])
-}
-
-// The legacy stream between places that are multiples of a step.
-fn wrong_place<K: SeekCore<LegacyNonce, u64>>(step: usize) -> Option<[usize; 3]> {
-    legacy_stream(
-        &mut Directly(&mut Cipher::<K>::fresh(&FROM_1, &LEGACY_NONCE)),
-        step,
-    )
-}
-
 // A cipher with nonces of 24 bytes.
-fn wrong_x_lists<C: Fresh<XNonce>>() -> Verdict {
+fn wrong_x<C: Fresh<XNonce>>() -> Verdict {
     let stream = stream_ends(&mut C::fresh(&X_KEY, &X_NONCE), 368, XCHACHA_FROM_64);
     first_failure(&[
         wrong_rows::<XNonce, C>(&X_KEY, &X_NONCE, &X_ROWS),
-        failed(&[("XChaCha20's stream", stream)]),
+        failed("XChaCha20's stream", &[stream]),
         odd_cuts::wrong_cuts::<XNonce, C>(&[7; 24]),
     ])
 }
 
-fn wrong_x_core<K: SeekCore<XNonce, u32>>() -> Verdict {
-    let mut rows = [None; 24];
-    ciphers::enter_x_rows::<K>(&mut rows);
-    first_failure(&[first_wrong_row(&rows), wrong_x_lists::<Cipher<K>>()])
-}
-
-// Ciphers without rounds.
+// A cipher without rounds.
 fn wrong_zero<C: Fresh<Nonce>>() -> Verdict {
     let mut cipher = C::fresh(&[0; 32], &[0; 12]);
     let direct = ends::wrong_zero_groups(&mut Directly(&mut cipher));
@@ -139,9 +97,73 @@ fn wrong_zero<C: Fresh<Nonce>>() -> Verdict {
     ])
 }
 
-// At their ends both kinds are the same: the first and the last row of a block have no word of the key.
-fn zero_ends_of_core<N, K: SeekCore<N, u32>>(nonce: &N) -> Verdict {
-    wrong_lists::<N, Cipher<K>>(&[0; 32], nonce, &ends::ZERO_ENDS)
+// A core, and the cipher over it, beside another one.
+fn wrong_beside_core<N, T: StreamCipherCounter, K: SeekCore<N, T>, P: SeekCore<N, T>>(
+    nonce: &N,
+) -> Verdict {
+    first_failure(&[
+        wrong_beside::<N, Cipher<K>, Cipher<P>>(nonce),
+        core_calls::wrong_beside::<N, T, K, P>(nonce),
+    ])
+}
+
+// Ciphers of RFC 8439 over a core, and over another one, which hands out the same blocks.
+fn wrong_ietf_core<K: SeekCore<Nonce, u32>, P: SeekCore<Nonce, u32>>() -> Verdict {
+    let mut rows = [None; 24];
+    let _ = ciphers::enter_ietf_rows::<K>(&mut rows);
+    first_failure(&[
+        first_wrong_row(&rows),
+        wrong_ietf_calls::<Cipher<K>>(),
+        wrong_ietf::<Cipher<K>>(),
+        core_calls::wrong_blocks::<Nonce, u32, K>(&[7; 12], 0, 4),
+        wrong_beside_core::<Nonce, u32, K, P>(&[7; 12]),
+    ])
+}
+
+// What lists have no calls for: positions in other types, and calls that leave refusals to the caller.
+fn wrong_ietf_calls<C: SeekCipher<Nonce>>() -> Verdict
+    requires { 2 ^ 32 ≤ C.limit }
+{
+    first_failure(&[
+        ends::wrong_ietf_types::<C>(),
+        positions::wrong_positions::<C>(),
+        records::wrong_records::<C>(),
+    ])
+}
+
+fn wrong_legacy_core<K: SeekCore<LegacyNonce, u64>, P: SeekCore<LegacyNonce, u64>>() -> Verdict {
+    let mut rows = [None; 24];
+    ciphers::enter_legacy_rows::<K>(&mut rows);
+    first_failure(&[
+        first_wrong_row(&rows),
+        ends::wrong_legacy_types::<Cipher<K>>(),
+        wrong_legacy::<Cipher<K>>(),
+        core_calls::wrong_blocks::<LegacyNonce, u64, K>(&[7; 8], 0xffff_ffff, 0x1_0000_0003),
+        wrong_beside_core::<LegacyNonce, u64, K, P>(&LEGACY_NONCE),
+    ])
+}
+
+fn wrong_x_core<K: SeekCore<XNonce, u32>, P: SeekCore<XNonce, u32>>() -> Verdict {
+    let mut rows = [None; 24];
+    ciphers::enter_x_rows::<K>(&mut rows);
+    first_failure(&[
+        first_wrong_row(&rows),
+        wrong_x::<Cipher<K>>(),
+        core_calls::wrong_blocks::<XNonce, u32, K>(&[7; 24], 0, 4),
+        wrong_beside_core::<XNonce, u32, K, P>(&[7; 24]),
+    ])
+}
+
+// Beside ciphers over the plain backend, which hand out the blocks of the RFC one by one.
+fn with_20_rounds<B>() -> Verdict
+where
+    B: StreamCipherBackend<R20, Ietf> + StreamCipherBackend<R20, Legacy>,
+{
+    first_failure(&[
+        wrong_ietf_core::<ChaChaCore<R20, Ietf, B>, ChaChaCore<R20, Ietf, Soft>>(),
+        wrong_legacy_core::<ChaChaCore<R20, Legacy, B>, ChaChaCore<R20, Legacy, Soft>>(),
+        wrong_x_core::<XChaChaCore<R20, B>, XChaChaCore<R20, Soft>>(),
+    ])
 }
 
 // Both kinds with other numbers of rounds.
@@ -156,41 +178,38 @@ fn cuts_of_core<N, K: SeekCore<N, u32>>(nonce: &N) -> Verdict {
     odd_cuts::wrong_cuts::<N, Cipher<K>>(nonce)
 }
 
+// At their ends both kinds are the same: the first and the last row of a block have no word of the key.
+fn wrong_zero_ends<N, C: Fresh<N>>(nonce: &N) -> Verdict {
+    wrong_lists::<N, C>(&[0; 32], nonce, &ends::ZERO_ENDS)
+}
+
+// Each kind without rounds.
+fn wrong_zero_cores<I, L, X>() -> Verdict
+where
+    I: SeekCore<Nonce, u32>,
+    L: SeedableRng<Seed = Seed> + StreamCipherSeekCore<Counter = u64> + Drop,
+    X: SeekCore<XNonce, u32>,
+{
+    first_failure(&[
+        wrong_zero::<Cipher<I>>(),
+        wrong_zero_ends::<Nonce, Cipher<I>>(&[0; 12]),
+        wrong_zero_ends::<XNonce, Cipher<X>>(&[0; 24]),
+        cores::row_13::<I, L>(),
+        wraps::wrong_core::<I, L>(),
+    ])
+}
+
 fn without_rounds<B>() -> Verdict
 where
     B: StreamCipherBackend<R0, Ietf> + StreamCipherBackend<R0, Legacy> + RngBackend<R0>,
 {
     first_failure(&[
-        wrong_zero::<Cipher<ChaChaCore<R0, Ietf, B>>>(),
-        zero_ends_of_core::<Nonce, ChaChaCore<R0, Ietf, B>>(&[0; 12]),
-        zero_ends_of_core::<XNonce, XChaChaCore<R0, B>>(&[0; 24]),
-        wrong_cores::<B>(),
-    ])
-}
-
-fn with_20_rounds<B>() -> Verdict
-where
-    B: StreamCipherBackend<R20, Ietf> + StreamCipherBackend<R20, Legacy>,
-{
-    first_failure(&[
-        wrong_ietf_core::<ChaChaCore<R20, Ietf, B>>(),
-        wrong_legacy_core::<ChaChaCore<R20, Legacy, B>>(),
-        wrong_x_core::<XChaChaCore<R20, B>>(),
-        wrong_beside_soft::<B>(),
-    ])
-}
-
-// Beside ciphers over the plain backend, which hand out the blocks of the RFC one by one.
-fn wrong_beside_soft<B>() -> Verdict
-where
-    B: StreamCipherBackend<R20, Ietf> + StreamCipherBackend<R20, Legacy>,
-{
-    first_failure(&[
-        wrong_beside::<_, _, ChaChaCore<R20, Ietf, B>, ChaChaCore<R20, Ietf, Soft>>(&[7; 12]),
-        wrong_beside::<_, _, ChaChaCore<R20, Legacy, B>, ChaChaCore<R20, Legacy, Soft>>(
-            &LEGACY_NONCE,
-        ),
-        wrong_beside::<_, _, XChaChaCore<R20, B>, XChaChaCore<R20, Soft>>(&[7; 24]),
+        wrong_zero_cores::<
+            ChaChaCore<R0, Ietf, B>,
+            ChaChaCore<R0, Legacy, B>,
+            XChaChaCore<R0, B>,
+        >(),
+        core_calls::wrong_zeros::<B>(),
     ])
 }
 
@@ -211,18 +230,6 @@ where
         generator_runs::wrong_lists::<B>(),
         wraps::wrong_generator::<B>(),
         beside::wrong_fill::<ChaChaRng<R20, B>, ChaChaRng<R20, Soft>>(),
-    ])
-}
-
-// Cores without rounds.
-fn wrong_cores<B>() -> Verdict
-where
-    B: StreamCipherBackend<R0, Ietf> + StreamCipherBackend<R0, Legacy> + RngBackend<R0>,
-{
-    first_failure(&[
-        cores::row_13::<ChaChaCore<R0, Ietf, B>, ChaChaCore<R0, Legacy, B>>(),
-        core_calls::wrong_zeros::<B>(),
-        wraps::wrong_core::<B>(),
     ])
 }
 
@@ -278,6 +285,14 @@ fn lanes16(rt: HostRuntime) {
 #[test]
 fn width3(rt: HostRuntime) {
     all_right(&rt, &[("Width3", over::<Width3>())]);
+}
+
+// The legacy stream between places that are multiples of a step.
+fn wrong_place<K: SeekCore<LegacyNonce, u64>>(step: usize) -> Option<[usize; 3]> {
+    legacy_stream(
+        &mut Directly(&mut Cipher::<K>::fresh(&FROM_1, &LEGACY_NONCE)),
+        step,
+    )
 }
 
 // The legacy stream between all places.

@@ -2,6 +2,7 @@
 
 use super::streams::{CARRY_BLOCKS, ZERO_SEED_WORDS};
 use crate::rows::R0;
+use chacha_base::bytes::write_bytes;
 use chacha20::backends::Soft;
 use chacha20::rand_core::SeedableRng;
 use chacha20::variants::Legacy;
@@ -60,12 +61,10 @@ fn words_from(core: &mut ChaCha20LegacyCore, counter: u64) -> [u32; 64] {
 }
 
 // Whether words begin with these bytes.
-fn begin_with(words: &[u32; 64], bytes: &[u8; 192]) -> bool {
-    let mut right = true;
-    for (word, four) in words.iter().zip(bytes.chunks_exact(4)) {
-        right &= word.to_le_bytes().as_slice() == four;
-    }
-    right
+fn begin_with(words: &[u32; 64], first: &[u8; 192]) -> bool {
+    let mut bytes = [0; 256];
+    write_bytes(words, &mut bytes);
+    bytes.starts_with(first)
 }
 
 // The block with the greatest counter, and then the first; a counter whose low word is full; and the position after each.
@@ -79,9 +78,13 @@ fn four_blocks_of_20_rounds(rt: HostRuntime) {
     let with_carry = words_from(&mut core, 0xffff_ffff);
     let positions = [after_first, after_the_end, core.get_block_pos()];
     assert!(rt; positions == [4, 3, 0x1_0000_0003]);
-    assert!(rt; first.starts_with(&ZERO_SEED_WORDS) && begin_with(&with_carry, CARRY_BLOCKS));
-    assert!(rt; over_the_end.starts_with(&LAST_WORDS));
-    assert!(rt; over_the_end[16..].starts_with(&ZERO_SEED_WORDS));
+    let right = [
+        first.starts_with(&ZERO_SEED_WORDS),
+        begin_with(&with_carry, CARRY_BLOCKS),
+        over_the_end.starts_with(&LAST_WORDS),
+        over_the_end[16..].starts_with(&ZERO_SEED_WORDS),
+    ];
+    assert!(rt; right == [true; 4]);
 }
 
 static LAST_WORDS: [u32; 4] = [0xd88c_91d7, 0x32f8_0c62, 0xc052_2653, 0x53a5_014c];

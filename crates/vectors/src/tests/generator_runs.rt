@@ -25,14 +25,16 @@ pub fn wrong_run<B: RngBackend<R0>>() -> Verdict {
     let mut data = [0; 5];
     rng.fill_bytes(&mut data);
     let rng = ZeroGenerator::<B>::deserialize_state(&rng.serialize_state());
-    failed(&[
-        ("two words", words == 0x0000_0002_0000_0006),
-        ("the positions after them", positions == (16, 1)),
-        ("bytes", data == *b"\xca\xf0\xe0\xc2\xdc"),
-        ("the word position at the end", rng.get_word_pos() == 18),
-        ("the block position at the end", rng.get_block_pos() == 1),
-        ("the stream", rng.get_stream() == STREAM),
-    ])
+    let end = (rng.get_word_pos(), rng.get_block_pos(), rng.get_stream());
+    failed(
+        "direct calls: two words, positions, bytes, and the end",
+        &[
+            words == 0x0000_0002_0000_0006,
+            positions == (16, 1),
+            data == *b"\xca\xf0\xe0\xc2\xdc",
+            end == (18, 1, STREAM),
+        ],
+    )
 }
 
 // One after another on a generator of a zero seed. What the run leaves, a list after it sets anew. The state is that of

@@ -16,22 +16,15 @@ fn reads<G: Rng>(rng: &mut G) -> (u32, u64, [u8; 5], u32) {
     (word, two_words, bytes, rng.next_u32())
 }
 
-fn try_reads<G: TryRng>(
-    rng: &mut G,
-) -> (Option<u32>, Option<u64>, bool, [u8; 5], bool, Option<u32>) {
-    let word = rng.try_next_u32().ok();
-    let two_words = rng.try_next_u64().ok();
+// Whether the same list, none of whose reads is refused, gives these.
+fn tries<G: TryRng>(rng: &mut G, word: u32, two_words: u64, five: [u8; 5], last: u32) -> bool {
     let mut bytes = [0; 5];
-    let filled = rng.try_fill_bytes(&mut bytes).is_ok();
-    let filled_none = rng.try_fill_bytes(&mut []).is_ok();
-    (
-        word,
-        two_words,
-        filled,
-        bytes,
-        filled_none,
-        rng.try_next_u32().ok(),
-    )
+    rng.try_next_u32().ok() == Some(word)
+        && rng.try_next_u64().ok() == Some(two_words)
+        && rng.try_fill_bytes(&mut bytes).is_ok()
+        && bytes == five
+        && rng.try_fill_bytes(&mut []).is_ok()
+        && rng.try_next_u32().ok() == Some(last)
 }
 
 /// What is wrong with the worked reads of a generator without rounds.
@@ -40,16 +33,13 @@ pub fn wrong_reads<B: RngBackend<R0>>() -> Verdict {
     let mut other = ChaChaRng::<R0, B>::from_seed([0; 32]);
     let bytes = *b"\xe8\xca\x40\xd6\x00";
     let (word, two_words) = (0xc2e0_f0ca, 0xf2c4_5a64_6640_c8dc);
-    failed(&[
-        (
-            "reads through Rng",
+    failed(
+        "reads through Rng and TryRng",
+        &[
             reads(&mut rng) == (word, two_words, bytes, 0),
-        ),
-        (
-            "reads through TryRng",
-            try_reads(&mut other) == (Some(word), Some(two_words), true, bytes, true, Some(0)),
-        ),
-    ])
+            tries(&mut other, word, two_words, bytes, 0),
+        ],
+    )
 }
 
 // Two reads of 13 bytes.
@@ -76,13 +66,11 @@ pub fn wrong_row_7<B: RngBackend<R20>>() -> Verdict {
     let mut rng = ChaChaRng::<R20, B>::from_seed(FROM_1);
     let mut other = ChaChaRng::<R20, B>::from_seed(FROM_1);
     let right = fills(&mut rng) == expected && try_fills(&mut other) == (expected, [true; 2]);
-    failed(&[
-        ("row 7 through Rng and TryRng", right),
-        (
-            "the positions after it",
-            [rng.get_word_pos(), other.get_word_pos()] == [8; 2],
-        ),
-    ])
+    let positions = [rng.get_word_pos(), other.get_word_pos()];
+    failed(
+        "row 7 through Rng and TryRng, and the positions after it",
+        &[right, positions == [8; 2]],
+    )
 }
 
 // A generator that another one seeds.
@@ -97,8 +85,8 @@ fn row_17(rt: HostRuntime) {
     );
     let word = first.next_u32();
     let mut second = seeded_by(&mut first);
-    assert!(rt; [word, second.next_u32()] == [137206642, 1325750369]);
-    assert!(rt; first.get_word_pos() == 9);
+    let words = [word, second.next_u32()];
+    assert!(rt; words == [137206642, 1325750369] && first.get_word_pos() == 9);
 }
 
 // Whether the generator of a number is that of the seed that rand_core makes of it.
@@ -118,12 +106,15 @@ fn core_is_of_seed(number: u64) -> bool {
 #[test]
 fn seed_from_u64(rt: HostRuntime) {
     for number in [0, 1, 0x0123_4567_89ab_cdef, u64::MAX] {
-        let right = failed(&[
-            ("8 rounds", is_of_seed::<ChaCha8Rng>(number)),
-            ("12 rounds", is_of_seed::<ChaCha12Rng>(number)),
-            ("20 rounds", is_of_seed::<ChaCha20Rng>(number)),
-            ("a core's block", core_is_of_seed(number)),
-        ]);
+        let right = failed(
+            "8, 12 and 20 rounds, and a core's block",
+            &[
+                is_of_seed::<ChaCha8Rng>(number),
+                is_of_seed::<ChaCha12Rng>(number),
+                is_of_seed::<ChaCha20Rng>(number),
+                core_is_of_seed(number),
+            ],
+        );
         all_right(&rt, &[("the seed of a number", right)]);
     }
 }

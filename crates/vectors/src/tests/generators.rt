@@ -12,12 +12,15 @@ pub fn wrong_reads<B: RngBackend<R0>>() -> Verdict {
     let mut bytes = [0; 5];
     rng.fill_bytes(&mut bytes);
     rng.fill_bytes(&mut []);
-    failed(&[
-        ("a word", word == 0xc2e0_f0ca),
-        ("two words", two_words == 0xf2c4_5a64_6640_c8dc),
-        ("bytes", bytes == *b"\xe8\xca\x40\xd6\x00"),
-        ("the word after them", rng.next_u32() == 0),
-    ])
+    failed(
+        "a word, two words, bytes, and the word after them",
+        &[
+            word == 0xc2e0_f0ca,
+            two_words == 0xf2c4_5a64_6640_c8dc,
+            bytes == *b"\xe8\xca\x40\xd6\x00",
+            rng.next_u32() == 0,
+        ],
+    )
 }
 
 // The first bytes of a zero seed are those of the cipher with a zero key (draft-strombergson-chacha-test-vectors, TC1,

@@ -37,13 +37,16 @@ fn in_type<C: StreamCipherSeek, T: SeekNum + PartialEq + Copy>(
 }
 
 fn in_types<C: StreamCipherSeek>(cipher: &mut C, place: u64) -> Verdict {
-    failed(&[
-        ("in i32", in_type(cipher, place, i32::try_from(place).ok())),
-        ("in u32", in_type(cipher, place, u32::try_from(place).ok())),
-        ("in u64", in_type(cipher, place, Some(place))),
-        ("in u128", in_type(cipher, place, Some(u128::from(place)))),
-        ("in usize", in_type(cipher, place, Some(place as usize))),
-    ])
+    failed(
+        "positions in i32, u32, u64, u128 and usize",
+        &[
+            in_type(cipher, place, i32::try_from(place).ok()),
+            in_type(cipher, place, u32::try_from(place).ok()),
+            in_type(cipher, place, Some(place)),
+            in_type(cipher, place, Some(u128::from(place))),
+            in_type(cipher, place, Some(place as usize)),
+        ],
+    )
 }
 
 fn wrong_places<C: StreamCipherSeek>(cipher: &mut C) -> Verdict {
@@ -107,12 +110,15 @@ fn without_refusals<C: SeekCipher<Nonce>>() -> Verdict
     cipher.seek(0i32);
     let mut between = [9; 2];
     cipher.apply_keystream_b2b(&[0, 0], &mut between);
-    failed(&[
-        ("written", written == *b"\x76\xb8\xe0\xad"),
-        ("the position after four bytes", after_written == 4),
-        ("applied", applied == *b"\xe0\xad"),
-        ("between slices", between == *b"\x76\xb8"),
-    ])
+    failed(
+        "calls without refusals: written, the position after it, applied, and between slices",
+        &[
+            written == *b"\x76\xb8\xe0\xad",
+            after_written == 4,
+            applied == *b"\xe0\xad",
+            between == *b"\x76\xb8",
+        ],
+    )
 }
 
 /// What is wrong with positions of a cipher.
@@ -124,7 +130,7 @@ pub fn wrong_positions<C: SeekCipher<Nonce>>() -> Verdict
     let same = gives_the_same(&mut Directly(&mut cipher)) && gives_the_same(&mut cipher);
     first_failure(&[
         places,
-        failed(&[("the same bytes", same)]),
+        failed("the same bytes", &[same]),
         without_refusals::<C>(),
     ])
 }

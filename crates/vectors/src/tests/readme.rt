@@ -7,10 +7,9 @@ ghost use Rattle.chacha20.specs.Layout.{ietf};
 
 use chacha20::cipher::{KeyIvInit, StreamCipher, StreamCipherError, StreamCipherSeek};
 use chacha20::{ChaCha20, ChaCha20Rng, Key, Nonce};
-use std::test::Fail;
 
 // A message under a key and a nonce, as RFC 8439 has it.
-fn encrypt(key: &Key, nonce: &Nonce, message: &mut [u8]) -> Result<(), StreamCipherError>
+pub fn encrypt(key: &Key, nonce: &Nonce, message: &mut [u8]) -> Result<(), StreamCipherError>
     ensures accepted { IsOk result ↔ (length message.old ≤ 274877906944) }
     ensures bytes { OnOk result (message.new
         ≡ xor_stream (keystream (2 ^ 32) (block 10 ietf key.now nonce.now)) 0 message.old) }
@@ -36,30 +35,34 @@ fn apply_next(cipher: &mut ChaCha20, message: &mut [u8]) -> bool {
 }
 
 #[test]
-fn with_contracts(rt: HostRuntime) -> Result<(), Fail> {
+fn with_contracts(rt: HostRuntime) {
     let mut message = *b"attack at dawn";
-    encrypt(&[0x42; 32], &[0x24; 12], &mut message)?;
-    // What `openssl enc -chacha20` makes of it.
-    assert!(rt; message == [133, 112, 20, 12, 40, 124, 16, 213, 27, 39, 138, 66, 72, 77]);
-
+    let accepted = encrypt(&[0x42; 32], &[0x24; 12], &mut message).is_ok();
+    let encrypted = message;
     encrypt_short(&[0x42; 32], &[0x24; 12], &mut message);
-    assert!(rt; message == *b"attack at dawn");
-    assert!(rt; apply_next(&mut ChaCha20::new(&[0x42; 32], &[0x24; 12]), &mut message));
-    assert!(rt; message != *b"attack at dawn");
+    let decrypted = message;
+    let applied = apply_next(&mut ChaCha20::new(&[0x42; 32], &[0x24; 12]), &mut message);
+    assert!(rt; accepted && encrypted == ENCRYPTED);
+    assert!(rt; decrypted == *b"attack at dawn" && applied && message == ENCRYPTED);
+}
+
+// What `openssl enc -chacha20` makes of the message.
+static ENCRYPTED: [u8; 14] = [133, 112, 20, 12, 40, 124, 16, 213, 27, 39, 138, 66, 72, 77];
+
+// A part of a message from byte 500 on.
+fn apply_from_500(message: &mut [u8; 1000]) -> Result<(), StreamCipherError> {
+    let mut cipher = ChaCha20::new(&[1; 32], &[2; 12]);
+    cipher.try_seek(500u32)?;
+    cipher.try_apply_keystream(&mut message[500..])?;
     Ok(())
 }
 
 #[test]
-fn into_the_middle(rt: HostRuntime) -> Result<(), Fail> {
+fn into_the_middle(rt: HostRuntime) {
     let mut whole = [7; 1000];
     let mut message = whole;
-    encrypt(&[1; 32], &[2; 12], &mut whole)?;
-
-    let mut cipher = ChaCha20::new(&[1; 32], &[2; 12]);
-    cipher.try_seek(500u32)?;
-    cipher.try_apply_keystream(&mut message[500..])?;
-    assert!(rt; whole[500..] == message[500..]);
-    Ok(())
+    assert!(rt; encrypt(&[1; 32], &[2; 12], &mut whole).is_ok());
+    assert!(rt; apply_from_500(&mut message).is_ok() && whole[500..] == message[500..]);
 }
 
 #[test]

@@ -40,19 +40,17 @@ fn as_a_whole<S: StreamCipherSeek>(cipher: &mut S) -> Verdict {
         accepted &= encrypt_record(cipher, k, record).is_ok();
     }
     let encrypted = file;
-    failed(&[
-        ("all records are taken", accepted),
-        ("they are the whole", encrypted == whole),
-        (
-            "a record past the end",
-            encrypt_record(cipher, u64::MAX, &mut file) == Err(StreamCipherError),
-        ),
-        ("it stays", file == encrypted),
-        (
-            "the position after it",
+    let past_the_end = encrypt_record(cipher, u64::MAX, &mut file) == Err(StreamCipherError);
+    failed(
+        "records, which are the whole; one past the end, which stays, and the position after it",
+        &[
+            accepted,
+            encrypted == whole,
+            past_the_end,
+            file == encrypted,
             cipher.try_current_pos() == Ok(200u32),
-        ),
-    ])
+        ],
+    )
 }
 
 /// What is wrong with records of a file under a new cipher.

@@ -25,13 +25,13 @@ pub fn wrong_example<C: Fresh<Nonce>>() -> Verdict {
             return failed_check("a block of appendix A.1");
         }
     }
-    failed(&[
-        ("the message of section 2.4.2", encrypts::<C>()),
-        (
-            "the RFC's stream",
+    failed(
+        "the message of section 2.4.2, and its stream",
+        &[
+            encrypts::<C>(),
             stream_ends(&mut C::fresh(&COUNTING, &NONCE), 178, IETF_FROM_64),
-        ),
-    ])
+        ],
+    )
 }
 
 static CIPHERTEXT: &[u8; 114] = b"\

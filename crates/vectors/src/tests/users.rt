@@ -5,12 +5,13 @@ ghost use Rattle.chacha20.specs.Layout.{ietf};
 ghost use Rattle.chacha20.specs.Block.{block};
 ghost use Rattle.chacha20.specs.Keystream.{keystream, xor_stream};
 
+use super::readme::encrypt;
 use chacha20::backends::{Lanes8, Lanes16, Soft};
 use chacha20::cipher::{
     KeyIvInit, RngBackend, StreamCipher, StreamCipherBackend, StreamCipherError,
 };
 use chacha20::variants::Ietf;
-use chacha20::{ChaCha20, ChaChaCore, ChaChaRng, Key, Nonce, R20, Rounds, StreamCipherCoreWrapper};
+use chacha20::{ChaChaCore, ChaChaRng, Key, Nonce, R20, Rounds, StreamCipherCoreWrapper};
 
 // Three double rounds. Clauses see the number that stands behind `ghost`; the code has the constant.
 #[derive(Clone, Copy)]
@@ -43,16 +44,17 @@ fn own_rounds(rt: HostRuntime) {
     assert!(rt; there && back && encrypted != message && message == *b"attack at dawn");
 }
 
-// A message under a key that a generator draws. One backend serves both: a bound for each kind.
+// A message under a key that a generator draws: the key, and whether the message is taken. One backend serves both: a bound
+// for each kind.
 fn encrypt_drawn<B: StreamCipherBackend<R20, Ietf> + RngBackend<R20>>(
     rng: &mut ChaChaRng<R20, B>,
     message: &mut [u8],
-) -> Result<Key, StreamCipherError> {
+) -> (Key, bool) {
     let mut key = [0; 32];
     rng.fill_bytes(&mut key);
     let mut cipher = StreamCipherCoreWrapper::<ChaChaCore<R20, Ietf, B>>::new(&key, &[0; 12]);
-    cipher.try_apply_keystream(message)?;
-    Ok(key)
+    let taken = cipher.try_apply_keystream(message).is_ok();
+    (key, taken)
 }
 
 // The same key and message over two backends, and `ChaCha20` takes the message back.
@@ -62,14 +64,9 @@ fn one_backend(rt: HostRuntime) {
     let mut other_message = message;
     let mut rng = ChaChaRng::<R20, Lanes8>::from_seed([1; 32]);
     let mut other_rng = ChaChaRng::<R20, Soft>::from_seed([1; 32]);
-    let key = encrypt_drawn(&mut rng, &mut message);
-    assert!(rt; key == encrypt_drawn(&mut other_rng, &mut other_message));
-    assert!(rt; message == other_message);
-    if let Ok(key) = key {
-        let decrypted = ChaCha20::new(&key, &[0; 12])
-            .try_apply_keystream(&mut message)
-            .is_ok();
-        assert!(rt; decrypted && other_message != message);
-    }
-    assert!(rt; message == *b"attack at dawn");
+    let (key, taken) = encrypt_drawn(&mut rng, &mut message);
+    let other = encrypt_drawn(&mut other_rng, &mut other_message);
+    let same = taken && other == (key, true) && message == other_message;
+    let decrypted = encrypt(&key, &[0; 12], &mut message).is_ok();
+    assert!(rt; same && decrypted && other_message != message && message == *b"attack at dawn");
 }

@@ -1,46 +1,37 @@
 //! Counters and positions that wrap, and states of any bytes, over each backend. Nothing here makes rounds, so that words
 //! can be computed by hand.
 
+use crate::rows::ciphers::SeekCore;
+use crate::rows::cores::last_row;
 use crate::rows::{R0, Verdict, failed, failed_for, first_failure};
-use chacha20::cipher::{
-    KeyIvInit, RngBackend, StreamCipherBackend, StreamCipherCounter, StreamCipherSeekCore,
-};
+use chacha20::cipher::{KeyIvInit, RngBackend, StreamCipherCounter, StreamCipherSeekCore};
 use chacha20::rand_core::SeedableRng;
-use chacha20::variants::{Ietf, Legacy};
-use chacha20::{ChaChaCore, ChaChaRng};
+use chacha20::{ChaChaRng, Nonce, Seed};
 
-// Bytes 48 to 55 of blocks 0, 2, 3 and 19 of twenty, and the position after them.
-type Ends = ([[u8; 8]; 4], u64);
+// The last rows of blocks 0, 2, 3 and 19 of twenty, and the position after them.
+type Ends = ([[u8; 16]; 4], u64);
 
-// Of twenty blocks at once from a counter on; nothing where any of bytes 56 to 63 isn't zero.
-fn ends<C: StreamCipherSeekCore>(core: &mut C, start: C::Counter) -> Option<Ends> {
+// Of twenty blocks at once from a counter on.
+fn ends<C: StreamCipherSeekCore>(core: &mut C, start: C::Counter) -> Ends {
     let mut blocks = [[1; 64]; 20];
     core.set_block_pos(start);
     core.write_keystream_blocks(&mut blocks);
-    let mut ends = [[0; 8]; 4];
-    let mut rest = [0; 8];
-    for (place, number) in [0, 2, 3, 19usize].iter().enumerate() {
-        if let (Some(end), Some(block)) = (ends.get_mut(place), blocks.get(*number)) {
-            end.copy_from_slice(&block[48..56]);
-            for i in 0..8usize {
-                rest[i] |= block[56 + i];
-            }
-        }
-    }
-    if rest == [0; 8] {
-        Some((ends, core.get_block_pos().to_u64()))
-    } else {
-        None
-    }
+    let rows = [
+        last_row(&blocks[0]),
+        last_row(&blocks[2]),
+        last_row(&blocks[3]),
+        last_row(&blocks[19]),
+    ];
+    (rows, core.get_block_pos().to_u64())
 }
 
 // A counter of 32 bits wraps to 0, and the nonce behind it stays.
 static IETF_WRAP: Ends = (
     [
-        *b"\xfa\xff\xff\xff\0\0\0\0",
-        *b"\xfe\xff\xff\xff\0\0\0\0",
-        *b"\0\0\0\0\0\0\0\0",
-        *b"\x20\0\0\0\0\0\0\0",
+        *b"\xfa\xff\xff\xff\0\0\0\0\0\0\0\0\0\0\0\0",
+        *b"\xfe\xff\xff\xff\0\0\0\0\0\0\0\0\0\0\0\0",
+        [0; 16],
+        *b"\x20\0\0\0\0\0\0\0\0\0\0\0\0\0\0\0",
     ],
     17,
 );
@@ -48,10 +39,10 @@ static IETF_WRAP: Ends = (
 // A counter of 64 bits carries into its high word.
 static LEGACY_CARRY: Ends = (
     [
-        *b"\xfa\xff\xff\xff\0\0\0\0",
-        *b"\xfe\xff\xff\xff\0\0\0\0",
-        *b"\0\0\0\0\x02\0\0\0",
-        *b"\x20\0\0\0\x02\0\0\0",
+        *b"\xfa\xff\xff\xff\0\0\0\0\0\0\0\0\0\0\0\0",
+        *b"\xfe\xff\xff\xff\0\0\0\0\0\0\0\0\0\0\0\0",
+        *b"\0\0\0\0\x02\0\0\0\0\0\0\0\0\0\0\0",
+        *b"\x20\0\0\0\x02\0\0\0\0\0\0\0\0\0\0\0",
     ],
     4294967313,
 );
@@ -59,32 +50,30 @@ static LEGACY_CARRY: Ends = (
 // And wraps to 0 as well.
 static LEGACY_WRAP: Ends = (
     [
-        *b"\xfa\xff\xff\xff\xfe\xff\xff\xff",
-        *b"\xfe\xff\xff\xff\xfe\xff\xff\xff",
-        *b"\0\0\0\0\0\0\0\0",
-        *b"\x20\0\0\0\0\0\0\0",
+        *b"\xfa\xff\xff\xff\xfe\xff\xff\xff\0\0\0\0\0\0\0\0",
+        *b"\xfe\xff\xff\xff\xfe\xff\xff\xff\0\0\0\0\0\0\0\0",
+        [0; 16],
+        *b"\x20\0\0\0\0\0\0\0\0\0\0\0\0\0\0\0",
     ],
     17,
 );
 
-/// What is wrong with twenty blocks of cores around the ends of counters.
-pub fn wrong_core<B>() -> Verdict
+/// What is wrong with twenty blocks of cores without rounds around the ends of counters.
+pub fn wrong_core<I, L>() -> Verdict
 where
-    B: StreamCipherBackend<R0, Ietf> + StreamCipherBackend<R0, Legacy> + RngBackend<R0>,
+    I: SeekCore<Nonce, u32>,
+    L: SeedableRng<Seed = Seed> + StreamCipherSeekCore<Counter = u64> + Drop,
 {
-    let mut ietf = ChaChaCore::<R0, Ietf, B>::new(&[0; 32], &[0; 12]);
-    let mut legacy = ChaChaCore::<R0, Legacy, B>::from_seed([0; 32]);
-    failed(&[
-        ("32 bits", ends(&mut ietf, u32::MAX - 2) == Some(IETF_WRAP)),
-        (
-            "64 bits, the low word",
-            ends(&mut legacy, 0xffff_fffd) == Some(LEGACY_CARRY),
-        ),
-        (
-            "64 bits",
-            ends(&mut legacy, u64::MAX - 2) == Some(LEGACY_WRAP),
-        ),
-    ])
+    let mut ietf = I::new(&[0; 32], &[0; 12]);
+    let mut legacy = L::from_seed([0; 32]);
+    failed(
+        "around the ends of 32 bits, of a low word, and of 64 bits",
+        &[
+            ends(&mut ietf, u32::MAX - 2) == IETF_WRAP,
+            ends(&mut legacy, 0xffff_fffd) == LEGACY_CARRY,
+            ends(&mut legacy, u64::MAX - 2) == LEGACY_WRAP,
+        ],
+    )
 }
 
 // How many word positions there are.

@@ -45,10 +45,13 @@ fn as_the_derived_ciphers(rt: HostRuntime) {
     let of_8 = stream_as_derived::<R8>();
     let of_12 = stream_as_derived::<R12>();
     let of_20 = stream_as_derived::<R20>();
-    let right = failed(&[
-        ("8 rounds", of_8.is_some() && of_8 != of_12),
-        ("12 rounds", of_12.is_some() && of_12 != of_20),
-        ("20 rounds", of_20.is_some() && of_20 != of_8),
-    ]);
+    let right = failed(
+        "8, 12 and 20 rounds",
+        &[
+            of_8.is_some() && of_8 != of_12,
+            of_12.is_some() && of_12 != of_20,
+            of_20.is_some() && of_20 != of_8,
+        ],
+    );
     all_right(&rt, &[("XChaCha", right)]);
 }
