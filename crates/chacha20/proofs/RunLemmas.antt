@@ -1,6 +1,6 @@
 -- Lists of calls that apply a keystream, and runs of any calls whose answers are written one after another.
 use Rattle.std.proofs.Common.{inl, inr, ◌≡◌, ℕ, ◌+◌, ◌-◌, ◌≤◌, List, [], ◌∷◌, ◌++◌, length, get_or, take, drop, ◌<◌, arith, refl, sym, ap, ap₂, subst, ◌∙◌, append_assoc, append-nil, length-drop}
-use Rattle.std.specs.Prelude.{sum, nat_le}
+use Rattle.std.specs.Prelude.{sum, nat_le, ◌==◌, ◌&&◌, ◌^◌, Bool, true, false, ℤ, pos, negsuc, ◌↔◌, Result, Ok, Err, Some, IsOk, OnOk, OnErr, IsSomeAnd, IfSome}
 use Rattle.std.specs.List.{AllByRecursion}
 use Rattle.std.proofs.Math.ListN.{set}
 use Rattle.std.proofs.lemmas.List.{take_all, take_more_set, drop_all, drop_more, drop-drop, length-take-le}
@@ -8,15 +8,22 @@ use Rattle.std.proofs.lemmas.Slice.{take-put_mid, drop-put_mid, between-put_mid}
 use borrow.Rule.Slice.PartMut.{put_same, same_len_mid, take_put}
 use Rattle.std.proofs.lemmas.List.Sums.{sum_by-cons}
 use Rattle.std.proofs.Math.Seq.{take-add}
-use Rattle.std.proofs.lemmas.Bool.{le-leb, leb-true, cases_Bool}
+use Rattle.std.specs.Bool.{Decides}
+use Rattle.std.proofs.lemmas.Bool.{le-leb, leb-true, cases_Bool, false≢true}
+use Rattle.std.proofs.lemmas.Int.{to_z-of_z}
+use mir.Val.{to_z, of_z}
+use mir.Syntax.{w32}
+use Rattle.std.proofs.lemmas.Bool.Decides.{Decides-and, Decides-eqb, Decides-like}
 use Rattle.chacha_base.specs.Cipher.{Cipher}
 use Rattle.chacha_base.specs.Keystream.{xor_stream}
+use Rattle.chacha_base.specs.SeekNum.{signed_position}
+use Rattle.chacha_base.proofs.CipherLemmas.{on_err}
 use Rattle.chacha_base.proofs.KeystreamLemmas.{xor_stream-append, xor_stream-xor_stream, length-xor_stream}
 use Rattle.chacha20.specs.declared.runs.CipherCall.{CipherCall}
-use Rattle.chacha20.specs.declared.runs.CipherCall.TheVariants.{Apply, Seek}
+use Rattle.chacha20.specs.declared.runs.CipherCall.TheVariants.{CheckRemaining, Apply, ApplyFrom, Seek, SeekI32, PosI32}
 use Rattle.chacha20.specs.declared.runs.CipherAnswer.{CipherAnswer}
-use Rattle.chacha20.specs.declared.runs.CipherAnswer.TheVariants.{Done, Refused}
-use Rattle.chacha20.specs.Runs.{Setting, CipherOutcome, part, put, cipher_outcome, cipher_run, InSlices, pieces}
+use Rattle.chacha20.specs.declared.runs.CipherAnswer.TheVariants.{Done, Refused, PositionI32}
+use Rattle.chacha20.specs.Runs.{Setting, CipherOutcome, part, put, done_if, cipher_outcome, cipher_run, InSlices, pieces}
 
 -- a range as its front and what follows
 part-add : (at len more : ℕ) (xs : List ℕ) → part at (len + more) xs ≡ part at len xs ++ part (at + len) more xs
@@ -44,6 +51,76 @@ put-next at len more ys zs xs inside size =
     ∙ append_assoc (take at xs) ys (zs ++ drop more (drop len (drop at xs)))
     ∙ ap (λ t. take at xs ++ t) (sym (append_assoc ys zs (drop more (drop len (drop at xs))))
     ∙ ap (λ t. (ys ++ zs) ++ t) (drop-drop more len (drop at xs)))
+
+-- what is left of a call that is accepted where the test says yes
+outcome-is : {E : Type 0} {P : Type 0} (test : Bool) (r : Result (Unit {0}) E) (c d : Cipher) (bytes new : List ℕ) (p : ℕ) (after : List ℕ) (a : CipherAnswer)
+    → Decides test P → IsOk r ↔ P → OnOk r (a ≡ Done) → OnErr r (a ≡ Refused) → OnOk r (d ≡ record c { position = p }) → OnOk r (new ≡ after)
+    → OnErr r ((new ≡ bytes) × (d ≡ c)) → done_if test c bytes p after ≡ record { answer = a; cipher = d; bytes = new }
+outcome-is true (Ok x) c d bytes new p after a tells accepted done refused moved written kept =
+    λ i. record { answer = sym done i; cipher = sym moved i; bytes = sym written i }
+outcome-is false (Ok x) c d bytes new p after a tells accepted done refused moved written kept = absurd (false≢true (tells.1 (accepted.0 refl)))
+outcome-is true (Err e) c d bytes new p after a tells accepted done refused moved written kept = absurd (false≢true (accepted.1 (tells.0 refl)))
+outcome-is false (Err e) c d bytes new p after a tells accepted done refused moved written kept =
+    λ i. record { answer = sym refused i; cipher = sym kept.1 i; bytes = sym kept.0 i }
+
+on_ok : {T E P : Type 0} (r : Result T E) → P → OnOk r P
+on_ok (Ok x) holds = holds
+on_ok (Err e) holds = tt
+
+pub check_remaining-is : {E : Type 0} (s : Setting) (c : Cipher) (bytes : List ℕ) (len : ℕ) (r : Result (Unit {0}) E) (a : CipherAnswer)
+    → IsOk r ↔ (c.position + len ≤ s.limit) → OnOk r (a ≡ Done) → OnErr r (a ≡ Refused)
+    → cipher_outcome s c bytes (CheckRemaining len) ≡ record { answer = a; cipher = c; bytes = bytes }
+check_remaining-is s c bytes len r a accepted done refused =
+    outcome-is (nat_le (c.position + len) s.limit) r c c bytes bytes c.position bytes a (leb-true _ _, le-leb _ _) accepted done refused (on_ok r refl) (on_ok r refl)
+    (on_err r (refl, refl))
+
+lengths-Decides : (a b p limit m n : ℕ) → m ≡ a → n ≡ b → Decides ((a == b) && nat_le (p + b) limit) ((m ≡ n) × (p + m ≤ limit))
+lengths-Decides a b p limit m n same same' =
+    Decides-like _ (λ both. (same ∙ both.0 ∙ sym same', omega (arith, both.0, both.1))) (λ both. (sym same ∙ both.0 ∙ same', omega (arith, both.0, both.1)))
+    (Decides-and _ _ (Decides-eqb a b) (leb-true (p + b) limit, le-leb (p + b) limit))
+
+-- the input that is read, of k bytes, and the range that is written, of l
+pub apply_from-is : {E : Type 0} (s : Setting) (c d : Cipher) (bytes new : List ℕ) (from from_len at len k l : ℕ) (r : Result (Unit {0}) E) (a : CipherAnswer)
+    → k ≡ from_len → l ≡ len → from + from_len ≤ length s.input → at + len ≤ length bytes
+    → IsOk r ↔ ((length (take k (drop from s.input)) ≡ length (take l (drop at bytes))) × (c.position + length (take k (drop from s.input)) ≤ s.limit))
+    → OnOk r (new ≡ xor_stream (s.stream c.fixed) c.position (take k (drop from s.input)))
+    → OnOk r (d ≡ record c { position = c.position + length (take k (drop from s.input)) })
+    → OnErr r ((new ≡ take l (drop at bytes)) × (d ≡ c)) → OnOk r (a ≡ Done) → OnErr r (a ≡ Refused)
+    → cipher_outcome s c bytes (ApplyFrom from from_len at len) ≡ record { answer = a; cipher = d; bytes = put at l new bytes }
+apply_from-is {E} s c d bytes new from from_len at len k l (Ok x) a read wrote inside outside accepted written moved kept done refused =
+    let ins = ap (λ n. length (take n (drop from s.input))) read ∙ length-part from from_len s.input inside in
+    let outs = ap (λ n. length (take n (drop at bytes))) wrote ∙ length-part at len bytes outside in
+    let stream = s.stream c.fixed in
+    outcome-is {E = E} ((from_len == len) && nat_le (c.position + len) s.limit) (Ok x) c d bytes (put at l new bytes) (c.position + len)
+    (put at len (xor_stream stream c.position (part from from_len s.input)) bytes) a (lengths-Decides from_len len c.position s.limit _ _ ins outs) accepted done refused
+    (moved ∙ ap (λ n. record c { position = c.position + n }) ((accepted.0 refl).0 ∙ outs))
+    (ap₂ (λ n ys. put at n ys bytes) wrote (written ∙ ap (λ n. xor_stream stream c.position (take n (drop from s.input))) read)) tt
+apply_from-is {E} s c d bytes new from from_len at len k l (Err e) a read wrote inside outside accepted written moved kept done refused =
+    let ins = ap (λ n. length (take n (drop from s.input))) read ∙ length-part from from_len s.input inside in
+    let outs = ap (λ n. length (take n (drop at bytes))) wrote ∙ length-part at len bytes outside in
+    outcome-is {E = E} ((from_len == len) && nat_le (c.position + len) s.limit) (Err e) c d bytes (put at l new bytes) (c.position + len)
+    (put at len (xor_stream (s.stream c.fixed) c.position (part from from_len s.input)) bytes) a (lengths-Decides from_len len c.position s.limit _ _ ins outs) accepted done
+    refused tt tt (ap (λ ys. put at l ys bytes) kept.0 ∙ put_same at l bytes, kept.1)
+
+pub seek_i32-is : {E : Type 0} (s : Setting) (c d : Cipher) (bytes : List ℕ) (z : ℤ) (r : Result (Unit {0}) E) (a : CipherAnswer)
+    → IsOk r ↔ IsSomeAnd (signed_position z) (λ p. p ≤ s.limit) → OnOk r (IfSome (signed_position z) (λ p. d ≡ record c { position = p })) → OnErr r (d ≡ c)
+    → OnOk r (a ≡ Done) → OnErr r (a ≡ Refused)
+    → cipher_outcome s c bytes (SeekI32 z) ≡ record { answer = a; cipher = d; bytes = bytes }
+seek_i32-is {E} s c d bytes (pos p) (Ok x) a accepted moved kept done refused =
+    outcome-is {E = E} (nat_le p s.limit) (Ok x) c d bytes bytes p bytes a (leb-true _ _, le-leb _ _) accepted done refused moved refl tt
+seek_i32-is {E} s c d bytes (pos p) (Err e) a accepted moved kept done refused =
+    outcome-is {E = E} (nat_le p s.limit) (Err e) c d bytes bytes p bytes a (leb-true _ _, le-leb _ _) accepted done refused tt tt (refl, kept)
+seek_i32-is s c d bytes (negsuc p) (Ok x) a accepted moved kept done refused = absurd (accepted.0 refl)
+seek_i32-is s c d bytes (negsuc p) (Err e) a accepted moved kept done refused =
+    λ i. record { answer = sym refused i; cipher = sym kept i; bytes = bytes }
+
+pub pos_i32-is : (s : Setting) (c : Cipher) (bytes : List ℕ) (z : ℤ) → c.position ≤ 2 ^ 31 - 1 → signed_position z ≡ Some c.position
+    → cipher_outcome s c bytes PosI32 ≡ record { answer = PositionI32 (to_z w32 (of_z w32 z)); cipher = c; bytes = bytes }
+pos_i32-is s c bytes (pos p) fits is =
+    let same : c.position ≡ p = cc in
+    let number : pos c.position ≡ to_z w32 (of_z w32 (pos p)) = ap pos same ∙ sym (to_z-of_z w32 (pos p) (record { sfits = omega arith })) in
+    rw (le-leb c.position (2 ^ 31 - 1) fits) (ap (λ (z : ℤ). record { answer = PositionI32 z; cipher = c; bytes = bytes }) number)
+pos_i32-is s c bytes (negsuc p) fits is = absurd (cc)
 
 -- an application that is accepted
 accepted-apply : (s : Setting) (c : Cipher) (bytes : List ℕ) (at len : ℕ) → c.position + len ≤ s.limit

@@ -1,5 +1,42 @@
-use Rattle.std.proofs.Common.{◌≡◌, ◌≤◌, ◌^◌, false, true, inl, inr, arith}
+use Rattle.std.proofs.Common.{◌≡◌, ◌≤◌, ◌^◌, false, true, inl, inr, refl, sym, ap, ◌∙◌, arith, rules}
+use Rattle.std.proofs.lemmas.Int.{to_z-of_z}
+use mir.Val.{SFits, to_z, of_z}
+use mir.Syntax.{w32}
+use Rattle.chacha20.specs.declared.runs.CipherCall.TheVariants.{SeekI32}
+use Rattle.chacha20.specs.Runs.{setting, cipher_outcome}
+use Rattle.chacha20.proofs.RunLemmas.{check_remaining-is, apply_from-is, seek_i32-is, pos_i32-is}
 use Rattle.chacha20.proofs.runs.call_cipher.Goals as goal
+
+pub returns-in-CheckRemaining : goal.returns-in-CheckRemaining
+returns-in-CheckRemaining g c =
+    let s = setting g.C.Keystream.modulus g.C.Keystream.block_at c.args.input.now in
+    ap (cipher_outcome s c.args.cipher.now c.args.data.now) c.in-CheckRemaining.is
+    ∙ check_remaining-is s c.args.cipher.now c.args.data.now c.in-CheckRemaining.len c.check_remaining.result _ c.check_remaining.ensures.accepted c.answer.ensures.done
+    c.answer.ensures.refused
+
+pub returns-in-ApplyFrom : goal.returns-in-ApplyFrom
+returns-in-ApplyFrom g c =
+    let s = setting g.C.Keystream.modulus g.C.Keystream.block_at c.args.input.now in
+    let inside = rw c.in-ApplyFrom.is at c.requires in
+    ap (cipher_outcome s c.args.cipher.now c.args.data.now) c.in-ApplyFrom.is
+    ∙ apply_from-is s c.args.cipher.now _ c.args.data.now _ c.in-ApplyFrom.from c.in-ApplyFrom.from_len c.in-ApplyFrom.at c.in-ApplyFrom.len _ _
+    c.try_apply_keystream_b2b.result _ (omega arith) (omega arith) inside.0 inside.1 c.try_apply_keystream_b2b.ensures.accepted c.try_apply_keystream_b2b.ensures.bytes
+    c.try_apply_keystream_b2b.ensures.moved c.try_apply_keystream_b2b.ensures.refused c.answer-in-ApplyFrom.ensures.done c.answer-in-ApplyFrom.ensures.refused
+
+pub returns-in-SeekI32 : goal.returns-in-SeekI32
+returns-in-SeekI32 g c =
+    let s = setting g.C.Keystream.modulus g.C.Keystream.block_at c.args.input.now in
+    let fits : SFits w32 c.in-SeekI32.position = search rules in
+    ap (cipher_outcome s c.args.cipher.now c.args.data.now) (c.in-SeekI32.is ∙ ap SeekI32 (sym (to_z-of_z w32 c.in-SeekI32.position fits)))
+    ∙ seek_i32-is s c.args.cipher.now _ c.args.data.now (to_z w32 (of_z w32 c.in-SeekI32.position)) c.try_seek-in-SeekI32.result _ c.try_seek-in-SeekI32.ensures.accepted
+    c.try_seek-in-SeekI32.ensures.moved c.try_seek-in-SeekI32.ensures.refused c.answer-in-SeekI32.ensures.done c.answer-in-SeekI32.ensures.refused
+
+pub returns-in-Ok-try_current_pos : goal.returns-in-Ok-try_current_pos
+returns-in-Ok-try_current_pos g c =
+    let s = setting g.C.Keystream.modulus g.C.Keystream.block_at c.args.input.now in
+    ap (cipher_outcome s c.args.cipher.now c.args.data.now) c.in-PosI32.is
+    ∙ pos_i32-is s c.args.cipher.now c.args.data.now c.in-Ok-try_current_pos.position (c.in-Ok-try_current_pos.ensures.accepted.0 refl)
+    c.in-Ok-try_current_pos.ensures.value
 
 -- a position fits 128 bits, since there are at most 2 ^ 64 counters
 pub returns-in-Err : goal.returns-in-Err
