@@ -1,9 +1,9 @@
 -- Start states whose key and nonce are read back from their words, and the generators that they stand for.
 use Rattle.std.proofs.Common.{◌≡◌, ℕ, zero, suc, ◌+◌, ◌*◌, ◌-◌, ◌/◌, ◌%◌, ◌^◌, ◌<◌, List, [], ◌∷◌, ◌++◌, length, take, slice_index, arith, refl, sym, ap, ap₂, subst, ◌∙◌}
 use Rattle.std.proofs.lemmas.List.{take_at, drop_at, length-append, length-take-le}
-use Rattle.std.proofs.lemmas.Nat.{and_mask, from_le_bytes-to_le_bytes_4}
+use Rattle.std.proofs.lemmas.Nat.{and_mask, or_shifted, from_le_bytes-to_le_bytes_4}
 use Rattle.std.specs.Int.{w64, to_le_bytes, from_le_bytes}
-use Rattle.std.specs.Prelude.{bit_and, slice_set}
+use Rattle.std.specs.Prelude.{bit_and, bit_or, slice_set}
 use Rattle.chacha_base.specs.Bytes.{word_bytes, bytes, words}
 use Rattle.chacha_base.specs.Block.{constants, start}
 use Rattle.chacha_base.specs.Layout.{legacy}
@@ -68,6 +68,18 @@ nonce_written s x long fits =
     each 16 (λ t. slice_set (slice_set t 14 (bit_and x (2 ^ 32 - 1))) 15 (x / 2 ^ 32) ≡ take 14 t ++ (bit_and x (2 ^ 32 - 1) ∷ x / 2 ^ 32 ∷ []))
     (λ x0 x1 x2 x3 x4 x5 x6 x7 x8 x9 x10 x11 x12 x13 x14 x15. refl) s long
     ∙ ap (λ ws. take 14 s ++ ws) (ap (λ l. l ∷ x / 2 ^ 32 ∷ []) (and_mask x 32) ∙ sym (words-to_le_bytes x fits))
+
+-- the last two words, read as a number
+pub stream_read : (s : List ℕ) (low high : ℕ) → length s ≡ 16 → low ≡ slice_index s 14 → high ≡ slice_index s 15 → low < 2 ^ 32 → high < 2 ^ 32
+    → bit_or (high * 2 ^ 32 % 2 ^ 64) low ≡ stream_in (fixed_words legacy s)
+stream_read s low high long low_is high_is low_fits high_fits =
+    let whole : high * 2 ^ 32 % 2 ^ 64 ≡ high * 2 ^ 32 = omega arith in
+    let joined : bit_or (high * 2 ^ 32 % 2 ^ 64) low ≡ low + 2 ^ 32 * high = ap (λ t. bit_or t low) whole ∙ or_shifted high 32 low low_fits ∙ omega arith in
+    joined
+    ∙ sym (from_le_bytes-bytes low high low_fits high_fits)
+    ∙ ap₂ (λ l h. from_le_bytes w64 (bytes (l ∷ h ∷ []))) low_is high_is
+    ∙ each 16 (λ t. from_le_bytes w64 (bytes (slice_index t 14 ∷ slice_index t 15 ∷ [])) ≡ stream_in (fixed_words legacy t))
+    (λ x0 x1 x2 x3 x4 x5 x6 x7 x8 x9 x10 x11 x12 x13 x14 x15. refl) s long
 
 -- the seed and the stream of the fixed words of a start state
 seed_in-start : (seed nonce : List ℕ) → length seed ≡ 32 → Bytes seed → seed_in (constants ++ words seed ++ words nonce) ≡ seed

@@ -24,6 +24,16 @@ pub two_written_length : (seed stream : List ℕ) → length seed ≡ 32 → len
 two_written_length seed stream long eight =
     ap length (two_written seed stream long) ∙ simp length-append (omega arith)
 
+-- the 8 zeros behind one part, and those behind two
+pub length-free : (seed : List ℕ) → length seed ≡ 32 → length (take 8 (drop 32 (seed ++ replicate 17 0))) ≡ 8
+length-free seed long = ap (λ t. length (take 8 t)) (drop_at seed (replicate 17 0) 32 long)
+
+pub length-free-behind : (seed stream : List ℕ) → length seed ≡ 32 → length stream ≡ 8
+    → length (take 8 (drop 40 (put_mid 32 8 (seed ++ replicate 17 0) stream))) ≡ 8
+length-free-behind seed stream long eight =
+    let s = put_mid 32 8 (seed ++ replicate 17 0) stream in
+    length-take-le 8 (drop 40 s) (omega (arith, length-drop 40 s, two_written_length seed stream long eight))
+
 state_written : (seed stream low : List ℕ) (top : ℕ) → length seed ≡ 32 → length stream ≡ 8 → length low ≡ 8
     → set (put_mid 40 8 (put_mid 32 8 (seed ++ replicate 17 0) stream) low) 48 top ≡ seed ++ (stream ++ (low ++ top ∷ []))
 state_written seed stream low top long eight eight' =

@@ -1,9 +1,14 @@
 -- Arrays that are written part by part.
-use Rattle.std.proofs.Common.{◌≡◌, ℕ, List, ◌++◌, length, take, drop, replicate, refl, ap, ◌∙◌}
+use Rattle.std.proofs.Common.{◌≡◌, ℕ, ◌+◌, ◌*◌, ◌≤◌, List, ◌++◌, length, take, drop, replicate, arith, refl, sym, ap, ◌∙◌, length-drop}
+use Rattle.std.proofs.lemmas.List.{length-take-le}
 use borrow.Rule.Slice.PartMut.{put_mid}
 use Rattle.chacha_base.specs.Bytes.{bytes}
 use Rattle.chacha_base.proofs.ListLemmas.{each}
 use Rattle.chacha20.specs.XChaCha.{subnonce}
+
+-- a row of a state has room for 16 bytes
+pub length-row : (at : ℕ) (s : List ℕ) → length s ≡ 16 → at + 4 ≤ 16 → 16 ≡ 4 * length (take 4 (drop at s))
+length-row at s long inside = ap (λ n. 4 * n) (sym (length-take-le 4 (drop at s) (omega (arith, length-drop at s))))
 
 -- the bytes of a state's first and last row, written to the halves of 32 zeros
 pub rows_written : (s : List ℕ) → length s ≡ 16 → put_mid 16 16 (bytes (take 4 s) ++ replicate 16 0) (bytes (take 4 (drop 12 s))) ≡ bytes (take 4 s ++ drop 12 s)

@@ -188,7 +188,6 @@ impl<R: Rounds, B: RngBackend<R>> ChaChaRng<R, B> {
     }
 
     /// The state as 49 bytes, which give the generator again.
-    #[tactic(auto, using(crate::proofs::StateBytesLemmas::two_written_length))]
     pub fn serialize_state(&self) -> SerializedRngState
         ensures value { result ≡ state_bytes self.now }
         ensures restored { of_state_bytes result ≡ self.now }

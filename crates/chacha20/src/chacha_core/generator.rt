@@ -90,7 +90,6 @@ impl<R: Rounds, B> ChaChaCore<R, Legacy, B> {
     }
 
     // Sets the nonce. The other words stay.
-    #[tactic(auto, using(crate::proofs::GeneratorLemmas::nonce_written))]
     pub(crate) fn set_stream(&mut self, stream: u64)
         ensures { self.new ≡ take 14 self.old ++ words (to_le_bytes w64 stream) }
     {

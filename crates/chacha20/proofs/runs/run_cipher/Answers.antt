@@ -1,6 +1,6 @@
 use Rattle.std.proofs.Common.{◌∷◌, ◌+◌, drop, length, refl, ap, arith}
-use Rattle.std.proofs.lemmas.List.Elements.{recursion_from_All}
-use Rattle.chacha20.specs.Runs.{CipherOutcome, setting, cipher_run}
+use Rattle.std.proofs.lemmas.List.Elements.{All-get_or, recursion_from_All}
+use Rattle.chacha20.specs.Runs.{CipherOutcome, setting, cipher_run, InSlices}
 use Rattle.chacha20.proofs.RunLemmas.{run-more, run-all, law-seek_back, law-cut_anywhere}
 use Rattle.chacha20.proofs.runs.run_cipher.Goals as goal
 
@@ -26,3 +26,15 @@ returns-clause-cut_anywhere g c at lens these done =
     law-cut_anywhere s (length c.args.input.now) c.args.cipher.now c.calls.cipher c.args.data.now c.calls.data c.args.calls.now c.calls.answers at lens
     (run-all _ (cipher_run s c.calls.cipher c.calls.data) _ _ c.args.calls.now c.calls.answers c.calls.i refl c.calls.invariant (omega arith) (omega arith))
     (recursion_from_All _ c.args.calls.now c.requires.ranges) these done
+
+pub calls-init : goal.calls-init
+calls-init g c = refl
+
+pub call_cipher-requires : goal.call_cipher-requires
+call_cipher-requires g c =
+    rw c.calls.auto.data (All-get_or (InSlices (length c.args.input.now) (length c.args.data.now)) c.args.calls.now c.calls.i _ c.calls-test.true c.requires.ranges)
+
+pub returns-clause-run : goal.returns-clause-run
+returns-clause-run g c =
+    let s = setting g.C.Keystream.modulus g.C.Keystream.block_at c.args.input.now in
+    run-all _ (cipher_run s c.calls.cipher c.calls.data) _ _ c.args.calls.now c.calls.answers c.calls.i refl c.calls.invariant (omega arith) (omega arith)

@@ -1,11 +1,23 @@
-use Rattle.std.proofs.Common.{◌≡◌, ◌≤◌, ◌+◌, ◌-◌, ◌*◌, ◌/◌, ◌∙◌, length, ap, sym, arith, refl}
-use Rattle.std.proofs.lemmas.List.{take_all}
+use Rattle.std.proofs.Common.{◌≡◌, ℕ, List, ◌≤◌, ◌<◌, ◌+◌, ◌-◌, ◌*◌, ◌/◌, ◌%◌, ◌∙◌, min, length, take, drop, ap, sym, arith, refl, length-drop}
+use Rattle.std.proofs.lemmas.List.{take_all, length-take-le}
 use borrow.Rule.Slice.PartMut.{mid_of}
 use Rattle.chacha_base.specs.Bytes.{bytes}
 use Rattle.chacha_base.specs.Keystream.{stream_part}
 use Rattle.chacha20.specs.Generator.{GeneratorState, at_word_pos, word}
 use Rattle.chacha20.proofs.ReadLemmas.{taken, generator_of-taken, at-same, words-written}
 use Rattle.chacha20.proofs.rng.ChaChaRng.fill_words.Goals as goal
+
+part_long : (a k i : ℕ) (dst buffer : List ℕ) → 4 * (a + k) ≤ length dst → i + k ≤ length buffer
+    → length (take (4 * (a + k) - 4 * a) (drop (4 * a) dst)) ≡ 4 * length (mid_of i (i + k - i) buffer)
+part_long a k i dst buffer room unread =
+    let bytes : 4 * (a + k) - 4 * a ≡ 4 * k = omega arith in
+    let words : i + k - i ≡ k = omega arith in
+    length-take-le _ (drop (4 * a) dst) (omega (arith, length-drop (4 * a) dst))
+    ∙ bytes
+    ∙ ap (λ n. 4 * n) (sym (length-take-le _ (drop i buffer) (omega (arith, length-drop i buffer)) ∙ words))
+
+smaller : (n m a k i : ℕ) → m ≡ n → 4 * a < m → n % 4 ≡ 0 → k ≡ min (m / 4 - a) (64 - i) → i < 64 → n - 4 * (a + k) < n - 4 * a
+smaller n m a k i same less whole count some = omega arith
 
 pub words-init : goal.words-init
 words-init g c = record {
@@ -50,3 +62,12 @@ pub returns-clause-moved : goal.returns-clause-moved
 returns-clause-moved g c =
     let all : c.words.done ≡ length c.args.dst.now / 4 = omega arith in
     c.words.invariant.moved ∙ ap (λ k. at_word_pos c.args.self.now (c.args.self.now.word_pos + k)) all
+
+pub write_bytes-requires : goal.write_bytes-requires
+write_bytes-requires g c =
+    part_long c.words.done c.min-count.result c.refill.new.index c.words.dst c.refill.new.buffer (omega arith) (omega arith)
+
+pub words-smaller : goal.words-smaller
+words-smaller g c =
+    smaller (length c.args.dst.now) (length c.words.dst) c.words.done c.min-count.result c.refill.new.index c.words.auto.dst c.words-test.true c.requires c.min-count.ensures
+    c.refill.ensures.some

@@ -2,7 +2,7 @@ use Rattle.std.proofs.Common.{length, sym, ap, arith, ◌∙◌}
 use Rattle.std.specs.Int.Bits.{bit_and}
 use Rattle.std.proofs.lemmas.Nat.{and_mask}
 use Rattle.chacha20.specs.StateBytes.{of_state_bytes}
-use Rattle.chacha20.proofs.StateBytesLemmas.{state_is, of_state_bytes-state_bytes}
+use Rattle.chacha20.proofs.StateBytesLemmas.{length-free, two_written_length, length-free-behind, state_is, of_state_bytes-state_bytes}
 use Rattle.chacha20.proofs.rng.ChaChaRng.serialize_state.Goals as goal
 
 pub returns-clause-value : goal.returns-clause-value
@@ -18,3 +18,17 @@ returns-clause-restored g c =
     let seed = c.copy_from_slice.ensures.after ∙ c.get_seed.ensures in
     ap of_state_bytes (returns-clause-value g c)
     ∙ of_state_bytes-state_bytes c.args.self.now (sym (ap length seed) ∙ c.copy_from_slice.ensures.len) (omega arith) (omega arith)
+
+pub copy_from_slice-requires-2 : goal.copy_from_slice-requires-2
+copy_from_slice-requires-2 g c =
+    length-free c.copy_from_slice.new.self c.copy_from_slice.ensures.len ∙ sym (ap length c.to_le_bytes-stream.ensures)
+
+pub copy_from_slice-requires-3 : goal.copy_from_slice-requires-3
+copy_from_slice-requires-3 g c =
+    length-free-behind c.copy_from_slice.new.self c.copy_from_slice-2.new.self c.copy_from_slice.ensures.len
+    (ap length (c.copy_from_slice-2.ensures.after ∙ c.to_le_bytes-stream.ensures)) ∙ sym (ap length c.to_le_bytes-low.ensures)
+
+pub slice_bounds-state-end-3 : goal.slice_bounds-state-end-3
+slice_bounds-state-end-3 g c =
+    omega (arith, two_written_length c.copy_from_slice.new.self c.copy_from_slice-2.new.self c.copy_from_slice.ensures.len
+    (ap length (c.copy_from_slice-2.ensures.after ∙ c.to_le_bytes-stream.ensures)))
