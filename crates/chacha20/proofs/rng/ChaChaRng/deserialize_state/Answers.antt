@@ -1,5 +1,5 @@
-use Rattle.std.proofs.Common.{◌≡◌, slice_index, refl, ap, arith, ◌∙◌}
-use Rattle.chacha20.specs.Generator.{GeneratorState}
+use Rattle.std.proofs.Common.{◌≡◌, ◌*◌, ◌%◌, ◌^◌, slice_index, bit_or, refl, ap, ap₂, arith, ◌∙◌}
+use Rattle.chacha20.specs.Generator.{GeneratorState, at_word_pos}
 use Rattle.chacha20.specs.StateBytes.{state_bytes}
 use Rattle.chacha20.proofs.StateBytesLemmas.{read_back, state_bytes-of_state_bytes}
 use Rattle.chacha20.proofs.rng.ChaChaRng.deserialize_state.Goals as goal
@@ -12,7 +12,11 @@ returns-clause-value g c =
     let read =
     read_back c.args.state.now c.copy_from_slice.new.self c.read_u64.result c.read_u64-low.result top (omega arith) (c.fits-state 48)
     c.copy_from_slice.ensures.after c.read_u64.ensures c.read_u64-low.ensures refl in
-    c.set_word_pos.ensures.value ∙ cc
+    c.set_word_pos.ensures.value
+    ∙ ap (λ (v : GeneratorState). at_word_pos v (bit_or (c.from.result * 2 ^ 64 % 2 ^ 128) c.from-2.result)) made
+    ∙ ap₂ (λ t l. at_word_pos (record { seed = c.copy_from_slice.new.self; stream = c.read_u64.result; word_pos = 0 }) (bit_or (t * 2 ^ 64 % 2 ^ 128) l))
+    c.from.ensures c.from-2.ensures
+    ∙ read
 
 pub returns-clause-stored : goal.returns-clause-stored
 returns-clause-stored g c =
