@@ -121,3 +121,11 @@ counted-double_round one n a b c d before first second =
     second
     ∙ ap (λ (s : Counts). record s { rounds = s.rounds + one }) (first ∙ ap (λ (s : Counts). record s { rounds = s.rounds + one }) before)
     ∙ ap (λ k. record a { rounds = k }) more
+
+-- four times so many quarter rounds
+pub counted-four : (n : ℕ) (a b c d e : Counts) → b ≡ record a { rounds = a.rounds + n } → c ≡ record b { rounds = b.rounds + n }
+    → d ≡ record c { rounds = c.rounds + n } → e ≡ record d { rounds = d.rounds + n } → e ≡ record a { rounds = a.rounds + 4 * n }
+counted-four n a b c d e first second third fourth =
+    let more : a.rounds + n + n + n + n ≡ a.rounds + 4 * n = omega arith in
+    let add = λ (s : Counts). record s { rounds = s.rounds + n } in
+    fourth ∙ ap add (third ∙ ap add (second ∙ ap add first)) ∙ ap (λ k. record a { rounds = k }) more

@@ -1,12 +1,13 @@
 -- Lanes of vectors.
-use Rattle.std.proofs.Common.{◌≡◌, ℕ, zero, suc, ◌<◌, ◌+◌, ◌-◌, ◌*◌, ◌/◌, ◌%◌, ◌^◌, List, [], ◌∷◌, length, map, slice_index, replicate, bit_or, bit_xor, arith, refl, sym, ap, ◌∙◌}
+use Rattle.std.proofs.Common.{◌≡◌, ℕ, zero, suc, ◌<◌, ◌+◌, ◌-◌, ◌*◌, ◌/◌, ◌%◌, ◌^◌, List, [], ◌∷◌, ◌++◌, length, map, slice_index, replicate, bit_or, bit_xor, arith, refl, sym, ap, ◌∙◌}
 use Rattle.std.specs.Simd.Lanes.{zip2, Each1, pick_l, number_l, digits_l}
-use Rattle.std.proofs.lemmas.List.{get_or-map}
+use Rattle.std.proofs.lemmas.List.{get_or-map, get_or_append_left, get_or-append-add}
 use Rattle.std.proofs.lemmas.Nat.{xor_lt}
 use Rattle.std.proofs.lemmas.Simd.{Each1-get_or, get_or-zip2, get_or-replicate, length-zip2, length-replicate}
 use Rattle.chacha_base.specs.Words.{rotl}
 use Rattle.chacha_base.specs.Lanes.{turned}
 use Rattle.chacha_base.specs.Bytes.{bytes}
+use Rattle.chacha_base.proofs.ListLemmas.{four_listed}
 use Rattle.chacha_base.proofs.WordLemmas.{rotate_left_is}
 use Rattle.chacha_base.proofs.BytesLemmas.{digits-bytes}
 
@@ -88,6 +89,26 @@ xor_moved-is-rotl n a b la lb fa fb moved j h =
     ∙ ap (λ ys. slice_index ys j) (last_first-words xs words)
     ∙ get_or-map (λ x. rotl x 8) xs j 0 0 (omega arith)
     ∙ ap (λ x. rotl x 8) (lane_of bit_xor n a b la lb j h)
+
+-- two words of each of two vectors by turns, read where the vectors lie one after the other
+pub by_turns : (xs ys : List ℕ) (n i : ℕ) → length xs ≡ n → i + 1 < n
+    → slice_index (xs ++ ys) i ∷ slice_index (xs ++ ys) (n + i) ∷ slice_index (xs ++ ys) (i + 1) ∷ slice_index (xs ++ ys) (n + (i + 1)) ∷ []
+    ≡ slice_index xs i ∷ slice_index ys i ∷ slice_index xs (i + 1) ∷ slice_index ys (i + 1) ∷ []
+by_turns xs ys n i long inside =
+    four_listed
+    (get_or_append_left xs ys 0 i (omega arith))
+    (ap (λ m. slice_index (xs ++ ys) (m + i)) (sym long) ∙ get_or-append-add xs ys i 0)
+    (get_or_append_left xs ys 0 (i + 1) (omega arith))
+    (ap (λ m. slice_index (xs ++ ys) (m + (i + 1))) (sym long) ∙ get_or-append-add xs ys (i + 1) 0)
+
+-- four words of a vector, read where another lies behind it
+pub from_first : (xs ys : List ℕ) (n a b c d : ℕ) → length xs ≡ n → a < n → b < n → c < n → d < n
+    → slice_index (xs ++ ys) a ∷ slice_index (xs ++ ys) b ∷ slice_index (xs ++ ys) c ∷ slice_index (xs ++ ys) d ∷ []
+    ≡ slice_index xs a ∷ slice_index xs b ∷ slice_index xs c ∷ slice_index xs d ∷ []
+from_first xs ys n a b c d long ia ib ic id =
+    four_listed
+    (get_or_append_left xs ys 0 a (rw long ia)) (get_or_append_left xs ys 0 b (rw long ib))
+    (get_or_append_left xs ys 0 c (rw long ic)) (get_or_append_left xs ys 0 d (rw long id))
 
 -- turns by a number of places and by what is left of it after whole turns
 pub turned-rest : (k m : ℕ) (x : List ℕ) → k % 4 ≡ m → turned k x ≡ turned m x

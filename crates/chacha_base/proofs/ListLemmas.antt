@@ -1,8 +1,8 @@
 -- Lists of known length.
-use Rattle.std.proofs.Common.{◌≡◌, inl, inr, ℕ, zero, suc, ◌+◌, ◌-◌, ◌*◌, ◌<◌, ◌≤◌, List, [], ◌∷◌, ◌++◌, length, take, drop, slice_index_or, refl, sym, ap, ap₂, ◌∙◌, append_assoc, length-append, length-drop, arith, below_more}
+use Rattle.std.proofs.Common.{◌≡◌, inl, inr, Bool, true, false, ℕ, zero, suc, ◌+◌, ◌-◌, ◌*◌, ◌/◌, ◌<◌, ◌≤◌, List, [], ◌∷◌, ◌++◌, length, take, drop, slice_index_or, refl, sym, ap, ap₂, ◌∙◌, append_assoc, length-append, length-drop, arith, below_more}
 use Rattle.std.proofs.Math.ListN.{set}
-use Rattle.std.specs.Prelude.{slice_get, Some}
-use Rattle.std.proofs.lemmas.Bool.{cases_lt}
+use Rattle.std.specs.Prelude.{slice_get, Some, nat_lt, if◌then◌else◌}
+use Rattle.std.proofs.lemmas.Bool.{cases_lt, ltb-true, ltb-false}
 use Rattle.std.proofs.lemmas.List.{length-set, length-take-le, get_or-drop, take_at, drop_at, drop_all, drop-drop, append-nil}
 use Rattle.std.proofs.lemmas.Slice.{drop-put_mid}
 use borrow.Rule.Slice.PartMut.{put_mid}
@@ -101,10 +101,48 @@ written_more f a k xs ys room same before part i inside =
           rw (← place) (slice_get-put_mid_inside a k (i - a) xs ys here room ∙ part (i - a) less)
     ]
 
+-- a list of which the front half is written, and then the back half
+half-written : {X Y : Type 0} (f : Y → X) (n i : ℕ) (xs ys zs : List X) (p q : ℕ → Y) (front : Bool) → length xs ≡ n → length ys ≡ n → length zs ≡ n
+    → ((j : ℕ) → j < n → slice_get ys j ≡ Some (f (p j))) → ((j : ℕ) → j < n → slice_get zs j ≡ Some (f (q j)))
+    → nat_lt i n ≡ front → i < n + n → slice_get (put_mid n n (ys ++ xs) zs) i ≡ Some (f (if front then p i else q (i - n)))
+half-written f n i xs ys zs p q true lx ly lz first second is less =
+    let here : i < n = ltb-true i n is in
+    slice_get-put_mid_below n n i (ys ++ xs) zs here (omega (arith, length-append ys xs))
+    ∙ slice_get-append ys xs i (omega arith)
+    ∙ first i here
+half-written f n i xs ys zs p q false lx ly lz first second is less =
+    let above : n ≤ i = ltb-false i n is in
+    let place : n + (i - n) ≡ i = omega arith in
+    ap (slice_get (put_mid n n (ys ++ xs) zs)) (sym place)
+    ∙ slice_get-put_mid_inside n n (i - n) (ys ++ xs) zs (omega arith) (omega (arith, length-append ys xs))
+    ∙ second (i - n) (omega arith)
+
+pub halves_written : {X Y : Type 0} (f : Y → X) (n : ℕ) (xs ys zs : List X) (p q : ℕ → Y) → length xs ≡ n + n
+    → (let half = length xs / 2 in let now = ys ++ drop half xs in
+    length ys ≡ length (take half xs) → length zs ≡ length (take (length now - half) (drop half now))
+    → ((j : ℕ) → j < n → slice_get ys j ≡ Some (f (p j))) → ((j : ℕ) → j < n → slice_get zs j ≡ Some (f (q j)))
+    → (i : ℕ) → i < n + n → slice_get (put_mid half (length now - half) now zs) i ≡ Some (f (if nat_lt i n then p i else q (i - n))))
+halves_written f n xs ys zs p q long front back first second i less =
+    let half = length xs / 2 in
+    let rest = drop half xs in
+    let now = ys ++ rest in
+    let at : half ≡ n = omega arith in
+    let lr : length rest ≡ n = omega (arith, length-drop half xs) in
+    let ly : length ys ≡ n = front ∙ length-take-le half xs (omega arith) ∙ at in
+    let count : length now - half ≡ n = omega (arith, length-append ys rest) in
+    let lz : length zs ≡ n = back ∙ length-take-le (length now - half) (drop half now) (omega (arith, length-drop half now)) ∙ count in
+    ap₂ (λ a k. slice_get (put_mid a k now zs) i) at count
+    ∙ half-written f n i rest ys zs p q (nat_lt i n) lr ly lz first second refl less
+
 -- four lists in a row, piece by piece
 pub four_joined : {X : Type 0} {a b c d p q r s : List X} → a ≡ p → b ≡ q → c ≡ r → d ≡ s → a ++ b ++ c ++ d ≡ p ++ q ++ r ++ s
 four_joined {X} {a} {b} {c} {d} {p} {q} {r} {s} ea eb ec ed =
     ap (λ x. x ++ b ++ c ++ d) ea ∙ ap (λ x. p ++ x ++ c ++ d) eb ∙ ap (λ x. p ++ q ++ x ++ d) ec ∙ ap (λ x. p ++ q ++ r ++ x) ed
+
+-- four elements, one by one
+pub four_listed : {X : Type 0} {a b c d p q r s : X} → a ≡ p → b ≡ q → c ≡ r → d ≡ s → a ∷ b ∷ c ∷ d ∷ [] ≡ p ∷ q ∷ r ∷ s ∷ []
+four_listed {X} {a} {b} {c} {d} {p} {q} {r} {s} ea eb ec ed =
+    ap (λ x. x ∷ b ∷ c ∷ d ∷ []) ea ∙ ap (λ x. p ∷ x ∷ c ∷ d ∷ []) eb ∙ ap (λ x. p ∷ q ∷ x ∷ d ∷ []) ec ∙ ap (λ x. p ∷ q ∷ r ∷ x ∷ []) ed
 
 -- a write of k elements behind a part that is written
 put_mid-behind : {X : Type 0} (a k : ℕ) (p q ys : List X) → length p ≡ a → put_mid a k (p ++ q) ys ≡ (p ++ ys) ++ drop k q

@@ -1,5 +1,7 @@
 -- Blocks in the rows of vectors.
-use Rattle.std.proofs.Common.{◌≡◌, ℕ, zero, suc, ◌<◌, ◌+◌, ◌-◌, ◌*◌, ◌%◌, Bool, true, false, List, [], ◌∷◌, ◌++◌, length, drop, refl, ap, ◌∙◌, arith}
+use Rattle.std.proofs.Common.{◌≡◌, ℕ, zero, suc, ◌<◌, ◌≤◌, ◌≢◌, ◌+◌, ◌-◌, ◌*◌, ◌%◌, Bool, true, false, List, [], ◌∷◌, ◌++◌, length, drop, slice_index, refl, ap, ◌∙◌, arith}
+use Rattle.std.proofs.Math.ListN.{set}
+use Rattle.std.proofs.lemmas.List.{length-set, get_or-set_same, get_or-set_other}
 use Rattle.std.specs.Prelude.{if◌then◌else◌}
 use Rattle.chacha_base.specs.declared.backends.vector.FourVectors.{FourVectors}
 use Rattle.chacha_base.specs.Layout.{Layout, ietf, legacy}
@@ -9,7 +11,7 @@ use Rattle.chacha_base.specs.QuarterRound.{quarter}
 use Rattle.chacha_base.specs.Rounds.{columns, diagonals, rounds, add_states, mix}
 use Rattle.chacha_base.specs.Vectors.{lanes_at, sums_at, block_in_rows}
 use Rattle.chacha_base.specs.State.{state_after}
-use Rattle.chacha_base.proofs.ListLemmas.{each}
+use Rattle.chacha_base.proofs.ListLemmas.{each, four_listed}
 
 -- the sixteen words of a state, by its columns
 abbrev pub of_columns : (p q r s : ℕ × ℕ × ℕ × ℕ) → List ℕ
@@ -41,6 +43,48 @@ row-same f g k same =
     ∙ ap (λ x. g (4 * k) ∷ x ∷ f (4 * k + 2) ∷ f (4 * k + 3) ∷ []) (same (4 * k + 1) (omega arith))
     ∙ ap (λ x. g (4 * k) ∷ g (4 * k + 1) ∷ x ∷ f (4 * k + 3) ∷ []) (same (4 * k + 2) (omega arith))
     ∙ ap (λ x. g (4 * k) ∷ g (4 * k + 1) ∷ g (4 * k + 2) ∷ x ∷ []) (same (4 * k + 3) (omega arith))
+
+-- a row of sixteen words that repeat
+pub row-repeated : (w0 w1 w2 w3 k : ℕ) → k < 4
+    → row (slice_index (w0 ∷ w1 ∷ w2 ∷ w3 ∷ w0 ∷ w1 ∷ w2 ∷ w3 ∷ w0 ∷ w1 ∷ w2 ∷ w3 ∷ w0 ∷ w1 ∷ w2 ∷ w3 ∷ [])) k ≡ w0 ∷ w1 ∷ w2 ∷ w3 ∷ []
+row-repeated w0 w1 w2 w3 zero h = refl
+row-repeated w0 w1 w2 w3 (suc zero) h = refl
+row-repeated w0 w1 w2 w3 (suc (suc zero)) h = refl
+row-repeated w0 w1 w2 w3 (suc (suc (suc zero))) h = refl
+row-repeated w0 w1 w2 w3 (suc (suc (suc (suc k)))) h = absurd (omega arith)
+
+-- the words of a state after a row is written: those of the row, and those of another
+pub row-written : (s : List ℕ) (g w x y z : ℕ) → 4 * g + 3 < length s
+    → row (slice_index (set (set (set (set s (4 * g) w) (4 * g + 1) x) (4 * g + 2) y) (4 * g + 3) z)) g ≡ w ∷ x ∷ y ∷ z ∷ []
+row-written s g w x y z inside =
+    let t = set s (4 * g) w in
+    let u = set t (4 * g + 1) x in
+    let v = set u (4 * g + 2) y in
+    let lt : length t ≡ length s = length-set s (4 * g) w in
+    let lu : length u ≡ length t = length-set t (4 * g + 1) x in
+    let lv : length v ≡ length u = length-set u (4 * g + 2) y in
+    four_listed
+    (get_or-set_other v (4 * g + 3) (4 * g) z 0 (omega arith) ∙ get_or-set_other u (4 * g + 2) (4 * g) y 0 (omega arith)
+    ∙ get_or-set_other t (4 * g + 1) (4 * g) x 0 (omega arith) ∙ get_or-set_same s (4 * g) w 0 (omega arith))
+    (get_or-set_other v (4 * g + 3) (4 * g + 1) z 0 (omega arith) ∙ get_or-set_other u (4 * g + 2) (4 * g + 1) y 0 (omega arith)
+    ∙ get_or-set_same t (4 * g + 1) x 0 (omega arith))
+    (get_or-set_other v (4 * g + 3) (4 * g + 2) z 0 (omega arith) ∙ get_or-set_same u (4 * g + 2) y 0 (omega arith))
+    (get_or-set_same v (4 * g + 3) z 0 (omega arith))
+
+word-elsewhere : (s : List ℕ) (g w x y z i : ℕ) → i ≢ 4 * g → i ≢ 4 * g + 1 → i ≢ 4 * g + 2 → i ≢ 4 * g + 3
+    → slice_index (set (set (set (set s (4 * g) w) (4 * g + 1) x) (4 * g + 2) y) (4 * g + 3) z) i ≡ slice_index s i
+word-elsewhere s g w x y z i n0 n1 n2 n3 =
+    get_or-set_other _ (4 * g + 3) i z 0 n3 ∙ get_or-set_other _ (4 * g + 2) i y 0 n2
+    ∙ get_or-set_other _ (4 * g + 1) i x 0 n1 ∙ get_or-set_other s (4 * g) i w 0 n0
+
+pub row-elsewhere : (s : List ℕ) (g w x y z h : ℕ) → h ≢ g
+    → row (slice_index (set (set (set (set s (4 * g) w) (4 * g + 1) x) (4 * g + 2) y) (4 * g + 3) z)) h ≡ row (slice_index s) h
+row-elsewhere s g w x y z h apart =
+    four_listed
+    (word-elsewhere s g w x y z (4 * h) (omega arith) (omega arith) (omega arith) (omega arith))
+    (word-elsewhere s g w x y z (4 * h + 1) (omega arith) (omega arith) (omega arith) (omega arith))
+    (word-elsewhere s g w x y z (4 * h + 2) (omega arith) (omega arith) (omega arith) (omega arith))
+    (word-elsewhere s g w x y z (4 * h + 3) (omega arith) (omega arith) (omega arith) (omega arith))
 
 -- the quarter round of each lane is a round of the columns of each block
 pub columns-of-lanes : {V : Type 0} (n : ℕ) (lane : V → ℕ → ℕ) (x y : FourVectors V)

@@ -120,7 +120,6 @@ pub fn quarter_round(
 
 // A quarter round of each column.
 #[inline(always)]
-#[tactic(auto, using(crate::proofs::RoundLemmas::columns_are))]
 fn column_round(state: &mut [u32; 16], steps: &mut Steps)
     ensures state { state.new ≡ columns state.old }
     ensures steps { steps.new ≡ record steps.old { rounds = steps.old.rounds + 4 } }
@@ -133,7 +132,6 @@ fn column_round(state: &mut [u32; 16], steps: &mut Steps)
 
 // A quarter round of each diagonal.
 #[inline(always)]
-#[tactic(auto, using(crate::proofs::RoundLemmas::diagonals_are))]
 fn diagonal_round(state: &mut [u32; 16], steps: &mut Steps)
     ensures state { state.new ≡ diagonals state.old }
     ensures steps { steps.new ≡ record steps.old { rounds = steps.old.rounds + 4 } }

@@ -19,3 +19,9 @@ each-preserved g c h less =
     (c.write_block-in-each-2.ensures ∙ ap of_words (four_joined (a.third k inside) (b.third k inside) (x.third k inside) (d.third k inside)))
     (c.write_block-in-each-3.ensures ∙ ap of_words (four_joined (a.fourth k inside) (b.fourth k inside) (x.fourth k inside) (d.fourth k inside)))
     c.each.invariant h (omega arith)
+
+pub each-init : goal.each-init
+each-init g c h none = absurd (omega arith)
+
+pub returns : goal.returns
+returns g c h less = c.each.invariant h (omega (arith, less))

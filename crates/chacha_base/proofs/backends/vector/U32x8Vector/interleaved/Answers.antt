@@ -1,13 +1,13 @@
-use Rattle.std.proofs.Common.{zero, suc, arith}
-use Rattle.std.proofs.lemmas.Grind.{common_steps}
+use Rattle.std.proofs.Common.{zero, suc, arith, lit≤}
+use Rattle.chacha_base.proofs.LaneLemmas.{by_turns}
 use Rattle.chacha_base.proofs.backends.vector.U32x8Vector.interleaved.Goals as goal
 
 pub returns-clause-low : goal.returns-clause-low
-returns-clause-low c zero h = grind (arith, common_steps)
-returns-clause-low c (suc zero) h = grind (arith, common_steps)
-returns-clause-low c (suc (suc g)) h = absurd (omega arith)
+returns-clause-low c zero h = by_turns c.args.self c.args.other 8 0 c.fits-self.0 (lit≤ tt)
+returns-clause-low c (suc zero) h = by_turns c.args.self c.args.other 8 4 c.fits-self.0 (lit≤ tt)
+returns-clause-low c (suc (suc k)) h = absurd (omega arith)
 
 pub returns-clause-high : goal.returns-clause-high
-returns-clause-high c zero h = grind (arith, common_steps)
-returns-clause-high c (suc zero) h = grind (arith, common_steps)
-returns-clause-high c (suc (suc g)) h = absurd (omega arith)
+returns-clause-high c zero h = by_turns c.args.self c.args.other 8 2 c.fits-self.0 (lit≤ tt)
+returns-clause-high c (suc zero) h = by_turns c.args.self c.args.other 8 6 c.fits-self.0 (lit≤ tt)
+returns-clause-high c (suc (suc k)) h = absurd (omega arith)
