@@ -31,6 +31,21 @@ grows-other n a b c other rounds =
       rounds_to = omega (arith, made);
     }
 
+-- one parallel call, and then so many quarter rounds
+pub grows-par : (n : ℕ) (a b c : Counts) → b ≡ record a { par = a.par + 1 } → c ≡ record b { rounds = b.rounds + n } → Grows (for_call 1 0 n) a c
+grows-par n a b c par rounds =
+    let calls : c.par ≡ a.par + 1 = ap (λ s. s.par) rounds ∙ ap (λ s. s.par) par in
+    let other : c.other ≡ a.other = ap (λ s. s.other) rounds ∙ ap (λ s. s.other) par in
+    let made : c.rounds ≡ a.rounds + n = ap (λ s. s.rounds) rounds ∙ ap (λ s. s.rounds + n) par in
+    record {
+      par_from = omega (arith, calls);
+      par_to = omega (arith, calls);
+      other_from = omega (arith, other);
+      other_to = omega (arith, other);
+      rounds_from = omega (arith, made);
+      rounds_to = omega (arith, made);
+    }
+
 -- one after another
 pub grows-then : {x y z : Bounds} {a b c : Counts} → Grows x a b → Grows y b c → x.par + y.par ≤ z.par → x.other + y.other ≤ z.other
     → z.least ≤ x.least + y.least → x.most + y.most ≤ z.most → Grows z a c

@@ -43,12 +43,10 @@ impl<R: Rounds, V: Variant> StreamCipherBackend<R, V> for Lanes4 {
     const ONE_STEPS: usize = 8;
 
     fn gen_ks_block(state: &mut [u32; 16], block: &mut [u8; 64], steps: &mut Steps) {
-        steps.add_other();
         write_one::<R, V, Four, 4>(state, block, steps);
     }
 
     fn gen_par_ks_blocks(state: &mut [u32; 16], blocks: &mut [[u8; 64]], steps: &mut Steps) {
-        steps.add_par();
         write_group::<R, V, Columns<u32x4>, 4>(state, blocks, steps);
     }
 

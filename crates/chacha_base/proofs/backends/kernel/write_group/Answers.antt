@@ -1,6 +1,7 @@
-use Rattle.std.proofs.Common.{◌<◌, ◌∙◌, ap, arith}
+use Rattle.std.proofs.Common.{◌*◌, ◌<◌, ◌∙◌, ap, arith}
 use Rattle.std.specs.Prelude.{Some}
 use Rattle.chacha_base.specs.Bytes.{bytes}
+use Rattle.chacha_base.proofs.CountsLemmas.{grows-par}
 use Rattle.chacha_base.proofs.backends.kernel.write_group.Goals as goal
 
 pub returns-clause-blocks : goal.returns-clause-blocks
@@ -8,3 +9,8 @@ returns-clause-blocks g c i h =
     let inside : i < g.G.Group.BLOCKS = omega arith in
     let here : i < g.row.W = omega arith in
     c.store.ensures i inside ∙ ap (λ s. Some (bytes s)) (c.mixed_group.ensures.blocks i here)
+
+pub returns-clause-steps : goal.returns-clause-steps
+returns-clause-steps g c =
+    grows-par (2 * g.G.Group.ROUND_STEPS * g.R.Rounds.COUNT) c.args.steps.now c.add_par.new.self c.mixed_group.new.steps
+    c.add_par.ensures c.mixed_group.ensures.steps

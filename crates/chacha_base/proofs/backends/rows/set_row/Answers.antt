@@ -1,4 +1,4 @@
-use Rattle.std.proofs.Common.{slice_index, arith}
+use Rattle.std.proofs.Common.{arith}
 use Rattle.chacha_base.proofs.RowLemmas.{row-written, row-elsewhere}
 use Rattle.chacha_base.proofs.backends.rows.set_row.Goals as goal
 

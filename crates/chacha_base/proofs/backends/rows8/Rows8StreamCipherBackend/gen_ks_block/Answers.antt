@@ -1,4 +1,11 @@
 use Rattle.chacha_base.proofs.backends.rows8.Rows8StreamCipherBackend.gen_ks_block.Goals as goal
 
+-- the search finds these too, but not soon that a wrong body has none
+pub returns-clause-block : goal.returns-clause-block
+returns-clause-block g c = c.write_one.ensures.block
+
 pub returns-clause-state : goal.returns-clause-state
 returns-clause-state g c = c.write_one.ensures.state
+
+pub returns-clause-steps : goal.returns-clause-steps
+returns-clause-steps g c = c.write_one.ensures.steps
