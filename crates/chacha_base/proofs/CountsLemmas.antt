@@ -1,5 +1,5 @@
 -- Counts of one call after another.
-use Rattle.std.proofs.Common.{◌≡◌, ℕ, ◌+◌, ◌-◌, ◌*◌, ◌/◌, ◌%◌, ◌≤◌, min, ap, ◌∙◌, arith, subst}
+use Rattle.std.proofs.Common.{◌≡◌, ℕ, ◌+◌, ◌-◌, ◌*◌, ◌/◌, ◌%◌, ◌≤◌, min, refl, ap, ◌∙◌, arith, subst}
 use Rattle.std.proofs.lemmas.Grind.{common_steps}
 use Rattle.std.proofs.Math.Nat.{add-mul, mul_assoc, mul-le-mul_right}
 use Rattle.chacha_base.specs.Counts.{Counts, Bounds, Grows, for_call, for_tail, tail_of_16, for_blocks, for_bytes}
@@ -111,6 +111,23 @@ grows-tail one k a b c some call made =
       rounds_from = omega (arith, rounds, least);
       rounds_to = omega (arith, rounds, most);
     }
+
+pub rounds-tail : (one n k : ℕ) (a b c : Counts) → min 1 k ≡ 1 → b ≡ record a { other = a.other + 1 } → c ≡ record b { rounds = b.rounds + one * n }
+    → c.rounds ≡ a.rounds + min 1 k * one * n
+rounds-tail one n k a b c some call made =
+    let all : min 1 k * one ≡ one = rw some (omega arith) in
+    ap (λ s. s.rounds) made ∙ ap (λ s. s.rounds + one * n) call ∙ rw all refl
+
+-- a tail of none
+pub grows-no_tail : (one k : ℕ) (a : Counts) → 0 ≡ k → Grows (for_tail one k) a a
+grows-no_tail one k a none =
+    let rounds : 0 * one ≡ 0 = omega arith in
+    subst (λ k. Grows (for_tail one k) a a) none (rw rounds (grows-none a))
+
+pub rounds-no_tail : (r one n k : ℕ) → 0 ≡ k → r ≡ r + min 1 k * one * n
+rounds-no_tail r one n k none =
+    let same : r ≡ r + min 1 0 * one * n = omega arith in
+    subst (λ k. r ≡ r + min 1 k * one * n) none same
 
 -- a tail where sixteen are the width, by its quarter rounds
 pub grows-of-16 : (one n k : ℕ) (a b : Counts) → Grows (for_tail one k) a b → b.rounds ≡ a.rounds + tail_of_16 k * n → Grows (for_tail (2 * n) k) a b

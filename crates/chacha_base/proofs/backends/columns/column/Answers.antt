@@ -1,4 +1,4 @@
-use Rattle.std.proofs.Common.{◌≡◌, ◌≢◌, [], ◌<◌, ◌+◌, slice_index, slice_index_or, length, ◌∙◌, arith, below_more}
+use Rattle.std.proofs.Common.{◌≡◌, ◌≢◌, [], ◌<◌, ◌+◌, slice_index, slice_index_or, length, refl, ◌∙◌, arith, below_more}
 use Rattle.std.proofs.Math.ListN.{set}
 use Rattle.std.proofs.lemmas.List.{length-set, get_or-replicate, get_or-set_same, get_or-set_other}
 use Rattle.chacha_base.proofs.backends.columns.column.Goals as goal
@@ -29,3 +29,9 @@ returns-clause-c g c j h = c.from_words-3.ensures j h ∙ get_or-replicate 16 j 
 
 pub returns-clause-d : goal.returns-clause-d
 returns-clause-d g c j h = c.from_words-4.ensures j h ∙ c.each.invariant.done j (omega (arith, h))
+
+pub each-init : goal.each-init
+each-init g c = record {
+  sixteen = refl;
+  done = λ h none. absurd (omega arith);
+}

@@ -20,3 +20,15 @@ four-preserved g c =
 pub returns-clause-words : goal.returns-clause-words
 returns-clause-words g c =
     next_words-are g.R.Rounds.COUNT legacy c.args.state.now c.four.buffer c.four.invariant.long (λ k less. c.four.invariant.done k (omega arith))
+
+pub four-init : goal.four-init
+four-init g c = record {
+  long = c.told-buffer;
+  done = λ k less. absurd (omega arith);
+}
+
+pub returns-clause-state : goal.returns-clause-state
+returns-clause-state g c = c.advance.ensures
+
+pub returns-clause-steps : goal.returns-clause-steps
+returns-clause-steps g c = c.mixed_words-words.ensures.steps

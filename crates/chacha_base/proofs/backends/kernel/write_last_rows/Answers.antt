@@ -12,3 +12,9 @@ each-preserved g c =
     (λ h less. get_or-set_other c.each.rows i h _ [] (omega arith) ∙ c.each.invariant h less)
     (get_or-set_same c.each.rows i _ [] (omega arith)
     ∙ last_row-state_after g.V.Variant.layout i s c.advance.new.state c.told-state c.advance.ensures)
+
+pub each-init : goal.each-init
+each-init g c h none = absurd (omega arith)
+
+pub returns : goal.returns
+returns g c h less = c.each.invariant h (omega (arith, less))

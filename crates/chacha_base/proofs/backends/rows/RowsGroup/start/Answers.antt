@@ -1,4 +1,4 @@
-use Rattle.std.proofs.Common.{◌≡◌, ◌≢◌, [], slice_index, slice_index_or, ◌∙◌, arith, below_more}
+use Rattle.std.proofs.Common.{◌≡◌, ◌≢◌, [], slice_index, slice_index_or, refl, ◌∙◌, arith, below_more}
 use Rattle.chacha_base.specs.Lanes.{row}
 use Rattle.chacha_base.proofs.ListLemmas.{four_joined}
 use Rattle.chacha_base.proofs.RowLemmas.{row-same}
@@ -20,3 +20,9 @@ returns g c h less =
     four_joined (c.repeated.ensures h less) (c.repeated-2.ensures h less) (c.repeated-3.ensures h less)
     (row-same (g.V.Vector.lane c.from_words.result) (slice_index c.each.d) h (λ j within. c.from_words.ensures j (omega (arith, less, within)))
     ∙ c.each.invariant.done h (omega (arith, less)))
+
+pub each-init : goal.each-init
+each-init g c = record {
+  sixteen = refl;
+  done = λ h none. absurd (omega arith);
+}
