@@ -182,7 +182,7 @@ pub trait StreamCipherCore: Keystream + BlockSizeUser + ParBlocksSizeUser {
         ensures below { counter self.now < Self.modulus };
 
     /// Writes the next block.
-    fn write_keystream_block(&mut self, block: &mut [u8; 64])
+    final fn write_keystream_block(&mut self, block: &mut [u8; 64])
         ensures block { block.new ≡ Self.block_at (Self.fixed self.old) (counter self.old) }
         ensures fixed { Self.fixed self.new ≡ Self.fixed self.old }
         ensures counter { counter self.new ≡ (counter self.old + 1) % Self.modulus }
@@ -192,7 +192,7 @@ pub trait StreamCipherCore: Keystream + BlockSizeUser + ParBlocksSizeUser {
     }
 
     /// XORs a block of bytes with the next block.
-    fn apply_keystream_block(&mut self, block: &mut [u8; 64])
+    final fn apply_keystream_block(&mut self, block: &mut [u8; 64])
         ensures block { block.new
             ≡ xor_stream (keystream Self.modulus (Self.block_at (Self.fixed self.old)))
             (64 * counter self.old) block.old }

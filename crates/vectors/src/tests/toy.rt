@@ -108,7 +108,7 @@ impl StreamCipherCore for Toy {
 
     fn write_keystream_blocks(&mut self, blocks: &mut [[u8; 64]]) {
         for i in 0..blocks.len() {
-            self.write_keystream_block(&mut blocks[i]);
+            self.write_block_counted(&mut blocks[i], &mut Steps::new());
         }
     }
 
