@@ -1,7 +1,10 @@
 -- Bytes of a block kept in a buffer.
-use Rattle.std.proofs.Common.{◌≡◌, ℕ, min, ◌+◌, ◌-◌, ◌*◌, ◌%◌, ◌<◌, ◌≤◌, Bool, true, false, List, length, take, drop, slice_index, bit_xor, arith, sym, ap, ◌∙◌}
+use Rattle.std.proofs.Common.{◌≡◌, ℕ, zero, suc, min, ◌+◌, ◌-◌, ◌*◌, ◌/◌, ◌%◌, ◌<◌, ◌≤◌, ◌⊎◌, inl, inr, Bool, true, false, nat_eq, List, length, take, drop, slice_index, bit_xor, arith, sym, ap, ap₂, subst, ◌∙◌}
+use Rattle.std.proofs.lemmas.Bool.{false≢true, eqb-true}
+use Rattle.std.proofs.Math.Dec.{eqb-suc-zero}
 use Rattle.std.proofs.lemmas.List.{get_or-take, get_or-drop}
-use Rattle.std.proofs.Math.Nat.{mod-eq_of_lt}
+use Rattle.std.proofs.Math.Nat.{eq-or-lt_of_le, mod-eq_of_lt, mod-lt, mod_self}
+use Rattle.chacha_base.specs.Cipher.{Cipher}
 use Rattle.chacha_base.specs.Keystream.{keystream, xor_stream}
 use Rattle.chacha_base.specs.Limit.{limit_of}
 use Rattle.chacha_base.specs.Buffered.{IsBuffered, blocks_made, left_at, position_of}
@@ -48,9 +51,140 @@ xor_stream-begun modulus block past counter left p buffer xs ys kept place fits 
     ∙ keystream_byte modulus block (made - 1) (64 - left + i) (omega arith)
     ∙ ap (keystream modulus block) next))
 
--- where bytes are left after the begun block, whole blocks come from the front of a block on, and so does what follows them
-pub begun-front : (p len begun : ℕ) → begun ≡ min len (left_at p) → begun < len → (p + begun) % 64 ≡ 0
-begun-front p len begun front more = omega arith
+-- bytes cut in two: those that the begun block still has, and those from the front of a block on
+pub begun-within : (len begun left : ℕ) → begun ≡ min len left → begun ≤ len
+begun-within len begun left cut = omega arith
 
-pub whole-front : (p len begun whole : ℕ) → begun ≡ min len (left_at p) → whole % 64 ≡ 0 → begun < len → (p + begun + whole) % 64 ≡ 0
-whole-front p len begun whole front blocks more = omega (arith, begun-front p len begun front more)
+pub begun-left : (len begun left front : ℕ) → begun ≡ min len left → front ≡ begun → front ≤ left
+begun-left len begun left front cut same = omega arith
+
+pub begun-front : (p q len begun front rest : ℕ) → begun ≡ min len (left_at p) → front ≡ begun → rest + begun ≡ len → q ≡ p + front → 0 < rest → q % 64 ≡ 0
+begun-front p q len begun front rest cut same all place some = omega arith
+
+-- bytes from a block's front on, cut in two: whole blocks, and a last part
+pub whole-within : (n : ℕ) → n / 64 * 64 ≤ n
+whole-within n = omega arith
+
+pub whole-is : (n whole : ℕ) → whole ≡ n / 64 * 64 → whole % 64 ≡ 0
+whole-is n whole cut = omega arith
+
+pub whole-some : (n whole : ℕ) → whole ≡ n / 64 * 64 → 0 < whole → 0 < n
+whole-some n whole cut some = omega arith
+
+pub whole-fits : (p n whole limit : ℕ) → whole ≡ n / 64 * 64 → p + n ≤ limit → p + whole ≤ limit
+whole-fits p n whole limit cut fits = omega arith
+
+pub last-part : (n last : ℕ) → last + n / 64 * 64 ≡ n → last < 64
+last-part n last all = omega arith
+
+pub last-front : (p q n whole last : ℕ) → (0 < n → p % 64 ≡ 0) → whole ≡ n / 64 * 64 → last + n / 64 * 64 ≡ n → q ≡ p + whole → 0 < last → q % 64 ≡ 0
+last-front p q n whole last front cut all place some =
+    let here : p % 64 ≡ 0 = front (omega arith) in
+    omega arith
+
+-- two parts make the whole, and where it fits the second does
+pub parts-all : (n mid front rest : ℕ) → front ≡ mid → rest + mid ≡ n → front + rest ≡ n
+parts-all n mid front rest cut all = omega arith
+
+pub rest-fits : (p q n mid front rest limit : ℕ) → front ≡ mid → rest + mid ≡ n → q ≡ p + front → p + n ≤ limit → q + rest ≤ limit
+rest-fits p q n mid front rest limit cut all place fits = omega arith
+
+-- what `is_empty` says
+pub some-not_empty : (n : ℕ) (empty : Bool) → empty ≡ nat_eq n 0 → empty ≡ false → 0 < n
+some-not_empty zero empty is not = absurd (false≢true (sym not ∙ is))
+some-not_empty (suc n) empty is not = omega arith
+
+-- where a core has made m blocks, its counter is 0 again if those are all
+blocks_made-wrapped : (modulus m new : ℕ) → 0 < m → (m ≡ modulus) ⊎ (m < modulus) → new ≡ m % modulus → blocks_made modulus (nat_eq new 0) new ≡ m
+blocks_made-wrapped modulus m zero some (inl all) moved = sym all
+blocks_made-wrapped modulus m zero some (inr less) moved = absurd (omega (arith, some, moved ∙ mod-eq_of_lt less))
+blocks_made-wrapped modulus m (suc new) some (inl all) moved =
+    absurd (omega (arith, moved ∙ ap (λ k. k % modulus) all ∙ mod_self modulus))
+blocks_made-wrapped modulus m (suc new) some (inr less) moved =
+    ap (λ none. blocks_made modulus none (suc new)) (eqb-suc-zero new) ∙ moved ∙ mod-eq_of_lt less
+
+-- a core that has made k blocks more, up to the end of n bytes from position p on or past it
+buffered-more : (modulus : ℕ) (block : ℕ → List ℕ) (counter k p n new number left : ℕ) (buffer : List ℕ) → 64 * counter ≡ p → 0 < n
+    → p + n ≤ limit_of modulus → 64 * k ≡ n + left → left < 64 → new ≡ (counter + k) % modulus → number ≡ new
+    → (1 ≤ left → buffer ≡ block (counter + k - 1)) → IsBuffered modulus block (nat_eq number 0) new buffer left
+buffered-more modulus block counter k p n new number left buffer place some fits blocks part moved same held =
+    let all : counter + k ≤ modulus = omega arith in
+    let made = blocks_made-wrapped modulus (counter + k) new (omega arith) (eq-or-lt_of_le all) moved in
+    subst (λ i. IsBuffered modulus block (nat_eq i 0) new buffer left) (sym same) record {
+      part = part;
+      below = subst (λ i. i < modulus) (sym moved) (mod-lt (counter + k) (omega arith));
+      again = eqb-true new 0;
+      begun = omega (arith, made);
+      held = λ more. held more ∙ ap (λ i. block (i - 1)) (sym made);
+    }
+
+moved-more : (a : Cipher) (modulus : ℕ) (fixed : List ℕ) (counter k n new number left : ℕ) → fixed ≡ a.fixed → 64 * counter ≡ a.position → 0 < n
+    → a.position + n ≤ limit_of modulus → 64 * k ≡ n + left → left < 64 → new ≡ (counter + k) % modulus → number ≡ new
+    → (let cipher : Cipher = record { fixed = fixed; position = position_of (blocks_made modulus (nat_eq number 0) new) left } in cipher)
+    ≡ record a { position = a.position + n }
+moved-more a modulus fixed counter k n new number left alike place some fits blocks part moved same =
+    let all : counter + k ≤ modulus = omega arith in
+    let made = blocks_made-wrapped modulus (counter + k) new (omega arith) (eq-or-lt_of_le all) moved in
+    let there : position_of (counter + k) left ≡ a.position + n = omega arith in
+    ap₂ (λ f q. let cipher : Cipher = record { fixed = f; position = q } in cipher) alike
+    (ap (λ i. position_of (blocks_made modulus (nat_eq i 0) new) left) same ∙ ap (λ i. position_of i left) made ∙ there)
+
+-- at a block's front nothing is left of the block before
+left-at_front : (made left p : ℕ) → left < 64 → left ≤ 64 * made → position_of made left ≡ p → p % 64 ≡ 0 → left ≡ 0
+left-at_front made left p part begun place front = omega arith
+
+-- after whole blocks
+pub buffered-whole : {modulus : ℕ} {block : ℕ → List ℕ} {past : Bool} {counter left : ℕ} {buffer : List ℕ} (other : ℕ → List ℕ) (p n new number : ℕ)
+    → IsBuffered modulus block past counter buffer left → position_of (blocks_made modulus past counter) left ≡ p → p % 64 ≡ 0 → 0 < n → n % 64 ≡ 0
+    → p + n ≤ limit_of modulus → new ≡ (counter + n / 64) % modulus → number ≡ new → IsBuffered modulus other (nat_eq number 0) new buffer left
+buffered-whole {modulus} {block} {past} {counter} {left} {buffer} other p n new number kept place front some whole fits moved same =
+    let none = left-at_front (blocks_made modulus past counter) left p kept.part kept.begun place front in
+    buffered-more modulus other counter (n / 64) p n new number left buffer (counter-at_front modulus past counter left p n kept.part place front some fits) some fits
+    (omega (arith, whole, none)) kept.part moved same (λ more. absurd (omega (arith, none, more)))
+
+pub moved-whole : {modulus : ℕ} {block : ℕ → List ℕ} {past : Bool} {counter left : ℕ} {buffer : List ℕ} (a : Cipher) (fixed : List ℕ) (n new number : ℕ)
+    → IsBuffered modulus block past counter buffer left → fixed ≡ a.fixed → position_of (blocks_made modulus past counter) left ≡ a.position
+    → a.position % 64 ≡ 0 → 0 < n → n % 64 ≡ 0 → a.position + n ≤ limit_of modulus → new ≡ (counter + n / 64) % modulus → number ≡ new
+    → (let cipher : Cipher = record { fixed = fixed; position = position_of (blocks_made modulus (nat_eq number 0) new) left } in cipher)
+    ≡ record a { position = a.position + n }
+moved-whole {modulus} {block} {past} {counter} {left} {buffer} a fixed n new number kept alike place front some whole fits moved same =
+    let none = left-at_front (blocks_made modulus past counter) left a.position kept.part kept.begun place front in
+    moved-more a modulus fixed counter (n / 64) n new number left alike (counter-at_front modulus past counter left a.position n kept.part place front some fits) some fits
+    (omega (arith, whole, none)) kept.part moved same
+
+-- after a last part, for which one block was made
+pub buffered-last : {modulus : ℕ} {block : ℕ → List ℕ} {past : Bool} {counter left : ℕ} {buffer : List ℕ} (other : ℕ → List ℕ) (p n m new number : ℕ)
+    (made : List ℕ) → IsBuffered modulus block past counter buffer left → position_of (blocks_made modulus past counter) left ≡ p → p % 64 ≡ 0 → 0 < n → n < 64
+    → m ≡ n → p + n ≤ limit_of modulus → new ≡ (counter + 1) % modulus → number ≡ new → made ≡ other counter
+    → IsBuffered modulus other (nat_eq number 0) new made (64 - m)
+buffered-last {modulus} {block} {past} {counter} {left} {buffer} other p n m new number made kept place front some part size fits moved same held =
+    let here : counter ≡ counter + 1 - 1 = omega arith in
+    buffered-more modulus other counter 1 p n new number (64 - m) made (counter-at_front modulus past counter left p n kept.part place front some fits) some fits
+    (omega (arith, size, part)) (omega (arith, size, some)) moved same (λ more. held ∙ ap other here)
+
+pub moved-last : {modulus : ℕ} {block : ℕ → List ℕ} {past : Bool} {counter left : ℕ} {buffer : List ℕ} (a : Cipher) (fixed : List ℕ) (n m new number : ℕ)
+    → IsBuffered modulus block past counter buffer left → fixed ≡ a.fixed → position_of (blocks_made modulus past counter) left ≡ a.position
+    → a.position % 64 ≡ 0 → 0 < n → n < 64 → m ≡ n → a.position + n ≤ limit_of modulus → new ≡ (counter + 1) % modulus → number ≡ new
+    → (let cipher : Cipher = record { fixed = fixed; position = position_of (blocks_made modulus (nat_eq number 0) new) (64 - m) } in cipher)
+    ≡ record a { position = a.position + n }
+moved-last {modulus} {block} {past} {counter} {left} {buffer} a fixed n m new number kept alike place front some part size fits moved same =
+    moved-more a modulus fixed counter 1 n new number (64 - m) alike (counter-at_front modulus past counter left a.position n kept.part place front some fits) some fits
+    (omega (arith, size, part)) (omega (arith, size, some)) moved same
+
+-- where fewer bytes of the buffered block are left
+pub buffered-begun : {modulus : ℕ} {block : ℕ → List ℕ} {past : Bool} {counter left : ℕ} {buffer : List ℕ} (m : ℕ)
+    → IsBuffered modulus block past counter buffer left → IsBuffered modulus block past counter buffer (left - m)
+buffered-begun {left = left} m kept = record {
+  part = omega (arith, kept.part);
+  below = kept.below;
+  again = kept.again;
+  begun = omega (arith, kept.begun);
+  held = λ more. kept.held (omega (arith, more));
+}
+
+pub moved-begun : (a : Cipher) (fixed : List ℕ) (made left m n : ℕ) → fixed ≡ a.fixed → position_of made left ≡ a.position → left < 64 → left ≤ 64 * made
+    → n ≤ left_at a.position → m ≡ n
+    → (let cipher : Cipher = record { fixed = fixed; position = position_of made (left - m) } in cipher) ≡ record a { position = a.position + n }
+moved-begun a fixed made left m n alike place part begun fits size =
+    let there : position_of made (left - m) ≡ a.position + n = omega arith in
+    ap₂ (λ f q. let cipher : Cipher = record { fixed = f; position = q } in cipher) alike there

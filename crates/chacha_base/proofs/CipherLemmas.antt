@@ -1,7 +1,6 @@
 -- A cipher that moves on.
-use Rattle.std.proofs.Common.{◌≡◌, ℕ, ◌+◌, true, false, arith, ap, ◌∙◌}
-use Rattle.std.specs.Prelude.{Result, Ok, Err, IsOk, IsErr, OnOk, OnErr}
-use Rattle.std.proofs.lemmas.Bool.{false≢true}
+use Rattle.std.proofs.Common.{◌≡◌, ℕ, ◌+◌, arith, ap, ◌∙◌}
+use Rattle.std.specs.Prelude.{Result, Ok, Err, OnErr}
 use Rattle.chacha_base.specs.Cipher.{Cipher}
 
 -- the position of a cipher that has moved
@@ -16,24 +15,14 @@ moved_on at position old now new p q n position_at at_at before moved =
     let place : position now + n ≡ p + (q + n) = omega (arith, position_is at position old now (p + q) position_at before) in
     moved ∙ ap (at now) place ∙ ap (λ c. at c (p + (q + n))) before ∙ at_at old (p + q) (p + (q + n))
 
--- a cipher over a core, that has moved on three times
-pub moved-parts : (a b c d : Cipher) (i j k n : ℕ) → b ≡ record a { position = a.position + i } → c ≡ record b { position = b.position + j }
-    → d ≡ record c { position = c.position + k } → i + j + k ≡ n → d ≡ record a { position = a.position + n }
-moved-parts a b c d i j k n first then last all =
-    let place : a.position + i + j + k ≡ a.position + n = omega arith in
-    last
-    ∙ ap (λ (s : Cipher). record s { position = s.position + k }) (then ∙ ap (λ (s : Cipher). record s { position = s.position + j }) first)
-    ∙ ap (λ q. record a { position = q }) place
+-- a cipher over a core, that has moved on twice
+pub moved-parts : (a b c : Cipher) (i j n : ℕ) → b ≡ record a { position = a.position + i } → c ≡ record b { position = b.position + j } → i + j ≡ n
+    → c ≡ record a { position = a.position + n }
+moved-parts a b c i j n first then all =
+    let place : a.position + i + j ≡ a.position + n = omega arith in
+    then ∙ ap (λ (s : Cipher). record s { position = s.position + j }) first ∙ ap (λ q. record a { position = q }) place
 
--- what a `?` hands on is refused, as what it came from was
-pub accepts-refused : {T E : Type 0} {P : Type 0} (r : Result T E) → IsErr r → (false ≡ true → P) × (P → false ≡ true) → (IsOk r → P) × (P → IsOk r)
-accepts-refused (Ok x) refused accepts = absurd (false≢true refused)
-accepts-refused (Err e) refused accepts = accepts
-
+-- what holds anyway holds of a refusal
 pub on_err : {T E : Type 0} {P : Type 0} (r : Result T E) → P → OnErr r P
 on_err (Ok x) holds = tt
 on_err (Err e) holds = holds
-
-pub on_ok-refused : {T E : Type 0} (P : Type 0) (r : Result T E) → IsErr r → OnOk r P
-on_ok-refused P (Ok x) refused = absurd (false≢true refused)
-on_ok-refused P (Err e) refused = tt

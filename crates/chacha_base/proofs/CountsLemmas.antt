@@ -1,5 +1,5 @@
 -- Counts of one call after another.
-use Rattle.std.proofs.Common.{◌≡◌, ℕ, ◌+◌, ◌-◌, ◌*◌, ◌/◌, ◌%◌, ◌≤◌, min, refl, ap, ◌∙◌, arith, subst}
+use Rattle.std.proofs.Common.{◌≡◌, ℕ, ◌+◌, ◌-◌, ◌*◌, ◌/◌, ◌%◌, ◌<◌, ◌≤◌, min, refl, ap, ◌∙◌, arith, subst}
 use Rattle.std.proofs.lemmas.Grind.{common_steps}
 use Rattle.std.proofs.Math.Nat.{add-mul, mul_assoc, mul-le-mul_right}
 use Rattle.chacha_base.specs.Counts.{Counts, Bounds, Grows, for_call, for_tail, tail_of_16, for_blocks, for_bytes}
@@ -46,6 +46,13 @@ grows-par n a b c par rounds =
       rounds_to = omega (arith, made);
     }
 
+-- one other call for a last part, and none where there is none
+pub grows-last : (one n : ℕ) {a b : Counts} → 0 < n → Grows (for_call 0 1 one) a b → Grows (for_call 0 (min 1 n) (min 1 n * one)) a b
+grows-last one n {a} {b} some grows =
+    let single : 1 ≡ min 1 n = omega arith in
+    let cost : one ≡ 1 * one = omega arith in
+    subst (λ k. Grows (for_call 0 k (k * one)) a b) single (subst (λ m. Grows (for_call 0 1 m) a b) cost grows)
+
 -- one after another
 pub grows-then : {x y z : Bounds} {a b c : Counts} → Grows x a b → Grows y b c → x.par + y.par ≤ z.par → x.other + y.other ≤ z.other
     → z.least ≤ x.least + y.least → x.most + y.most ≤ z.most → Grows z a c
@@ -83,15 +90,22 @@ grows-more w par one m k a b c first then =
     let zero_most = add-mul (m % w) 0 one in
     grows-then first then (omega arith) (omega arith) (omega (arith, least, zero_least)) (omega (arith, most, zero_most))
 
--- whole blocks and a last part, after what was left of a block
-pub grows-bytes : (w par one p len begun whole last : ℕ) (a b c : Counts) → begun ≡ min len (left_at p) → whole ≡ (len - begun) / 64 * 64
-    → last + whole + begun ≡ len → Grows (for_blocks w par one (whole / 64) 0) a b → Grows (for_call 0 (min 1 last) (min 1 last * one)) b c
-    → Grows (for_bytes w par one p len) a c
-grows-bytes w par one p len begun whole last a b c front middle all first then =
-    let blocks : whole / 64 ≡ (len - left_at p) / 64 = omega arith in
-    let part : last ≡ (len - left_at p) % 64 = omega arith in
-    subst (λ m. Grows (for_blocks w par one m (min 1 ((len - left_at p) % 64))) a c) blocks
+-- whole blocks and a last part
+pub grows-rest : (w par one n whole last : ℕ) (a b c : Counts) → whole ≡ n / 64 * 64 → last + n / 64 * 64 ≡ n
+    → Grows (for_blocks w par one (whole / 64) 0) a b → Grows (for_call 0 (min 1 last) (min 1 last * one)) b c
+    → Grows (for_blocks w par one (n / 64) (min 1 (n % 64))) a c
+grows-rest w par one n whole last a b c cut all first then =
+    let blocks : whole / 64 ≡ n / 64 = omega arith in
+    let part : last ≡ n % 64 = omega arith in
+    subst (λ m. Grows (for_blocks w par one m (min 1 (n % 64))) a c) blocks
     (subst (λ k. Grows (for_blocks w par one (whole / 64) (min 1 k)) a c) part (grows-more w par one (whole / 64) (min 1 last) a b c first then))
+
+-- the same after what was left of a block
+pub grows-bytes : (w par one p len begun rest : ℕ) {a b : Counts} → begun ≡ min len (left_at p) → rest + begun ≡ len
+    → Grows (for_blocks w par one (rest / 64) (min 1 (rest % 64))) a b → Grows (for_bytes w par one p len) a b
+grows-bytes w par one p len begun rest {a} {b} cut all grows =
+    let after : rest ≡ len - left_at p = omega arith in
+    subst (λ n. Grows (for_blocks w par one (n / 64) (min 1 (n % 64))) a b) after grows
 
 -- a tail of some blocks: one other call, and the quarter rounds of a single block
 pub grows-tail : (one k : ℕ) (a b c : Counts) → min 1 k ≡ 1 → b ≡ record a { other = a.other + 1 } → c ≡ record b { rounds = b.rounds + one }

@@ -29,14 +29,11 @@ xor_stream-append stream p (x ∷ xs) ys =
     let next : p + 1 + length xs ≡ p + suc (length xs) = omega arith in
     ap (λ t. bit_xor x (stream p) ∷ t) (xor_stream-append stream (p + 1) xs ys ∙ ap (λ q. xor_stream stream (p + 1) xs ++ xor_stream stream q ys) next)
 
--- three parts, one after another
-pub xor_stream-parts : (stream : ℕ → ℕ) (p q r : ℕ) (all front rest blocks last new_front new_blocks new_last : List ℕ)
-    → all ≡ front ++ rest → rest ≡ blocks ++ last → q ≡ p + length front → r ≡ q + length blocks
-    → new_front ≡ xor_stream stream p front → new_blocks ≡ xor_stream stream q blocks → new_last ≡ xor_stream stream r last
-    → new_front ++ (new_blocks ++ new_last) ≡ xor_stream stream p all
-xor_stream-parts stream p q r all front rest blocks last new_front new_blocks new_last parts more at_blocks at_last f b l =
-    rw (parts, more, xor_stream-append stream p front (blocks ++ last), ← at_blocks, xor_stream-append stream q blocks last, ← at_last)
-    (ap₂ ◌++◌ f (ap₂ ◌++◌ b l))
+-- two parts, one after another
+pub xor_stream-parts : (stream : ℕ → ℕ) (p q : ℕ) (all front rest new_front new_rest : List ℕ) → all ≡ front ++ rest → q ≡ p + length front
+    → new_front ≡ xor_stream stream p front → new_rest ≡ xor_stream stream q rest → new_front ++ new_rest ≡ xor_stream stream p all
+xor_stream-parts stream p q all front rest new_front new_rest parts place first then =
+    ap₂ ◌++◌ first (then ∙ ap (λ k. xor_stream stream k rest) place) ∙ sym (ap (xor_stream stream p) parts ∙ xor_stream-append stream p front rest)
 
 pub length-xor_stream : (stream : ℕ → ℕ) (p : ℕ) (xs : List ℕ) → length (xor_stream stream p xs) ≡ length xs
 length-xor_stream stream p [] = refl

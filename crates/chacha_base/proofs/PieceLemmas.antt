@@ -1,10 +1,11 @@
 -- Bytes of a stream that are written or combined piece by piece.
-use Rattle.std.proofs.Common.{◌≡◌, ℕ, zero, suc, ◌+◌, ◌-◌, ◌<◌, ◌≤◌, List, [], ◌∷◌, ◌++◌, length, take, drop, slice_index, replicate, arith, refl, sym, ap, ap₂, ◌∙◌}
+use Rattle.std.proofs.Common.{◌≡◌, ℕ, zero, suc, min, ◌+◌, ◌-◌, ◌<◌, ◌≤◌, List, [], ◌∷◌, ◌++◌, length, take, drop, slice_index, replicate, arith, refl, sym, ap, ap₂, ◌∙◌}
 use Rattle.std.proofs.Math.Seq.{take-add}
 use Rattle.std.proofs.lemmas.List.{length-take-le, length-replicate}
 use Rattle.std.proofs.lemmas.Slice.{take-put_mid}
 use borrow.Rule.Slice.PartMut.{put_mid}
 use Rattle.std.specs.Int.Bits.{xor_zero_l}
+use Rattle.chacha_base.proofs.ListLemmas.{part_long}
 use Rattle.chacha_base.proofs.KeystreamLemmas.{xor_stream-append, xor_stream-same, length-xor_stream}
 use Rattle.chacha_base.specs.Keystream.{xor_stream, stream_part}
 
@@ -61,3 +62,15 @@ xor_stream-written stream p done n k input output piece inside room size before 
     ∙ sym (ap (xor_stream stream p) (take-add done n input)
     ∙ xor_stream-append stream p (take done input) (take n (drop done input))
     ∙ ap (λ m. xor_stream stream p (take done input) ++ xor_stream stream (p + m) (take n (drop done input))) (length-take-le done input inside))
+
+-- the next piece: it stays within the bytes, has its length, and fits where all bytes do
+pub piece-within : (most len done n : ℕ) → n ≡ min most (len - done) → done ≤ len → done + n ≤ len
+piece-within most len done n cut inside = omega arith
+
+pub piece-long : {X : Type 0} (done n : ℕ) (xs : List X) → done + n ≤ length xs → length (take (done + n - done) (drop done xs)) ≡ n
+piece-long done n xs inside =
+    let some : done + n - done ≡ n = omega arith in
+    ap (λ m. length (take m (drop done xs))) some ∙ part_long done n xs inside
+
+pub piece-fits : (now p done n size len limit : ℕ) → now ≡ p + done → size ≡ n → done + n ≤ len → p + len ≤ limit → now + size ≤ limit
+piece-fits now p done n size len limit place long inside fits = omega arith

@@ -354,7 +354,9 @@ pub trait StreamCipher: Keystream {
             (self.new ≡ at self.old (Self.position self.old + length buf.old)) }
         ensures refused { OnErr result ((buf.new ≡ buf.old) × (self.new ≡ self.old)) }
     {
-        self.check_remaining(buf.len())?;
+        if let Err(refusal) = self.check_remaining(buf.len()) {
+            return Err(refusal);
+        }
         let mut done = 0;
         'pieces: while done < buf.len() {
             let end = done + PIECE.min(buf.len() - done);
@@ -384,7 +386,9 @@ pub trait StreamCipher: Keystream {
         if input.len() != output.len() {
             return Err(StreamCipherError);
         }
-        self.check_remaining(input.len())?;
+        if let Err(refusal) = self.check_remaining(input.len()) {
+            return Err(refusal);
+        }
         let mut done = 0;
         'pieces: while done < input.len() {
             let end = done + PIECE.min(input.len() - done);

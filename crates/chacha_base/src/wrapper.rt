@@ -133,10 +133,12 @@ impl<C: StreamCipherSeekCore> StreamCipher for StreamCipherCoreWrapper<C> {
         buf: &mut [u8],
         steps: &mut Steps,
     ) -> Result<(), StreamCipherError> {
-        self.check_remaining(buf.len())?;
-        let begun = buf.len().min(self.left());
-        let whole = (buf.len() - begun) / 64 * 64;
+        if let Err(refusal) = self.check_remaining(buf.len()) {
+            return Err(refusal);
+        }
+        let begun = self.begun(buf.len());
         let (front, rest) = buf.split_at_mut(begun);
+        let whole = rest.len() / 64 * 64;
         let (blocks, last) = rest.split_at_mut(whole);
         self.apply_begun(front);
         self.apply_whole(blocks, steps);
@@ -167,11 +169,11 @@ impl<C: StreamCipherSeekCore> StreamCipherSeek for StreamCipherCoreWrapper<C> {
 }
 
 impl<C: StreamCipherSeekCore> StreamCipherCoreWrapper<C> {
-    // How many bytes are left of the block that the position lies in.
-    fn left(&self) -> usize
-        ensures { result ≡ left_at self.now.position }
+    // How many of so many bytes are left of the block that the position lies in.
+    fn begun(&self, len: usize) -> usize
+        ensures { result ≡ min len (left_at self.now.position) }
     {
-        self.left as usize
+        len.min(self.left as usize)
     }
 
     // XORs bytes with what is left of the block that the position lies in.

@@ -1,9 +1,9 @@
-use Rattle.std.proofs.Common.{◌≡◌, ◌+◌, length, take, add-zero, arith, refl, sym, ap, ◌∙◌}
+use Rattle.std.proofs.Common.{◌≡◌, ◌+◌, ◌≤◌, length, take, add-zero, arith, refl, sym, ap, subst, ◌∙◌}
 use Rattle.std.proofs.Math.Seq.{take-length}
-use Rattle.std.proofs.lemmas.Grind.{common_steps}
+use Rattle.std.proofs.lemmas.Bool.{false≢true}
 use Rattle.chacha_base.specs.Keystream.{xor_stream}
 use Rattle.chacha_base.proofs.CipherLemmas.{position_is, moved_on}
-use Rattle.chacha_base.proofs.PieceLemmas.{xor_stream-written}
+use Rattle.chacha_base.proofs.PieceLemmas.{xor_stream-written, piece-within, piece-long, piece-fits}
 use Rattle.chacha_base.proofs.cipher.StreamCipher.try_apply_keystream_b2b.Goals as goal
 
 pub pieces-init : goal.pieces-init
@@ -15,7 +15,9 @@ apply_keystream-requires g c =
     let position = g.Self.Keystream.position in
     let place : position c.pieces.self ≡ position c.args.self.now + c.pieces.done =
     position_is cipher.at position _ _ _ g.met.Self.StreamCipher.position_at c.pieces.invariant.moved in
-    grind (arith, place, common_steps)
+    let inside = piece-within 65536 (length c.args.input.now) c.pieces.done c.min.result c.min.ensures c.pieces.invariant.within in
+    let size = ap length c.copy_from_slice.ensures.after ∙ piece-long c.pieces.done c.min.result c.args.input.now inside in
+    piece-fits _ (position c.args.self.now) c.pieces.done c.min.result _ (length c.args.input.now) cipher.limit place size inside (c.in_default.ensures.accepted.0 refl)
 
 pub pieces-preserved : goal.pieces-preserved
 pieces-preserved g c =
@@ -29,11 +31,13 @@ pieces-preserved g c =
     let before = c.pieces.invariant.moved in
     let place : position c.pieces.self ≡ p + done = position_is cipher.at position _ _ _ laws.position_at before in
     let same : cipher.stream c.pieces.self ≡ cipher.stream old = ap cipher.stream before ∙ laws.stream_at old (p + done) in
-    let size : length c.copy_from_slice.new.self ≡ n = grind (arith, common_steps) in
+    let inside = piece-within 65536 (length c.args.input.now) done n c.min.ensures c.pieces.invariant.within in
+    let size : length c.copy_from_slice.new.self ≡ n = ap length c.copy_from_slice.ensures.after ∙ piece-long done n c.args.input.now inside in
     record {
-      within = grind (arith, common_steps);
+      within = inside;
       moved = moved_on cipher.at position old c.pieces.self _ p done n laws.position_at laws.at_at before (rw (← size) c.apply_keystream.ensures.moved);
-      bytes = xor_stream-written (cipher.stream old) p done n _ c.args.input.now c.pieces.output _ (omega arith) (omega arith) (omega (arith, size)) c.pieces.invariant.bytes
+      bytes = xor_stream-written (cipher.stream old) p done n _ c.args.input.now c.pieces.output _ c.pieces.invariant.within
+          (subst (λ m. done ≤ m) (c.if-input-output.false ∙ sym c.pieces.auto.output) c.pieces.invariant.within) (c.apply_keystream.auto.buf ∙ size) c.pieces.invariant.bytes
           (rw (same, place, c.copy_from_slice.ensures.after) at c.apply_keystream.ensures.bytes);
     }
 
@@ -53,8 +57,25 @@ returns-clause-moved g c =
     let all : c.pieces.done ≡ length c.args.input.now = omega arith in
     rw (← all) c.pieces.invariant.moved
 
-pub returns-in_err-check_remaining-clause-refused : goal.returns-in_err-check_remaining-clause-refused
-returns-in_err-check_remaining-clause-refused g c = grind (arith, common_steps)
-
 pub returns-then-input-output-clause-refused : goal.returns-then-input-output-clause-refused
 returns-then-input-output-clause-refused g c = (refl, refl)
+
+pub returns-in-Err-clause-accepted : goal.returns-in-Err-clause-accepted
+returns-in-Err-clause-accepted g c = (λ e. absurd (false≢true e), λ both. c.in-Err.ensures.accepted.1 both.1)
+
+pub returns-in-Err-clause-refused : goal.returns-in-Err-clause-refused
+returns-in-Err-clause-refused g c = (refl, refl)
+
+pub returns-then-input-output-clause-accepted : goal.returns-then-input-output-clause-accepted
+returns-then-input-output-clause-accepted g c = (λ e. absurd (false≢true e), λ both. absurd (c.if-input-output.true both.0))
+
+pub returns-clause-accepted : goal.returns-clause-accepted
+returns-clause-accepted g c = (λ e. (c.if-input-output.false, c.in_default.ensures.accepted.0 e), λ both. refl)
+
+pub copy_from_slice-requires : goal.copy_from_slice-requires
+copy_from_slice-requires g c =
+    let done = c.pieces.done in
+    let n = c.min.result in
+    let inside = piece-within 65536 (length c.args.input.now) done n c.min.ensures c.pieces.invariant.within in
+    let room = subst (λ m. done + n ≤ m) (c.if-input-output.false ∙ sym c.pieces.auto.output) inside in
+    piece-long done n c.pieces.output room ∙ sym (piece-long done n c.args.input.now inside)

@@ -1,8 +1,7 @@
-use Rattle.std.proofs.Common.{◌≡◌, ◌+◌, ◌-◌, length, take, drop, replicate, add-zero, arith, refl, sym, ap, ◌∙◌, rules}
+use Rattle.std.proofs.Common.{◌≡◌, ◌+◌, ◌≤◌, ◌-◌, length, take, drop, replicate, add-zero, arith, refl, sym, ap, subst, ◌∙◌}
 use Rattle.std.proofs.Math.Seq.{take-length}
-use Rattle.std.proofs.lemmas.Grind.{common_steps}
 use Rattle.chacha_base.proofs.CipherLemmas.{position_is, moved_on}
-use Rattle.chacha_base.proofs.PieceLemmas.{xor_stream-zeros, stream_part-written}
+use Rattle.chacha_base.proofs.PieceLemmas.{xor_stream-zeros, stream_part-written, piece-within, piece-long, piece-fits}
 use Rattle.chacha_base.proofs.cipher.StreamCipher.try_write_keystream.Goals as goal
 
 pub pieces-init : goal.pieces-init
@@ -14,7 +13,11 @@ apply_keystream-requires g c =
     let position = g.Self.Keystream.position in
     let place : position c.pieces.self ≡ position c.args.self.now + c.pieces.done =
     position_is cipher.at position _ _ _ g.met.Self.StreamCipher.position_at c.pieces.invariant.moved in
-    grind (arith, place, common_steps)
+    let before : c.pieces.done ≤ length c.pieces.buf = subst (λ m. c.pieces.done ≤ m) (sym c.pieces.auto.buf) c.pieces.invariant.within in
+    let inside = piece-within 65536 (length c.pieces.buf) c.pieces.done c.min.result c.min.ensures before in
+    let size = c.fill.ensures.len ∙ piece-long c.pieces.done c.min.result c.pieces.buf inside in
+    piece-fits _ (position c.args.self.now) c.pieces.done c.min.result _ (length c.pieces.buf) cipher.limit place size inside
+    (subst (λ m. position c.args.self.now + m ≤ cipher.limit) (sym c.pieces.auto.buf) (c.in_default.ensures.accepted.0 refl))
 
 pub pieces-preserved : goal.pieces-preserved
 pieces-preserved g c =
@@ -28,13 +31,15 @@ pieces-preserved g c =
     let before = c.pieces.invariant.moved in
     let place : position c.pieces.self ≡ p + done = position_is cipher.at position _ _ _ laws.position_at before in
     let same : cipher.stream c.pieces.self ≡ cipher.stream old = ap cipher.stream before ∙ laws.stream_at old (p + done) in
-    let size : length c.fill.new.self ≡ n = grind (arith, common_steps) in
-    let filled : c.fill.new.self ≡ replicate (length (take (done + n - done) (drop done c.pieces.buf))) 0 = c.fill.ensures.after (λ y h. search rules) in
-    let zeros : c.fill.new.self ≡ replicate n 0 = filled ∙ ap (λ m. replicate m 0) (grind (arith, common_steps)) in
+    let front : done ≤ length c.pieces.buf = subst (λ m. done ≤ m) (sym c.pieces.auto.buf) c.pieces.invariant.within in
+    let inside = piece-within 65536 (length c.pieces.buf) done n c.min.ensures front in
+    let size : length c.fill.new.self ≡ n = c.fill.ensures.len ∙ piece-long done n c.pieces.buf inside in
+    let filled : c.fill.new.self ≡ replicate (length (take (done + n - done) (drop done c.pieces.buf))) 0 = c.fill.ensures.after (λ y h. h) in
+    let zeros : c.fill.new.self ≡ replicate n 0 = filled ∙ ap (λ m. replicate m 0) (piece-long done n c.pieces.buf inside) in
     record {
-      within = grind (arith, common_steps);
+      within = subst (λ m. done + n ≤ m) c.pieces.auto.buf inside;
       moved = moved_on cipher.at position old c.pieces.self _ p done n laws.position_at laws.at_at before (rw (← size) c.apply_keystream.ensures.moved);
-      bytes = stream_part-written (cipher.stream old) p done n _ c.pieces.buf _ (omega arith) (omega (arith, size)) c.pieces.invariant.bytes
+      bytes = stream_part-written (cipher.stream old) p done n _ c.pieces.buf _ front (c.apply_keystream.auto.buf ∙ size) c.pieces.invariant.bytes
           ((rw (same, place, zeros) at c.apply_keystream.ensures.bytes) ∙ xor_stream-zeros (cipher.stream old) (p + done) n);
     }
 

@@ -7,7 +7,7 @@ invariant-pieces g l =
     let cipher = g.Self.StreamCipher in
     let position = g.Self.Keystream.position in
     record {
-      within : l.done ≤ length l.buf;
+      within : l.done ≤ length l.fn.buf;
       moved : l.self ≡ cipher.at l.fn.self (position l.fn.self + l.done);
       bytes : take l.done l.buf ≡ stream_part (cipher.stream l.fn.self) (position l.fn.self) l.done;
     }

@@ -1,6 +1,6 @@
-use Rattle.std.proofs.Common.{◌≡◌, ◌<◌, ◌*◌, length, ap, ◌∙◌, arith}
+use Rattle.std.proofs.Common.{◌≡◌, ◌*◌, length, ap, ◌∙◌}
 use Rattle.chacha_base.specs.Keystream.{keystream, xor_stream}
-use Rattle.chacha_base.proofs.BufferedLemmas.{counter-at_front}
+use Rattle.chacha_base.proofs.BufferedLemmas.{counter-at_front, some-not_empty, buffered-whole, moved-whole}
 use Rattle.chacha_base.proofs.wrapper.StreamCipherCoreWrapper.apply_whole.Goals as goal
 
 pub returns-then-not-is_empty-clause-bytes : goal.returns-then-not-is_empty-clause-bytes
@@ -9,7 +9,7 @@ returns-then-not-is_empty-clause-bytes g c =
     let block = g.C.Keystream.block_at in
     let blocks = c.args.blocks.now in
     let counter = g.C.StreamCipherCore.counter c.self.inside.core in
-    let some : 0 < length blocks = grind arith in
+    let some = some-not_empty (length blocks) c.is_empty.result c.is_empty.ensures c.if-not-is_empty.true in
     let place : 64 * counter ≡ c.args.self.now.position =
     counter-at_front modulus c.self.inside.past counter c.self.inside.left _ _ c.self.invariant.part (ap (λ v. v.position) c.self.view_is) (c.requires.front some) some c.requires.fits
     in
@@ -19,3 +19,18 @@ returns-then-not-is_empty-clause-bytes g c =
 
 pub returns-then-not-is_empty-clause-steps : goal.returns-then-not-is_empty-clause-steps
 returns-then-not-is_empty-clause-steps g c = c.apply_blocks_counted.ensures.steps
+
+pub invariant_of-self : goal.invariant_of-self
+invariant_of-self g c =
+    let some = some-not_empty (length c.args.blocks.now) c.is_empty.result c.is_empty.ensures c.if-not-is_empty.true in
+    buffered-whole (g.C.Keystream.block_at (g.C.Keystream.fixed c.apply_blocks_counted.new.self)) c.args.self.now.position (length c.args.blocks.now)
+    (g.C.StreamCipherCore.counter c.apply_blocks_counted.new.self) c.to_u64.result c.self.invariant (ap (λ v. v.position) c.self.view_is)
+    (c.requires.front some) some c.requires.whole c.requires.fits c.apply_blocks_counted.ensures.counter (c.to_u64.ensures.value ∙ c.get_block_pos.ensures)
+
+pub returns-then-not-is_empty-clause-moved : goal.returns-then-not-is_empty-clause-moved
+returns-then-not-is_empty-clause-moved g c =
+    let some = some-not_empty (length c.args.blocks.now) c.is_empty.result c.is_empty.ensures c.if-not-is_empty.true in
+    moved-whole c.args.self.now (g.C.Keystream.fixed c.apply_blocks_counted.new.self) (length c.args.blocks.now)
+    (g.C.StreamCipherCore.counter c.apply_blocks_counted.new.self) c.to_u64.result c.self.invariant
+    (c.apply_blocks_counted.ensures.fixed ∙ ap (λ v. v.fixed) c.self.view_is) (ap (λ v. v.position) c.self.view_is)
+    (c.requires.front some) some c.requires.whole c.requires.fits c.apply_blocks_counted.ensures.counter (c.to_u64.ensures.value ∙ c.get_block_pos.ensures)

@@ -1,112 +1,96 @@
-use Rattle.std.proofs.Common.{◌≡◌, ◌+◌, ◌%◌, ◌∙◌, ap, length, arith, refl}
-use Rattle.chacha_base.specs.Keystream.{keystream}
+use Rattle.std.proofs.Common.{length, ap, ◌∙◌, refl}
+use Rattle.chacha_base.specs.Keystream.{keystream, xor_stream}
+use Rattle.chacha_base.specs.Limit.{limit_of}
+use Rattle.chacha_base.proofs.BufferedLemmas.{begun-within, begun-left, begun-front, whole-within, whole-is, whole-some, whole-fits, last-part, last-front, parts-all, rest-fits}
+use Rattle.chacha_base.proofs.CipherLemmas.{moved-parts}
+use Rattle.chacha_base.proofs.CountsLemmas.{grows-rest, grows-bytes}
 use Rattle.chacha_base.proofs.KeystreamLemmas.{xor_stream-parts}
-use Rattle.chacha_base.proofs.BufferedLemmas.{begun-front, whole-front}
-use Rattle.chacha_base.proofs.CipherLemmas.{moved-parts, accepts-refused, on_ok-refused, on_err}
-use Rattle.chacha_base.proofs.CountsLemmas.{grows-bytes}
 use Rattle.chacha_base.proofs.wrapper.StreamCipherCoreWrapperStreamCipher.try_apply_keystream_counted.Goals as goal
 
 pub returns-clause-bytes : goal.returns-clause-bytes
 returns-clause-bytes g c =
-    let stream = keystream g.C.Keystream.modulus (g.C.Keystream.block_at c.args.self.now.fixed) in
-    let blocks = rw c.apply_begun.ensures.moved at c.apply_whole.ensures.bytes in
-    let last = rw (c.apply_whole.ensures.moved, c.apply_begun.ensures.moved) at c.apply_last.ensures.bytes in
-    xor_stream-parts stream c.args.self.now.position _ _ c.args.buf.now _ _ _ _ _ _ _ c.split_at_mut-front.ensures.value c.split_at_mut-blocks.ensures.value refl refl
-    c.apply_begun.ensures.bytes blocks last
+    let modulus = g.C.Keystream.modulus in
+    let block = g.C.Keystream.block_at in
+    let begun = c.apply_begun.new.self in
+    let whole = c.apply_whole.new.self in
+    let blocks = c.split_at_mut-blocks.result.0.now in
+    let last = c.split_at_mut-blocks.result.1.now in
+    let fixed_begun = ap (λ s. s.fixed) c.apply_begun.ensures.moved in
+    let fixed_whole = ap (λ s. s.fixed) c.apply_whole.ensures.moved in
+    xor_stream-parts (keystream modulus (block c.args.self.now.fixed)) c.args.self.now.position begun.position c.args.buf.now
+    c.split_at_mut-front.result.0.now c.split_at_mut-front.result.1.now _ _ c.split_at_mut-front.ensures.value
+    (ap (λ s. s.position) c.apply_begun.ensures.moved) c.apply_begun.ensures.bytes
+    (xor_stream-parts (keystream modulus (block c.args.self.now.fixed)) begun.position whole.position c.split_at_mut-front.result.1.now blocks last _ _
+    c.split_at_mut-blocks.ensures.value (ap (λ s. s.position) c.apply_whole.ensures.moved)
+    (c.apply_whole.ensures.bytes ∙ ap (λ f. xor_stream (keystream modulus (block f)) begun.position blocks) fixed_begun)
+    (c.apply_last.ensures.bytes ∙ ap (λ f. xor_stream (keystream modulus (block f)) whole.position last) (fixed_whole ∙ fixed_begun)))
 
 pub returns-clause-steps : goal.returns-clause-steps
 returns-clause-steps g c =
-    let back = c.split_at_mut-front.ensures.back_len in
-    let rest = c.split_at_mut-blocks.ensures.back_len in
-    let begun = c.split_at_mut-front.ensures.front_len in
-    let whole = c.split_at_mut-blocks.ensures.front_len in
-    grows-bytes _ _ _ c.args.self.now.position (length c.args.buf.now) c.min-begun.result (length c.split_at_mut-blocks.result.0.now) (length c.split_at_mut-blocks.result.1.now) _ _ _
-    (omega (arith, c.left.ensures, c.min-begun.ensures)) whole (omega arith) c.apply_whole.ensures.steps c.apply_last.ensures.steps
+    let rest = length c.split_at_mut-front.result.1.now in
+    let width = g.C.ParBlocksSizeUser.PAR_BLOCKS in
+    let par = g.C.StreamCipherCore.par_cost in
+    let one = g.C.StreamCipherCore.one_cost in
+    grows-bytes width par one c.args.self.now.position (length c.args.buf.now) c.begun-begun.result rest c.begun-begun.ensures c.split_at_mut-front.ensures.back_len
+    (grows-rest width par one rest (length c.split_at_mut-blocks.result.0.now) (length c.split_at_mut-blocks.result.1.now) _ _ _ c.split_at_mut-blocks.ensures.front_len
+    c.split_at_mut-blocks.ensures.back_len c.apply_whole.ensures.steps c.apply_last.ensures.steps)
 
 pub returns-clause-accepted : goal.returns-clause-accepted
-returns-clause-accepted g c = c.in_ok-check_remaining.ensures.accepted
+returns-clause-accepted g c = c.in_default.ensures.accepted
 
 pub returns-clause-moved : goal.returns-clause-moved
 returns-clause-moved g c =
-    moved-parts c.args.self.now c.apply_begun.new.self c.apply_whole.new.self c.apply_last.new.self (length c.split_at_mut-front.result.0.now)
-    (length c.split_at_mut-blocks.result.0.now) (length c.split_at_mut-blocks.result.1.now) (length c.args.buf.now) c.apply_begun.ensures.moved
-    c.apply_whole.ensures.moved c.apply_last.ensures.moved
-    (omega (arith, ap length c.split_at_mut-front.ensures.value, ap length c.split_at_mut-blocks.ensures.value))
+    let rest = length c.split_at_mut-front.result.1.now in
+    moved-parts c.args.self.now c.apply_begun.new.self c.apply_last.new.self _ rest _ c.apply_begun.ensures.moved
+    (moved-parts c.apply_begun.new.self c.apply_whole.new.self c.apply_last.new.self _ _ rest c.apply_whole.ensures.moved c.apply_last.ensures.moved
+    (parts-all rest _ _ _ c.split_at_mut-blocks.ensures.front_len c.split_at_mut-blocks.ensures.back_len))
+    (parts-all (length c.args.buf.now) _ _ _ c.split_at_mut-front.ensures.front_len c.split_at_mut-front.ensures.back_len)
 
-pub returns-in_err-check_remaining-clause-accepted : goal.returns-in_err-check_remaining-clause-accepted
-returns-in_err-check_remaining-clause-accepted g c =
-    accepts-refused c.from_residual.result c.from_residual.ensures.0 c.in_err-check_remaining.ensures.accepted
+pub split_at_mut-front-requires : goal.split_at_mut-front-requires
+split_at_mut-front-requires g c = begun-within (length c.args.buf.now) _ _ c.begun-begun.ensures
 
-pub returns-in_err-check_remaining-clause-refused : goal.returns-in_err-check_remaining-clause-refused
-returns-in_err-check_remaining-clause-refused g c = on_err c.from_residual.result (refl, refl, refl)
+pub split_at_mut-blocks-requires : goal.split_at_mut-blocks-requires
+split_at_mut-blocks-requires g c = whole-within (length c.split_at_mut-front.result.1.now)
 
 pub apply_begun-requires : goal.apply_begun-requires
-apply_begun-requires g c = omega (arith, c.split_at_mut-front.ensures.front_len, c.left.ensures, c.min-begun.ensures)
+apply_begun-requires g c = begun-left (length c.args.buf.now) _ _ _ c.begun-begun.ensures c.split_at_mut-front.ensures.front_len
 
 pub apply_whole-requires-clause-whole : goal.apply_whole-requires-clause-whole
-apply_whole-requires-clause-whole g c = omega (arith, c.split_at_mut-blocks.ensures.front_len)
+apply_whole-requires-clause-whole g c = whole-is (length c.split_at_mut-front.result.1.now) _ c.split_at_mut-blocks.ensures.front_len
 
 pub apply_whole-requires-clause-front : goal.apply_whole-requires-clause-front
 apply_whole-requires-clause-front g c some =
-    let begun = c.split_at_mut-front.ensures.front_len in
-    let whole = c.split_at_mut-blocks.ensures.front_len in
-    let front = begun-front c.args.self.now.position (length c.args.buf.now) c.min-begun.result (omega (arith, c.left.ensures, c.min-begun.ensures))
-    (omega (arith, some, whole)) in
-    ap (λ s. s.position % 64) c.apply_begun.ensures.moved ∙ ap (λ n. (c.args.self.now.position + n) % 64) begun ∙ front
-
-pub returns-in_err-check_remaining-clause-bytes : goal.returns-in_err-check_remaining-clause-bytes
-returns-in_err-check_remaining-clause-bytes g c = on_ok-refused _ c.from_residual.result c.from_residual.ensures.0
-
-pub returns-in_err-check_remaining-clause-moved : goal.returns-in_err-check_remaining-clause-moved
-returns-in_err-check_remaining-clause-moved g c = on_ok-refused _ c.from_residual.result c.from_residual.ensures.0
-
-pub returns-in_err-check_remaining-clause-steps : goal.returns-in_err-check_remaining-clause-steps
-returns-in_err-check_remaining-clause-steps g c = on_ok-refused _ c.from_residual.result c.from_residual.ensures.0
-
-pub overflow_sub-whole : goal.overflow_sub-whole
-overflow_sub-whole g c = omega (arith, c.min-begun.ensures)
-
-pub overflow_mul-whole : goal.overflow_mul-whole
-overflow_mul-whole g c = omega arith
-
-pub split_at_mut-front-requires : goal.split_at_mut-front-requires
-split_at_mut-front-requires g c = omega (arith, c.min-begun.ensures)
-
-pub split_at_mut-blocks-requires : goal.split_at_mut-blocks-requires
-split_at_mut-blocks-requires g c = omega (arith, c.split_at_mut-front.ensures.back_len, c.min-begun.ensures)
+    begun-front c.args.self.now.position c.apply_begun.new.self.position (length c.args.buf.now) c.begun-begun.result _ _ c.begun-begun.ensures
+    c.split_at_mut-front.ensures.front_len c.split_at_mut-front.ensures.back_len (ap (λ s. s.position) c.apply_begun.ensures.moved)
+    (whole-some (length c.split_at_mut-front.result.1.now) _ c.split_at_mut-blocks.ensures.front_len some)
 
 pub apply_whole-requires-clause-fits : goal.apply_whole-requires-clause-fits
 apply_whole-requires-clause-fits g c =
-    omega (
-      arith,
-      ap (λ s. s.position) c.apply_begun.ensures.moved,
-      ap length c.split_at_mut-front.ensures.value,
-      ap length c.split_at_mut-blocks.ensures.value,
-      c.in_ok-check_remaining.ensures.accepted.0 refl,
-    )
+    whole-fits c.apply_begun.new.self.position (length c.split_at_mut-front.result.1.now) _ (limit_of g.C.Keystream.modulus) c.split_at_mut-blocks.ensures.front_len
+    (rest-fits c.args.self.now.position c.apply_begun.new.self.position (length c.args.buf.now) _ _ _ (limit_of g.C.Keystream.modulus)
+    c.split_at_mut-front.ensures.front_len c.split_at_mut-front.ensures.back_len (ap (λ s. s.position) c.apply_begun.ensures.moved)
+    (c.in_default.ensures.accepted.0 refl))
 
 pub apply_last-requires-clause-part : goal.apply_last-requires-clause-part
-apply_last-requires-clause-part g c = omega (arith, c.split_at_mut-front.ensures.back_len, c.split_at_mut-blocks.ensures.front_len, c.split_at_mut-blocks.ensures.back_len)
+apply_last-requires-clause-part g c = last-part (length c.split_at_mut-front.result.1.now) _ c.split_at_mut-blocks.ensures.back_len
 
 pub apply_last-requires-clause-front : goal.apply_last-requires-clause-front
 apply_last-requires-clause-front g c some =
-    let begun = c.split_at_mut-front.ensures.front_len in
-    let whole = c.split_at_mut-blocks.ensures.front_len in
-    let rest = c.split_at_mut-front.ensures.back_len in
-    let last = c.split_at_mut-blocks.ensures.back_len in
-    let front = whole-front c.args.self.now.position (length c.args.buf.now) c.min-begun.result (length c.split_at_mut-blocks.result.0.now)
-    (omega (arith, c.left.ensures, c.min-begun.ensures)) (omega (arith, whole)) (omega (arith, some, rest, last, c.min-begun.ensures)) in
-    let moved : c.apply_whole.new.self.position ≡ c.args.self.now.position + c.min-begun.result + length c.split_at_mut-blocks.result.0.now =
-    omega (arith, ap (λ s. s.position) c.apply_begun.ensures.moved, ap (λ s. s.position) c.apply_whole.ensures.moved, begun) in
-    ap (λ n. n % 64) moved ∙ front
+    last-front c.apply_begun.new.self.position c.apply_whole.new.self.position (length c.split_at_mut-front.result.1.now) _ _
+    (begun-front c.args.self.now.position c.apply_begun.new.self.position (length c.args.buf.now) c.begun-begun.result _ _ c.begun-begun.ensures
+    c.split_at_mut-front.ensures.front_len c.split_at_mut-front.ensures.back_len (ap (λ s. s.position) c.apply_begun.ensures.moved))
+    c.split_at_mut-blocks.ensures.front_len c.split_at_mut-blocks.ensures.back_len (ap (λ s. s.position) c.apply_whole.ensures.moved) some
 
 pub apply_last-requires-clause-fits : goal.apply_last-requires-clause-fits
 apply_last-requires-clause-fits g c =
-    omega (
-      arith,
-      ap (λ s. s.position) c.apply_begun.ensures.moved,
-      ap (λ s. s.position) c.apply_whole.ensures.moved,
-      ap length c.split_at_mut-front.ensures.value,
-      ap length c.split_at_mut-blocks.ensures.value,
-      c.in_ok-check_remaining.ensures.accepted.0 refl,
-    )
+    rest-fits c.apply_begun.new.self.position c.apply_whole.new.self.position (length c.split_at_mut-front.result.1.now) _ _ _ (limit_of g.C.Keystream.modulus)
+    c.split_at_mut-blocks.ensures.front_len c.split_at_mut-blocks.ensures.back_len (ap (λ s. s.position) c.apply_whole.ensures.moved)
+    (rest-fits c.args.self.now.position c.apply_begun.new.self.position (length c.args.buf.now) _ _ _ (limit_of g.C.Keystream.modulus)
+    c.split_at_mut-front.ensures.front_len c.split_at_mut-front.ensures.back_len (ap (λ s. s.position) c.apply_begun.ensures.moved)
+    (c.in_default.ensures.accepted.0 refl))
+
+pub returns-in-Err-clause-accepted : goal.returns-in-Err-clause-accepted
+returns-in-Err-clause-accepted g c = c.in-Err.ensures.accepted
+
+pub returns-in-Err-clause-refused : goal.returns-in-Err-clause-refused
+returns-in-Err-clause-refused g c = (refl, refl, refl)
