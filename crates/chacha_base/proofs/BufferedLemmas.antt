@@ -1,6 +1,6 @@
 -- Bytes of a block kept in a buffer.
-use Rattle.std.proofs.Common.{◌≡◌, ℕ, zero, suc, min, ◌+◌, ◌-◌, ◌*◌, ◌/◌, ◌%◌, ◌<◌, ◌≤◌, ◌⊎◌, inl, inr, Bool, true, false, nat_eq, List, length, take, drop, slice_index, bit_xor, arith, sym, ap, ap₂, subst, ◌∙◌}
-use Rattle.std.proofs.lemmas.Bool.{false≢true, eqb-true}
+use Rattle.std.proofs.Common.{◌≡◌, ℕ, zero, suc, min, ◌+◌, ◌-◌, ◌*◌, ◌/◌, ◌%◌, ◌<◌, ◌≤◌, ◌⊎◌, inl, inr, Bool, true, false, nat_eq, nat_lt, List, length, take, drop, slice_index, bit_xor, arith, sym, ap, ap₂, subst, ◌∙◌}
+use Rattle.std.proofs.lemmas.Bool.{false≢true, eqb-true, lt-ltb, le-ltb}
 use Rattle.std.proofs.Math.Dec.{eqb-suc-zero}
 use Rattle.std.proofs.lemmas.List.{get_or-take, get_or-drop}
 use Rattle.std.proofs.Math.Nat.{eq-or-lt_of_le, mod-eq_of_lt, mod-lt, mod_self}
@@ -188,3 +188,100 @@ pub moved-begun : (a : Cipher) (fixed : List ℕ) (made left m n : ℕ) → fixe
 moved-begun a fixed made left m n alike place part begun fits size =
     let there : position_of made (left - m) ≡ a.position + n = omega arith in
     ap₂ (λ f q. let cipher : Cipher = record { fixed = f; position = q } in cipher) alike there
+
+-- a position that is sought, by the greatest counter
+pub sought-fits : (modulus m last limit place : ℕ) → modulus ≡ m → last + 1 ≡ m → limit ≡ last → place ≤ 64 * limit + 64 → place ≤ limit_of modulus
+sought-fits modulus m last limit place counters greatest same fits = omega arith
+
+pub sought-modulus : (modulus m last limit : ℕ) → modulus ≡ m → last + 1 ≡ m → limit ≡ last → modulus ≡ limit + 1
+sought-modulus modulus m last limit counters greatest same = omega arith
+
+-- `start` is the counter of the position's block, and 0 at the limit
+start-part : (modulus last place start : ℕ) → modulus ≡ last + 1 → place ≤ limit_of modulus → 0 < place % 64
+    → ((last < place / 64) × (start ≡ 0)) ⊎ ((place / 64 ≤ last) × (start ≡ place / 64)) → start ≡ place / 64
+start-part modulus last place start size fits some (inl past) = let more : last < place / 64 = past.0 in absurd (omega arith)
+start-part modulus last place start size fits some (inr before) = before.1
+
+start-below : (modulus last place start : ℕ) → modulus ≡ last + 1
+    → ((last < place / 64) × (start ≡ 0)) ⊎ ((place / 64 ≤ last) × (start ≡ place / 64)) → start < modulus
+start-below modulus last place start size (inl past) = omega (arith, past.1)
+start-below modulus last place start size (inr before) = omega (arith, before.0, before.1)
+
+-- at a block's front no more blocks are made
+made-sought_front : (modulus last place start : ℕ) → modulus ≡ last + 1 → place ≤ limit_of modulus → place % 64 ≡ 0
+    → ((last < place / 64) × (start ≡ 0)) ⊎ ((place / 64 ≤ last) × (start ≡ place / 64)) → blocks_made modulus (nat_lt (64 * last) place) start ≡ place / 64
+made-sought_front modulus last place start size fits front (inl past) =
+    let more : last < place / 64 = past.0 in
+    let all : modulus ≡ place / 64 = omega arith in
+    ap (λ b. blocks_made modulus b start) (lt-ltb (64 * last) place (omega arith)) ∙ all
+made-sought_front modulus last place start size fits front (inr before) =
+    let less : place / 64 ≤ last = before.0 in
+    ap (λ b. blocks_made modulus b start) (le-ltb (64 * last) place (omega arith)) ∙ before.1
+
+again-sought_front : (modulus last place start : ℕ) → modulus ≡ last + 1 → place % 64 ≡ 0
+    → ((last < place / 64) × (start ≡ 0)) ⊎ ((place / 64 ≤ last) × (start ≡ place / 64)) → nat_lt (64 * last) place ≡ true → start ≡ 0
+again-sought_front modulus last place start size front (inl past) is = past.1
+again-sought_front modulus last place start size front (inr before) is =
+    let less : place / 64 ≤ last = before.0 in
+    absurd (false≢true (sym (le-ltb (64 * last) place (omega arith)) ∙ is))
+
+-- within a block that one is made
+made-sought_part : (modulus last place new : ℕ) → modulus ≡ last + 1 → 0 < place % 64 → (place / 64 + 1 ≡ modulus) ⊎ (place / 64 + 1 < modulus)
+    → new ≡ (place / 64 + 1) % modulus → blocks_made modulus (nat_lt (64 * last) place) new ≡ place / 64 + 1
+made-sought_part modulus last place new size some (inl all) moved =
+    ap (λ b. blocks_made modulus b new) (lt-ltb (64 * last) place (omega arith)) ∙ sym all
+made-sought_part modulus last place new size some (inr less) moved =
+    ap (λ b. blocks_made modulus b new) (le-ltb (64 * last) place (omega arith)) ∙ moved ∙ mod-eq_of_lt less
+
+again-sought_part : (modulus last place new : ℕ) → modulus ≡ last + 1 → (place / 64 + 1 ≡ modulus) ⊎ (place / 64 + 1 < modulus)
+    → new ≡ (place / 64 + 1) % modulus → nat_lt (64 * last) place ≡ true → new ≡ 0
+again-sought_part modulus last place new size (inl all) moved is = moved ∙ ap (λ k. k % modulus) all ∙ mod_self modulus
+again-sought_part modulus last place new size (inr less) moved is = absurd (false≢true (sym (le-ltb (64 * last) place (omega arith)) ∙ is))
+
+pub buffered-sought_front : (modulus : ℕ) (block : ℕ → List ℕ) (last place start counter : ℕ) (buffer : List ℕ) → modulus ≡ last + 1 → place ≤ limit_of modulus
+    → place % 64 ≤ 0 → ((last < place / 64) × (start ≡ 0)) ⊎ ((place / 64 ≤ last) × (start ≡ place / 64)) → counter ≡ start
+    → IsBuffered modulus block (nat_lt (64 * last) place) counter buffer ((64 - place % 64) % 64)
+buffered-sought_front modulus block last place start counter buffer size fits front where_at here =
+    let none : place % 64 ≡ 0 = omega arith in
+    subst (λ k. IsBuffered modulus block (nat_lt (64 * last) place) k buffer ((64 - place % 64) % 64)) (sym here) record {
+      part = omega arith;
+      below = start-below modulus last place start size where_at;
+      again = again-sought_front modulus last place start size none where_at;
+      begun = omega arith;
+      held = λ more. absurd (omega arith);
+    }
+
+pub moved-sought_front : (modulus last place start counter : ℕ) → modulus ≡ last + 1 → place ≤ limit_of modulus
+    → place % 64 ≤ 0 → ((last < place / 64) × (start ≡ 0)) ⊎ ((place / 64 ≤ last) × (start ≡ place / 64)) → counter ≡ start
+    → position_of (blocks_made modulus (nat_lt (64 * last) place) counter) ((64 - place % 64) % 64) ≡ place
+moved-sought_front modulus last place start counter size fits front where_at here =
+    let none : place % 64 ≡ 0 = omega arith in
+    let there : position_of (place / 64) ((64 - place % 64) % 64) ≡ place = omega arith in
+    ap (λ k. position_of (blocks_made modulus (nat_lt (64 * last) place) k) ((64 - place % 64) % 64)) here
+    ∙ ap (λ k. position_of k ((64 - place % 64) % 64)) (made-sought_front modulus last place start size fits none where_at) ∙ there
+
+pub buffered-sought_part : (modulus : ℕ) (block : ℕ → List ℕ) (last place start counter new : ℕ) (buffer : List ℕ) → modulus ≡ last + 1 → place ≤ limit_of modulus
+    → 0 < place % 64 → ((last < place / 64) × (start ≡ 0)) ⊎ ((place / 64 ≤ last) × (start ≡ place / 64)) → counter ≡ start → new ≡ (counter + 1) % modulus
+    → buffer ≡ block counter → IsBuffered modulus block (nat_lt (64 * last) place) new buffer ((64 - place % 64) % 64)
+buffered-sought_part modulus block last place start counter new buffer size fits some where_at here moved made =
+    let at : counter ≡ place / 64 = here ∙ start-part modulus last place start size fits some where_at in
+    let inside : place / 64 + 1 ≤ modulus = omega (arith, size, fits, some) in
+    let next : new ≡ (place / 64 + 1) % modulus = moved ∙ ap (λ k. (k + 1) % modulus) at in
+    let blocks = made-sought_part modulus last place new size some (eq-or-lt_of_le inside) next in
+    record {
+      part = omega (arith, some);
+      below = subst (λ k. k < modulus) (sym next) (mod-lt (place / 64 + 1) (omega (arith, size)));
+      again = again-sought_part modulus last place new size (eq-or-lt_of_le inside) next;
+      begun = omega (arith, blocks);
+      held = λ more. made ∙ ap block (let before : counter ≡ place / 64 + 1 - 1 = omega (arith, at) in before ∙ sym (ap (λ k. k - 1) blocks));
+    }
+
+pub moved-sought_part : (modulus last place start counter new : ℕ) → modulus ≡ last + 1 → place ≤ limit_of modulus
+    → 0 < place % 64 → ((last < place / 64) × (start ≡ 0)) ⊎ ((place / 64 ≤ last) × (start ≡ place / 64)) → counter ≡ start → new ≡ (counter + 1) % modulus
+    → position_of (blocks_made modulus (nat_lt (64 * last) place) new) ((64 - place % 64) % 64) ≡ place
+moved-sought_part modulus last place start counter new size fits some where_at here moved =
+    let at : counter ≡ place / 64 = here ∙ start-part modulus last place start size fits some where_at in
+    let inside : place / 64 + 1 ≤ modulus = omega (arith, size, fits, some) in
+    let next : new ≡ (place / 64 + 1) % modulus = moved ∙ ap (λ k. (k + 1) % modulus) at in
+    let there : position_of (place / 64 + 1) ((64 - place % 64) % 64) ≡ place = omega (arith, some) in
+    ap (λ k. position_of k ((64 - place % 64) % 64)) (made-sought_part modulus last place new size some (eq-or-lt_of_le inside) next) ∙ there

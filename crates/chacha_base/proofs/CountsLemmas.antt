@@ -53,6 +53,12 @@ grows-last one n {a} {b} some grows =
     let cost : one ≡ 1 * one = omega arith in
     subst (λ k. Grows (for_call 0 k (k * one)) a b) single (subst (λ m. Grows (for_call 0 1 m) a b) cost grows)
 
+pub grows-no_last : (one n : ℕ) (a : Counts) → n ≤ 0 → Grows (for_call 0 (min 1 n) (min 1 n * one)) a a
+grows-no_last one n a none =
+    let calls : 0 ≡ min 1 n = omega arith in
+    let rounds : 0 ≡ 0 * one = omega arith in
+    subst (λ k. Grows (for_call 0 k (k * one)) a a) calls (subst (λ m. Grows (for_call 0 0 m) a a) rounds (grows-none a))
+
 -- one after another
 pub grows-then : {x y z : Bounds} {a b c : Counts} → Grows x a b → Grows y b c → x.par + y.par ≤ z.par → x.other + y.other ≤ z.other
     → z.least ≤ x.least + y.least → x.most + y.most ≤ z.most → Grows z a c

@@ -1,5 +1,5 @@
-use Rattle.std.proofs.Common.{◌≡◌, ◌+◌, ◌-◌, ◌∙◌, [], length, ap, arith}
-use Rattle.chacha_base.proofs.ListLemmas.{part_long, slice_index_or-put_mid_above}
+use Rattle.std.proofs.Common.{◌≡◌, ◌+◌, ◌-◌, ◌≤◌, ◌<◌, ◌∙◌, [], length, ap, sym, subst}
+use Rattle.chacha_base.proofs.ListLemmas.{part_long, part-again, part-inside, part-behind, part-rest, part-all, slice_index_or-put_mid_above}
 use Rattle.chacha_base.proofs.KeystreamLemmas.{counter-more, counter-wrapped, blocks-more}
 use Rattle.chacha_base.proofs.cipher.StreamCipherCore.apply_keystream_blocks.Goals as goal
 
@@ -11,19 +11,23 @@ groups-preserved g c =
     let counter = g.Self.StreamCipherCore.counter c.groups.self in
     let kept = c.groups.invariant in
     let a = c.groups.done in
+    let width = c.PAR_BLOCKS-width.result in
     let now = c.groups.blocks in
-    let k = a + c.PAR_BLOCKS-width.result - a in
-    let all : a + k ≡ a + c.PAR_BLOCKS-width.result = omega arith in
-    let long = part_long a k now (omega arith) in
-    let same : length c.apply_group.new.blocks ≡ k = omega (arith, long) in
+    let k = a + width - a in
+    let all : a + k ≡ a + width = part-again a width in
+    let before : a ≤ length now = subst (λ n. a ≤ n) (sym c.groups.auto.blocks) kept.within in
+    let inside : a + k ≤ length now = part-inside a width (length now) before c.groups-test.true in
+    let long = part_long a k now inside in
+    let same : length c.apply_group.new.blocks ≡ k = c.apply_group.auto.blocks ∙ long in
     record {
-      within = omega arith;
+      within = subst (λ n. a + width ≤ n) c.groups.auto.blocks (subst (λ n. n ≤ length now) all inside);
       fixed = c.apply_group.ensures.fixed ∙ kept.fixed;
       counter = counter-wrapped modulus first counter a k _ _ kept.counter (rw long at c.apply_group.ensures.counter) all;
       done = λ i less.
           blocks-more modulus (block (g.Self.Keystream.fixed c.args.self.now)) (block (g.Self.Keystream.fixed c.groups.self)) first counter a k c.args.blocks.now now
-          c.apply_group.new.blocks (ap block kept.fixed) kept.counter kept.within same kept.done kept.rest (rw long at c.apply_group.ensures.blocks) i (rw all less);
-      rest = λ i above. slice_index_or-put_mid_above a k i now _ [] (rw all above) kept.within same ∙ kept.rest i (omega arith);
+          c.apply_group.new.blocks (ap block kept.fixed) kept.counter before same kept.done kept.rest (rw long at c.apply_group.ensures.blocks) i (subst (λ n. i < n) (sym all) less);
+      rest = λ i above.
+          slice_index_or-put_mid_above a k i now _ [] (subst (λ n. n ≤ i) (sym all) above) before same ∙ kept.rest i (part-behind a width i above);
     }
 
 pub returns-clause-blocks : goal.returns-clause-blocks
@@ -32,14 +36,23 @@ returns-clause-blocks g c i less =
     let kept = c.groups.invariant in
     let a = c.groups.done in
     let now = c.groups.blocks in
-    let long = part_long a (length now - a) now (omega arith) in
+    let before : a ≤ length now = subst (λ n. a ≤ n) (sym c.groups.auto.blocks) kept.within in
+    let all : a + (length now - a) ≡ length now = part-rest a (length now) before in
+    let long = part_long a (length now - a) now (part-all a (length now) before) in
     blocks-more g.Self.Keystream.modulus (block (g.Self.Keystream.fixed c.args.self.now)) (block (g.Self.Keystream.fixed c.groups.self))
     (g.Self.StreamCipherCore.counter c.args.self.now) (g.Self.StreamCipherCore.counter c.groups.self) a (length now - a) c.args.blocks.now now c.apply_group-2.new.blocks
-    (ap block kept.fixed) kept.counter kept.within (omega (arith, long)) kept.done kept.rest (rw long at c.apply_group-2.ensures.blocks) i (omega arith)
+    (ap block kept.fixed) kept.counter before (c.apply_group-2.auto.blocks ∙ long) kept.done kept.rest (rw long at c.apply_group-2.ensures.blocks) i
+    (subst (λ n. i < n) (sym (all ∙ c.groups.auto.blocks)) less)
 
 pub returns-clause-counter : goal.returns-clause-counter
 returns-clause-counter g c =
     let a = c.groups.done in
     let now = c.groups.blocks in
+    let before : a ≤ length now = subst (λ n. a ≤ n) (sym c.groups.auto.blocks) c.groups.invariant.within in
+    let all : a + (length now - a) ≡ length now = part-rest a (length now) before in
     counter-more g.Self.Keystream.modulus (g.Self.StreamCipherCore.counter c.args.self.now) (g.Self.StreamCipherCore.counter c.groups.self) a (length now - a) _ _
-    c.groups.invariant.counter (rw (part_long a (length now - a) now (omega arith)) at c.apply_group-2.ensures.counter) (omega arith)
+    c.groups.invariant.counter (rw (part_long a (length now - a) now (part-all a (length now) before)) at c.apply_group-2.ensures.counter)
+    (all ∙ c.groups.auto.blocks)
+
+pub returns-clause-fixed : goal.returns-clause-fixed
+returns-clause-fixed g c = c.apply_group-2.ensures.fixed ∙ c.groups.invariant.fixed

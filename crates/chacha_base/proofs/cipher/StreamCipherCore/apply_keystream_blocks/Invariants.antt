@@ -8,7 +8,7 @@ invariant-groups g l =
     let modulus = g.Self.Keystream.modulus in
     let first = g.Self.StreamCipherCore.counter l.fn.self in
     record {
-      within : l.done ≤ length l.blocks;
+      within : l.done ≤ length l.fn.blocks;
       fixed : g.Self.Keystream.fixed l.self ≡ g.Self.Keystream.fixed l.fn.self;
       counter : g.Self.StreamCipherCore.counter l.self % modulus ≡ (first + l.done) % modulus;
       done : (i : ℕ) → i < l.done → slice_get l.blocks i ≡ Some (xor_stream (keystream modulus (g.Self.Keystream.block_at (g.Self.Keystream.fixed l.fn.self)))
