@@ -1,5 +1,5 @@
 -- Bytes of a block kept in a buffer.
-use Rattle.std.proofs.Common.{◌≡◌, ℕ, zero, suc, min, ◌+◌, ◌-◌, ◌*◌, ◌/◌, ◌%◌, ◌<◌, ◌≤◌, ◌⊎◌, inl, inr, Bool, true, false, nat_eq, nat_lt, List, length, take, drop, slice_index, bit_xor, arith, sym, ap, ap₂, subst, ◌∙◌}
+use Rattle.std.proofs.Common.{◌≡◌, ℕ, zero, suc, min, ◌+◌, ◌-◌, ◌*◌, ◌/◌, ◌%◌, ◌<◌, ◌≤◌, ◌⊎◌, inl, inr, Bool, true, false, nat_eq, nat_lt, Fits, w8, List, length, take, drop, slice_index, bit_xor, arith, sym, ap, ap₂, subst, ◌∙◌}
 use Rattle.std.proofs.lemmas.Bool.{false≢true, eqb-true, lt-ltb, le-ltb}
 use Rattle.std.proofs.Math.Dec.{eqb-suc-zero}
 use Rattle.std.proofs.lemmas.List.{get_or-take, get_or-drop}
@@ -188,6 +188,15 @@ pub moved-begun : (a : Cipher) (fixed : List ℕ) (made left m n : ℕ) → fixe
 moved-begun a fixed made left m n alike place part begun fits size =
     let there : position_of made (left - m) ≡ a.position + n = omega arith in
     ap₂ (λ f q. let cipher : Cipher = record { fixed = f; position = q } in cipher) alike there
+
+pub begun-fits : (made left p n m : ℕ) → left < 64 → left ≤ 64 * made → position_of made left ≡ p → n ≤ left_at p → m ≡ n → m ≤ left
+begun-fits made left p n m part begun place fits size = omega arith
+
+pub begun-room : (left n size : ℕ) → left < 64 → n ≤ left → size ≡ 64 → 64 - left + n ≤ size
+begun-room left n size part fits whole = omega arith
+
+pub begun-byte : (left m : ℕ) → left < 64 → m ≤ left → Fits w8 m
+begun-byte left m part fits = omega arith
 
 -- a position that is sought, by the greatest counter
 pub sought-fits : (modulus m last limit place : ℕ) → modulus ≡ m → last + 1 ≡ m → limit ≡ last → place ≤ 64 * limit + 64 → place ≤ limit_of modulus

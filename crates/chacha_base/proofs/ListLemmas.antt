@@ -169,6 +169,9 @@ four_written {X} n s a b c d long la lb lc =
 pub part-again : (a k : ℕ) → a + (a + k - a) ≡ a + k
 part-again a k = omega arith
 
+pub part-length : (a k : ℕ) → a + k - a ≡ k
+part-length a k = omega arith
+
 pub part-inside : (a k n : ℕ) → a ≤ n → k ≤ n - a → a + (a + k - a) ≤ n
 part-inside a k n before room = omega arith
 

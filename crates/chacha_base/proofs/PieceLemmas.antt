@@ -5,7 +5,7 @@ use Rattle.std.proofs.lemmas.List.{length-take-le, length-replicate}
 use Rattle.std.proofs.lemmas.Slice.{take-put_mid}
 use borrow.Rule.Slice.PartMut.{put_mid}
 use Rattle.std.specs.Int.Bits.{xor_zero_l}
-use Rattle.chacha_base.proofs.ListLemmas.{part_long}
+use Rattle.chacha_base.proofs.ListLemmas.{part_long, part-length}
 use Rattle.chacha_base.proofs.KeystreamLemmas.{xor_stream-append, xor_stream-same, length-xor_stream}
 use Rattle.chacha_base.specs.Keystream.{xor_stream, stream_part}
 
@@ -68,9 +68,7 @@ pub piece-within : (most len done n : ℕ) → n ≡ min most (len - done) → d
 piece-within most len done n cut inside = omega arith
 
 pub piece-long : {X : Type 0} (done n : ℕ) (xs : List X) → done + n ≤ length xs → length (take (done + n - done) (drop done xs)) ≡ n
-piece-long done n xs inside =
-    let some : done + n - done ≡ n = omega arith in
-    ap (λ m. length (take m (drop done xs))) some ∙ part_long done n xs inside
+piece-long done n xs inside = ap (λ m. length (take m (drop done xs))) (part-length done n) ∙ part_long done n xs inside
 
 pub piece-fits : (now p done n size len limit : ℕ) → now ≡ p + done → size ≡ n → done + n ≤ len → p + len ≤ limit → now + size ≤ limit
 piece-fits now p done n size len limit place long inside fits = omega arith

@@ -1,4 +1,4 @@
-use Rattle.std.proofs.Common.{◌≡◌, ◌≢◌, ◌<◌, ◌+◌, [], length, ap, ◌∙◌, arith, ◌*◌}
+use Rattle.std.proofs.Common.{◌≡◌, ◌≢◌, ◌<◌, ◌+◌, ◌%◌, [], length, ap, ◌∙◌, arith, ◌*◌}
 use Rattle.std.specs.Prelude.{slice_index_or}
 use Rattle.chacha_base.specs.Keystream.{keystream, xor_stream}
 use Rattle.std.proofs.lemmas.List.{get_or-set_other}
@@ -30,3 +30,7 @@ loop-i-preserved g c =
 
 pub returns-clause-blocks : goal.returns-clause-blocks
 returns-clause-blocks g c i below = c.loop-i.invariant.done i (omega arith)
+
+pub returns-clause-counter : goal.returns-clause-counter
+returns-clause-counter g c =
+    c.write_keystream_blocks.ensures.counter ∙ ap (λ n. (g.C.StreamCipherCore.counter c.args.core.now + n) % g.C.Keystream.modulus) c.requires

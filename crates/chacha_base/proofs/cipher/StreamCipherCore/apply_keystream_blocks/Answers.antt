@@ -1,5 +1,6 @@
-use Rattle.std.proofs.Common.{◌≡◌, ◌+◌, ◌-◌, ◌≤◌, ◌<◌, ◌∙◌, [], length, ap, sym, subst}
-use Rattle.chacha_base.proofs.ListLemmas.{part_long, part-again, part-inside, part-behind, part-rest, part-all, slice_index_or-put_mid_above}
+use Rattle.std.proofs.Common.{◌≡◌, ◌+◌, ◌-◌, ◌≤◌, ◌<◌, ◌∙◌, [], length, ap, sym, subst, arith}
+use Rattle.std.proofs.lemmas.List.{length-take-le}
+use Rattle.chacha_base.proofs.ListLemmas.{part_long, part-again, part-inside, part-behind, part-rest, part-all, part-length, slice_index_or-put_mid_above}
 use Rattle.chacha_base.proofs.KeystreamLemmas.{counter-more, counter-wrapped, blocks-more}
 use Rattle.chacha_base.proofs.cipher.StreamCipherCore.apply_keystream_blocks.Goals as goal
 
@@ -56,3 +57,20 @@ returns-clause-counter g c =
 
 pub returns-clause-fixed : goal.returns-clause-fixed
 returns-clause-fixed g c = c.apply_group-2.ensures.fixed ∙ c.groups.invariant.fixed
+
+pub apply_group-requires : goal.apply_group-requires
+apply_group-requires g c =
+    let a = c.groups.done in
+    let width = c.PAR_BLOCKS-width.result in
+    let now = c.groups.blocks in
+    let room : width ≤ length c.groups.made = omega (arith, g.Self.ParBlocksSizeUser.par_blocks_at_most) in
+    let before : a ≤ length now = subst (λ n. a ≤ n) (sym c.groups.auto.blocks) c.groups.invariant.within in
+    length-take-le width c.groups.made room ∙ sym (part_long a (a + width - a) now (part-inside a width (length now) before c.groups-test.true) ∙ part-length a width)
+
+pub apply_group-requires-2 : goal.apply_group-requires-2
+apply_group-requires-2 g c =
+    let a = c.groups.done in
+    let now = c.groups.blocks in
+    let room : length now - a ≤ length c.groups.made = omega (arith, g.Self.ParBlocksSizeUser.par_blocks_at_most) in
+    let before : a ≤ length now = subst (λ n. a ≤ n) (sym c.groups.auto.blocks) c.groups.invariant.within in
+    length-take-le (length now - a) c.groups.made room ∙ sym (part_long a (length now - a) now (part-all a (length now) before))
