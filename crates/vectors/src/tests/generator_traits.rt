@@ -16,15 +16,22 @@ fn reads<G: Rng>(rng: &mut G) -> (u32, u64, [u8; 5], u32) {
     (word, two_words, bytes, rng.next_u32())
 }
 
-// Whether the same list, none of whose reads is refused, gives these.
-fn tries<G: TryRng>(rng: &mut G, word: u32, two_words: u64, five: [u8; 5], last: u32) -> bool {
+fn try_reads<G: TryRng>(
+    rng: &mut G,
+) -> (Option<u32>, Option<u64>, bool, [u8; 5], bool, Option<u32>) {
+    let word = rng.try_next_u32().ok();
+    let two_words = rng.try_next_u64().ok();
     let mut bytes = [0; 5];
-    rng.try_next_u32().ok() == Some(word)
-        && rng.try_next_u64().ok() == Some(two_words)
-        && rng.try_fill_bytes(&mut bytes).is_ok()
-        && bytes == five
-        && rng.try_fill_bytes(&mut []).is_ok()
-        && rng.try_next_u32().ok() == Some(last)
+    let filled = rng.try_fill_bytes(&mut bytes).is_ok();
+    let filled_none = rng.try_fill_bytes(&mut []).is_ok();
+    (
+        word,
+        two_words,
+        filled,
+        bytes,
+        filled_none,
+        rng.try_next_u32().ok(),
+    )
 }
 
 /// What is wrong with the worked reads of a generator without rounds.
@@ -37,7 +44,7 @@ pub fn wrong_reads<B: RngBackend<R0>>() -> Verdict {
         "reads through Rng and TryRng",
         &[
             reads(&mut rng) == (word, two_words, bytes, 0),
-            tries(&mut other, word, two_words, bytes, 0),
+            try_reads(&mut other) == (Some(word), Some(two_words), true, bytes, true, Some(0)),
         ],
     )
 }
