@@ -6,6 +6,3 @@ returns-clause-blocks g c = c.write_group.ensures.blocks
 
 pub returns-clause-state : goal.returns-clause-state
 returns-clause-state g c = c.write_group.ensures.state
-
-pub returns-clause-steps : goal.returns-clause-steps
-returns-clause-steps g c = c.write_group.ensures.steps
