@@ -1,4 +1,5 @@
-//! Tables of lists of calls with their answers. A table that is a `static` costs a proof nothing.
+//! Tables of lists of calls with their answers. An entry of a `static` costs a proof a millisecond in each
+//! function that names it, and a call in code half a second.
 
 ghost use Rattle.std.specs.Prelude.{◌≤◌, ◌+◌, IsTrue, All, length};
 ghost use Rattle.chacha20.specs.Runs.{InSlices};
