@@ -16,36 +16,6 @@ grows-none a = record {
   rounds_to = omega arith;
 }
 
--- one other call, and then so many quarter rounds
-pub grows-other : (n : ℕ) (a b c : Counts) → b ≡ record a { other = a.other + 1 } → c ≡ record b { rounds = b.rounds + n } → Grows (for_call 0 1 n) a c
-grows-other n a b c other rounds =
-    let par : c.par ≡ a.par = ap (λ s. s.par) rounds ∙ ap (λ s. s.par) other in
-    let calls : c.other ≡ a.other + 1 = ap (λ s. s.other) rounds ∙ ap (λ s. s.other) other in
-    let made : c.rounds ≡ a.rounds + n = ap (λ s. s.rounds) rounds ∙ ap (λ s. s.rounds + n) other in
-    record {
-      par_from = omega (arith, par);
-      par_to = omega (arith, par);
-      other_from = omega (arith, calls);
-      other_to = omega (arith, calls);
-      rounds_from = omega (arith, made);
-      rounds_to = omega (arith, made);
-    }
-
--- one parallel call, and then so many quarter rounds
-pub grows-par : (n : ℕ) (a b c : Counts) → b ≡ record a { par = a.par + 1 } → c ≡ record b { rounds = b.rounds + n } → Grows (for_call 1 0 n) a c
-grows-par n a b c par rounds =
-    let calls : c.par ≡ a.par + 1 = ap (λ s. s.par) rounds ∙ ap (λ s. s.par) par in
-    let other : c.other ≡ a.other = ap (λ s. s.other) rounds ∙ ap (λ s. s.other) par in
-    let made : c.rounds ≡ a.rounds + n = ap (λ s. s.rounds) rounds ∙ ap (λ s. s.rounds + n) par in
-    record {
-      par_from = omega (arith, calls);
-      par_to = omega (arith, calls);
-      other_from = omega (arith, other);
-      other_to = omega (arith, other);
-      rounds_from = omega (arith, made);
-      rounds_to = omega (arith, made);
-    }
-
 -- one other call for a last part, and none where there is none
 pub grows-last : (one n : ℕ) {a b : Counts} → 0 < n → Grows (for_call 0 1 one) a b → Grows (for_call 0 (min 1 n) (min 1 n * one)) a b
 grows-last one n {a} {b} some grows =

@@ -4,7 +4,7 @@ ghost use Rattle.std.specs.Prelude.{◌≡◌, ◌≤◌, ◌<◌, ◌≢◌, �
 ghost use Rattle.chacha_base.specs.Layout.{legacy};
 ghost use Rattle.chacha_base.specs.Rounds.{mix};
 ghost use Rattle.chacha_base.specs.State.{state_after, next_block, next_words};
-ghost use Rattle.chacha_base.specs.Counts.{Grows, for_call, for_tail};
+ghost use Rattle.chacha_base.specs.Counts.{Grows, for_tail};
 
 use crate::backends::group::Group;
 use crate::bytes::write_bytes;
@@ -82,7 +82,9 @@ pub fn write_one<R: Rounds, V: Variant, G: Group, const W: usize>(
     requires some { W ≢ 0 }
     ensures block { block.new ≡ next_block R.COUNT V.layout state.old 0 }
     ensures state { state.new ≡ state_after V.layout 1 state.old }
-    ensures steps { Grows (for_call 0 1 (2 * G.ROUND_STEPS * R.COUNT)) steps.old steps.new }
+    ensures steps { steps.new ≡ record steps.old {
+        other = steps.old.other + 1;
+        rounds = steps.old.rounds + 2 * G.ROUND_STEPS * R.COUNT } }
 {
     steps.add_other();
     let words = mixed_words::<R, V, G, W>(state, steps);
@@ -105,7 +107,9 @@ pub fn write_group<R: Rounds, V: Variant, G: Group, const W: usize>(
     ensures blocks { (i : ℕ) → i < length blocks.old
         → slice_get blocks.new i ≡ Some (next_block R.COUNT V.layout state.old i) }
     ensures state { state.new ≡ state_after V.layout (length blocks.old) state.old }
-    ensures steps { Grows (for_call 1 0 (2 * G.ROUND_STEPS * R.COUNT)) steps.old steps.new }
+    ensures steps { steps.new ≡ record steps.old {
+        par = steps.old.par + 1;
+        rounds = steps.old.rounds + 2 * G.ROUND_STEPS * R.COUNT } }
 {
     steps.add_par();
     mixed_group::<R, V, G, W>(state, steps).store(blocks);

@@ -49,18 +49,20 @@ static START_STATE: [u32; 16] = [
     0x61707865, 0x3320646e, 0x79622d32, 0x6b206574, 1, 2, 3, 4, 5, 6, 7, 8, START, 9, 10, 11,
 ];
 
-// Nine single blocks, and the state after them.
+// Nine single blocks, and the state after each.
 fn single_blocks<R: Rounds, V: Variant, B: StreamCipherBackend<R, V>>() -> (
     [[u8; 64]; 9],
-    [u32; 16],
+    [[u32; 16]; 9],
 ) {
     let mut steps = Steps::new();
     let mut state = START_STATE;
     let mut blocks = [[1; 64]; 9];
-    for block in &mut blocks {
-        B::gen_ks_block(&mut state, block, &mut steps);
+    let mut states = [START_STATE; 9];
+    for at in 0..9usize {
+        B::gen_ks_block(&mut state, &mut blocks[at], &mut steps);
+        states[at] = state;
     }
-    (blocks, state)
+    (blocks, states)
 }
 
 // The shortest tail whose blocks aren't the plain backend's, or after which the state isn't.
@@ -84,15 +86,17 @@ fn wrong_tail<R: Rounds, V: Variant, B: StreamCipherBackend<R, V>>() -> Option<u
     None
 }
 
-// The words of two calls for a generator's, and the state after them.
-fn two_words<R: Rounds, B: RngBackend<R>>() -> ([[u32; 64]; 2], [u32; 16]) {
+// The words of two calls for a generator's, and the state after each.
+fn two_words<R: Rounds, B: RngBackend<R>>() -> ([[u32; 64]; 2], [[u32; 16]; 2]) {
     let mut steps = Steps::new();
     let mut state = START_STATE;
     let mut words = [[1; 64]; 2];
-    for four_blocks in &mut words {
-        B::gen_ks_blocks(&mut state, four_blocks, &mut steps);
+    let mut states = [START_STATE; 2];
+    for at in 0..2usize {
+        B::gen_ks_blocks(&mut state, &mut words[at], &mut steps);
+        states[at] = state;
     }
-    (words, state)
+    (words, states)
 }
 
 // What goes wrong in cores beside those over the plain backend, in either layout: the number of blocks.

@@ -1,7 +1,7 @@
-use Rattle.std.proofs.Common.{◌*◌, ◌<◌, ◌∙◌, ap, arith}
+use Rattle.std.proofs.Common.{◌+◌, ◌*◌, ◌<◌, ◌∙◌, ap, arith}
 use Rattle.std.specs.Prelude.{Some}
 use Rattle.chacha_base.specs.Bytes.{bytes}
-use Rattle.chacha_base.proofs.CountsLemmas.{grows-par}
+use Rattle.chacha_base.specs.Counts.{Counts}
 use Rattle.chacha_base.proofs.backends.kernel.write_group.Goals as goal
 
 pub returns-clause-blocks : goal.returns-clause-blocks
@@ -12,5 +12,4 @@ returns-clause-blocks g c i h =
 
 pub returns-clause-steps : goal.returns-clause-steps
 returns-clause-steps g c =
-    grows-par (2 * g.G.Group.ROUND_STEPS * g.R.Rounds.COUNT) c.args.steps.now c.add_par.new.self c.mixed_group.new.steps
-    c.add_par.ensures c.mixed_group.ensures.steps
+    c.mixed_group.ensures.steps ∙ ap (λ (s : Counts). record s { rounds = s.rounds + 2 * g.G.Group.ROUND_STEPS * g.R.Rounds.COUNT }) c.add_par.ensures

@@ -6,6 +6,3 @@ returns-clause-block g c = c.write_one.ensures.block
 
 pub returns-clause-state : goal.returns-clause-state
 returns-clause-state g c = c.write_one.ensures.state
-
-pub returns-clause-steps : goal.returns-clause-steps
-returns-clause-steps g c = c.write_one.ensures.steps
