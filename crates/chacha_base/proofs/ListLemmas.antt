@@ -3,7 +3,7 @@ use Rattle.std.proofs.Common.{◌≡◌, inl, inr, Bool, true, false, ℕ, zero,
 use Rattle.std.proofs.Math.ListN.{set}
 use Rattle.std.specs.Prelude.{slice_get, Some, nat_lt, if◌then◌else◌}
 use Rattle.std.proofs.lemmas.Bool.{cases_lt, ltb-true, ltb-false}
-use Rattle.std.proofs.lemmas.List.{length-set, length-take-le, get_or-drop, take_at, drop_at, drop_all, drop-drop, append-nil}
+use Rattle.std.proofs.lemmas.List.{length-take-le, get_or-drop, take_at, drop_at, drop_all, drop-drop, append-nil}
 use Rattle.std.proofs.lemmas.Slice.{drop-put_mid}
 use borrow.Rule.Slice.PartMut.{put_mid}
 
@@ -37,22 +37,6 @@ one_more f i xs x inside made before =
     below_more (λ j. slice_get (set xs i x) j ≡ Some (f j)) i
     (λ j less. slice_get-set_below xs i j x less ∙ before j less)
     (slice_get-set_same xs i x inside ∙ ap Some made)
-
--- the same, four places at a time
-pub four_more : {X : Type 0} (f : ℕ → X) (i : ℕ) (xs : List X) (w x y z : X) → i + 3 < length xs
-    → w ≡ f i → x ≡ f (i + 1) → y ≡ f (i + 2) → z ≡ f (i + 3) → ((j : ℕ) → j < i → slice_get xs j ≡ Some (f j))
-    → (j : ℕ) → j < i + 4 → slice_get (set (set (set (set xs i w) (i + 1) x) (i + 2) y) (i + 3) z) j ≡ Some (f j)
-four_more f i xs w x y z room ew ex ey ez before j less =
-    let s = set xs i w in
-    let t = set s (i + 1) x in
-    let u = set t (i + 2) y in
-    let ls : length s ≡ length xs = length-set xs i w in
-    let lt : length t ≡ length s = length-set s (i + 1) x in
-    let lu : length u ≡ length t = length-set t (i + 2) y in
-    let one = one_more f i xs w (omega arith) ew before in
-    let two = one_more f (i + 1) s x (omega arith) ex one in
-    let three = one_more f (i + 2) t y (omega arith) ey (λ k below. two k (omega arith)) in
-    one_more f (i + 3) u z (omega arith) ez (λ k below. three k (omega arith)) j (omega arith)
 
 -- the elements of a list of which a part is written: those before the part, in it and after it
 slice_get-append : {X : Type 0} (xs ys : List X) (i : ℕ) → i < length xs → slice_get (xs ++ ys) i ≡ slice_get xs i
@@ -101,6 +85,23 @@ written_more f a k xs ys room same before part i inside =
           rw (← place) (slice_get-put_mid_inside a k (i - a) xs ys here room ∙ part (i - a) less)
     ]
 
+-- the same, four elements at a time, each made of another by f
+four_gotten : {X Y : Type 0} (f : Y → X) (p : ℕ → Y) (a : ℕ) (w x y z : Y) → w ≡ p a → x ≡ p (a + 1) → y ≡ p (a + 2) → z ≡ p (a + 3)
+    → (i : ℕ) → i < 4 → slice_get (f w ∷ f x ∷ f y ∷ f z ∷ []) i ≡ Some (f (p (a + i)))
+four_gotten f p a w x y z ew ex ey ez zero less =
+    let here : a + 0 ≡ a = omega arith in rw here (ap (λ v. Some (f v)) ew)
+four_gotten f p a w x y z ew ex ey ez (suc zero) less = ap (λ v. Some (f v)) ex
+four_gotten f p a w x y z ew ex ey ez (suc (suc zero)) less = ap (λ v. Some (f v)) ey
+four_gotten f p a w x y z ew ex ey ez (suc (suc (suc zero))) less = ap (λ v. Some (f v)) ez
+four_gotten f p a w x y z ew ex ey ez (suc (suc (suc (suc i)))) less = absurd (omega arith)
+
+pub four_more : {X Y : Type 0} (f : Y → X) (p : ℕ → Y) (a k : ℕ) (xs ys : List X) (w x y z : Y) → k ≡ 4 → a ≤ length xs
+    → ys ≡ f w ∷ f x ∷ f y ∷ f z ∷ [] → w ≡ p a → x ≡ p (a + 1) → y ≡ p (a + 2) → z ≡ p (a + 3)
+    → ((i : ℕ) → i < a → slice_get xs i ≡ Some (f (p i))) → (i : ℕ) → i < a + k → slice_get (put_mid a k xs ys) i ≡ Some (f (p i))
+four_more f p a k xs ys w x y z four room is ew ex ey ez before =
+    written_more (λ i. f (p i)) a k xs ys room (ap length is ∙ sym four) before
+    (λ i less. ap (λ l. slice_get l i) is ∙ four_gotten f p a w x y z ew ex ey ez i (omega (arith, less, four)))
+
 -- a list of which the front half is written, and then the back half
 half-written : {X Y : Type 0} (f : Y → X) (n i : ℕ) (xs ys zs : List X) (p q : ℕ → Y) (front : Bool) → length xs ≡ n → length ys ≡ n → length zs ≡ n
     → ((j : ℕ) → j < n → slice_get ys j ≡ Some (f (p j))) → ((j : ℕ) → j < n → slice_get zs j ≡ Some (f (q j)))
@@ -143,6 +144,16 @@ four_joined {X} {a} {b} {c} {d} {p} {q} {r} {s} ea eb ec ed =
 pub four_listed : {X : Type 0} {a b c d p q r s : X} → a ≡ p → b ≡ q → c ≡ r → d ≡ s → a ∷ b ∷ c ∷ d ∷ [] ≡ p ∷ q ∷ r ∷ s ∷ []
 four_listed {X} {a} {b} {c} {d} {p} {q} {r} {s} ea eb ec ed =
     ap (λ x. x ∷ b ∷ c ∷ d ∷ []) ea ∙ ap (λ x. p ∷ x ∷ c ∷ d ∷ []) eb ∙ ap (λ x. p ∷ q ∷ x ∷ d ∷ []) ec ∙ ap (λ x. p ∷ q ∷ r ∷ x ∷ []) ed
+
+-- a list of four elements, written place by place
+pub four_set : {X : Type 0} (xs : List X) {w x y z p q r s : X} → length xs ≡ 4 → w ≡ p → x ≡ q → y ≡ r → z ≡ s
+    → set (set (set (set xs 0 w) 1 x) 2 y) 3 z ≡ p ∷ q ∷ r ∷ s ∷ []
+four_set [] long ew ex ey ez = absurd (omega arith)
+four_set (a ∷ []) long ew ex ey ez = absurd (omega arith)
+four_set (a ∷ b ∷ []) long ew ex ey ez = absurd (omega arith)
+four_set (a ∷ b ∷ c ∷ []) long ew ex ey ez = absurd (omega arith)
+four_set (a ∷ b ∷ c ∷ d ∷ []) long ew ex ey ez = four_listed ew ex ey ez
+four_set (a ∷ b ∷ c ∷ d ∷ e ∷ xs) long ew ex ey ez = absurd (omega arith)
 
 -- a write of k elements behind a part that is written
 put_mid-behind : {X : Type 0} (a k : ℕ) (p q ys : List X) → length p ≡ a → put_mid a k (p ++ q) ys ≡ (p ++ ys) ++ drop k q

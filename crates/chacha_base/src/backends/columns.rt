@@ -1,6 +1,6 @@
 //! Groups of blocks with a vector for each word of a state: a lane has the words of one block.
 
-ghost use Rattle.std.specs.Prelude.{◌≡◌, ◌<◌, ℕ, ◌+◌, ◌*◌, ⊤, [], length, slice_index, slice_index_or};
+ghost use Rattle.std.specs.Prelude.{◌≡◌, ◌<◌, ℕ, ◌+◌, ◌*◌, ⊤, [], ◌∷◌, length, slice_index, slice_index_or};
 ghost use Rattle.chacha_base.specs.Rounds.{columns, diagonals, rounds};
 ghost use Rattle.chacha_base.specs.ColumnVectors.{block_in_columns};
 ghost use Rattle.chacha_base.specs.Lanes.{row};
@@ -76,6 +76,63 @@ fn transposed<V: Vector>(w0: V, w1: V, w2: V, w3: V) -> FourVectors<V>
     FourVectors(first, second, third, fourth)
 }
 
+// The same blocks in rows: the first result has blocks 0, 4, 8 and so on, the second 1, 5 and 9.
+#[inline(always)]
+fn in_rows<V: Vector>(
+    states: Columns<V>,
+) -> (
+    FourVectors<V>,
+    FourVectors<V>,
+    FourVectors<V>,
+    FourVectors<V>,
+)
+    ensures first { (g : ℕ) → g < V.FOURS
+        → block_in_rows V.lane result.0 g ≡ block_in_columns V.lane states (4 * g) }
+    ensures second { (g : ℕ) → g < V.FOURS
+        → block_in_rows V.lane result.1 g ≡ block_in_columns V.lane states (4 * g + 1) }
+    ensures third { (g : ℕ) → g < V.FOURS
+        → block_in_rows V.lane result.2 g ≡ block_in_columns V.lane states (4 * g + 2) }
+    ensures fourth { (g : ℕ) → g < V.FOURS
+        → block_in_rows V.lane result.3 g ≡ block_in_columns V.lane states (4 * g + 3) }
+{
+    let Columns(k, l, m, n) = states;
+    let a = transposed(k.0, l.0, m.0, n.0);
+    let b = transposed(k.1, l.1, m.1, n.1);
+    let c = transposed(k.2, l.2, m.2, n.2);
+    let d = transposed(k.3, l.3, m.3, n.3);
+    (
+        FourVectors(a.0, b.0, c.0, d.0),
+        FourVectors(a.1, b.1, c.1, d.1),
+        FourVectors(a.2, b.2, c.2, d.2),
+        FourVectors(a.3, b.3, c.3, d.3),
+    )
+}
+
+// Writes block g of each of four.
+#[inline(always)]
+fn write_four<V: Vector, B: BlockBuffer>(
+    rows: (
+        FourVectors<V>,
+        FourVectors<V>,
+        FourVectors<V>,
+        FourVectors<V>,
+    ),
+    g: usize,
+    four: &mut [B],
+)
+    requires within { g < V.FOURS }
+    requires room { length four.old ≡ 4 }
+    ensures { four.new ≡ B.of_words (block_in_rows V.lane rows.0 g)
+        ∷ B.of_words (block_in_rows V.lane rows.1 g)
+        ∷ B.of_words (block_in_rows V.lane rows.2 g)
+        ∷ B.of_words (block_in_rows V.lane rows.3 g) ∷ [] }
+{
+    write_block(rows.0, g, &mut four[0]);
+    write_block(rows.1, g, &mut four[1]);
+    write_block(rows.2, g, &mut four[2]);
+    write_block(rows.3, g, &mut four[3]);
+}
+
 impl<V: Vector> Group for Columns<V> {
     ghost BLOCKS = { 4 * V.FOURS };
 
@@ -131,16 +188,9 @@ impl<V: Vector> Group for Columns<V> {
 
     #[inline(always)]
     fn store<B: BlockBuffer>(self, buffers: &mut [B]) {
-        let Columns(k, l, m, n) = self;
-        let a = transposed(k.0, l.0, m.0, n.0);
-        let b = transposed(k.1, l.1, m.1, n.1);
-        let c = transposed(k.2, l.2, m.2, n.2);
-        let d = transposed(k.3, l.3, m.3, n.3);
+        let rows = in_rows(self);
         'each: for g in 0..V::FOURS {
-            write_block(FourVectors(a.0, b.0, c.0, d.0), g, &mut buffers[4 * g]);
-            write_block(FourVectors(a.1, b.1, c.1, d.1), g, &mut buffers[4 * g + 1]);
-            write_block(FourVectors(a.2, b.2, c.2, d.2), g, &mut buffers[4 * g + 2]);
-            write_block(FourVectors(a.3, b.3, c.3, d.3), g, &mut buffers[4 * g + 3]);
+            write_four(rows, g, &mut buffers[4 * g..4 * g + 4]);
         }
     }
 }

@@ -83,8 +83,9 @@ pub fn write_one<R: Rounds, V: Variant, G: Group, const W: usize>(
     ensures block { block.new ≡ next_block R.COUNT V.layout state.old 0 }
     ensures state { state.new ≡ state_after V.layout 1 state.old }
     ensures steps { steps.new ≡ record steps.old {
-        other = steps.old.other + 1;
-        rounds = steps.old.rounds + 2 * G.ROUND_STEPS * R.COUNT } }
+      other = steps.old.other + 1;
+      rounds = steps.old.rounds + 2 * G.ROUND_STEPS * R.COUNT;
+    } }
 {
     steps.add_other();
     let words = mixed_words::<R, V, G, W>(state, steps);
@@ -108,8 +109,9 @@ pub fn write_group<R: Rounds, V: Variant, G: Group, const W: usize>(
         → slice_get blocks.new i ≡ Some (next_block R.COUNT V.layout state.old i) }
     ensures state { state.new ≡ state_after V.layout (length blocks.old) state.old }
     ensures steps { steps.new ≡ record steps.old {
-        par = steps.old.par + 1;
-        rounds = steps.old.rounds + 2 * G.ROUND_STEPS * R.COUNT } }
+      par = steps.old.par + 1;
+      rounds = steps.old.rounds + 2 * G.ROUND_STEPS * R.COUNT;
+    } }
 {
     steps.add_par();
     mixed_group::<R, V, G, W>(state, steps).store(blocks);
