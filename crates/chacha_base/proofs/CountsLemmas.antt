@@ -151,3 +151,13 @@ counted-four n a b c d e first second third fourth =
     let more : a.rounds + n + n + n + n ≡ a.rounds + 4 * n = omega arith in
     let add = λ (s : Counts). record s { rounds = s.rounds + n } in
     fourth ∙ ap add (third ∙ ap add (second ∙ ap add first)) ∙ ap (λ k. record a { rounds = k }) more
+
+-- a tail by the narrowest group that holds it
+pub narrowest-4 : (n : ℕ) → n < 5 → min 1 n * 2 ≡ tail_of_16 n
+narrowest-4 n h = grind (arith, common_steps)
+
+pub narrowest-8 : (n : ℕ) → 4 < n → n < 9 → min 1 n * 4 ≡ tail_of_16 n
+narrowest-8 n g h = grind (arith, common_steps)
+
+pub narrowest-16 : (n : ℕ) → 8 < n → min 1 n * 8 ≡ tail_of_16 n
+narrowest-16 n h = grind (arith, common_steps)
