@@ -1,4 +1,5 @@
 use Rattle.std.proofs.Common.{◌*◌, ◌<◌, ◌≤◌, arith, length}
+use borrow.Author.Rules.{scaled_Fits}
 use Rattle.chacha_base.specs.Vectors.{block_in_rows}
 use Rattle.chacha_base.specs.ColumnVectors.{block_in_columns}
 use Rattle.chacha_base.proofs.ListLemmas.{four_more}
@@ -21,3 +22,8 @@ each-init g c h none = absurd (omega arith)
 
 pub returns : goal.returns
 returns g c h less = c.each.invariant h (omega (arith, less))
+
+pub offset_bounds-buffers-g : goal.offset_bounds-buffers-g
+offset_bounds-buffers-g g c =
+    let inside : 4 * c.each.g < length c.args.buffers.now = omega (arith, c.requires) in
+    scaled_Fits (4 * c.each.g) (length c.args.buffers.now) _ inside c.well_formed.1.0.1
