@@ -20,9 +20,9 @@ use Rattle.chacha_base.specs.SeekNum.{signed_position}
 use Rattle.chacha_base.proofs.CipherLemmas.{on_err}
 use Rattle.chacha_base.proofs.KeystreamLemmas.{xor_stream-append, xor_stream-xor_stream, length-xor_stream}
 use Rattle.chacha20.specs.declared.runs.CipherCall.{CipherCall}
-use Rattle.chacha20.specs.declared.runs.CipherCall.TheVariants.{CheckRemaining, Apply, ApplyFrom, Seek, SeekI32, PosI32}
+use Rattle.chacha20.specs.declared.runs.CipherCall.TheVariants.{CheckRemaining, Apply, ApplyFrom, Seek, SeekI32, Pos, PosI32}
 use Rattle.chacha20.specs.declared.runs.CipherAnswer.{CipherAnswer}
-use Rattle.chacha20.specs.declared.runs.CipherAnswer.TheVariants.{Done, Refused, PositionI32}
+use Rattle.chacha20.specs.declared.runs.CipherAnswer.TheVariants.{Done, Refused, Position, PositionI32}
 use Rattle.chacha20.specs.Runs.{Setting, CipherOutcome, part, put, done_if, cipher_outcome, cipher_run, InSlices, pieces}
 
 -- a range as its front and what follows
@@ -102,17 +102,46 @@ apply_from-is {E} s c d bytes new from from_len at len k l (Err e) a read wrote 
     (put at len (xor_stream (s.stream c.fixed) c.position (part from from_len s.input)) bytes) a (lengths-Decides from_len len c.position s.limit _ _ ins outs) accepted done
     refused tt tt (ap (λ ys. put at l ys bytes) kept.0 ∙ put_same at l bytes, kept.1)
 
+-- the range that is written over, of l bytes; what is written is made from their number and from the bytes
+pub ranged-is : {E : Type 0} (s : Setting) (c d : Cipher) (bytes new : List ℕ) (make : ℕ → List ℕ → List ℕ) (at len l : ℕ) (r : Result (Unit {0}) E) (a : CipherAnswer)
+    → l ≡ len → at + len ≤ length bytes → IsOk r ↔ (c.position + length (take l (drop at bytes)) ≤ s.limit)
+    → OnOk r (new ≡ make (length (take l (drop at bytes))) (take l (drop at bytes)))
+    → OnOk r (d ≡ record c { position = c.position + length (take l (drop at bytes)) }) → OnErr r ((new ≡ take l (drop at bytes)) × (d ≡ c))
+    → OnOk r (a ≡ Done) → OnErr r (a ≡ Refused)
+    → done_if (nat_le (c.position + len) s.limit) c bytes (c.position + len) (put at len (make len (part at len bytes)) bytes)
+    ≡ record { answer = a; cipher = d; bytes = put at l new bytes }
+ranged-is {E} s c d bytes new make at len l (Ok x) a wrote inside accepted written moved kept done refused =
+    let outs = ap (λ k. length (take k (drop at bytes))) wrote ∙ length-part at len bytes inside in
+    outcome-is {E = E} (nat_le (c.position + len) s.limit) (Ok x) c d bytes (put at l new bytes) (c.position + len) (put at len (make len (part at len bytes)) bytes) a
+    (rw outs (leb-true _ _, le-leb _ _)) accepted done refused (moved ∙ ap (λ k. record c { position = c.position + k }) outs)
+    (ap₂ (λ k ys. put at k ys bytes) wrote (written ∙ ap₂ make outs (ap (λ k. take k (drop at bytes)) wrote))) tt
+ranged-is {E} s c d bytes new make at len l (Err e) a wrote inside accepted written moved kept done refused =
+    let outs = ap (λ k. length (take k (drop at bytes))) wrote ∙ length-part at len bytes inside in
+    outcome-is {E = E} (nat_le (c.position + len) s.limit) (Err e) c d bytes (put at l new bytes) (c.position + len) (put at len (make len (part at len bytes)) bytes) a
+    (rw outs (leb-true _ _, le-leb _ _)) accepted done refused tt tt (ap (λ ys. put at l ys bytes) kept.0 ∙ put_same at l bytes, kept.1)
+
+pub seek-is : {E : Type 0} (s : Setting) (c d : Cipher) (bytes : List ℕ) (p : ℕ) (r : Result (Unit {0}) E) (a : CipherAnswer)
+    → IsOk r ↔ (p ≤ s.limit) → OnOk r (d ≡ record c { position = p }) → OnErr r (d ≡ c) → OnOk r (a ≡ Done) → OnErr r (a ≡ Refused)
+    → cipher_outcome s c bytes (Seek p) ≡ record { answer = a; cipher = d; bytes = bytes }
+seek-is {E} s c d bytes p (Ok x) a accepted moved kept done refused =
+    outcome-is {E = E} (nat_le p s.limit) (Ok x) c d bytes bytes p bytes a (leb-true _ _, le-leb _ _) accepted done refused moved refl tt
+seek-is {E} s c d bytes p (Err e) a accepted moved kept done refused =
+    outcome-is {E = E} (nat_le p s.limit) (Err e) c d bytes bytes p bytes a (leb-true _ _, le-leb _ _) accepted done refused tt tt (refl, kept)
+
 pub seek_i32-is : {E : Type 0} (s : Setting) (c d : Cipher) (bytes : List ℕ) (z : ℤ) (r : Result (Unit {0}) E) (a : CipherAnswer)
     → IsOk r ↔ IsSomeAnd (signed_position z) (λ p. p ≤ s.limit) → OnOk r (IfSome (signed_position z) (λ p. d ≡ record c { position = p })) → OnErr r (d ≡ c)
     → OnOk r (a ≡ Done) → OnErr r (a ≡ Refused)
     → cipher_outcome s c bytes (SeekI32 z) ≡ record { answer = a; cipher = d; bytes = bytes }
-seek_i32-is {E} s c d bytes (pos p) (Ok x) a accepted moved kept done refused =
-    outcome-is {E = E} (nat_le p s.limit) (Ok x) c d bytes bytes p bytes a (leb-true _ _, le-leb _ _) accepted done refused moved refl tt
-seek_i32-is {E} s c d bytes (pos p) (Err e) a accepted moved kept done refused =
-    outcome-is {E = E} (nat_le p s.limit) (Err e) c d bytes bytes p bytes a (leb-true _ _, le-leb _ _) accepted done refused tt tt (refl, kept)
+seek_i32-is s c d bytes (pos p) r a accepted moved kept done refused = seek-is s c d bytes p r a accepted moved kept done refused
 seek_i32-is s c d bytes (negsuc p) (Ok x) a accepted moved kept done refused = absurd (accepted.0 refl)
 seek_i32-is s c d bytes (negsuc p) (Err e) a accepted moved kept done refused =
     λ i. record { answer = sym refused i; cipher = sym kept i; bytes = bytes }
+
+pub pos-is : (s : Setting) (c : Cipher) (bytes : List ℕ) (p : ℕ) → Some p ≡ Some c.position
+    → cipher_outcome s c bytes Pos ≡ record { answer = Position p; cipher = c; bytes = bytes }
+pos-is s c bytes p is =
+    let same : c.position ≡ p = cc in
+    ap (λ (p : ℕ). record { answer = Position p; cipher = c; bytes = bytes }) same
 
 pub pos_i32-is : (s : Setting) (c : Cipher) (bytes : List ℕ) (z : ℤ) → c.position ≤ 2 ^ 31 - 1 → signed_position z ≡ Some c.position
     → cipher_outcome s c bytes PosI32 ≡ record { answer = PositionI32 (to_z w32 (of_z w32 z)); cipher = c; bytes = bytes }
