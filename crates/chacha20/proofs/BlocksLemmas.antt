@@ -3,13 +3,12 @@ use Rattle.std.proofs.Common.{◌≡◌, ℕ, ◌+◌, ◌*◌, ◌/◌, ◌%◌
 use Rattle.std.specs.Prelude.{slice_get, Some, slice_index_or}
 use Rattle.std.proofs.lemmas.List.{length-take-le}
 use Rattle.std.proofs.lemmas.Option.{get_or_from_slice_get}
-use borrow.Rule.Slice.PartMut.{put_mid}
 use Rattle.chacha_base.specs.Layout.{Layout, modulus}
 use Rattle.chacha_base.specs.State.{state_counter, fixed_words, state_block, state_after, next_block}
 use Rattle.chacha_base.proofs.StateLemmas.{fixed_words-state_after, state_counter-state_after}
 use Rattle.chacha_base.specs.Keystream.{keystream, xor_stream}
 use Rattle.chacha_base.proofs.KeystreamLemmas.{xor_stream-same, xor_stream-more, keystream-wrapped}
-use Rattle.chacha20.specs.Blocks.{byte_of, state_stream, applied}
+use Rattle.chacha20.specs.Blocks.{byte_of, xored_at, state_stream, applied}
 
 -- byte j of block i
 pub byte_of_block : (blocks : List (List ℕ)) (p i j : ℕ) → p ≡ 64 * i → j < 64 → slice_index (slice_index_or blocks i []) j ≡ byte_of blocks (p + j)
@@ -30,20 +29,19 @@ xor_stream-blocks modulus block c blocks xs whole made =
     rw (which, part, here) (ap (λ b. slice_index b (i % 64)) (get_or_from_slice_get blocks (i / 64) _ [] (made (i / 64) (omega arith)))))
 
 -- bytes of which i blocks are done, and then k more, by the next blocks of the state that is i blocks on
-pub applied-more : (n : ℕ) (layout : Layout) (s : List ℕ) (i : ℕ) (blocks : List (List ℕ)) (old : List ℕ) {t : List ℕ} {k e l : ℕ} {now part : List ℕ}
-    → length s ≡ 16 → t ≡ state_after layout i s → i + k ≡ e → l ≡ 64 * k → 64 * e ≤ length old → length now ≡ length old → length blocks ≡ k
+pub applied-more : (n : ℕ) (layout : Layout) (s : List ℕ) (i : ℕ) (blocks : List (List ℕ)) (old : List ℕ) {t : List ℕ} {k e : ℕ} {now after : List ℕ}
+    → length s ≡ 16 → t ≡ state_after layout i s → i + k ≡ e → 64 * e ≤ length old → length now ≡ length old → length blocks ≡ k
     → now ≡ applied n layout s (take (64 * i) old) ++ drop (64 * i) old
-    → part ≡ xor_stream (byte_of blocks) 0 (take l (drop (64 * i) now))
-    → ((j : ℕ) → j < k → slice_get blocks j ≡ Some (next_block n layout t j))
-    → put_mid (64 * i) l now part ≡ applied n layout s (take (64 * e) old) ++ drop (64 * e) old
-applied-more n layout s i blocks old {t} {k} {e} {l} {now} {part} h moved all size room same count before xored made =
+    → after ≡ xored_at i blocks now → ((j : ℕ) → j < k → slice_get blocks j ≡ Some (next_block n layout t j))
+    → after ≡ applied n layout s (take (64 * e) old) ++ drop (64 * e) old
+applied-more n layout s i blocks old {t} {k} {e} {now} {after} h moved all room same count before xored made =
     let m = modulus layout in
     let c = state_counter layout s in
+    let l = 64 * length blocks in
     let xs = take l (drop (64 * i) now) in
-    let sum : l ≡ 64 * length blocks = omega arith in
-    let whole = length-take-le l (drop (64 * i) now) (omega (arith, length-drop (64 * i) now)) ∙ sum in
-    xor_stream-more (state_stream n layout s) (64 * c) (64 * i) l (64 * e) old now part (omega arith) room before
-    (xored
-    ∙ xor_stream-blocks m (state_block n layout (fixed_words layout t)) (state_counter layout t) blocks xs whole (λ j less. made j (omega arith))
+    let whole = length-take-le l (drop (64 * i) now) (omega (arith, length-drop (64 * i) now)) in
+    xored
+    ∙ xor_stream-more (state_stream n layout s) (64 * c) (64 * i) l (64 * e) old now (xor_stream (byte_of blocks) 0 xs) (omega arith) room before
+    (xor_stream-blocks m (state_block n layout (fixed_words layout t)) (state_counter layout t) blocks xs whole (λ j less. made j (omega arith))
     ∙ ap₂ (λ f d. xor_stream (keystream m (state_block n layout f)) (64 * d) xs) (fixed_words-state_after layout i s t h moved) (state_counter-state_after layout i s t h moved)
     ∙ keystream-wrapped m (state_block n layout (fixed_words layout s)) (c + i) (64 * c + 64 * i) xs (omega arith))

@@ -1,5 +1,6 @@
 -- Blocks in a row, and what they are applied to, as bytes.
-use Rattle.std.specs.Prelude.{ℕ, ◌*◌, ◌/◌, ◌%◌, List, [], slice_index, slice_index_or}
+use Rattle.std.specs.Prelude.{ℕ, ◌*◌, ◌/◌, ◌%◌, List, [], length, slice_index, slice_index_or}
+use borrow.Rule.Slice.PartMut.{mid_of, put_mid}
 use Rattle.chacha_base.specs.Layout.{Layout, modulus}
 use Rattle.chacha_base.specs.State.{state_counter, fixed_words, state_block}
 use Rattle.chacha_base.specs.Keystream.{keystream, xor_stream}
@@ -7,6 +8,12 @@ use Rattle.chacha_base.specs.Keystream.{keystream, xor_stream}
 -- byte p of a list of blocks of 64 bytes
 abbrev pub byte_of : List (List ℕ) → ℕ → ℕ
 byte_of blocks p = slice_index (slice_index_or blocks (p / 64) []) (p % 64)
+
+-- bytes of which those from block `first` on are XORed with blocks
+abbrev pub xored_at : ℕ → List (List ℕ) → List ℕ → List ℕ
+xored_at first blocks xs =
+    put_mid (64 * first) (64 * length blocks) xs
+    (xor_stream (byte_of blocks) 0 (mid_of (64 * first) (64 * length blocks) xs))
 
 -- byte p of the keystream of a state's fixed part, after n double rounds
 abbrev pub state_stream : ℕ → Layout → List ℕ → ℕ → ℕ

@@ -7,7 +7,7 @@ ghost use Rattle.chacha_base.specs.Bytes.{words};
 ghost use Rattle.chacha_base.specs.State.{state_counter, fixed_words, state_at, state_block, state_after, next_block};
 ghost use Rattle.chacha_base.specs.Keystream.{xor_stream};
 ghost use Rattle.chacha_base.specs.Counts.{Grows, for_call, for_tail, for_blocks};
-ghost use Rattle.chacha20.specs.Blocks.{byte_of, applied};
+ghost use Rattle.chacha20.specs.Blocks.{xored_at, applied};
 ghost use Rattle.chacha20.specs.Text.{core_text};
 
 mod generator;
@@ -228,14 +228,15 @@ fn write_blocks<R: Rounds, V: Variant, B: StreamCipherBackend<R, V>>(
     B::gen_tail_blocks(state, &mut blocks[done..], &mut steps);
 }
 
-// XORs bytes with whole blocks.
+// XORs bytes with whole blocks, from the place of block `first` on.
 #[inline(always)]
-fn xor_blocks(data: &mut [u8], blocks: &[[u8; 64]])
-    requires { length «data».old ≡ 64 * length blocks.now }
-    ensures { «data».new ≡ xor_stream (byte_of blocks.now) 0 «data».old }
+fn xor_blocks(data: &mut [u8], first: usize, blocks: &[[u8; 64]])
+    requires { 64 * (first + length blocks.now) ≤ length «data».old }
+    ensures { «data».new ≡ xored_at first blocks.now «data».old }
 {
+    let part = &mut data[64 * first..64 * (first + blocks.len())];
     for i in 0..blocks.len() {
-        xor_bytes(&mut data[64 * i..64 * i + 64], &blocks[i]);
+        xor_bytes(&mut part[64 * i..64 * i + 64], &blocks[i]);
     }
 }
 
@@ -277,12 +278,12 @@ fn apply_through<R: Rounds, V: Variant, B: StreamCipherBackend<R, V>>(
     'groups: for group in 0..count / width {
         let made = &mut room[..width];
         B::gen_par_ks_blocks(state, made, steps);
-        let front = 64 * (width * group);
-        xor_blocks(&mut data[front..front + 64 * width], made);
+        xor_blocks(data, width * group, made);
     }
-    let made = &mut room[..count % width];
+    let rest = count % width;
+    let made = &mut room[..rest];
     write_tail::<R, V, B>(state, made, steps);
-    xor_blocks(&mut data[64 * (width * (count / width))..], made);
+    xor_blocks(data, count - rest, made);
 }
 
 // XORs bytes with whole blocks. The room for them is as wide as the backend needs, and a single block has its own.

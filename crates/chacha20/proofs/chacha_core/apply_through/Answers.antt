@@ -1,4 +1,4 @@
-use Rattle.std.proofs.Common.{◌≡◌, ℕ, List, min, ◌<◌, ◌≤◌, ◌*◌, ◌+◌, ◌-◌, ◌/◌, ◌%◌, ◌∙◌, length, take, drop, ap, sym, refl, arith, length-drop}
+use Rattle.std.proofs.Common.{◌≡◌, ℕ, List, min, ◌<◌, ◌≤◌, ◌*◌, ◌+◌, ◌-◌, ◌/◌, ◌%◌, ◌∙◌, length, take, sym, refl, arith}
 use Rattle.std.proofs.Math.Nat.{mul-add, mul-div-le, div-add-mod, mod-lt, mod-le}
 use Rattle.std.proofs.lemmas.Nat.{column_fits}
 use Rattle.std.proofs.lemmas.List.{length-take-le}
@@ -26,23 +26,23 @@ group_fits w k m room less fits = length-take-le w room (group_room w k m (lengt
 group_after : (w k : ℕ) → w * k + w ≡ w * (k + 1)
 group_after w k = omega (arith, mul-add w k 1)
 
-group_inside : (w k n : ℕ) → k < n / 64 / w → 64 * (w * (k + 1)) ≤ n
-group_inside w k n less = omega (arith, group_after w k, column_fits w k w (n / 64 / w) less (omega arith), mul-div-le (n / 64) w)
+group_inside : (w k n l b : ℕ) → k < n / 64 / w → l ≡ n → b ≡ w → 64 * (w * k + b) ≤ l
+group_inside w k n l b less kept size = omega (arith, column_fits w k w (n / 64 / w) less (omega arith), mul-div-le (n / 64) w)
 
-group_long : (front size : ℕ) → front + size - front ≡ size
-group_long front size = omega arith
-
-group_behind : (w k n l : ℕ) → k < n / 64 / w → l ≡ n → 64 * (w * k) + 64 * w ≤ l
-group_behind w k n l less kept = omega (arith, column_fits w k w (n / 64 / w) less (omega arith), mul-div-le (n / 64) w)
-
-group_part : (front size : ℕ) (xs : List ℕ) → front + size ≤ length xs → length (take (front + size - front) (drop front xs)) ≡ size
-group_part front size xs inside = length-take-le (front + size - front) (drop front xs) (omega (arith, length-drop front xs)) ∙ group_long front size
+group_end : (w k n : ℕ) → k < n / 64 / w → 64 * (w * (k + 1)) ≤ n
+group_end w k n less = omega (arith, group_after w k, group_inside w k n n w less refl refl)
 
 one_more : (k n : ℕ) → k < n → n - (k + 1) < n - k
 one_more k n less = omega arith
 
-all_done : (k groups : ℕ) → groups ≤ k → k ≤ groups → k ≡ groups
-all_done k groups least most = omega arith
+-- where the last blocks begin
+rest_begins : (w k m : ℕ) → m / w ≤ k → k ≤ m / w → w * k ≡ m - m % w
+rest_begins w k m least most =
+    let all : k ≡ m / w = omega arith in
+    rw all (omega (arith, div-add-mod m w))
+
+rest_ends : (w m : ℕ) → m - m % w + m % w ≡ m
+rest_ends w m = omega (arith, mod-le m w)
 
 rest_fits : (w b m : ℕ) (room : List (List ℕ)) → w ≡ b → 1 ≤ b → min w m ≤ length room → length (take (m % w) room) ≡ m % w
 rest_fits w b m room same some fits =
@@ -57,14 +57,8 @@ rest_less w b m l same some long =
     let one : 1 ≤ w = omega arith in
     omega (arith, mod-lt m one)
 
-rest_behind : (w n l : ℕ) → l ≡ n → 64 * (w * (n / 64 / w)) ≤ l
-rest_behind w n l kept = omega (arith, mul-div-le (n / 64) w)
-
-rest_all : (front : ℕ) (xs : List ℕ) → length (take (length xs - front) (drop front xs)) ≡ length xs - front
-rest_all front xs = length-take-le _ (drop front xs) (omega (arith, length-drop front xs))
-
-rest_long : (w n l : ℕ) → n % 64 ≡ 0 → l ≡ n → l - 64 * (w * (n / 64 / w)) ≡ 64 * (n / 64 % w)
-rest_long w n l whole kept = omega (arith, div-add-mod (n / 64) w)
+rest_inside : (w n l b : ℕ) → l ≡ n → b ≡ n / 64 % w → 64 * (n / 64 - n / 64 % w + b) ≤ l
+rest_inside w n l b kept size = omega (arith, mod-le (n / 64) w)
 
 whole_inside : (n : ℕ) → 64 * (n / 64) ≤ n
 whole_inside n = omega arith
@@ -107,30 +101,13 @@ gen_par_ks_blocks-requires g c =
     let fits = room_kept w _ (n / 64) _ _ c.PAR_BLOCKS-width.ensures c.groups.auto.room c.requires.room in
     group_fits w c.groups.group (n / 64) c.groups.room c.groups-test.true fits ∙ c.PAR_BLOCKS-width.ensures
 
-pub overflow_mul-front : goal.overflow_mul-front
-overflow_mul-front g c =
-    omega (arith, group_behind c.PAR_BLOCKS-width.result c.groups.group (length c.args.data.now) _ c.groups-test.true refl)
-
-pub overflow_mul-front-in-groups : goal.overflow_mul-front-in-groups
-overflow_mul-front-in-groups g c =
-    omega (arith, group_behind c.PAR_BLOCKS-width.result c.groups.group (length c.args.data.now) _ c.groups-test.true refl)
-
-pub overflow_mul-width : goal.overflow_mul-width
-overflow_mul-width g c =
-    omega (arith, group_behind c.PAR_BLOCKS-width.result c.groups.group (length c.args.data.now) _ c.groups-test.true refl)
-
-pub overflow_add-front : goal.overflow_add-front
-overflow_add-front g c =
-    omega (arith, group_behind c.PAR_BLOCKS-width.result c.groups.group (length c.args.data.now) _ c.groups-test.true refl)
-
 pub xor_blocks-requires : goal.xor_blocks-requires
 xor_blocks-requires g c =
     let w = c.PAR_BLOCKS-width.result in
     let n = length c.args.data.now in
     let fits = room_kept w _ (n / 64) _ _ c.PAR_BLOCKS-width.ensures c.groups.auto.room c.requires.room in
     let made = group_fits w c.groups.group (n / 64) c.groups.room c.groups-test.true fits in
-    group_part (64 * (w * c.groups.group)) (64 * w) c.groups.data (group_behind w c.groups.group n _ c.groups-test.true c.groups.auto.data)
-    ∙ ap (λ blocks. 64 * blocks) (sym (c.gen_par_ks_blocks.auto.blocks ∙ made))
+    group_inside w c.groups.group n _ _ c.groups-test.true c.groups.auto.data (c.gen_par_ks_blocks.auto.blocks ∙ made)
 
 pub groups-smaller : goal.groups-smaller
 groups-smaller g c =
@@ -148,14 +125,14 @@ groups-preserved g c =
     let made = group_fits w k (length old / 64) c.groups.room c.groups-test.true fits in
     let next = group_after w k in
     record {
-      «data» = applied-more g.R.Rounds.COUNT layout s i _ old c.told-state c.groups.invariant.state next (group_long (64 * i) (64 * w)) (group_inside w k (length old) c.groups-test.true) c.groups.auto.data (c.gen_par_ks_blocks.auto.blocks ∙ made)
-          c.groups.invariant.data c.xor_blocks.ensures (λ j less. c.gen_par_ks_blocks.ensures.blocks j (rw made less));
+      «data» = applied-more g.R.Rounds.COUNT layout s i c.gen_par_ks_blocks.new.blocks old c.told-state c.groups.invariant.state next (group_end w k (length old) c.groups-test.true) c.groups.auto.data
+          (c.gen_par_ks_blocks.auto.blocks ∙ made) c.groups.invariant.data c.xor_blocks.ensures (λ j less. c.gen_par_ks_blocks.ensures.blocks j (rw made less));
       state = state_after-more layout s c.groups.state _ i _ _ c.told-state c.groups.invariant.state (rw made at c.gen_par_ks_blocks.ensures.state) next;
       steps = grows-group c.groups.invariant.steps c.gen_par_ks_blocks.ensures.steps;
     }
 
-pub nonzero_rem-made : goal.nonzero_rem-made
-nonzero_rem-made g c =
+pub nonzero_rem-rest : goal.nonzero_rem-rest
+nonzero_rem-rest g c =
     some_wide c.PAR_BLOCKS-width.result _ c.PAR_BLOCKS-width.ensures g.B.ParBlocksSizeUser.par_blocks_at_least
 
 pub slice_bounds-made-end-2 : goal.slice_bounds-made-end-2
@@ -180,32 +157,13 @@ write_tail-requires g c =
     rest_less w _ (n / 64) _ c.PAR_BLOCKS-width.ensures g.B.ParBlocksSizeUser.par_blocks_at_least
     (rest_fits w _ (n / 64) c.groups.room c.PAR_BLOCKS-width.ensures g.B.ParBlocksSizeUser.par_blocks_at_least fits)
 
-pub nonzero_div-count-2 : goal.nonzero_div-count-2
-nonzero_div-count-2 g c =
-    some_wide c.PAR_BLOCKS-width.result _ c.PAR_BLOCKS-width.ensures g.B.ParBlocksSizeUser.par_blocks_at_least
-
-pub overflow_mul-width-2 : goal.overflow_mul-width-2
-overflow_mul-width-2 g c =
-    omega (arith, rest_behind c.PAR_BLOCKS-width.result (length c.args.data.now) _ refl)
-
-pub overflow_mul-width-3 : goal.overflow_mul-width-3
-overflow_mul-width-3 g c =
-    omega (arith, rest_behind c.PAR_BLOCKS-width.result (length c.args.data.now) _ refl)
-
-pub slice_bounds-xor_blocks-count-2 : goal.slice_bounds-xor_blocks-count-2
-slice_bounds-xor_blocks-count-2 g c =
-    rest_behind c.PAR_BLOCKS-width.result (length c.args.data.now) _ c.groups.auto.data
-
 pub xor_blocks-requires-2 : goal.xor_blocks-requires-2
 xor_blocks-requires-2 g c =
     let w = c.PAR_BLOCKS-width.result in
     let n = length c.args.data.now in
-    let front = 64 * (w * (n / 64 / w)) in
     let fits = room_kept w _ (n / 64) _ _ c.PAR_BLOCKS-width.ensures c.groups.auto.room c.requires.room in
     let made = rest_fits w _ (n / 64) c.groups.room c.PAR_BLOCKS-width.ensures g.B.ParBlocksSizeUser.par_blocks_at_least fits in
-    rest_all front c.groups.data
-    ∙ rest_long w n _ c.requires.whole c.groups.auto.data
-    ∙ ap (λ blocks. 64 * blocks) (sym (c.write_tail.auto.blocks ∙ made))
+    rest_inside w n _ _ c.groups.auto.data (c.write_tail.auto.blocks ∙ made)
 
 pub returns-clause-data : goal.returns-clause-data
 returns-clause-data g c =
@@ -215,12 +173,11 @@ returns-clause-data g c =
     let w = c.PAR_BLOCKS-width.result in
     let old = c.args.data.now in
     let m = length old / 64 in
-    let i = w * (m / w) in
     let fits = room_kept w _ m _ _ c.PAR_BLOCKS-width.ensures c.groups.auto.room c.requires.room in
     let made = rest_fits w _ m c.groups.room c.PAR_BLOCKS-width.ensures g.B.ParBlocksSizeUser.par_blocks_at_least fits in
-    let done = all_done c.groups.group (m / w) c.groups-test.false c.groups.auto.group-end in
-    applied-more n layout s i _ old c.told-state (rw done at c.groups.invariant.state) (div-add-mod m w) (rest_long w (length old) _ c.requires.whole c.groups.auto.data) (whole_inside (length old)) c.groups.auto.data (c.write_tail.auto.blocks ∙ made) (rw done at c.groups.invariant.data)
-    c.xor_blocks-2.ensures (λ j less. c.write_tail.ensures.blocks j (rw made less))
+    let done = rest_begins w c.groups.group m c.groups-test.false c.groups.auto.group-end in
+    applied-more n layout s (m - m % w) c.write_tail.new.blocks old c.told-state (rw done at c.groups.invariant.state) (rest_ends w m) (whole_inside (length old)) c.groups.auto.data
+    (c.write_tail.auto.blocks ∙ made) (rw done at c.groups.invariant.data) c.xor_blocks-2.ensures (λ j less. c.write_tail.ensures.blocks j (rw made less))
     ∙ xor_stream-whole (state_stream n layout s) (64 * state_counter layout s) (64 * m) old (whole_all (length old) c.requires.whole)
 
 pub returns-clause-state : goal.returns-clause-state
@@ -229,9 +186,9 @@ returns-clause-state g c =
     let m = length c.args.data.now / 64 in
     let fits = room_kept w _ m _ _ c.PAR_BLOCKS-width.ensures c.groups.auto.room c.requires.room in
     let made = rest_fits w _ m c.groups.room c.PAR_BLOCKS-width.ensures g.B.ParBlocksSizeUser.par_blocks_at_least fits in
-    let done = all_done c.groups.group (m / w) c.groups-test.false c.groups.auto.group-end in
-    state_after-more g.V.Variant.layout c.args.state.now c.groups.state _ (w * (m / w)) _ m c.told-state (rw done at c.groups.invariant.state) (rw made at c.write_tail.ensures.state)
-    (div-add-mod m w)
+    let done = rest_begins w c.groups.group m c.groups-test.false c.groups.auto.group-end in
+    state_after-more g.V.Variant.layout c.args.state.now c.groups.state _ (m - m % w) _ m c.told-state (rw done at c.groups.invariant.state) (rw made at c.write_tail.ensures.state)
+    (rest_ends w m)
 
 pub returns-clause-steps : goal.returns-clause-steps
 returns-clause-steps g c =
@@ -239,5 +196,5 @@ returns-clause-steps g c =
     let m = length c.args.data.now / 64 in
     let fits = room_kept w _ m _ _ c.PAR_BLOCKS-width.ensures c.groups.auto.room c.requires.room in
     let made = rest_fits w _ m c.groups.room c.PAR_BLOCKS-width.ensures g.B.ParBlocksSizeUser.par_blocks_at_least fits in
-    let done = all_done c.groups.group (m / w) c.groups-test.false c.groups.auto.group-end in
+    let done : c.groups.group ≡ m / w = omega (arith, c.groups-test.false, c.groups.auto.group-end) in
     rw (← c.PAR_BLOCKS-width.ensures) (grows-blocks w _ _ m (rw done at c.groups.invariant.steps) (rw made at c.write_tail.ensures.steps))

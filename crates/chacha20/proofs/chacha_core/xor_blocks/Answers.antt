@@ -1,17 +1,41 @@
-use Rattle.std.proofs.Common.{◌*◌, ◌+◌, ◌-◌, ◌∙◌, ap, arith, bit_xor}
+use Rattle.std.proofs.Common.{◌≡◌, ℕ, ◌*◌, ◌+◌, ◌-◌, ◌≤◌, ◌∙◌, ◌++◌, List, length, take, drop, ap, ap₂, arith, bit_xor, length-drop}
+use Rattle.std.proofs.lemmas.List.{length-take-le}
+use borrow.Rule.Slice.PartMut.{put_mid}
+use Rattle.chacha_base.specs.Keystream.{xor_stream}
 use Rattle.chacha_base.proofs.KeystreamLemmas.{xor_stream-more, xor_stream-whole, xor_stream-is}
-use Rattle.chacha20.specs.Blocks.{byte_of}
+use Rattle.chacha20.specs.Blocks.{byte_of, xored_at}
 use Rattle.chacha20.proofs.BlocksLemmas.{byte_of_block}
 use Rattle.chacha20.proofs.chacha_core.xor_blocks.Goals as goal
+
+part_wide : (first n : ℕ) → 64 * (first + n) - 64 * first ≡ 64 * n
+part_wide first n = omega arith
+
+part_long : (first n : ℕ) (xs : List ℕ) → 64 * (first + n) ≤ length xs → length (take (64 * (first + n) - 64 * first) (drop (64 * first) xs)) ≡ 64 * n
+part_long first n xs inside = length-take-le _ (drop (64 * first) xs) (omega (arith, length-drop (64 * first) xs)) ∙ part_wide first n
+
+-- the part that is handed back after all its blocks
+put_back : (first i : ℕ) (blocks : List (List ℕ)) (xs now : List ℕ) → 64 * (first + length blocks) ≤ length xs → length blocks ≤ i
+    → (let part = take (64 * (first + length blocks) - 64 * first) (drop (64 * first) xs) in
+    now ≡ xor_stream (byte_of blocks) 0 (take (64 * i) part) ++ drop (64 * i) part)
+    → put_mid (64 * first) (64 * (first + length blocks) - 64 * first) xs now ≡ xored_at first blocks xs
+put_back first i blocks xs now inside all is =
+    let wide = part_wide first (length blocks) in
+    let part = take (64 * (first + length blocks) - 64 * first) (drop (64 * first) xs) in
+    ap₂ (λ l ys. put_mid (64 * first) l xs ys) wide
+    (is
+    ∙ xor_stream-whole (byte_of blocks) 0 (64 * i) part (omega (arith, part_long first (length blocks) xs inside))
+    ∙ ap (λ l. xor_stream (byte_of blocks) 0 (take l (drop (64 * first) xs))) wide)
 
 pub loop-i-preserved : goal.loop-i-preserved
 loop-i-preserved c =
     let i = c.loop-i.i in
     let stream = byte_of c.args.blocks.now in
-    xor_stream-more stream 0 (64 * i) (64 * i + 64 - 64 * i) (64 * (i + 1)) c.args.data.now c.loop-i.data c.xor_bytes.new.output (omega arith) (omega arith) c.loop-i.invariant
+    let n = length c.args.blocks.now in
+    let long = part_long c.args.first n c.args.data.now c.requires in
+    xor_stream-more stream 0 (64 * i) (64 * i + 64 - 64 * i) (64 * (i + 1)) _ c.loop-i.part c.xor_bytes.new.output (omega arith) (omega (arith, long)) c.loop-i.invariant
     (xor_stream-is stream (0 + 64 * i) _ _ (omega arith) (λ j less.
     c.xor_bytes.ensures j less ∙ ap (bit_xor _) (byte_of_block c.args.blocks.now (0 + 64 * i) i j (omega arith) (omega arith))))
 
 pub returns : goal.returns
 returns c =
-    c.loop-i.invariant ∙ xor_stream-whole (byte_of c.args.blocks.now) 0 (64 * c.loop-i.i) c.args.data.now (omega arith)
+    put_back c.args.first c.loop-i.i c.args.blocks.now c.args.data.now c.loop-i.part c.requires c.loop-i-test.false c.loop-i.invariant
