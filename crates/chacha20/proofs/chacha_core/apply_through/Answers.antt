@@ -36,10 +36,8 @@ one_more : (k n : ℕ) → k < n → n - (k + 1) < n - k
 one_more k n less = omega arith
 
 -- where the last blocks begin
-rest_begins : (w k m : ℕ) → m / w ≤ k → k ≤ m / w → w * k ≡ m - m % w
-rest_begins w k m least most =
-    let all : k ≡ m / w = omega arith in
-    rw all (omega (arith, div-add-mod m w))
+rest_begins : (w k m : ℕ) → k ≡ m / w → w * k ≡ m - m % w
+rest_begins w k m all = rw all (omega (arith, div-add-mod m w))
 
 rest_ends : (w m : ℕ) → m - m % w + m % w ≡ m
 rest_ends w m = omega (arith, mod-le m w)
@@ -66,10 +64,6 @@ whole_inside n = omega arith
 whole_all : (n : ℕ) → n % 64 ≡ 0 → n ≤ 64 * (n / 64)
 whole_all n whole = omega arith
 
-pub nonzero_div-group-end : goal.nonzero_div-group-end
-nonzero_div-group-end g c =
-    some_wide c.PAR_BLOCKS-width.result _ c.PAR_BLOCKS-width.ensures g.B.ParBlocksSizeUser.par_blocks_at_least
-
 pub groups-init : goal.groups-init
 groups-init g c =
     let none : c.PAR_BLOCKS-width.result * 0 ≡ 0 = omega arith in
@@ -79,13 +73,6 @@ groups-init g c =
       state = sym (state_after-zero g.V.Variant.layout _ c.told-state c.fits-state);
       steps = grows-none _;
     }
-
-pub slice_bounds-made-end : goal.slice_bounds-made-end
-slice_bounds-made-end g c =
-    let w = c.PAR_BLOCKS-width.result in
-    let n = length c.args.data.now in
-    let fits = room_kept w _ (n / 64) _ _ c.PAR_BLOCKS-width.ensures c.groups.auto.room c.requires.room in
-    group_room w c.groups.group (n / 64) _ c.groups-test.true fits
 
 pub slice_bounds-made-end-in-groups : goal.slice_bounds-made-end-in-groups
 slice_bounds-made-end-in-groups g c =
@@ -109,10 +96,6 @@ xor_blocks-requires g c =
     let made = group_fits w c.groups.group (n / 64) c.groups.room c.groups-test.true fits in
     group_inside w c.groups.group n _ _ c.groups-test.true c.groups.auto.data (c.gen_par_ks_blocks.auto.blocks ∙ made)
 
-pub groups-smaller : goal.groups-smaller
-groups-smaller g c =
-    one_more _ _ c.groups-test.true
-
 pub groups-preserved : goal.groups-preserved
 groups-preserved g c =
     let layout = g.V.Variant.layout in
@@ -130,17 +113,6 @@ groups-preserved g c =
       state = state_after-more layout s c.groups.state _ i _ _ c.told-state c.groups.invariant.state (rw made at c.gen_par_ks_blocks.ensures.state) next;
       steps = grows-group c.groups.invariant.steps c.gen_par_ks_blocks.ensures.steps;
     }
-
-pub nonzero_rem-rest : goal.nonzero_rem-rest
-nonzero_rem-rest g c =
-    some_wide c.PAR_BLOCKS-width.result _ c.PAR_BLOCKS-width.ensures g.B.ParBlocksSizeUser.par_blocks_at_least
-
-pub slice_bounds-made-end-2 : goal.slice_bounds-made-end-2
-slice_bounds-made-end-2 g c =
-    let w = c.PAR_BLOCKS-width.result in
-    let n = length c.args.data.now in
-    let fits = room_kept w _ (n / 64) _ _ c.PAR_BLOCKS-width.ensures c.groups.auto.room c.requires.room in
-    rest_room w (n / 64) _ (some_wide w _ c.PAR_BLOCKS-width.ensures g.B.ParBlocksSizeUser.par_blocks_at_least) fits
 
 pub slice_bounds-made-end-3 : goal.slice_bounds-made-end-3
 slice_bounds-made-end-3 g c =
@@ -165,36 +137,23 @@ xor_blocks-requires-2 g c =
     let made = rest_fits w _ (n / 64) c.groups.room c.PAR_BLOCKS-width.ensures g.B.ParBlocksSizeUser.par_blocks_at_least fits in
     rest_inside w n _ _ c.groups.auto.data (c.write_tail.auto.blocks ∙ made)
 
-pub returns-clause-data : goal.returns-clause-data
-returns-clause-data g c =
+pub returns : goal.returns
+returns g c =
     let layout = g.V.Variant.layout in
     let n = g.R.Rounds.COUNT in
     let s = c.args.state.now in
     let w = c.PAR_BLOCKS-width.result in
     let old = c.args.data.now in
     let m = length old / 64 in
+    let i = m - m % w in
     let fits = room_kept w _ m _ _ c.PAR_BLOCKS-width.ensures c.groups.auto.room c.requires.room in
     let made = rest_fits w _ m c.groups.room c.PAR_BLOCKS-width.ensures g.B.ParBlocksSizeUser.par_blocks_at_least fits in
-    let done = rest_begins w c.groups.group m c.groups-test.false c.groups.auto.group-end in
-    applied-more n layout s (m - m % w) c.write_tail.new.blocks old c.told-state (rw done at c.groups.invariant.state) (rest_ends w m) (whole_inside (length old)) c.groups.auto.data
-    (c.write_tail.auto.blocks ∙ made) (rw done at c.groups.invariant.data) c.xor_blocks-2.ensures (λ j less. c.write_tail.ensures.blocks j (rw made less))
-    ∙ xor_stream-whole (state_stream n layout s) (64 * state_counter layout s) (64 * m) old (whole_all (length old) c.requires.whole)
-
-pub returns-clause-state : goal.returns-clause-state
-returns-clause-state g c =
-    let w = c.PAR_BLOCKS-width.result in
-    let m = length c.args.data.now / 64 in
-    let fits = room_kept w _ m _ _ c.PAR_BLOCKS-width.ensures c.groups.auto.room c.requires.room in
-    let made = rest_fits w _ m c.groups.room c.PAR_BLOCKS-width.ensures g.B.ParBlocksSizeUser.par_blocks_at_least fits in
-    let done = rest_begins w c.groups.group m c.groups-test.false c.groups.auto.group-end in
-    state_after-more g.V.Variant.layout c.args.state.now c.groups.state _ (m - m % w) _ m c.told-state (rw done at c.groups.invariant.state) (rw made at c.write_tail.ensures.state)
-    (rest_ends w m)
-
-pub returns-clause-steps : goal.returns-clause-steps
-returns-clause-steps g c =
-    let w = c.PAR_BLOCKS-width.result in
-    let m = length c.args.data.now / 64 in
-    let fits = room_kept w _ m _ _ c.PAR_BLOCKS-width.ensures c.groups.auto.room c.requires.room in
-    let made = rest_fits w _ m c.groups.room c.PAR_BLOCKS-width.ensures g.B.ParBlocksSizeUser.par_blocks_at_least fits in
-    let done : c.groups.group ≡ m / w = omega (arith, c.groups-test.false, c.groups.auto.group-end) in
-    rw (← c.PAR_BLOCKS-width.ensures) (grows-blocks w _ _ m (rw done at c.groups.invariant.steps) (rw made at c.write_tail.ensures.steps))
+    let all : c.groups.group ≡ m / w = omega (arith, c.groups-test.false, c.groups.auto.group-end) in
+    let done = rest_begins w c.groups.group m all in
+    record {
+      «data» = applied-more n layout s i c.write_tail.new.blocks old c.told-state (rw done at c.groups.invariant.state) (rest_ends w m) (whole_inside (length old)) c.groups.auto.data
+          (c.write_tail.auto.blocks ∙ made) (rw done at c.groups.invariant.data) c.xor_blocks-2.ensures (λ j less. c.write_tail.ensures.blocks j (rw made less))
+          ∙ xor_stream-whole (state_stream n layout s) (64 * state_counter layout s) (64 * m) old (whole_all (length old) c.requires.whole);
+      state = state_after-more layout s c.groups.state _ i _ m c.told-state (rw done at c.groups.invariant.state) (rw made at c.write_tail.ensures.state) (rest_ends w m);
+      steps = rw (← c.PAR_BLOCKS-width.ensures) (grows-blocks w _ _ m (rw all at c.groups.invariant.steps) (rw made at c.write_tail.ensures.steps));
+    }
