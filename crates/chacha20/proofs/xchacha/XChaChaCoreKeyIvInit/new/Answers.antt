@@ -1,19 +1,20 @@
-use Rattle.std.proofs.Common.{◌≡◌, ◌∙◌, length, take, drop, refl, ap, arith}
+use Rattle.std.proofs.Common.{◌≡◌, ℕ, List, ◌∙◌, length, refl, ap, ap₂, arith}
 use Rattle.chacha_base.specs.Layout.{ietf}
+use Rattle.chacha_base.specs.Block.{start}
 use Rattle.chacha20.specs.XChaCha.{hchacha, subkey, subnonce}
 use Rattle.chacha20.proofs.StartLemmas.{blocks-of-start}
 use Rattle.chacha20.proofs.XChaChaLemmas.{subnonce_written}
 use Rattle.chacha20.proofs.xchacha.XChaChaCoreKeyIvInit.new.Goals as goal
 
-pub returns-clause-value : goal.returns-clause-value
-returns-clause-value g c =
-    let key = ap (hchacha g.R.Rounds.COUNT c.args.key.now) c.copy_from_slice.ensures.after in
-    let nonce = subnonce_written c.args.iv.now (take 8 (drop 16 c.args.iv.now)) c.told-iv refl in
-    c.new.ensures.value ∙ cc
-
-pub returns-clause-blocks : goal.returns-clause-blocks
-returns-clause-blocks g c =
+pub returns : goal.returns
+returns g c =
     let n = g.R.Rounds.COUNT in
     let key = c.hchacha-subkey.ensures ∙ ap (hchacha n c.args.key.now) c.copy_from_slice.ensures.after in
+    let nonce = subnonce_written c.args.iv.now c.copy_from_slice-2.new.self c.told-iv c.copy_from_slice-2.ensures.after in
     let long : length (subkey n c.args.key.now c.args.iv.now) ≡ 32 = omega (arith, ap length key) in
-    blocks-of-start n ietf (subkey n c.args.key.now c.args.iv.now) (subnonce c.args.iv.now) _ long (returns-clause-value g c)
+    let value = c.new.ensures.value ∙ ap₂ (λ (k iv : List ℕ). start ietf k iv 0) key nonce in
+    record {
+      value = value;
+      blocks = blocks-of-start n ietf (subkey n c.args.key.now c.args.iv.now) (subnonce c.args.iv.now) _ long value;
+      first = c.new.ensures.first;
+    }
