@@ -13,24 +13,19 @@ calls-preserved g c =
     (ap (λ (o : CipherOutcome). let rest = cipher_run s o.cipher o.bytes (drop (c.calls.i + 1) c.args.calls.now) in (o.answer ∷ rest.0, rest.1, rest.2))
     c.call_cipher.ensures)
 
-pub returns-clause-run : goal.returns-clause-run
-returns-clause-run g c =
+pub returns : goal.returns
+returns g c =
     let s = setting g.C.Keystream.modulus g.C.Keystream.block_at c.args.input.now in
-    run-all _ (cipher_run s c.calls.cipher c.calls.data) _ _ c.args.calls.now c.calls.answers c.calls.i refl c.calls.invariant (omega arith) (omega arith)
-
-pub returns-clause-seek_back : goal.returns-clause-seek_back
-returns-clause-seek_back g c at len these done =
-    let s = setting g.C.Keystream.modulus g.C.Keystream.block_at c.args.input.now in
-    law-seek_back s (length c.args.input.now) c.args.cipher.now c.calls.cipher c.args.data.now c.calls.data c.args.calls.now c.calls.answers at len
-    (returns-clause-run g c)
-    (recursion_from_All _ c.args.calls.now c.requires.ranges) these done
-
-pub returns-clause-cut_anywhere : goal.returns-clause-cut_anywhere
-returns-clause-cut_anywhere g c at lens these done =
-    let s = setting g.C.Keystream.modulus g.C.Keystream.block_at c.args.input.now in
-    law-cut_anywhere s (length c.args.input.now) c.args.cipher.now c.calls.cipher c.args.data.now c.calls.data c.args.calls.now c.calls.answers at lens
-    (returns-clause-run g c)
-    (recursion_from_All _ c.args.calls.now c.requires.ranges) these done
+    let run =
+    run-all _ (cipher_run s c.calls.cipher c.calls.data) _ _ c.args.calls.now c.calls.answers c.calls.i refl c.calls.invariant (omega arith) (omega arith) in
+    let ranges = recursion_from_All _ c.args.calls.now c.requires.ranges in
+    record {
+      run = run;
+      seek_back = λ at len these done.
+          law-seek_back s (length c.args.input.now) c.args.cipher.now c.calls.cipher c.args.data.now c.calls.data c.args.calls.now c.calls.answers at len run ranges these done;
+      cut_anywhere = λ at lens these done.
+          law-cut_anywhere s (length c.args.input.now) c.args.cipher.now c.calls.cipher c.args.data.now c.calls.data c.args.calls.now c.calls.answers at lens run ranges these done;
+    }
 
 pub calls-init : goal.calls-init
 calls-init g c = refl

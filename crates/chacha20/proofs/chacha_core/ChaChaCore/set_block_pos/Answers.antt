@@ -4,24 +4,16 @@ use Rattle.chacha_base.specs.State.{state_counter, fixed_words, state_at}
 use Rattle.chacha_base.proofs.StateLemmas.{state_counter-state_at, fixed_words-state_at, state_at-written}
 use Rattle.chacha20.proofs.chacha_core.ChaChaCore.set_block_pos.Goals as goal
 
-pub returns-clause-state : goal.returns-clause-state
-returns-clause-state g c =
+pub returns : goal.returns
+returns g c =
     let layout = g.V.Variant.layout in
     let pos = g.V.Counter.StreamCipherCounter.value c.args.pos in
-    state_at-written layout pos _ _ c.self.told c.set_block_pos.ensures.row ∙ ap (state_at layout pos) c.self.view_is
-
-pub returns-clause-fixed : goal.returns-clause-fixed
-returns-clause-fixed g c =
-    let layout = g.V.Variant.layout in
-    let pos = g.V.Counter.StreamCipherCounter.value c.args.pos in
-    ap (fixed_words layout) (state_at-written layout pos _ _ c.self.told c.set_block_pos.ensures.row)
-    ∙ fixed_words-state_at layout pos _ c.self.told
-    ∙ ap (fixed_words layout) c.self.view_is
-
-pub returns-clause-counter : goal.returns-clause-counter
-returns-clause-counter g c =
-    let layout = g.V.Variant.layout in
-    let pos = g.V.Counter.StreamCipherCounter.value c.args.pos in
-    ap (state_counter layout) (state_at-written layout pos _ _ c.self.told c.set_block_pos.ensures.row)
-    ∙ state_counter-state_at layout pos _ c.self.told
-    ∙ mod-eq_of_lt c.set_block_pos.ensures.below
+    record {
+      state = state_at-written layout pos _ _ c.self.told c.set_block_pos.ensures.row ∙ ap (state_at layout pos) c.self.view_is;
+      fixed = ap (fixed_words layout) (state_at-written layout pos _ _ c.self.told c.set_block_pos.ensures.row)
+          ∙ fixed_words-state_at layout pos _ c.self.told
+          ∙ ap (fixed_words layout) c.self.view_is;
+      counter = ap (state_counter layout) (state_at-written layout pos _ _ c.self.told c.set_block_pos.ensures.row)
+          ∙ state_counter-state_at layout pos _ c.self.told
+          ∙ mod-eq_of_lt c.set_block_pos.ensures.below;
+    }

@@ -5,16 +5,13 @@ use Rattle.chacha20.specs.Blocks.{applied}
 use Rattle.chacha_base.proofs.StateLemmas.{fixed_words-state_after, state_counter-state_after}
 use Rattle.chacha20.proofs.chacha_core.ChaChaCoreStreamCipherCore.apply_blocks_counted.Goals as goal
 
-pub returns-clause-data : goal.returns-clause-data
-returns-clause-data g c =
-    c.apply_blocks.ensures.data ∙ ap (λ s. applied g.R.Rounds.COUNT g.V.Variant.layout s c.args.data.now) c.self.view_is
-
-pub returns-clause-fixed : goal.returns-clause-fixed
-returns-clause-fixed g c =
-    fixed_words-state_after g.V.Variant.layout _ _ _ c.self.told c.apply_blocks.ensures.state ∙ ap (fixed_words g.V.Variant.layout) c.self.view_is
-
-pub returns-clause-counter : goal.returns-clause-counter
-returns-clause-counter g c =
-    let layout = g.V.Variant.layout in
-    state_counter-state_after layout _ _ _ c.self.told c.apply_blocks.ensures.state
-    ∙ ap (λ s. (state_counter layout s + length c.args.data.now / 64) % modulus layout) c.self.view_is
+pub returns : goal.returns
+returns g c =
+    record {
+      «data» = c.apply_blocks.ensures.data ∙ ap (λ s. applied g.R.Rounds.COUNT g.V.Variant.layout s c.args.data.now) c.self.view_is;
+      fixed = fixed_words-state_after g.V.Variant.layout _ _ _ c.self.told c.apply_blocks.ensures.state ∙ ap (fixed_words g.V.Variant.layout) c.self.view_is;
+      counter = let layout = g.V.Variant.layout in
+          state_counter-state_after layout _ _ _ c.self.told c.apply_blocks.ensures.state
+          ∙ ap (λ s. (state_counter layout s + length c.args.data.now / 64) % modulus layout) c.self.view_is;
+      steps = c.apply_blocks.ensures.steps;
+    }

@@ -20,11 +20,12 @@ calls-preserved g c =
     (omega arith) (omega arith) c.calls.invariant
     (ap (λ (o : RngOutcome). let rest = rng_run n o.rng o.bytes (drop (c.calls.i + 1) c.args.calls.now) in (o.answer ∷ rest.0, rest.1, rest.2)) c.call_rng.ensures)
 
-pub returns-clause-run : goal.returns-clause-run
-returns-clause-run g c =
-    run-all _ (rng_run g.R.Rounds.COUNT c.calls.rng c.calls.data) _ _ c.args.calls.now c.calls.answers c.calls.i refl c.calls.invariant (omega arith) (omega arith)
-
-pub returns-clause-equality : goal.returns-clause-equality
-returns-clause-equality g c other equal =
-    subst (λ (from : GeneratorState). (c.calls.answers, c.calls.rng, c.calls.data) ≡ rng_run g.R.Rounds.COUNT from c.args.data.now c.args.calls.now)
-    (same-is c.args.rng.now other equal) (returns-clause-run g c)
+pub returns : goal.returns
+returns g c =
+    let n = g.R.Rounds.COUNT in
+    let run = run-all _ (rng_run n c.calls.rng c.calls.data) _ _ c.args.calls.now c.calls.answers c.calls.i refl c.calls.invariant (omega arith) (omega arith) in
+    record {
+      run = run;
+      equality = λ other equal.
+          subst (λ (from : GeneratorState). (c.calls.answers, c.calls.rng, c.calls.data) ≡ rng_run n from c.args.data.now c.args.calls.now) (same-is c.args.rng.now other equal) run;
+    }
