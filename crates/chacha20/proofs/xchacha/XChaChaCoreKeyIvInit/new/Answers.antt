@@ -1,4 +1,4 @@
-use Rattle.std.proofs.Common.{◌≡◌, ℕ, List, ◌∙◌, length, refl, ap, ap₂, arith}
+use Rattle.std.proofs.Common.{◌≡◌, ℕ, List, ◌∙◌, length, ap, ap₂, arith}
 use Rattle.chacha_base.specs.Layout.{ietf}
 use Rattle.chacha_base.specs.Block.{start}
 use Rattle.chacha20.specs.XChaCha.{hchacha, subkey, subnonce}
