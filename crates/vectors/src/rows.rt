@@ -94,11 +94,11 @@ pub fn worked() -> ([u8; 16], Verdicts) {
     let ciphertext = ciphers::enter_ietf_rows::<ChaChaCore<R20, Ietf, Lanes16>>(&mut verdicts);
     ciphers::enter_legacy_rows::<ChaCha20LegacyCore>(&mut verdicts);
     ciphers::enter_x_rows::<XChaChaCore<R20, Lanes16>>(&mut verdicts);
-    enter(&mut verdicts, 13, no_rounds());
+    let no_rounds = cores::row_13::<
+        ChaChaCore<R0, Ietf, Lanes16>,
+        ChaChaCore<R0, Legacy, Lanes16>,
+    >();
+    enter(&mut verdicts, 13, no_rounds);
     generators::enter_rows::<Lanes8>(&mut verdicts);
     (ciphertext, verdicts)
-}
-
-fn no_rounds() -> Verdict {
-    cores::row_13::<ChaChaCore<R0, Ietf, Lanes16>, ChaChaCore<R0, Legacy, Lanes16>>()
 }
