@@ -6,7 +6,7 @@ mod rows;
 #[cfg(test)]
 mod tests;
 
-use rows::Verdict;
+use rows::{Verdicts, first_wrong_row};
 use std::io;
 use std::process::ExitCode;
 
@@ -17,30 +17,23 @@ fn print_bytes(rt: &impl Print, bytes: &[u8]) -> io::Result<()> {
     println!(rt; "")
 }
 
-// Prints a row's line, and answers whether it is right.
-fn print_row(rt: &impl Print, number: usize, failed: Verdict) -> io::Result<bool> {
-    let right = failed.is_none();
-    let word = if right { "ok" } else { "bad" };
-    println!(rt; "row {number} {word}")?;
-    Ok(right)
-}
-
-// Prints all lines, and answers whether all rows are right.
-fn print_rows(rt: &impl Print) -> io::Result<bool> {
-    let (ciphertext, verdicts) = rows::worked();
-    print_bytes(rt, &ciphertext)?;
-    let mut all_right = true;
+// Prints a line for each row.
+fn print_rows(rt: &impl Print, verdicts: &Verdicts) -> io::Result<()> {
     for (number, verdict) in verdicts.iter().enumerate() {
         if let Some(failed) = *verdict {
-            all_right &= print_row(rt, number, failed)?;
+            let word = if failed.is_none() { "ok" } else { "bad" };
+            println!(rt; "row {number} {word}")?;
         }
     }
-    Ok(all_right)
+    Ok(())
 }
 
 fn main(rt: HostRuntime) -> ExitCode {
-    match print_rows(&rt) {
-        Ok(true) => ExitCode::SUCCESS,
-        _ => ExitCode::FAILURE,
+    let (ciphertext, verdicts) = rows::worked();
+    let printed = print_bytes(&rt, &ciphertext).is_ok() && print_rows(&rt, &verdicts).is_ok();
+    if printed && first_wrong_row(&verdicts).is_none() {
+        ExitCode::SUCCESS
+    } else {
+        ExitCode::FAILURE
     }
 }

@@ -88,6 +88,19 @@ pub fn enter(verdicts: &mut Verdicts, number: usize, failed: Verdict) {
     }
 }
 
+/// The first failure in worked rows, with its row's number.
+pub fn first_wrong_row(verdicts: &Verdicts) -> Verdict {
+    for (number, verdict) in verdicts.iter().enumerate() {
+        if let Some(failure) = verdict.flatten() {
+            return Some(Failure {
+                check: failure.check,
+                number,
+            });
+        }
+    }
+    None
+}
+
 /// The first row's ciphertext, and each row's verdict, for the named ciphers and generators.
 pub fn worked() -> ([u8; 16], Verdicts) {
     let mut verdicts = [None; 24];

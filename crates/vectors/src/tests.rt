@@ -30,7 +30,7 @@ mod width3;
 mod wraps;
 mod xchacha;
 
-use crate::rows::{Failure, Verdict, Verdicts};
+use crate::rows::Verdict;
 use std::process::Abort;
 
 // Stops the test at the first of these that fails: what is named first, a backend or a type, and then the check.
@@ -40,17 +40,4 @@ fn all_right(rt: &impl Abort, verdicts: &[(&'static str, Verdict)]) {
             panic!(rt; "{subject}: {}, {}", failure.check, failure.number);
         }
     }
-}
-
-// The first failure in worked rows, with its row's number.
-fn first_wrong_row(verdicts: &Verdicts) -> Verdict {
-    for (number, verdict) in verdicts.iter().enumerate() {
-        if let Some(failure) = verdict.flatten() {
-            return Some(Failure {
-                check: failure.check,
-                number,
-            });
-        }
-    }
-    None
 }

@@ -7,15 +7,15 @@ use super::direct::{Directly, Fresh, stream_ends};
 use super::streams::{X_KEY, X_NONCE, XCHACHA_FROM_64, legacy_stream};
 use super::width3::Width3;
 use super::{
-    all_right, backends, beside, core_calls, ends, first_wrong_row, generator_runs,
-    generator_traits, generators, odd_cuts, positions, records, rfc8439, runs, streams, wraps,
+    all_right, backends, beside, core_calls, ends, generator_runs, generator_traits, generators,
+    odd_cuts, positions, records, rfc8439, runs, streams, wraps,
 };
 use crate::rows::ciphers::{
     self, IETF_ROWS, LEGACY_ROWS, NONCE_4, NumberedLists, SeekCipher, SeekCore, X_ROWS,
 };
 use crate::rows::lists::{CipherList, wrong_list};
 use crate::rows::{
-    COUNTING, FROM_1, LEGACY_NONCE, R0, Verdict, cores, failed, first_failure,
+    COUNTING, FROM_1, LEGACY_NONCE, R0, Verdict, cores, failed, first_failure, first_wrong_row,
     generators as row_generators,
 };
 use chacha20::backends::{Lanes4, Lanes8, Lanes16, Rows8, Soft};
