@@ -5,28 +5,11 @@ ghost use Rattle.chacha20.specs.Keystream.{xor_stream};
 
 use super::lists::{CipherList, Listed, wrong_list};
 use super::{COUNTING, FROM_1, LEGACY_NONCE, Verdict, Verdicts, enter, failed, first_failure};
-use chacha20::cipher::{
-    KeyIvInit, SeekNum, StreamCipher, StreamCipherCounter, StreamCipherSeek, StreamCipherSeekCore,
-};
+use chacha20::cipher::{KeyIvInit, SeekNum, StreamCipher, StreamCipherSeek, StreamCipherSeekCore};
 use chacha20::{
     CipherAnswer, CipherCall, Key, LegacyNonce, Nonce, R20, StreamCipherCoreWrapper, XNonce,
     hchacha,
 };
-
-/// A core with nonces of one type and counters of another, of which the wrapper makes a cipher.
-pub trait SeekCore<N, T: StreamCipherCounter>: KeyIvInit<Key = Key, Iv = N>
-    + StreamCipherSeekCore<Counter = T>
-    + Drop {}
-
-impl<N, T: StreamCipherCounter, C> SeekCore<N, T> for C
-where
-    C: KeyIvInit<Key = Key, Iv = N> + StreamCipherSeekCore<Counter = T> + Drop,
-{}
-
-/// A cipher with nonces of one type.
-pub trait SeekCipher<N>: KeyIvInit<Key = Key, Iv = N> + StreamCipherSeek + Listed + Drop {}
-
-impl<N, C: KeyIvInit<Key = Key, Iv = N> + StreamCipherSeek + Listed + Drop> SeekCipher<N> for C {}
 
 /// Lists of a row, with its number.
 pub type NumberedLists = (usize, &'static [CipherList]);
@@ -39,22 +22,33 @@ static CIPHERTEXT: [u8; 16] = *b"\xe4\x05\x62\x6e\x4f\x12\x36\xb3\x67\x0e\xe4\x2
 // cost for a named one.
 
 /// The first row's ciphertext. Enters each row of the cipher of RFC 8439 over a core.
-pub fn enter_ietf_rows<K: SeekCore<Nonce, u32>>(verdicts: &mut Verdicts) -> [u8; 16] {
+pub fn enter_ietf_rows<K>(verdicts: &mut Verdicts) -> [u8; 16]
+where
+    K: KeyIvInit<Key = Key, Iv = Nonce> + StreamCipherSeekCore<Counter = u32> + Drop,
+{
     enter_rows_of_ietf::<StreamCipherCoreWrapper<K>>(verdicts)
 }
 
 /// Enters each row of the cipher in the layout before it over a core.
-pub fn enter_legacy_rows<K: SeekCore<LegacyNonce, u64>>(verdicts: &mut Verdicts) {
+pub fn enter_legacy_rows<K>(verdicts: &mut Verdicts)
+where
+    K: KeyIvInit<Key = Key, Iv = LegacyNonce> + StreamCipherSeekCore<Counter = u64> + Drop,
+{
     enter_rows_of_legacy::<StreamCipherCoreWrapper<K>>(verdicts);
 }
 
 /// Enters each row of the cipher with nonces of 24 bytes over a core.
-pub fn enter_x_rows<K: SeekCore<XNonce, u32>>(verdicts: &mut Verdicts) {
+pub fn enter_x_rows<K>(verdicts: &mut Verdicts)
+where
+    K: KeyIvInit<Key = Key, Iv = XNonce> + StreamCipherSeekCore + Drop,
+{
     enter(verdicts, 3, row_3());
     enter_table::<StreamCipherCoreWrapper<K>>(verdicts, &FROM_80, &X_NONCE, &X_ROWS);
 }
 
-fn enter_rows_of_ietf<C: SeekCipher<Nonce>>(verdicts: &mut Verdicts) -> [u8; 16]
+fn enter_rows_of_ietf<C>(verdicts: &mut Verdicts) -> [u8; 16]
+where
+    C: KeyIvInit<Key = Key, Iv = Nonce> + StreamCipherSeek + Listed + Drop,
     requires { 2 ^ 32 ≤ C.limit }
 {
     enter(verdicts, 1, row_1::<C>());
@@ -63,7 +57,9 @@ fn enter_rows_of_ietf<C: SeekCipher<Nonce>>(verdicts: &mut Verdicts) -> [u8; 16]
     first_ciphertext::<C>()
 }
 
-fn enter_rows_of_legacy<C: SeekCipher<LegacyNonce>>(verdicts: &mut Verdicts)
+fn enter_rows_of_legacy<C>(verdicts: &mut Verdicts)
+where
+    C: KeyIvInit<Key = Key, Iv = LegacyNonce> + StreamCipherSeek + Listed + Drop,
     requires { 2 ^ 32 ≤ C.limit }
 {
     enter(verdicts, 6, row_6::<C>());
@@ -256,14 +252,14 @@ pub static X_ROWS: [NumberedLists; 1] = [
 ];
 
 // The first row's ciphertext; its plaintext, if the cipher refuses it.
-fn first_ciphertext<C: SeekCipher<Nonce>>() -> [u8; 16] {
+fn first_ciphertext<C: KeyIvInit<Key = Key, Iv = Nonce> + StreamCipher + Drop>() -> [u8; 16] {
     let mut data = PLAINTEXT;
     let _ = C::new(&[0x42; 32], &[0x24; 12]).try_apply_keystream(&mut data);
     data
 }
 
 // There and back, and there again in pieces of 3.
-fn row_1<C: SeekCipher<Nonce>>() -> Verdict
+fn row_1<C: KeyIvInit<Key = Key, Iv = Nonce> + StreamCipherSeek + Drop>() -> Verdict
     requires { 2 ^ 32 ≤ C.limit }
 {
     let mut cipher = C::new(&[0x42; 32], &[0x24; 12]);
@@ -315,7 +311,9 @@ static FROM_80: Key = *b"\x80\x81\x82\x83\x84\x85\x86\x87\x88\x89\x8a\x8b\x8c\x8
 static X_NONCE: XNonce = *b"@ABCDEFGHIJKLMNOPQRSTUVX";
 
 // The legacy cipher, from its start and from byte 17.
-fn row_6<C: SeekCipher<LegacyNonce>>() -> Verdict
+fn row_6<C>() -> Verdict
+where
+    C: KeyIvInit<Key = Key, Iv = LegacyNonce> + StreamCipherSeek + Listed + Drop,
     requires { 2 ^ 32 ≤ C.limit }
 {
     let mut cipher = C::new(&FROM_1, &LEGACY_NONCE);
@@ -352,7 +350,7 @@ static ROW_6_FROM_17: [CipherList; 1] = [CipherList {
 }];
 
 // Positions that a type can't say.
-fn row_12<C: SeekCipher<Nonce>>() -> Verdict
+fn row_12<C: KeyIvInit<Key = Key, Iv = Nonce> + StreamCipherSeek + Drop>() -> Verdict
     requires { 2 ^ 32 ≤ C.limit }
 {
     let mut cipher = C::new(&COUNTING, &[0; 12]);
@@ -366,7 +364,10 @@ fn row_12<C: SeekCipher<Nonce>>() -> Verdict
     )
 }
 
-fn legacy_row_12<C: SeekCipher<LegacyNonce>>() -> Verdict {
+fn legacy_row_12<C>() -> Verdict
+where
+    C: KeyIvInit<Key = Key, Iv = LegacyNonce> + StreamCipherSeek + Drop,
+{
     let mut cipher = C::new(&FROM_1, &LEGACY_NONCE);
     let sought = cipher.try_seek(1180591620717411303360u128).is_ok();
     failed(

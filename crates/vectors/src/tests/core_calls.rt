@@ -1,12 +1,11 @@
 //! Calls on a core alone.
 
-use crate::rows::ciphers::SeekCore;
 use crate::rows::{COUNTING, R0, Verdict, failed, failed_for};
 use chacha20::cipher::{
     KeyIvInit, StreamCipherBackend, StreamCipherCore, StreamCipherCounter, StreamCipherSeekCore,
 };
 use chacha20::variants::{Ietf, Legacy, Variant};
-use chacha20::{ChaChaCore, Steps};
+use chacha20::{ChaChaCore, Key, Steps};
 
 /// What is wrong with the blocks of a core of zeros.
 pub fn wrong_zeros<B: StreamCipherBackend<R0, Ietf>>() -> Verdict {
@@ -110,11 +109,11 @@ fn wrong_kind<C: StreamCipherSeekCore>(core: &mut C, start: C::Counter, end: u64
 }
 
 /// What is wrong with calls of a new core for the four blocks from a counter on.
-pub fn wrong_blocks<N, T: StreamCipherCounter, K: SeekCore<N, T>>(
-    nonce: &N,
-    start: T,
-    end: u64,
-) -> Verdict {
+pub fn wrong_blocks<N, T, K>(nonce: &N, start: T, end: u64) -> Verdict
+where
+    T: StreamCipherCounter,
+    K: KeyIvInit<Key = Key, Iv = N> + StreamCipherSeekCore<Counter = T> + Drop,
+{
     let mut core = K::new(&COUNTING, nonce);
     failed_for(
         "four blocks by other calls",
@@ -123,9 +122,11 @@ pub fn wrong_blocks<N, T: StreamCipherCounter, K: SeekCore<N, T>>(
 }
 
 /// What is wrong with blocks 4 to 7 of a core, beside those of another one.
-pub fn wrong_beside<N, T: StreamCipherCounter, A: SeekCore<N, T>, B: SeekCore<N, T>>(
-    nonce: &N,
-) -> Verdict {
+pub fn wrong_beside<N, A, B>(nonce: &N) -> Verdict
+where
+    A: KeyIvInit<Key = Key, Iv = N> + StreamCipherCore + Drop,
+    B: KeyIvInit<Key = Key, Iv = N> + StreamCipherCore + Drop,
+{
     let mut core = A::new(&COUNTING, nonce);
     let mut other = B::new(&COUNTING, nonce);
     failed(

@@ -3,11 +3,11 @@
 ghost use Rattle.std.specs.Prelude.{◌≤◌, ◌^◌, length};
 
 use super::direct::all_done;
-use crate::rows::ciphers::{SeekCipher, is_at};
+use crate::rows::ciphers::is_at;
 use crate::rows::lists::{CipherList, Listed, answers_are};
 use crate::rows::{COUNTING, FROM_1, LEGACY_NONCE, Verdict, failed, failed_for, first_failure};
 use chacha20::cipher::{KeyIvInit, StreamCipher, StreamCipherSeek};
-use chacha20::{CipherAnswer, CipherCall, LegacyNonce, Nonce};
+use chacha20::{CipherAnswer, CipherCall, Key, LegacyNonce, Nonce};
 
 // The limits: 64 bytes for each counter of 32 and of 64 bits.
 const LIMIT: u128 = 274877906944;
@@ -501,7 +501,9 @@ pub fn wrong_legacy_groups<C: Listed>(cipher: &mut C) -> Verdict {
 }
 
 /// Positions of 31 bits and of a length, in their own types.
-pub fn wrong_ietf_types<C: SeekCipher<Nonce>>() -> Verdict
+pub fn wrong_ietf_types<C>() -> Verdict
+where
+    C: KeyIvInit<Key = Key, Iv = Nonce> + StreamCipherSeek + Drop,
     requires { 2 ^ 32 ≤ C.limit }
 {
     let mut cipher = C::new(&COUNTING, &[0; 12]);
@@ -516,7 +518,9 @@ pub fn wrong_ietf_types<C: SeekCipher<Nonce>>() -> Verdict
 }
 
 /// Positions of 64 bits and of a length, and past them, in their own types.
-pub fn wrong_legacy_types<C: SeekCipher<LegacyNonce>>() -> Verdict
+pub fn wrong_legacy_types<C>() -> Verdict
+where
+    C: KeyIvInit<Key = Key, Iv = LegacyNonce> + StreamCipherSeek + Drop,
     requires { 2 ^ 64 ≤ C.limit }
 {
     let mut cipher = C::new(&FROM_1, &LEGACY_NONCE);

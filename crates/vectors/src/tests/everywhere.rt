@@ -10,17 +10,16 @@ use super::{
     all_right, backends, beside, core_calls, ends, generator_runs, generator_traits, generators,
     odd_cuts, positions, records, rfc8439, runs, streams, wraps,
 };
-use crate::rows::ciphers::{
-    self, IETF_ROWS, LEGACY_ROWS, NONCE_4, NumberedLists, SeekCipher, SeekCore, X_ROWS,
-};
-use crate::rows::lists::{CipherList, wrong_list};
+use crate::rows::ciphers::{self, IETF_ROWS, LEGACY_ROWS, NONCE_4, NumberedLists, X_ROWS};
+use crate::rows::lists::{CipherList, Listed, wrong_list};
 use crate::rows::{
     COUNTING, FROM_1, LEGACY_NONCE, R0, Verdict, cores, failed, first_failure, first_wrong_row,
     generators as row_generators,
 };
 use chacha20::backends::{Lanes4, Lanes8, Lanes16, Rows8, Soft};
 use chacha20::cipher::{
-    RngBackend, StreamCipherBackend, StreamCipherCounter, StreamCipherSeekCore,
+    KeyIvInit, RngBackend, StreamCipherBackend, StreamCipherCounter, StreamCipherSeek,
+    StreamCipherSeekCore,
 };
 use chacha20::rand_core::SeedableRng;
 use chacha20::variants::{Ietf, Legacy};
@@ -98,17 +97,24 @@ fn wrong_zero<C: Fresh<Nonce>>() -> Verdict {
 }
 
 // A core, and the cipher over it, beside another one.
-fn wrong_beside_core<N, T: StreamCipherCounter, K: SeekCore<N, T>, P: SeekCore<N, T>>(
-    nonce: &N,
-) -> Verdict {
+fn wrong_beside_core<N, T, K, P>(nonce: &N) -> Verdict
+where
+    T: StreamCipherCounter,
+    K: KeyIvInit<Key = Key, Iv = N> + StreamCipherSeekCore<Counter = T> + Drop,
+    P: KeyIvInit<Key = Key, Iv = N> + StreamCipherSeekCore<Counter = T> + Drop,
+{
     first_failure(&[
         wrong_beside::<N, Cipher<K>, Cipher<P>>(nonce),
-        core_calls::wrong_beside::<N, T, K, P>(nonce),
+        core_calls::wrong_beside::<N, K, P>(nonce),
     ])
 }
 
 // Ciphers of RFC 8439 over a core, and over another one, which hands out the same blocks.
-fn wrong_ietf_core<K: SeekCore<Nonce, u32>, P: SeekCore<Nonce, u32>>() -> Verdict {
+fn wrong_ietf_core<K, P>() -> Verdict
+where
+    K: KeyIvInit<Key = Key, Iv = Nonce> + StreamCipherSeekCore<Counter = u32> + Drop,
+    P: KeyIvInit<Key = Key, Iv = Nonce> + StreamCipherSeekCore<Counter = u32> + Drop,
+{
     let mut rows = [None; 24];
     let _ = ciphers::enter_ietf_rows::<K>(&mut rows);
     first_failure(&[
@@ -121,7 +127,9 @@ fn wrong_ietf_core<K: SeekCore<Nonce, u32>, P: SeekCore<Nonce, u32>>() -> Verdic
 }
 
 // What lists have no calls for: positions in other types, and calls that leave refusals to the caller.
-fn wrong_ietf_calls<C: SeekCipher<Nonce>>() -> Verdict
+fn wrong_ietf_calls<C>() -> Verdict
+where
+    C: KeyIvInit<Key = Key, Iv = Nonce> + StreamCipherSeek + Listed + Drop,
     requires { 2 ^ 32 ≤ C.limit }
 {
     first_failure(&[
@@ -131,7 +139,11 @@ fn wrong_ietf_calls<C: SeekCipher<Nonce>>() -> Verdict
     ])
 }
 
-fn wrong_legacy_core<K: SeekCore<LegacyNonce, u64>, P: SeekCore<LegacyNonce, u64>>() -> Verdict {
+fn wrong_legacy_core<K, P>() -> Verdict
+where
+    K: KeyIvInit<Key = Key, Iv = LegacyNonce> + StreamCipherSeekCore<Counter = u64> + Drop,
+    P: KeyIvInit<Key = Key, Iv = LegacyNonce> + StreamCipherSeekCore<Counter = u64> + Drop,
+{
     let mut rows = [None; 24];
     ciphers::enter_legacy_rows::<K>(&mut rows);
     first_failure(&[
@@ -143,7 +155,11 @@ fn wrong_legacy_core<K: SeekCore<LegacyNonce, u64>, P: SeekCore<LegacyNonce, u64
     ])
 }
 
-fn wrong_x_core<K: SeekCore<XNonce, u32>, P: SeekCore<XNonce, u32>>() -> Verdict {
+fn wrong_x_core<K, P>() -> Verdict
+where
+    K: KeyIvInit<Key = Key, Iv = XNonce> + StreamCipherSeekCore<Counter = u32> + Drop,
+    P: KeyIvInit<Key = Key, Iv = XNonce> + StreamCipherSeekCore<Counter = u32> + Drop,
+{
     let mut rows = [None; 24];
     ciphers::enter_x_rows::<K>(&mut rows);
     first_failure(&[
@@ -174,7 +190,10 @@ fn wrong_cuts<R: Rounds, B: StreamCipherBackend<R, Ietf>>() -> Verdict {
     ])
 }
 
-fn cuts_of_core<N, K: SeekCore<N, u32>>(nonce: &N) -> Verdict {
+fn cuts_of_core<N, K>(nonce: &N) -> Verdict
+where
+    K: KeyIvInit<Key = Key, Iv = N> + StreamCipherSeekCore + Drop,
+{
     odd_cuts::wrong_cuts::<N, Cipher<K>>(nonce)
 }
 
@@ -186,9 +205,9 @@ fn wrong_zero_ends<N, C: Fresh<N>>(nonce: &N) -> Verdict {
 // Each kind without rounds.
 fn wrong_zero_cores<I, L, X>() -> Verdict
 where
-    I: SeekCore<Nonce, u32>,
+    I: KeyIvInit<Key = Key, Iv = Nonce> + StreamCipherSeekCore<Counter = u32> + Drop,
     L: SeedableRng<Seed = Seed> + StreamCipherSeekCore<Counter = u64> + Drop,
-    X: SeekCore<XNonce, u32>,
+    X: KeyIvInit<Key = Key, Iv = XNonce> + StreamCipherSeekCore + Drop,
 {
     first_failure(&[
         wrong_zero::<Cipher<I>>(),
@@ -288,7 +307,10 @@ fn width3(rt: HostRuntime) {
 }
 
 // The legacy stream between places that are multiples of a step.
-fn wrong_place<K: SeekCore<LegacyNonce, u64>>(step: usize) -> Option<[usize; 3]> {
+fn wrong_place<K>(step: usize) -> Option<[usize; 3]>
+where
+    K: KeyIvInit<Key = Key, Iv = LegacyNonce> + StreamCipherSeekCore + Drop,
+{
     legacy_stream(
         &mut Directly(&mut Cipher::<K>::fresh(&FROM_1, &LEGACY_NONCE)),
         step,

@@ -3,11 +3,11 @@
 ghost use Rattle.std.specs.Prelude.{◌≤◌, ◌^◌};
 
 use super::direct::Directly;
-use crate::rows::ciphers::{SeekCipher, is_at};
+use crate::rows::ciphers::is_at;
 use crate::rows::lists::{Listed, answers_are};
 use crate::rows::{COUNTING, Verdict, failed, first_failure};
 use chacha20::cipher::{KeyIvInit, SeekNum, StreamCipher, StreamCipherSeek};
-use chacha20::{CipherAnswer, CipherCall, Nonce};
+use chacha20::{CipherAnswer, CipherCall, Key, Nonce};
 
 const LIMIT: u64 = 274877906944;
 
@@ -97,7 +97,9 @@ fn given<C: Listed>(cipher: &mut C, bytes: &mut [u8; 70000], call: CipherCall) -
 }
 
 // The forms that leave the refusals to the caller.
-fn without_refusals<C: SeekCipher<Nonce>>() -> Verdict
+fn without_refusals<C>() -> Verdict
+where
+    C: KeyIvInit<Key = Key, Iv = Nonce> + StreamCipherSeek + Drop,
     requires { 2 ^ 32 ≤ C.limit }
 {
     let mut cipher = C::new(&[0; 32], &[0; 12]);
@@ -122,7 +124,9 @@ fn without_refusals<C: SeekCipher<Nonce>>() -> Verdict
 }
 
 /// What is wrong with positions of a cipher.
-pub fn wrong_positions<C: SeekCipher<Nonce>>() -> Verdict
+pub fn wrong_positions<C>() -> Verdict
+where
+    C: KeyIvInit<Key = Key, Iv = Nonce> + StreamCipherSeek + Listed + Drop,
     requires { 2 ^ 32 ≤ C.limit }
 {
     let mut cipher = C::new(&COUNTING, &[0; 12]);

@@ -3,10 +3,9 @@
 ghost use Rattle.std.specs.Prelude.{◌≡◌, ◌↔◌, ◌≤◌, ◌+◌, ◌*◌, length, IsOk, OnOk, OnErr};
 ghost use Rattle.chacha20.specs.Keystream.{xor_stream};
 
-use crate::rows::ciphers::SeekCipher;
 use crate::rows::{COUNTING, Verdict, failed};
-use chacha20::Nonce;
 use chacha20::cipher::{KeyIvInit, StreamCipher, StreamCipherError, StreamCipherSeek};
+use chacha20::{Key, Nonce};
 
 // Encrypts record k of a file of records of one length, each at its own place in the keystream. `Err` exactly where
 // the record would pass the cipher's limit; then nothing changes.
@@ -54,6 +53,9 @@ fn as_a_whole<S: StreamCipherSeek>(cipher: &mut S) -> Verdict {
 }
 
 /// What is wrong with records of a file under a new cipher.
-pub fn wrong_records<C: SeekCipher<Nonce>>() -> Verdict {
+pub fn wrong_records<C>() -> Verdict
+where
+    C: KeyIvInit<Key = Key, Iv = Nonce> + StreamCipherSeek + Drop,
+{
     as_a_whole(&mut C::new(&COUNTING, &[0; 12]))
 }

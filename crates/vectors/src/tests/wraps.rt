@@ -1,12 +1,11 @@
 //! Counters and positions that wrap, and states of any bytes, over each backend. Nothing here makes rounds, so that words
 //! can be computed by hand.
 
-use crate::rows::ciphers::SeekCore;
 use crate::rows::cores::last_row;
 use crate::rows::{R0, Verdict, failed, failed_for, first_failure};
 use chacha20::cipher::{KeyIvInit, RngBackend, StreamCipherCounter, StreamCipherSeekCore};
 use chacha20::rand_core::SeedableRng;
-use chacha20::{ChaChaRng, Nonce, Seed};
+use chacha20::{ChaChaRng, Key, Nonce, Seed};
 
 // The last rows of blocks 0, 2, 3 and 19 of twenty, and the position after them.
 type Ends = ([[u8; 16]; 4], u64);
@@ -61,7 +60,7 @@ static LEGACY_WRAP: Ends = (
 /// What is wrong with twenty blocks of cores without rounds around the ends of counters.
 pub fn wrong_core<I, L>() -> Verdict
 where
-    I: SeekCore<Nonce, u32>,
+    I: KeyIvInit<Key = Key, Iv = Nonce> + StreamCipherSeekCore<Counter = u32> + Drop,
     L: SeedableRng<Seed = Seed> + StreamCipherSeekCore<Counter = u64> + Drop,
 {
     let mut ietf = I::new(&[0; 32], &[0; 12]);
