@@ -94,14 +94,15 @@ impl<V: Vector, const STAYS: usize> Group for Rows<V, STAYS> {
 
     #[inline(always)]
     fn start(state: &[u32; 16], last_rows: &[[u32; 4]]) -> Rows<V, STAYS> {
+        let [w0, w1, w2, w3, w4, w5, w6, w7, w8, w9, w10, w11, _, _, _, _] = *state;
         let mut d = [0; 16];
         'each: for g in 0..V::FOURS {
             set_row(&mut d, g, &last_rows[g]);
         }
         Rows(FourVectors(
-            repeated(state[0], state[1], state[2], state[3]),
-            repeated(state[4], state[5], state[6], state[7]),
-            repeated(state[8], state[9], state[10], state[11]),
+            repeated(w0, w1, w2, w3),
+            repeated(w4, w5, w6, w7),
+            repeated(w8, w9, w10, w11),
             V::from_words(&d),
         ))
     }
