@@ -1,3 +1,4 @@
+use Rattle.std.proofs.lemmas.Result.{on_err_weaker}
 use Rattle.chacha_base.proofs.cipher.StreamCipher.try_apply_keystream.Goals as goal
 
 pub returns-clause-accepted : goal.returns-clause-accepted
@@ -8,3 +9,7 @@ returns-clause-bytes g c = c.try_apply_keystream_counted.ensures.bytes
 
 pub returns-clause-moved : goal.returns-clause-moved
 returns-clause-moved g c = c.try_apply_keystream_counted.ensures.moved
+
+pub returns-clause-refused : goal.returns-clause-refused
+returns-clause-refused g c =
+    on_err_weaker c.try_apply_keystream_counted.result (λ kept. (kept.0, kept.1)) c.try_apply_keystream_counted.ensures.refused

@@ -1,0 +1,21 @@
+use Rattle.std.proofs.Common.{refl}
+use Rattle.chacha20.proofs.named.ciphers.Goals as goal
+
+-- the search finds these too, but not soon that a wrong name has none
+pub returns : goal.returns
+returns c = record {
+  chacha8 = refl;
+  chacha12 = refl;
+  chacha20 = refl;
+  chacha20_legacy = refl;
+  xchacha8 = refl;
+  xchacha12 = refl;
+  xchacha20 = refl;
+  chacha8_starts = refl;
+  chacha12_starts = refl;
+  chacha20_starts = refl;
+  chacha20_legacy_starts = refl;
+  xchacha8_starts = refl;
+  xchacha12_starts = refl;
+  xchacha20_starts = refl;
+}

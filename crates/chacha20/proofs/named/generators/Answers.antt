@@ -1,0 +1,13 @@
+use Rattle.std.proofs.Common.{refl}
+use Rattle.chacha20.proofs.named.generators.Goals as goal
+
+-- the search finds these too, but not soon that a wrong name has none
+pub returns : goal.returns
+returns c = record {
+  chacha8_rng = refl;
+  chacha12_rng = refl;
+  chacha20_rng = refl;
+  chacha8_rng_text = refl;
+  chacha12_rng_text = refl;
+  chacha20_rng_text = refl;
+}

@@ -1,0 +1,12 @@
+use Rattle.chacha20.proofs.named.sizes.Goals as goal
+
+-- the search finds these too, but not soon that a wrong size has none
+pub returns : goal.returns
+returns c = record {
+  key = c.told-key;
+  nonce = c.told-nonce;
+  legacy_key = c.told-legacy_key;
+  legacy_nonce = c.told-legacy_nonce;
+  extended_key = c.told-extended_key;
+  extended_nonce = c.told-extended_nonce;
+}
