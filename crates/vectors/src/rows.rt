@@ -1,6 +1,9 @@
 //! Worked rows: published calls with their answers, for any core and generator of their kind, and for the cipher over any
 //! core. A row is right if each call answers as published.
 
+ghost use Rattle.std.specs.Prelude.{◌≡◌, ◌↔◌, All, IsNone, IsSome, IsTrue, None, Some, slice_index_or, slice_set};
+ghost use Rattle.std.specs.Option.{option_flatten, option_or};
+
 pub mod ciphers;
 pub mod cores;
 pub mod generators;
@@ -46,14 +49,18 @@ pub struct Failure {
 pub type Verdict = Option<Failure>;
 
 /// A failure of the check of this name.
-pub fn failed_check(check: &'static str) -> Verdict {
+pub fn failed_check(check: &'static str) -> Verdict
+    ensures { IsSome result }
+{
     Some(Failure { check, number: 0 })
 }
 
 /// A failure of the check of this name where not all of its parts hold, with the place of the first that doesn't.
-pub fn failed(check: &'static str, parts: &[bool]) -> Verdict {
-    for (number, holds) in parts.iter().enumerate() {
-        if !*holds {
+pub fn failed(check: &'static str, parts: &[bool]) -> Verdict
+    ensures { IsNone result ↔ All IsTrue parts.now }
+{
+    'each: for number in 0..parts.len() {
+        if !parts[number] {
             return Some(Failure { check, number });
         }
     }
@@ -61,7 +68,9 @@ pub fn failed(check: &'static str, parts: &[bool]) -> Verdict {
 }
 
 /// A failure where a loop found a number for which its check fails.
-pub fn failed_for(check: &'static str, number: Option<usize>) -> Verdict {
+pub fn failed_for(check: &'static str, number: Option<usize>) -> Verdict
+    ensures { IsNone result ↔ IsNone number }
+{
     match number {
         Some(number) => Some(Failure { check, number }),
         None => None,
@@ -69,10 +78,12 @@ pub fn failed_for(check: &'static str, number: Option<usize>) -> Verdict {
 }
 
 /// The first failure of several.
-pub fn first_failure(verdicts: &[Verdict]) -> Verdict {
-    for verdict in verdicts {
-        if verdict.is_some() {
-            return *verdict;
+pub fn first_failure(verdicts: &[Verdict]) -> Verdict
+    ensures { IsNone result ↔ All IsNone verdicts.now }
+{
+    'each: for i in 0..verdicts.len() {
+        if verdicts[i].is_some() {
+            return verdicts[i];
         }
     }
     None
@@ -82,16 +93,21 @@ pub fn first_failure(verdicts: &[Verdict]) -> Verdict {
 pub type Verdicts = [Option<Verdict>; 24];
 
 /// Enters what fails in a row, or in a part of it. What failed in another part stays.
-pub fn enter(verdicts: &mut Verdicts, number: usize, failed: Verdict) {
-    if let Some(verdict) = verdicts.get_mut(number) {
-        *verdict = Some(verdict.flatten().or(failed));
+pub fn enter(verdicts: &mut Verdicts, number: usize, failed: Verdict)
+    ensures { verdicts.new ≡ slice_set verdicts.old number
+        (Some (option_or (option_flatten (slice_index_or verdicts.old number None)) failed)) }
+{
+    if number < verdicts.len() {
+        verdicts[number] = Some(verdicts[number].flatten().or(failed));
     }
 }
 
 /// The first failure in worked rows, with its row's number.
-pub fn first_wrong_row(verdicts: &Verdicts) -> Verdict {
-    for (number, verdict) in verdicts.iter().enumerate() {
-        if let Some(failure) = verdict.flatten() {
+pub fn first_wrong_row(verdicts: &Verdicts) -> Verdict
+    ensures { IsNone result ↔ All (λ row. IsNone (option_flatten row)) verdicts.now }
+{
+    'each: for number in 0..24usize {
+        if let Some(Some(failure)) = verdicts[number] {
             return Some(Failure {
                 check: failure.check,
                 number,

@@ -1,34 +1,26 @@
-//! What no contract says: published bytes over each backend; and what a caller learns from contracts.
+//! What no contract says: published bytes over each backend, and the wrapper over a core of a user.
 
 mod backends;
 mod base;
 mod beside;
-mod contracts;
 mod core_calls;
 mod direct;
-mod draws;
 mod ends;
 mod everywhere;
 mod generator_cores;
 mod generator_runs;
-mod generator_states;
 mod generator_traits;
 mod generators;
-mod names;
 mod odd_cuts;
 mod positions;
-mod readme;
 mod records;
 mod rfc8439;
 mod runs;
 mod streams;
-mod texts;
 mod toy;
 mod toy_cipher;
-mod users;
 mod width3;
 mod wraps;
-mod xchacha;
 
 use crate::rows::{
     Verdict, enter, failed, failed_check, failed_for, first_failure, first_wrong_row,

@@ -1,6 +1,6 @@
 //! Equality and stored states of generators.
 
-use crate::rows::{COUNTING, FROM_1};
+use super::{COUNTING, FROM_1};
 use chacha20::ChaCha20Rng;
 
 // Equal position and stream are not enough.

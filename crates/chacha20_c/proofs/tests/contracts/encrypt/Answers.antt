@@ -1,5 +1,5 @@
 use Rattle.std.proofs.Common.{zero-add}
-use Rattle.vectors.proofs.tests.contracts.encrypt.Goals as goal
+use Rattle.chacha20_c.proofs.tests.contracts.encrypt.Goals as goal
 
 pub returns-clause-accepted : goal.returns-clause-accepted
 returns-clause-accepted g c = rw (c.new.ensures.first, g.met.C.StreamCipher.first_is, zero-add, g.met.C.StreamCipher.limit_is) at c.try_apply_keystream.ensures.accepted

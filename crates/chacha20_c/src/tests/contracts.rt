@@ -9,18 +9,15 @@ ghost use Rattle.chacha20.specs.Limit.{limit_of};
 ghost use Rattle.chacha20.specs.XChaCha.{subkey, subnonce};
 ghost use Rattle.chacha20.specs.Counts.{Grows, for_bytes};
 
-use super::readme;
-use super::streams::{IETF_FROM_64, LEGACY, NONCE, X_KEY, X_NONCE, XCHACHA_FROM_64};
-use crate::rows::{COUNTING, FROM_1, LEGACY_NONCE};
+use super::{COUNTING, FROM_1, FROM_80, NONCE, X_NONCE, readme};
 use chacha20::backends::{Lanes4, Lanes8, Lanes16, Rows8, Soft};
 use chacha20::cipher::{
-    KeyIvInit, Keystream, RngBackend, StreamCipher, StreamCipherBackend, StreamCipherCore,
-    StreamCipherError,
+    KeyIvInit, RngBackend, StreamCipher, StreamCipherBackend, StreamCipherCore, StreamCipherError,
 };
-use chacha20::variants::{Ietf, Legacy, Variant};
+use chacha20::variants::{Ietf, Variant};
 use chacha20::{
-    ChaCha20Legacy, ChaChaCore, Key, LegacyNonce, Nonce, R20, Rounds, Steps,
-    StreamCipherCoreWrapper, XChaCha20, XChaChaCore, XNonce, hchacha,
+    ChaCha20Legacy, ChaChaCore, Key, LegacyNonce, R20, Rounds, Steps, StreamCipherCoreWrapper,
+    XChaCha20, XNonce,
 };
 
 type Ietf20<B> = StreamCipherCoreWrapper<ChaChaCore<R20, Ietf, B>>;
@@ -66,46 +63,28 @@ fn encrypt_xchacha(key: &Key, nonce: &XNonce, message: &mut [u8]) -> Result<(), 
 
 #[test]
 fn encrypted(rt: HostRuntime) {
-    let mut ietf = [0; 178];
-    let mut legacy = [0; 256];
-    let mut x = [0; 368];
-    assert!(rt;
-        readme::encrypt(&COUNTING, &NONCE, &mut ietf).is_ok() && ietf.ends_with(IETF_FROM_64)
-    );
-    assert!(rt; encrypt_legacy(&FROM_1, &LEGACY_NONCE, &mut legacy).is_ok() && legacy == *LEGACY);
-    assert!(rt; encrypt_xchacha(&X_KEY, &X_NONCE, &mut x).is_ok() && x.ends_with(XCHACHA_FROM_64));
+    let mut ietf = [0; 80];
+    let mut legacy = [0; 16];
+    let mut x = [0; 80];
+    let accepted = [
+        readme::encrypt(&COUNTING, &NONCE, &mut ietf),
+        encrypt_legacy(&FROM_1, &[3, 1, 4, 1, 5, 9, 2, 6], &mut legacy),
+        encrypt_xchacha(&FROM_80, &X_NONCE, &mut x),
+    ];
+    assert!(rt; accepted == [Ok(()); 3]);
+    assert!(rt; ietf.ends_with(IETF_FROM_64) && legacy == LEGACY && x.ends_with(XCHACHA_FROM_64));
 }
 
-// Four zero bytes, and the last eight of a nonce of 24.
-fn derived_nonce(nonce: &XNonce) -> Nonce
-    ensures { result ≡ subnonce nonce.now }
-{
-    let mut derived = [0; 12];
-    derived[4..].copy_from_slice(&nonce[16..]);
-    derived
-}
+// The keystream of RFC 8439, section 2.4.2, from block 1 on.
+static IETF_FROM_64: &[u8; 16] =
+    b"\x22\x4f\x51\xf3\x40\x1b\xd9\xe1\x2f\xde\x27\x6f\xb8\x63\x1d\xed";
 
-// An XChaCha cipher, and the cipher of RFC 8439's layout under the key and the nonce that are derived: the same fixed
-// part, position and blocks.
-pub fn both<R: Rounds>(
-    key: &Key,
-    nonce: &XNonce,
-) -> (
-    StreamCipherCoreWrapper<XChaChaCore<R, Soft>>,
-    StreamCipherCoreWrapper<ChaChaCore<R, Ietf, Soft>>,
-)
-    ensures value { result.0 ≡ result.1 }
-    ensures blocks { ⟦<StreamCipherCoreWrapper<XChaChaCore<R, Soft>> as Keystream>⟧.block_at
-        ≡ ⟦<StreamCipherCoreWrapper<ChaChaCore<R, Ietf, Soft>> as Keystream>⟧.block_at }
-{
-    let mut input = [0; 16];
-    input.copy_from_slice(&nonce[..16]);
-    let subkey = hchacha::<R>(key, &input);
-    let derived = derived_nonce(nonce);
-    let by_nonce = StreamCipherCoreWrapper::new(key, nonce);
-    let by_subkey = StreamCipherCoreWrapper::new(&subkey, &derived);
-    (by_nonce, by_subkey)
-}
+// The Rust crate's tests.
+static LEGACY: [u8; 16] = *b"\xde\xeb\x6b\x9d\x06\xdf\xf3\xe0\x91\xbf\x3a\xd4\xf4\xd4\x92\xb6";
+
+// The keystream of draft-arciszewski-xchacha-03, section A.3.2, from block 1 on.
+static XCHACHA_FROM_64: &[u8; 16] =
+    b"\x29\x62\x4b\x4b\x1b\x14\x0a\xce\x53\x74\x0e\x40\x5b\x21\x68\x54";
 
 // Two backends: the same block, and the same state after it.
 fn same_block<R: Rounds, V: Variant, A: StreamCipherBackend<R, V>, B: StreamCipherBackend<R, V>>(
