@@ -2,9 +2,11 @@
 //! public contracts alone, and what users write. Tests over each backend stand in `vectors`; the two are proved side by
 //! side.
 
+mod base;
 mod contracts;
 mod draws;
 mod exports;
+mod generator_cores;
 mod generator_states;
 mod names;
 mod readme;
@@ -12,7 +14,17 @@ mod texts;
 mod users;
 mod xchacha;
 
-use chacha20::{Key, Nonce, XNonce};
+use chacha20::{Key, Nonce, Rounds, XNonce};
+
+// No rounds.
+#[derive(Clone, Copy)]
+struct R0;
+
+impl Rounds for R0 {
+    ghost COUNT = { 0 };
+
+    const COUNT: usize = 0;
+}
 
 // Keys, seeds and nonces.
 

@@ -1,7 +1,7 @@
 //! Worked rows: published calls with their answers, for any core and generator of their kind, and for the cipher over any
 //! core. A row is right if each call answers as published.
 
-ghost use Rattle.std.specs.Prelude.{◌≡◌, ◌↔◌, All, IsNone, IsSome, IsTrue, None, Some, slice_index_or, slice_set};
+ghost use Rattle.std.specs.Prelude.{◌≡◌, ◌↔◌, All, IfSome, IsNone, IsSome, IsTrue, None, Some, false, true, slice_index_or, slice_set};
 ghost use Rattle.std.specs.Option.{option_flatten, option_or};
 
 pub mod ciphers;
@@ -57,7 +57,8 @@ pub fn failed_check(check: &'static str) -> Verdict
 
 /// A failure of the check of this name where not all of its parts hold, with the place of the first that doesn't.
 pub fn failed(check: &'static str, parts: &[bool]) -> Verdict
-    ensures { IsNone result ↔ All IsTrue parts.now }
+    ensures right { IsNone result ↔ All IsTrue parts.now }
+    ensures place { IfSome result (λ failure. slice_index_or parts.now failure.number true ≡ false) }
 {
     'each: for number in 0..parts.len() {
         if !parts[number] {

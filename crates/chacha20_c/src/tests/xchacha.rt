@@ -3,7 +3,7 @@
 ghost use Rattle.std.specs.Prelude.{◌≡◌};
 ghost use Rattle.chacha20.specs.XChaCha.{subnonce};
 
-use super::{FROM_80, X_NONCE};
+use super::{FROM_80, R0, X_NONCE};
 use chacha20::backends::{Lanes16, Soft};
 use chacha20::cipher::{KeyIvInit, Keystream, StreamCipher};
 use chacha20::variants::Ietf;
@@ -11,16 +11,6 @@ use chacha20::{
     ChaChaCore, Key, Nonce, R8, R12, R20, Rounds, StreamCipherCoreWrapper, XChaChaCore, XNonce,
     hchacha,
 };
-
-// No rounds.
-#[derive(Clone, Copy)]
-struct R0;
-
-impl Rounds for R0 {
-    ghost COUNT = { 0 };
-
-    const COUNT: usize = 0;
-}
 
 // The 16 bytes of section 2.2.1.
 static INPUT: [u8; 16] = [

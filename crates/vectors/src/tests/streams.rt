@@ -141,25 +141,6 @@ pub static LEGACY: &[u8; 256] = b"\
     \x32\xf6\x9a\xa0\xbe\x91\xb3\x09\x81\x58\x4a\x1c\x56\xce\x75\x46\
     \xcc\xa2\x4d\x8c\xfd\xfc\xa5\x25\xd6\xb1\x5e\xea\x83\xb6\xb6\x86";
 
-pub static ZERO_SEED_WORDS: [u32; 16] = [
-    0xade0_b876,
-    0x903d_f1a0,
-    0xe56a_5d40,
-    0x28bd_8653,
-    0xb819_d2bd,
-    0x1aed_8da0,
-    0xccef_36a8,
-    0xc70d_778b,
-    0x7c59_41da,
-    0x8d48_5751,
-    0x3fe0_2477,
-    0x374a_d8b8,
-    0xf4b8_436a,
-    0x1ca1_1815,
-    0x69b6_87c3,
-    0x8665_eeb2,
-];
-
 // Seeds, and what their generators give: the first words, words from many blocks, and blocks on both sides of 2^32.
 static GENERATOR_STREAMS: [(Seed, &'static [RngList]); 3] = [
     (
@@ -288,7 +269,7 @@ const WORDS_0_TO_7: Seed = [
     0, 0, 0, 0, 1, 0, 0, 0, 2, 0, 0, 0, 3, 0, 0, 0, 4, 0, 0, 0, 5, 0, 0, 0, 6, 0, 0, 0, 7, 0, 0, 0,
 ];
 
-pub const CARRY_BLOCKS: &[u8; 192] = b"\
+const CARRY_BLOCKS: &[u8; 192] = b"\
     \xac\xe4\xcd\x09\xe2\x94\xd1\x91\x2d\x4a\xd2\x05\xd0\x6f\x95\xd9\
     \xc2\xf2\xbf\xcf\x45\x3e\x87\x53\xf1\x28\x76\x5b\x62\x21\x5f\x4d\
     \x92\xc7\x4f\x2f\x62\x6c\x6a\x64\x0c\x0b\x12\x84\xd8\x39\xec\x81\

@@ -1,8 +1,6 @@
 //! Cores as makers of words, 64 at a time.
 
-use super::streams::{CARRY_BLOCKS, ZERO_SEED_WORDS};
-use crate::rows::R0;
-use chacha_base::bytes::write_bytes;
+use super::R0;
 use chacha20::backends::Soft;
 use chacha20::rand_core::SeedableRng;
 use chacha20::variants::Legacy;
@@ -60,13 +58,6 @@ fn words_from(core: &mut ChaCha20LegacyCore, counter: u64) -> [u32; 64] {
     four_blocks(core)
 }
 
-// Whether words begin with these bytes.
-fn begin_with(words: &[u32; 64], first: &[u8; 192]) -> bool {
-    let mut bytes = [0; 256];
-    write_bytes(words, &mut bytes);
-    bytes.starts_with(first)
-}
-
 // The block with the greatest counter, and then the first; a counter whose low word is full; and the position after each.
 #[test]
 fn four_blocks_of_20_rounds(rt: HostRuntime) {
@@ -80,11 +71,41 @@ fn four_blocks_of_20_rounds(rt: HostRuntime) {
     assert!(rt; positions == [4, 3, 0x1_0000_0003]);
     let right = [
         first.starts_with(&ZERO_SEED_WORDS),
-        begin_with(&with_carry, CARRY_BLOCKS),
+        with_carry.starts_with(&CARRY_WORDS[0]),
+        with_carry[16..].starts_with(&CARRY_WORDS[1]),
+        with_carry[32..].starts_with(&CARRY_WORDS[2]),
         over_the_end.starts_with(&LAST_WORDS),
         over_the_end[16..].starts_with(&ZERO_SEED_WORDS),
     ];
-    assert!(rt; right == [true; 4]);
+    assert!(rt; right == [true; 6]);
 }
 
+// Of blocks 2^32 - 1, 2^32 and 2^32 + 1.
+static CARRY_WORDS: [[u32; 4]; 3] = [
+    [0x09cd_e4ac, 0x91d1_94e2, 0x05d2_4a2d, 0xd995_6fd0],
+    [0x3a1d_b43d, 0x2829_d3a0, 0x25f2_e65d, 0xd54b_e2e6],
+    [0xeff6_f046, 0xf1c8_15ee, 0x49cb_98b1, 0x0899_2bd9],
+];
+
+// Of the last block.
 static LAST_WORDS: [u32; 4] = [0xd88c_91d7, 0x32f8_0c62, 0xc052_2653, 0x53a5_014c];
+
+// Of block 0.
+static ZERO_SEED_WORDS: [u32; 16] = [
+    0xade0_b876,
+    0x903d_f1a0,
+    0xe56a_5d40,
+    0x28bd_8653,
+    0xb819_d2bd,
+    0x1aed_8da0,
+    0xccef_36a8,
+    0xc70d_778b,
+    0x7c59_41da,
+    0x8d48_5751,
+    0x3fe0_2477,
+    0x374a_d8b8,
+    0xf4b8_436a,
+    0x1ca1_1815,
+    0x69b6_87c3,
+    0x8665_eeb2,
+];
