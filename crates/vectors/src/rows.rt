@@ -1,7 +1,7 @@
 //! Worked rows: published calls with their answers, for any core and generator of their kind, and for the cipher over any
 //! core. A row is right if each call answers as published.
 
-ghost use Rattle.std.specs.Prelude.{◌≡◌, ◌↔◌, All, IfSome, IsNone, IsSome, IsTrue, None, Some, false, true, slice_index_or, slice_set};
+ghost use Rattle.std.specs.Prelude.{◌≡◌, ◌↔◌, All, IfSome, IsNone, IsSome, IsTrue, None, Some, SomeIndex, false, true, slice_index_or, slice_set};
 ghost use Rattle.std.specs.Option.{option_flatten, option_or};
 
 pub mod ciphers;
@@ -50,7 +50,8 @@ pub type Verdict = Option<Failure>;
 
 /// A failure of the check of this name.
 pub fn failed_check(check: &'static str) -> Verdict
-    ensures { IsSome result }
+    ensures check { IfSome result (λ failure. failure.check.now ≡ check.now) }
+    ensures some { IsSome result }
 {
     Some(Failure { check, number: 0 })
 }
@@ -58,7 +59,8 @@ pub fn failed_check(check: &'static str) -> Verdict
 /// A failure of the check of this name where not all of its parts hold, with the place of the first that doesn't.
 pub fn failed(check: &'static str, parts: &[bool]) -> Verdict
     ensures right { IsNone result ↔ All IsTrue parts.now }
-    ensures place { IfSome result (λ failure. slice_index_or parts.now failure.number true ≡ false) }
+    ensures place { IfSome result (λ failure. (failure.check.now ≡ check.now)
+        × (slice_index_or parts.now failure.number true ≡ false)) }
 {
     'each: for number in 0..parts.len() {
         if !parts[number] {
@@ -70,7 +72,9 @@ pub fn failed(check: &'static str, parts: &[bool]) -> Verdict
 
 /// A failure where a loop found a number for which its check fails.
 pub fn failed_for(check: &'static str, number: Option<usize>) -> Verdict
-    ensures { IsNone result ↔ IsNone number }
+    ensures right { IsNone result ↔ IsNone number }
+    ensures place { IfSome result (λ failure. (failure.check.now ≡ check.now)
+        × (Some failure.number ≡ number)) }
 {
     match number {
         Some(number) => Some(Failure { check, number }),
@@ -80,7 +84,9 @@ pub fn failed_for(check: &'static str, number: Option<usize>) -> Verdict
 
 /// The first failure of several.
 pub fn first_failure(verdicts: &[Verdict]) -> Verdict
-    ensures { IsNone result ↔ All IsNone verdicts.now }
+    ensures right { IsNone result ↔ All IsNone verdicts.now }
+    ensures one { IfSome result (λ failure.
+        SomeIndex verdicts.now (λ k. slice_index_or verdicts.now k None ≡ Some failure)) }
 {
     'each: for i in 0..verdicts.len() {
         if verdicts[i].is_some() {
@@ -105,7 +111,9 @@ pub fn enter(verdicts: &mut Verdicts, number: usize, failed: Verdict)
 
 /// The first failure in worked rows, with its row's number.
 pub fn first_wrong_row(verdicts: &Verdicts) -> Verdict
-    ensures { IsNone result ↔ All (λ row. IsNone (option_flatten row)) verdicts.now }
+    ensures right { IsNone result ↔ All (λ row. IsNone (option_flatten row)) verdicts.now }
+    ensures place { IfSome result (λ failure.
+        IsSome (option_flatten (slice_index_or verdicts.now failure.number None))) }
 {
     'each: for number in 0..24usize {
         if let Some(Some(failure)) = verdicts[number] {
