@@ -71,20 +71,27 @@ fn four_blocks_of_20_rounds(rt: HostRuntime) {
     assert!(rt; positions == [4, 3, 0x1_0000_0003]);
     let right = [
         first.starts_with(&ZERO_SEED_WORDS),
-        with_carry.starts_with(&CARRY_WORDS[0]),
-        with_carry[16..].starts_with(&CARRY_WORDS[1]),
-        with_carry[32..].starts_with(&CARRY_WORDS[2]),
+        with_carry.starts_with(CARRY_WORDS.as_flattened()),
         over_the_end.starts_with(&LAST_WORDS),
         over_the_end[16..].starts_with(&ZERO_SEED_WORDS),
     ];
-    assert!(rt; right == [true; 6]);
+    assert!(rt; right == [true; 4]);
 }
 
-// Of blocks 2^32 - 1, 2^32 and 2^32 + 1.
-static CARRY_WORDS: [[u32; 4]; 3] = [
+// Of blocks 2^32 - 1, 2^32 and 2^32 + 1, four rows each.
+static CARRY_WORDS: [[u32; 4]; 12] = [
     [0x09cd_e4ac, 0x91d1_94e2, 0x05d2_4a2d, 0xd995_6fd0],
+    [0xcfbf_f2c2, 0x5387_3e45, 0x5b76_28f1, 0x4d5f_2162],
+    [0x2f4f_c792, 0x646a_6c62, 0x8412_0b0c, 0x81ec_39d8],
+    [0x8162_69f1, 0x683e_fcda, 0x7093_9345, 0x1d8b_b523],
     [0x3a1d_b43d, 0x2829_d3a0, 0x25f2_e65d, 0xd54b_e2e6],
+    [0x0017_9a9c, 0xc9d5_4369, 0x87e3_80b6, 0x3a68_dc3b],
+    [0x9846_1958, 0x9096_9899, 0x17cd_81c2, 0xaf59_61c9],
+    [0xb9b5_8206, 0x618a_4603, 0xcf28_02f5, 0x5a2b_6209],
     [0xeff6_f046, 0xf1c8_15ee, 0x49cb_98b1, 0x0899_2bd9],
+    [0x5951_9067, 0x23c7_0c44, 0x01c0_6d91, 0x1098_2628],
+    [0x6617_ce39, 0xb042_25aa, 0x80bd_b35d, 0x4842_b19a],
+    [0xe1bf_5d9d, 0x9973_3e27, 0x324b_7b63, 0xaa8a_7613],
 ];
 
 // Of the last block.
