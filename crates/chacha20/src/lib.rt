@@ -20,8 +20,8 @@
 //! | `ChaCha20Rng`, `ChaCha12Rng`, `ChaCha8Rng` | 20, 12, 8 | a number of 64 bits | 2^68 words, then it repeats |
 //!
 //! The clauses of a call say what it does. For ciphers they stand in `cipher::StreamCipher` and
-//! `cipher::StreamCipherSeek`, for generators at the calls of `ChaChaRng`. Tests stand in the crate `vectors`, where
-//! they do not cost a second proof of this one.
+//! `cipher::StreamCipherSeek`, for generators at the calls of `ChaChaRng`. The tests are in the crates `vectors` and
+//! `chacha20_c`, since a crate that has tests is proved twice.
 #![tactic(auto)]
 
 mod chacha;

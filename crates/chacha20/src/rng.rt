@@ -25,7 +25,8 @@ use std::marker::Model;
 pub type Seed = [u8; 32];
 
 /// The state of a generator: 32 bytes of seed, then 8 bytes of stream and 9 of word position, the low byte first. The
-/// upper half of the last byte is written as 0 and ignored when read.
+/// word position has 68 bits: in a stored state the upper half of the last byte is 0, and a restored generator doesn't
+/// depend on it.
 pub type SerializedRngState = [u8; 49];
 
 /// A generator with four double rounds.
@@ -42,13 +43,15 @@ const POSITIONS: u128 = 1 << 68;
 
 /// A generator of random words.
 ///
-/// Clauses see it as a seed, a stream and a word position (`GeneratorState`). Word w of a stream is word w mod 16 of the
-/// block whose key is the seed, whose nonce is the stream's 8 bytes, the low byte first, and whose counter is w div 16.
+/// Clauses see it as a seed, a stream and a word position (`GeneratorState`). A block has 16 words. The word at position
+/// w is in the block with counter w div 16, at place w mod 16; the key of all blocks is the seed, and their nonce the
+/// stream's 8 bytes, the low byte first.
 /// After the last of a stream's 2^68 words (1 ZiB) comes its first one again. A stream's number has 64 bits. `R` is the
 /// number of double rounds, `B` the backend that makes the words. No call is refused.
 pub struct ChaChaRng<R: Rounds, B> {
     core: ChaChaCore<R, Legacy, B>,
-    // The last words that the core made, of which the first `index` are used.
+    // While `index` is below 64, the buffer holds the words of the last four blocks that the core made, and those before
+    // `index` are used.
     buffer: [u32; 64],
     index: usize,
 }

@@ -22,7 +22,8 @@ use std::marker::Model;
 #[derive(Drop)]
 pub struct StreamCipherCoreWrapper<C: StreamCipherSeekCore> {
     core: C,
-    // The last block that the core made, of which the last `left` bytes are unused.
+    // How many bytes are left of the block that the position is in. While there are any, the buffer holds that block,
+    // which is the last one that the core made.
     buffer: [u8; 64],
     left: u8,
     // Whether the core is past the block with the greatest counter: its own counter is then 0 again.

@@ -1,4 +1,4 @@
-//! What no contract says: published bytes over each backend, and the wrapper over a core of a user.
+//! Published bytes, and answers that were computed by hand, over each backend; and the wrapper over a user's own core.
 
 mod backends;
 mod beside;

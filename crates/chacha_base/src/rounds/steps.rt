@@ -47,8 +47,8 @@ impl Count {
 }
 
 /// How many steps were taken: parallel calls of a backend (`par`), other calls for a block (`other`), and quarter
-/// rounds on words or on vectors (`rounds`). Only clauses see the three numbers, which have no greatest value; the type
-/// takes no memory, and no running code reads it. This crate's own.
+/// rounds on words or on vectors (`rounds`). The three numbers have no greatest value. They exist for clauses alone: at
+/// run time the type has no size, and there is nothing to read. This crate's own.
 pub struct Steps {
     par: Count,
     other: Count,
