@@ -1,4 +1,6 @@
-/* bench check [BYTES [SEED]]   compares the library with what is found on the machine; the last line says how many
+/* SPDX-License-Identifier: Apache-2.0 OR MIT
+
+   bench check [BYTES [SEED]]   compares the library with what is found on the machine; the last line says how many
                                 bytes, and how many of them differ
    bench time [TURNS]           times it beside the same */
 

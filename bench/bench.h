@@ -1,4 +1,6 @@
-/* The two uses of the program. */
+/* SPDX-License-Identifier: Apache-2.0 OR MIT
+
+   The two uses of the program. */
 
 #ifndef BENCH_H
 #define BENCH_H

@@ -1,4 +1,6 @@
-/* The library beside other implementations: random messages, cut at random places, whose parts are combined in random
+/* SPDX-License-Identifier: Apache-2.0 OR MIT
+
+   The library beside other implementations: random messages, cut at random places, whose parts are combined in random
    order, in place or between buffers, by builds for different levels; words of generators; refusals; buffers at the ends
    of mapped pages. */
 

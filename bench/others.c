@@ -1,3 +1,5 @@
+/* SPDX-License-Identifier: Apache-2.0 OR MIT */
+
 #include "others.h"
 
 #include <dlfcn.h>

@@ -1,4 +1,6 @@
-/* Other implementations, as they are found on the machine, behind one form: from a block on, in place. */
+/* SPDX-License-Identifier: Apache-2.0 OR MIT
+
+   Other implementations, as they are found on the machine, behind one form: from a block on, in place. */
 
 #ifndef OTHERS_H
 #define OTHERS_H

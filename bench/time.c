@@ -1,4 +1,6 @@
-/* Times, all contestants by turns: each combines a buffer in place under a fixed key and nonce, from position 0 on, the
+/* SPDX-License-Identifier: Apache-2.0 OR MIT
+
+   Times, all contestants by turns: each combines a buffer in place under a fixed key and nonce, from position 0 on, the
    making of the cipher included. The figure is the median of the turns, in processor time, so that what else runs on
    the machine disturbs it less. */
 
