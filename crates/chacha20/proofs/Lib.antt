@@ -1,6 +1,11 @@
-pub use Rattle.chacha_base.proofs.BackendLaws
-pub use Rattle.chacha_base.proofs.CipherLemmas
+-- What proofs of callers cite.
+pub mod KeystreamLemmas
+pub mod PartLemmas
+pub mod RepeatedLemmas
 pub use Rattle.chacha_base.proofs.PieceLemmas
+pub use Rattle.chacha_base.proofs.CipherLemmas
+pub use Rattle.chacha_base.proofs.BackendLaws
+-- What only proofs of these crates cite.
 pub mod BlocksLemmas
 pub mod StartLemmas
 pub mod RunLemmas

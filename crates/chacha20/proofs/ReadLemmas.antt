@@ -1,7 +1,7 @@
 -- Words that a generator reads out of its buffer.
 use Rattle.std.proofs.Common.{◌≡◌, ℕ, ◌+◌, ◌-◌, ◌*◌, ◌/◌, ◌%◌, ◌^◌, ◌<◌, ◌≤◌, List, [], ◌∷◌, ◌++◌, length, take, drop, slice_index, arith, refl, sym, ap, ap₂, subst, ◌∙◌, length-drop}
-use Rattle.std.proofs.lemmas.List.{length-take-le, get_or-take, get_or-drop, take_all, take_at, drop_at}
-use Rattle.std.proofs.Math.Seq.{take-add}
+use Rattle.std.proofs.lemmas.List.{length-take-le, get_or-take, get_or-drop}
+use Rattle.std.proofs.Math.Seq.{take-append-add}
 use Rattle.std.proofs.lemmas.Slice.{take-put_mid}
 use Rattle.std.proofs.lemmas.Grind.{or_after_shift}
 use Rattle.std.specs.Int.Bits.{bit_or}
@@ -11,25 +11,15 @@ use Rattle.chacha_base.specs.Block.{start}
 use Rattle.chacha_base.specs.Bytes.{word_bytes, bytes}
 use Rattle.chacha_base.proofs.BytesLemmas.{bytes-append, length-words}
 use Rattle.chacha_base.specs.Keystream.{stream_part}
-use Rattle.chacha_base.proofs.PieceLemmas.{length-stream_part, stream_part-same, streamed_is, stream_part-add}
+use Rattle.chacha_base.proofs.KeystreamLemmas.{length-stream_part, streamed_is, stream_part-add}
 use Rattle.chacha_base.specs.Layout.{legacy}
 use Rattle.chacha_base.specs.Rounds.{mix}
 use Rattle.chacha_base.specs.State.{fixed_words, state_of, state_at, counter_after, state_after, next_words}
 use Rattle.chacha_base.proofs.StateLemmas.{length-state_at, fixed_words-state_after, state_counter-state_after, state_of-start, next_words-at}
 use Rattle.chacha20.proofs.GeneratorLemmas.{length-bytes, length-seed_in, generator_is}
+use Rattle.chacha20.proofs.RepeatedLemmas.{word-same, words-same, at-same, fill-words}
 use Rattle.chacha20.specs.Generator.{GeneratorState, positions, at_word_pos, word, next_u32, next_u64, fill}
 use Rattle.chacha20.specs.Unread.{seed_in, stream_in, IsStart, generator_of, IsUnread}
-
--- positions that are the same when they wrap have the same word
-word-same : (n : ℕ) (g : GeneratorState) (v w : ℕ) → v % positions ≡ w % positions → word n g v ≡ word n g w
-word-same n g v w same =
-    let place : v % 16 ≡ w % 16 = omega (arith, same) in
-    ap₂ (λ p i. slice_index (mix n (start legacy g.seed (to_le_bytes w64 g.stream) (p / 16))) i) same place
-
-stream_part-word : (n : ℕ) (g : GeneratorState) (v w k : ℕ) → v % positions ≡ w % positions → stream_part (word n g) v k ≡ stream_part (word n g) w k
-stream_part-word n g v w k same =
-    stream_part-same (word n g) (word n g) v w k (λ i less.
-    let here : (v + i) % positions ≡ (w + i) % positions = omega (arith, same) in word-same n g _ _ here)
 
 -- j words more are used
 pub generator_of-taken : (core : List ℕ) (i j e : ℕ) → e ≡ i + j → generator_of core e ≡ at_word_pos (generator_of core i) ((generator_of core i).word_pos + j)
@@ -105,10 +95,6 @@ generator_of-refilled core next long moved =
     let fixed = fixed_words-state_after legacy 4 core next long moved in
     generator_is _ _ (ap seed_in fixed) (ap stream_in fixed) (omega (arith, state_counter-state_after legacy 4 core next long moved))
 
--- positions that are the same when they wrap
-pub at-same : (g : GeneratorState) (v w : ℕ) → v % positions ≡ w % positions → at_word_pos g v ≡ at_word_pos g w
-at-same g v w same = ap (λ p. record g { word_pos = p }) same
-
 -- two words as the halves of a number, and read one after the other
 pub halves_joined : (low high : ℕ) → low < 2 ^ 32 → high < 2 ^ 32 → bit_or (high * 2 ^ 32 % 2 ^ 64) low ≡ low + 2 ^ 32 * high
 halves_joined low high low_fits high_fits = or_after_shift high (2 ^ 32) (2 ^ 64) low refl low_fits (omega arith) ∙ omega arith
@@ -137,7 +123,7 @@ words-written n rng core buffer i k done dst part held room long moved fits befo
     let next : take k (drop i buffer) ≡ stream_part (word n rng) (w + done) k =
     next_unread n core buffer i k held room long
     ∙ ap (λ (h : GeneratorState). stream_part (word n h) h.word_pos k) moved
-    ∙ stream_part-word n rng _ _ k wrapped in
+    ∙ words-same n rng _ _ k wrapped in
     let size : length part ≡ 4 * k =
     ap length made ∙ length-bytes (take k (drop i buffer)) ∙ ap (λ x. 4 * x) (ap length next ∙ length-stream_part (word n rng) (w + done) k) in
     take-put_mid (4 * done) (4 * (done + k) - 4 * done) dst part (4 * (done + k)) (omega (arith, size)) (omega (arith, fits))
@@ -148,17 +134,7 @@ words-written n rng core buffer i k done dst part held room long moved fits befo
 pub filled-whole : (n : ℕ) (g h : GeneratorState) (q len : ℕ) (dst : List ℕ) → len ≡ 4 * q → dst ≡ bytes (stream_part (word n g) g.word_pos q) → h ≡ at_word_pos g (g.word_pos + q)
     → (dst, h) ≡ fill n g len
 filled-whole n g h q len dst size made moved =
-    let words : (len + 3) / 4 ≡ q = omega (arith, size) in
-    let all : length (bytes (stream_part (word n g) g.word_pos q)) ≤ len =
-    omega (arith, size, length-bytes (stream_part (word n g) g.word_pos q), length-stream_part (word n g) g.word_pos q) in
-    ap₂ (λ x y. (x, y)) (made ∙ sym (take_all len (bytes (stream_part (word n g) g.word_pos q)) all)) moved
-    ∙ ap (λ k. (take len (bytes (stream_part (word n g) g.word_pos k)), at_word_pos g (g.word_pos + k))) (sym words)
-
-take-behind : (xs ys : List ℕ) (r e : ℕ) → e ≡ length xs + r → take e (xs ++ ys) ≡ xs ++ take r ys
-take-behind xs ys r e same =
-    ap (λ k. take k (xs ++ ys)) same
-    ∙ take-add (length xs) r (xs ++ ys)
-    ∙ ap₂ (λ a b. a ++ take r b) (take_at xs ys (length xs) refl) (drop_at xs ys (length xs) refl)
+    ap₂ (λ x y. (x, y)) made moved ∙ sym (fill-words n q g) ∙ ap (fill n g) (sym size)
 
 -- a fill that ends with the front of a word
 pub filled-over : (n : ℕ) (g h i : GeneratorState) (q r len x : ℕ) (front last : List ℕ) → len ≡ 4 * q + r → 0 < r → r < 4
@@ -177,6 +153,7 @@ filled-over n g h i q r len x front last size some part made moved read cut =
     let filled : ℕ → List ℕ × GeneratorState = λ k. (take len (bytes (stream_part (word n g) w k)), at_word_pos g (w + k)) in
     ◌∙◌ {b = filled (q + 1)}
     (ap₂ (λ y z. (y, z))
-    (ap₂ ◌++◌ made cut ∙ sym (ap (take len) all ∙ take-behind (bytes (stream_part (word n g) w q)) (word_bytes x) r len long))
+    (ap₂ ◌++◌ made cut
+    ∙ sym (ap₂ take long all ∙ take-append-add (bytes (stream_part (word n g) w q)) (word_bytes x) r))
     (ap (λ (p : ℕ × GeneratorState). p.1) here ∙ at-same g _ _ after))
     (ap filled (sym words))

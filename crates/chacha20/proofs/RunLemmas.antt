@@ -18,7 +18,8 @@ use Rattle.chacha_base.specs.Cipher.{Cipher}
 use Rattle.chacha_base.specs.Keystream.{xor_stream}
 use Rattle.chacha_base.specs.SeekNum.{signed_position}
 use Rattle.chacha_base.proofs.CipherLemmas.{on_err}
-use Rattle.chacha_base.proofs.KeystreamLemmas.{xor_stream-append, xor_stream-xor_stream, length-xor_stream}
+use Rattle.chacha_base.proofs.KeystreamLemmas.{xor_stream-append, length-xor_stream}
+use Rattle.chacha20.proofs.KeystreamLemmas.{xor_stream-xor_stream}
 use Rattle.chacha20.specs.declared.runs.CipherCall.{CipherCall}
 use Rattle.chacha20.specs.declared.runs.CipherCall.TheVariants.{CheckRemaining, Apply, ApplyFrom, Seek, SeekI32, Pos, PosI32}
 use Rattle.chacha20.specs.declared.runs.CipherAnswer.{CipherAnswer}

@@ -8,13 +8,10 @@ use Rattle.std.proofs.Math.Seq.{take-add}
 use Rattle.std.specs.Int.{w64, to_le_bytes, from_le_bytes}
 use Rattle.std.specs.Int.Bits.{bit_or}
 use borrow.Rule.Slice.PartMut.{put_mid}
+use Rattle.chacha20.proofs.PartLemmas.{put_mid-at}
 use Rattle.chacha20.specs.Generator.{GeneratorState, positions, at_word_pos}
 use Rattle.chacha20.specs.StateBytes.{state_bytes, of_state_bytes}
 use Rattle.chacha20.proofs.GeneratorLemmas.{Bytes, generator_is}
-
--- a part written where it belongs
-put_mid-at : (n k : ℕ) (xs zs ys : List ℕ) → length xs ≡ n → put_mid n k (xs ++ zs) ys ≡ xs ++ (ys ++ drop k zs)
-put_mid-at n k xs zs ys long = ap₂ (λ a b. a ++ (ys ++ drop k b)) (take_at xs zs n long) (drop_at xs zs n long)
 
 -- 49 zeros with two parts written, and with all four
 two_written : (seed stream : List ℕ) → length seed ≡ 32 → put_mid 32 8 (seed ++ replicate 17 0) stream ≡ seed ++ (stream ++ replicate 9 0)

@@ -1,5 +1,5 @@
 -- Generators of words: a seed, a stream, and a position that counts words and wraps (this crate).
-use Rattle.std.specs.Prelude.{ℕ, ◌+◌, ◌*◌, ◌/◌, ◌%◌, ◌^◌, ◌==◌, Bool, List, take, slice_index}
+use Rattle.std.specs.Prelude.{ℕ, zero, suc, ◌+◌, ◌*◌, ◌/◌, ◌%◌, ◌^◌, ◌==◌, Bool, List, [], ◌∷◌, take, slice_index}
 use Rattle.std.specs.Ordering.{on, eq_of_both}
 use Rattle.std.specs.Cmp.Lexicographic.{pointwise}
 use Rattle.std.specs.Int.{w64, to_le_bytes}
@@ -54,6 +54,15 @@ fill n g len =
 abbrev pub reads : ℕ → Steps GeneratorState
 reads n =
     record { next_u32 = next_u32 n; next_u64 = next_u64 n; fill_bytes = λ len g. fill n g len }
+
+-- k reads of one kind, one after another: the answers in order, and the generator after them
+abbrev pub repeated : {A : Type 0} → (GeneratorState → A × GeneratorState) → ℕ
+    → GeneratorState → List A × GeneratorState
+repeated read zero g = ([], g)
+repeated read (suc k) g =
+    let a = read g in
+    let rest = repeated read k a.1 in
+    (a.0 ∷ rest.0, rest.1)
 
 -- the same seed, stream and position
 abbrev pub same_generator : GeneratorState → GeneratorState → Bool

@@ -9,6 +9,7 @@ pub use Rattle.chacha_base.specs.State
 pub use Rattle.chacha_base.specs.Keystream
 pub use Rattle.chacha_base.specs.Cipher
 pub use Rattle.chacha_base.specs.Limit
+pub use Rattle.chacha_base.specs.SeekNum
 pub use Rattle.chacha_base.specs.Counts
 pub mod XChaCha
 pub mod Generator

@@ -1,12 +1,12 @@
--- Bytes combined with a stream.
-use Rattle.std.proofs.Common.{◌≡◌, ℕ, suc, ◌+◌, ◌*◌, ◌/◌, ◌%◌, ◌<◌, ◌≤◌, List, take, drop, [], ◌∷◌, ◌++◌, length, slice_index, slice_index_or, bit_xor, arith, refl, sym, ap, ap₂, ◌∙◌, append_assoc, append-nil}
+-- Bytes combined with a stream, and bytes of a stream; `chacha20` passes on what callers cite.
+use Rattle.std.proofs.Common.{◌≡◌, ℕ, zero, suc, ◌+◌, ◌*◌, ◌/◌, ◌%◌, ◌<◌, ◌≤◌, List, take, drop, [], ◌∷◌, ◌++◌, length, slice_index, slice_index_or, bit_xor, replicate, arith, refl, sym, ap, ap₂, ◌∙◌, append_assoc, append-nil}
 use Rattle.std.proofs.Math.Nat.{mod-add-mod, mod-mod}
 use Rattle.std.proofs.Math.Seq.{take-add}
-use Rattle.std.specs.Int.Bits.{xor_assoc, xor_self, xor_zero_r}
+use Rattle.std.specs.Int.Bits.{xor_zero_l}
 use Rattle.std.specs.Prelude.{slice_get, Some}
-use Rattle.std.proofs.lemmas.List.{get_or-take, get_or-drop, length-take-le, take_at, take_all, drop_at, drop_all, drop-drop}
+use Rattle.std.proofs.lemmas.List.{get_or-take, get_or-drop, length-take-le, length-replicate, take_at, take_all, drop_at, drop_all, drop-drop}
 use borrow.Rule.Slice.PartMut.{put_mid}
-use Rattle.chacha_base.specs.Keystream.{keystream, xor_stream}
+use Rattle.chacha_base.specs.Keystream.{keystream, xor_stream, stream_part}
 use Rattle.chacha_base.proofs.ListLemmas.{written_more}
 
 -- bytes that are combined one by one
@@ -38,12 +38,6 @@ xor_stream-parts stream p q all front rest new_front new_rest parts place first 
 pub length-xor_stream : (stream : ℕ → ℕ) (p : ℕ) (xs : List ℕ) → length (xor_stream stream p xs) ≡ length xs
 length-xor_stream stream p [] = refl
 length-xor_stream stream p (x ∷ xs) = ap suc (length-xor_stream stream (p + 1) xs)
-
--- to apply a keystream twice is to leave the bytes alone
-pub xor_stream-xor_stream : (stream : ℕ → ℕ) (p : ℕ) (xs : List ℕ) → xor_stream stream p (xor_stream stream p xs) ≡ xs
-xor_stream-xor_stream stream p [] = refl
-xor_stream-xor_stream stream p (x ∷ xs) =
-    ap₂ ◌∷◌ (xor_assoc x (stream p) (stream p) ∙ ap (bit_xor x) (xor_self (stream p)) ∙ xor_zero_r x) (xor_stream-xor_stream stream (p + 1) xs)
 
 -- two streams that agree on the bytes that are combined
 pub xor_stream-same : (f g : ℕ → ℕ) (p q : ℕ) (xs : List ℕ) → ((i : ℕ) → i < length xs → f (p + i) ≡ g (q + i)) → xor_stream f p xs ≡ xor_stream g q xs
@@ -136,3 +130,44 @@ blocks-more modulus block other first c a k old now part alike same room long be
     ∙ ap (λ b. xor_stream (keystream modulus b) (64 * (c + i)) (slice_index_or old (a + i) [])) alike
     ∙ keystream-same modulus block c (first + a) i (slice_index_or old (a + i) []) same
     ∙ ap (λ q. xor_stream (keystream modulus block) (64 * q) (slice_index_or old (a + i) [])) place))
+
+-- zeros combined with a stream are the stream
+pub xor_stream-zeros : (stream : ℕ → ℕ) (p n : ℕ) → xor_stream stream p (replicate n 0) ≡ stream_part stream p n
+xor_stream-zeros stream p zero = refl
+xor_stream-zeros stream p (suc n) = ap₂ ◌∷◌ (xor_zero_l (stream p)) (xor_stream-zeros stream (p + 1) n)
+
+pub length-stream_part : (stream : ℕ → ℕ) (p n : ℕ) → length (stream_part stream p n) ≡ n
+length-stream_part stream p n =
+    ap length (sym (xor_stream-zeros stream p n)) ∙ length-xor_stream stream p (replicate n 0) ∙ length-replicate n 0
+
+-- two streams that agree where they are read
+pub stream_part-same : (f g : ℕ → ℕ) (p q n : ℕ) → ((i : ℕ) → i < n → f (p + i) ≡ g (q + i))
+    → stream_part f p n ≡ stream_part g q n
+stream_part-same f g p q n same =
+    let size : length {A = ℕ} (replicate n 0) ≡ n = length-replicate n 0 in
+    sym (xor_stream-zeros f p n)
+    ∙ xor_stream-same f g p q (replicate n 0) (λ i less. same i (omega (arith, less, size)))
+    ∙ xor_stream-zeros g q n
+
+-- a list whose elements are a stream's
+pub streamed_is : (stream : ℕ → ℕ) (p n : ℕ) (xs : List ℕ) → length xs ≡ n
+    → ((i : ℕ) → i < n → slice_index xs i ≡ stream (p + i)) → xs ≡ stream_part stream p n
+streamed_is stream p zero [] long each = refl
+streamed_is stream p zero (x ∷ xs) long each = absurd (omega arith)
+streamed_is stream p (suc n) [] long each = absurd (omega arith)
+streamed_is stream p (suc n) (x ∷ xs) long each =
+    let here : p + 0 ≡ p = omega arith in
+    ap₂ ◌∷◌ (each 0 (omega arith) ∙ ap stream here)
+    (streamed_is stream (p + 1) n xs (omega arith)
+    (λ i less. let next : p + suc i ≡ p + 1 + i = omega arith in each (suc i) (omega arith) ∙ ap stream next))
+
+-- m elements, and then n
+pub stream_part-add : (stream : ℕ → ℕ) (p m n : ℕ)
+    → stream_part stream p (m + n) ≡ stream_part stream p m ++ stream_part stream (p + m) n
+stream_part-add stream p zero n =
+    let none : 0 + n ≡ n = omega arith in let here : p + 0 ≡ p = omega arith in rw (none, here) refl
+stream_part-add stream p (suc m) n =
+    let more : suc m + n ≡ suc (m + n) = omega arith in
+    let next : p + 1 + m ≡ p + suc m = omega arith in
+    rw more (ap (λ t. stream p ∷ t) (stream_part-add stream (p + 1) m n
+    ∙ ap (λ q. stream_part stream (p + 1) m ++ stream_part stream q n) next))

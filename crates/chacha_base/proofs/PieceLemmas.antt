@@ -1,48 +1,12 @@
--- Bytes of a stream that are written or combined piece by piece.
-use Rattle.std.proofs.Common.{◌≡◌, ℕ, zero, suc, min, ◌+◌, ◌-◌, ◌<◌, ◌≤◌, List, [], ◌∷◌, ◌++◌, length, take, drop, slice_index, replicate, arith, refl, sym, ap, ap₂, ◌∙◌}
+-- Bytes that are written or combined piece by piece, as in a loop over a slice.
+use Rattle.std.proofs.Common.{◌≡◌, ℕ, min, ◌+◌, ◌-◌, ◌≤◌, List, ◌++◌, length, take, drop, arith, sym, ap, ap₂, ◌∙◌}
 use Rattle.std.proofs.Math.Seq.{take-add}
-use Rattle.std.proofs.lemmas.List.{length-take-le, length-replicate}
+use Rattle.std.proofs.lemmas.List.{length-take-le}
 use Rattle.std.proofs.lemmas.Slice.{take-put_mid}
 use borrow.Rule.Slice.PartMut.{put_mid}
-use Rattle.std.specs.Int.Bits.{xor_zero_l}
 use Rattle.chacha_base.proofs.ListLemmas.{part_long, part-length}
-use Rattle.chacha_base.proofs.KeystreamLemmas.{xor_stream-append, xor_stream-same, length-xor_stream}
+use Rattle.chacha_base.proofs.KeystreamLemmas.{xor_stream-append, stream_part-add}
 use Rattle.chacha_base.specs.Keystream.{xor_stream, stream_part}
-
--- zeros combined with a stream are the stream
-pub xor_stream-zeros : (stream : ℕ → ℕ) (p n : ℕ) → xor_stream stream p (replicate n 0) ≡ stream_part stream p n
-xor_stream-zeros stream p zero = refl
-xor_stream-zeros stream p (suc n) = ap₂ ◌∷◌ (xor_zero_l (stream p)) (xor_stream-zeros stream (p + 1) n)
-
-pub length-stream_part : (stream : ℕ → ℕ) (p n : ℕ) → length (stream_part stream p n) ≡ n
-length-stream_part stream p n =
-    ap length (sym (xor_stream-zeros stream p n)) ∙ length-xor_stream stream p (replicate n 0) ∙ length-replicate n 0
-
--- two streams that agree where they are read
-pub stream_part-same : (f g : ℕ → ℕ) (p q n : ℕ) → ((i : ℕ) → i < n → f (p + i) ≡ g (q + i)) → stream_part f p n ≡ stream_part g q n
-stream_part-same f g p q n same =
-    let size : length {A = ℕ} (replicate n 0) ≡ n = length-replicate n 0 in
-    sym (xor_stream-zeros f p n)
-    ∙ xor_stream-same f g p q (replicate n 0) (λ i less. same i (omega (arith, less, size)))
-    ∙ xor_stream-zeros g q n
-
--- a list whose elements are a stream's
-pub streamed_is : (stream : ℕ → ℕ) (p n : ℕ) (xs : List ℕ) → length xs ≡ n → ((i : ℕ) → i < n → slice_index xs i ≡ stream (p + i)) → xs ≡ stream_part stream p n
-streamed_is stream p zero [] long each = refl
-streamed_is stream p zero (x ∷ xs) long each = absurd (omega arith)
-streamed_is stream p (suc n) [] long each = absurd (omega arith)
-streamed_is stream p (suc n) (x ∷ xs) long each =
-    let here : p + 0 ≡ p = omega arith in
-    ap₂ ◌∷◌ (each 0 (omega arith) ∙ ap stream here)
-    (streamed_is stream (p + 1) n xs (omega arith) (λ i less. let next : p + suc i ≡ p + 1 + i = omega arith in each (suc i) (omega arith) ∙ ap stream next))
-
-pub stream_part-add : (stream : ℕ → ℕ) (p m n : ℕ) → stream_part stream p (m + n) ≡ stream_part stream p m ++ stream_part stream (p + m) n
-stream_part-add stream p zero n =
-    let none : 0 + n ≡ n = omega arith in let here : p + 0 ≡ p = omega arith in rw (none, here) refl
-stream_part-add stream p (suc m) n =
-    let more : suc m + n ≡ suc (m + n) = omega arith in
-    let next : p + 1 + m ≡ p + suc m = omega arith in
-    rw more (ap (λ t. stream p ∷ t) (stream_part-add stream (p + 1) m n ∙ ap (λ q. stream_part stream (p + 1) m ++ stream_part stream q n) next))
 
 -- n bytes more of a stream, written behind those before them
 pub stream_part-written : (stream : ℕ → ℕ) (p done n k : ℕ) (buf piece : List ℕ) → done ≤ length buf → length piece ≡ n

@@ -4,7 +4,8 @@ use borrow.Rule.Slice.PartMut.{mid_of}
 use Rattle.chacha_base.specs.Bytes.{bytes}
 use Rattle.chacha_base.specs.Keystream.{stream_part}
 use Rattle.chacha20.specs.Generator.{GeneratorState, at_word_pos, word}
-use Rattle.chacha20.proofs.ReadLemmas.{taken, generator_of-taken, at-same, words-written}
+use Rattle.chacha20.proofs.ReadLemmas.{taken, generator_of-taken, words-written}
+use Rattle.chacha20.proofs.RepeatedLemmas.{at-same}
 use Rattle.chacha20.proofs.rng.ChaChaRng.fill_words.Goals as goal
 
 part_long : (a k i : ℕ) (dst buffer : List ℕ) → 4 * (a + k) ≤ length dst → i + k ≤ length buffer

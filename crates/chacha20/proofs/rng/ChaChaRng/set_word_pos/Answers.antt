@@ -4,7 +4,8 @@ use Rattle.chacha_base.proofs.StateLemmas.{length-state_at}
 use Rattle.chacha20.specs.Generator.{GeneratorState, at_word_pos, positions}
 use Rattle.chacha20.specs.Unread.{IsStart}
 use Rattle.chacha20.proofs.GeneratorLemmas.{generator_of-recounted}
-use Rattle.chacha20.proofs.ReadLemmas.{taken, generator_of-taken, refilled, generator_of-refilled, at-same}
+use Rattle.chacha20.proofs.ReadLemmas.{taken, generator_of-taken, refilled, generator_of-refilled}
+use Rattle.chacha20.proofs.RepeatedLemmas.{at-same}
 use Rattle.chacha20.proofs.rng.ChaChaRng.set_word_pos.Goals as goal
 
 pub invariant_of-self : goal.invariant_of-self

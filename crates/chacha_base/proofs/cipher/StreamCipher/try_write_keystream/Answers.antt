@@ -1,7 +1,8 @@
 use Rattle.std.proofs.Common.{◌≡◌, ◌+◌, ◌≤◌, ◌-◌, length, take, drop, replicate, add-zero, arith, refl, sym, ap, subst, ◌∙◌}
 use Rattle.std.proofs.Math.Seq.{take-length}
 use Rattle.chacha_base.proofs.CipherLemmas.{position_is, moved_on}
-use Rattle.chacha_base.proofs.PieceLemmas.{xor_stream-zeros, stream_part-written, piece-within, piece-long, piece-fits}
+use Rattle.chacha_base.proofs.KeystreamLemmas.{xor_stream-zeros}
+use Rattle.chacha_base.proofs.PieceLemmas.{stream_part-written, piece-within, piece-long, piece-fits}
 use Rattle.chacha_base.proofs.cipher.StreamCipher.try_write_keystream.Goals as goal
 
 pub pieces-init : goal.pieces-init

@@ -1,0 +1,67 @@
+-- Bytes combined with a stream, and bytes of a stream, for proofs about messages, words and cores.
+use Rattle.std.proofs.Common.{◌≡◌, ℕ, zero, suc, ◌+◌, ◌-◌, ◌≤◌, List, take, drop, [], ◌∷◌, bit_xor, replicate, arith, refl, sym, ap, ap₂, ◌∙◌}
+use Rattle.std.specs.Int.Bits.{xor_assoc, xor_self, xor_zero_r}
+use Rattle.std.proofs.lemmas.List.{take-replicate, drop-replicate}
+use Rattle.chacha_base.specs.Keystream.{xor_stream, stream_part}
+use Rattle.chacha_base.proofs.KeystreamLemmas.{xor_stream-zeros}
+-- bytes combined one by one, as a core of your own combines them; one list after another; how many there are
+pub use Rattle.chacha_base.proofs.KeystreamLemmas.{xor_stream-is, xor_stream-append, length-xor_stream}
+-- with streams that agree; zeros
+pub use Rattle.chacha_base.proofs.KeystreamLemmas.{xor_stream-same, xor_stream-zeros}
+-- the same of a stream's bytes, or of a generator's words
+pub use Rattle.chacha_base.proofs.KeystreamLemmas.{streamed_is, stream_part-add, length-stream_part, stream_part-same}
+-- a byte of a counter's block; bytes combined with that block; a counter that has wrapped
+pub use Rattle.chacha_base.proofs.KeystreamLemmas.{keystream_byte, xor_stream-block, keystream-wrapped}
+
+-- to apply a keystream twice is to leave the bytes alone
+pub xor_stream-xor_stream : (stream : ℕ → ℕ) (p : ℕ) (xs : List ℕ) → xor_stream stream p (xor_stream stream p xs) ≡ xs
+xor_stream-xor_stream stream p [] = refl
+xor_stream-xor_stream stream p (x ∷ xs) =
+    ap₂ ◌∷◌ (xor_assoc x (stream p) (stream p) ∙ ap (bit_xor x) (xor_self (stream p)) ∙ xor_zero_r x)
+    (xor_stream-xor_stream stream (p + 1) xs)
+
+-- the first n of bytes that are combined
+pub take-xor_stream : (stream : ℕ → ℕ) (p n : ℕ) (xs : List ℕ)
+    → take n (xor_stream stream p xs) ≡ xor_stream stream p (take n xs)
+take-xor_stream stream p zero xs = refl
+take-xor_stream stream p (suc n) [] = refl
+take-xor_stream stream p (suc n) (x ∷ xs) =
+    ap (λ t. bit_xor x (stream p) ∷ t) (take-xor_stream stream (p + 1) n xs)
+
+-- those from byte n on, combined with the stream from n bytes on
+pub drop-xor_stream : (stream : ℕ → ℕ) (p n : ℕ) (xs : List ℕ)
+    → drop n (xor_stream stream p xs) ≡ xor_stream stream (p + n) (drop n xs)
+drop-xor_stream stream p zero xs = let here : p + 0 ≡ p = omega arith in rw here refl
+drop-xor_stream stream p (suc n) [] = refl
+drop-xor_stream stream p (suc n) (x ∷ xs) =
+    let next : p + 1 + n ≡ p + suc n = omega arith in
+    drop-xor_stream stream (p + 1) n xs ∙ ap (λ q. xor_stream stream q (drop n xs)) next
+
+-- the window of n bytes from byte m on, as of a slice
+pub window-xor_stream : (stream : ℕ → ℕ) (p m n : ℕ) (xs : List ℕ)
+    → take n (drop m (xor_stream stream p xs)) ≡ xor_stream stream (p + m) (take n (drop m xs))
+window-xor_stream stream p m n xs =
+    ap (take n) (drop-xor_stream stream p m xs) ∙ take-xor_stream stream (p + m) n (drop m xs)
+
+-- the first n of a stream's bytes, or of a generator's words
+pub take-stream_part : (stream : ℕ → ℕ) (p n k : ℕ) → n ≤ k → take n (stream_part stream p k) ≡ stream_part stream p n
+take-stream_part stream p n k inside =
+    ap (take n) (sym (xor_stream-zeros stream p k))
+    ∙ take-xor_stream stream p n (replicate k 0)
+    ∙ ap (xor_stream stream p) (take-replicate n k 0 inside)
+    ∙ xor_stream-zeros stream p n
+
+-- those from element n on
+pub drop-stream_part : (stream : ℕ → ℕ) (p n k : ℕ)
+    → drop n (stream_part stream p k) ≡ stream_part stream (p + n) (k - n)
+drop-stream_part stream p n k =
+    ap (drop n) (sym (xor_stream-zeros stream p k))
+    ∙ drop-xor_stream stream p n (replicate k 0)
+    ∙ ap (xor_stream stream (p + n)) (drop-replicate n k 0)
+    ∙ xor_stream-zeros stream (p + n) (k - n)
+
+-- the window of n elements from element m on
+pub window-stream_part : (stream : ℕ → ℕ) (p m n k : ℕ) → m + n ≤ k
+    → take n (drop m (stream_part stream p k)) ≡ stream_part stream (p + m) n
+window-stream_part stream p m n k inside =
+    ap (take n) (drop-stream_part stream p m k) ∙ take-stream_part stream (p + m) n (k - m) (omega arith)
