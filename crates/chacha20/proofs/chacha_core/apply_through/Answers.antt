@@ -10,9 +10,6 @@ use Rattle.chacha20.specs.Blocks.{state_stream}
 use Rattle.chacha20.proofs.BlocksLemmas.{applied-more}
 use Rattle.chacha20.proofs.chacha_core.apply_through.Goals as goal
 
-some_wide : (w b : ℕ) → w ≡ b → 1 ≤ b → 0 < w
-some_wide w b same some = omega arith
-
 -- m blocks in groups of w, of which group k is the next; the room holds a group, or else all blocks
 room_kept : (w b m q r : ℕ) → w ≡ b → q ≡ r → min b m ≤ r → min w m ≤ q
 room_kept w b m q r same kept fits = omega arith
@@ -32,9 +29,6 @@ group_inside w k n l b less kept size = omega (arith, column_fits w k w (n / 64 
 group_end : (w k n : ℕ) → k < n / 64 / w → 64 * (w * (k + 1)) ≤ n
 group_end w k n less = omega (arith, group_after w k, group_inside w k n n w less refl refl)
 
-one_more : (k n : ℕ) → k < n → n - (k + 1) < n - k
-one_more k n less = omega arith
-
 -- where the last blocks begin
 rest_begins : (w k m : ℕ) → k ≡ m / w → w * k ≡ m - m % w
 rest_begins w k m all = rw all (omega (arith, div-add-mod m w))
@@ -46,9 +40,6 @@ rest_fits : (w b m : ℕ) (room : List (List ℕ)) → w ≡ b → 1 ≤ b → m
 rest_fits w b m room same some fits =
     let one : 1 ≤ w = omega arith in
     length-take-le (m % w) room (omega (arith, mod-lt m one, mod-le m w))
-
-rest_room : (w m r : ℕ) → 0 < w → min w m ≤ r → m % w ≤ r
-rest_room w m r some fits = omega (arith, mod-lt m some, mod-le m w)
 
 rest_less : (w b m l : ℕ) → w ≡ b → 1 ≤ b → l ≡ m % w → l < b
 rest_less w b m l same some long =
