@@ -31,6 +31,21 @@ grows-other n a b exact =
       rounds_to = omega (arith, rounds);
     }
 
+-- one parallel call, and exactly so many quarter rounds
+pub grows-par : (n : ℕ) (a b : Counts) → b ≡ record a { par = a.par + 1; rounds = a.rounds + n } → Grows (for_call 1 0 n) a b
+grows-par n a b exact =
+    let par : b.par ≡ a.par + 1 = ap (λ s. s.par) exact in
+    let other : b.other ≡ a.other = ap (λ s. s.other) exact in
+    let rounds : b.rounds ≡ a.rounds + n = ap (λ s. s.rounds) exact in
+    record {
+      par_from = omega (arith, par);
+      par_to = omega (arith, par);
+      other_from = omega (arith, other);
+      other_to = omega (arith, other);
+      rounds_from = omega (arith, rounds);
+      rounds_to = omega (arith, rounds);
+    }
+
 -- one other call for a last part, and none where there is none
 pub grows-last : (one n : ℕ) {a b : Counts} → 0 < n → Grows (for_call 0 1 one) a b → Grows (for_call 0 (min 1 n) (min 1 n * one)) a b
 grows-last one n {a} {b} some grows =

@@ -7,8 +7,8 @@ use Rattle.chacha_base.proofs.wrapper.StreamCipherCoreWrapperStreamCipherSeek.tr
 
 pub move_to-requires : goal.move_to-requires
 move_to-requires g c =
-    sought-fits g.C.Keystream.modulus g.C.Counter.StreamCipherCounter.M c.last.result c.from.result c.in-Some.place
-    g.met.C.StreamCipherSeekCore.counters c.last.ensures c.from.ensures c.if-place-from.true
+    sought-fits g.C.Keystream.modulus g.C.Counter.StreamCipherCounter.M c.last.result c.from.result _
+    g.met.C.StreamCipherSeekCore.counters c.last.ensures c.from.ensures (omega (arith, c.if-place-from.true))
 
 pub returns-in_default-clause-accepted : goal.returns-in_default-clause-accepted
 returns-in_default-clause-accepted g c = grind (arith, common_steps)
@@ -16,7 +16,7 @@ returns-in_default-clause-accepted g c = grind (arith, common_steps)
 pub returns-in-Some-clause-accepted : goal.returns-in-Some-clause-accepted
 returns-in-Some-clause-accepted g c =
     let fits = sought-fits g.C.Keystream.modulus g.C.Counter.StreamCipherCounter.M c.last.result c.from.result c.in-Some.place
-    g.met.C.StreamCipherSeekCore.counters c.last.ensures c.from.ensures c.if-place-from.true in
+    g.met.C.StreamCipherSeekCore.counters c.last.ensures c.from.ensures (omega (arith, c.if-place-from.true)) in
     (λ e. subst (λ o. IsSomeAnd o (λ p. p ≤ limit_of g.C.Keystream.modulus)) c.in-Some.ensures.value fits, λ some. refl)
 
 pub returns-in-Some-clause-moved : goal.returns-in-Some-clause-moved

@@ -9,3 +9,6 @@ returns-clause-state g c = c.write_tail.ensures.state
 
 pub returns-clause-steps : goal.returns-clause-steps
 returns-clause-steps g c = c.write_tail.ensures.steps
+
+pub returns-clause-rounds : goal.returns-clause-rounds
+returns-clause-rounds g c = c.write_tail.ensures.rounds

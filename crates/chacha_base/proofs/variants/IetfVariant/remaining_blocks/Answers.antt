@@ -1,0 +1,7 @@
+use Rattle.std.proofs.Common.{arith}
+use Rattle.std.proofs.lemmas.Grind.{common_steps}
+use Rattle.chacha_base.proofs.variants.IetfVariant.remaining_blocks.Goals as goal
+
+-- the search finds it too, but not soon that a wrong body has none
+pub returns : goal.returns
+returns c = grind (arith, common_steps)
