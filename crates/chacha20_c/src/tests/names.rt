@@ -150,6 +150,45 @@ fn x_ciphers(rt: HostRuntime) {
     assert!(rt; sizes == [(32, 24); 3] && subkey.starts_with(b"\x11\x40\x70\x4c\x32\x8d\x1d\x5d"));
 }
 
+type Cipher<K> = StreamCipherCoreWrapper<K>;
+
+// What each name stands for, its backend included: another type would not be accepted here.
+fn ciphers_in_full(
+    named: (
+        ChaCha8,
+        ChaCha12,
+        ChaCha20,
+        ChaCha20Legacy,
+        XChaCha8,
+        XChaCha12,
+        XChaCha20,
+    ),
+) -> (
+    Cipher<ChaChaCore<R8, Ietf, Lanes16>>,
+    Cipher<ChaChaCore<R12, Ietf, Lanes16>>,
+    Cipher<ChaChaCore<R20, Ietf, Lanes16>>,
+    Cipher<ChaChaCore<R20, Legacy, Lanes16>>,
+    Cipher<XChaChaCore<R8, Lanes16>>,
+    Cipher<XChaChaCore<R12, Lanes16>>,
+    Cipher<XChaChaCore<R20, Lanes16>>,
+) {
+    named
+}
+
+fn legacy_core_in_full(named: ChaCha20LegacyCore) -> ChaChaCore<R20, Legacy, Lanes16> {
+    named
+}
+
+fn generators_in_full(
+    named: (ChaCha8Rng, ChaCha12Rng, ChaCha20Rng),
+) -> (
+    ChaChaRng<R8, Lanes8>,
+    ChaChaRng<R12, Lanes8>,
+    ChaChaRng<R20, Lanes8>,
+) {
+    named
+}
+
 // By the modules: a list of calls, and the position after it.
 fn sought<K: cipher::StreamCipherSeekCore>(
     cipher: &mut cipher::StreamCipherCoreWrapper<K>,
