@@ -131,6 +131,46 @@ fn same_block<R: Rounds, V: Variant, A: StreamCipherBackend<R, V>, B: StreamCiph
     B::gen_ks_block(other_state, other_block, steps);
 }
 
+// Two backends of one width: the same blocks of a parallel call, and the same state after them.
+fn same_group<R: Rounds, V: Variant, A: StreamCipherBackend<R, V>, B: StreamCipherBackend<R, V>>(
+    state: &mut [u32; 16],
+    blocks: &mut [[u8; 64]],
+    other_state: &mut [u32; 16],
+    other_blocks: &mut [[u8; 64]],
+    steps: &mut Steps,
+)
+    requires widths { A.PAR_BLOCKS ≡ B.PAR_BLOCKS }
+    requires states { state.old ≡ other_state.old }
+    requires group { length blocks.old ≡ A.PAR_BLOCKS }
+    requires other_group { length other_blocks.old ≡ B.PAR_BLOCKS }
+    ensures blocks { (i : ℕ) → i < length blocks.old
+        → slice_get blocks.new i ≡ slice_get other_blocks.new i }
+    ensures state { state.new ≡ other_state.new }
+{
+    A::gen_par_ks_blocks(state, blocks, steps);
+    B::gen_par_ks_blocks(other_state, other_blocks, steps);
+}
+
+// Two backends, whatever their widths: the same blocks of a tail that is shorter than both, and the same state after them.
+fn same_tail<R: Rounds, V: Variant, A: StreamCipherBackend<R, V>, B: StreamCipherBackend<R, V>>(
+    state: &mut [u32; 16],
+    blocks: &mut [[u8; 64]],
+    other_state: &mut [u32; 16],
+    other_blocks: &mut [[u8; 64]],
+    steps: &mut Steps,
+)
+    requires states { state.old ≡ other_state.old }
+    requires lengths { length blocks.old ≡ length other_blocks.old }
+    requires tail { length blocks.old < A.PAR_BLOCKS }
+    requires other_tail { length other_blocks.old < B.PAR_BLOCKS }
+    ensures blocks { (i : ℕ) → i < length blocks.old
+        → slice_get blocks.new i ≡ slice_get other_blocks.new i }
+    ensures state { state.new ≡ other_state.new }
+{
+    A::gen_tail_blocks(state, blocks, steps);
+    B::gen_tail_blocks(other_state, other_blocks, steps);
+}
+
 // Cores over two backends, whatever their widths: the same blocks, and the same core after them.
 fn same_blocks<R: Rounds, V: Variant, A: StreamCipherBackend<R, V>, B: StreamCipherBackend<R, V>>(
     core: &mut ChaChaCore<R, V, A>,
