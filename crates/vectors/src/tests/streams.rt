@@ -9,8 +9,8 @@ use crate::rows::{Verdict, failed_check};
 use chacha20::cipher::RngBackend;
 use chacha20::{ChaChaRng, CipherCall, Key, Nonce, R20, RngAnswer, RngCall, Seed, XNonce};
 
-/// Four blocks with a nonce of 8 bytes, between any three places that are multiples of so many bytes, in two parts.
-/// It answers the first places between which the stream is wrong.
+/// Four blocks with a nonce of 8 bytes, between any three places that are multiples of so many bytes, in two parts; the
+/// second part also ends with the last byte. It answers the first places between which the stream is wrong.
 pub fn legacy_stream<C: Listed>(cipher: &mut C, step: usize) -> Option<[usize; 3]> {
     for from in 0..256usize {
         if is_place(from, step) {
@@ -30,12 +30,16 @@ fn is_place(byte: usize, step: usize) -> bool {
     step != 0 && byte % step == 0
 }
 
-// The first place, from the middle on, to which the stream is wrong.
+fn is_end(byte: usize, step: usize) -> bool {
+    byte == 256 || is_place(byte, step)
+}
+
+// The first end, from the middle on, to which the stream is wrong.
 fn wrong_last<C: Listed>(cipher: &mut C, from: usize, middle: usize, step: usize) -> Option<usize>
     requires { from ≤ middle }
 {
-    for last in middle..256 {
-        if is_place(last, step) && !is_part_of_legacy(cipher, from, middle, last) {
+    for last in middle..257 {
+        if is_end(last, step) && !is_part_of_legacy(cipher, from, middle, last) {
             return Some(last);
         }
     }
