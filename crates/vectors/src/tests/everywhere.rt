@@ -13,8 +13,8 @@ use super::{
 use crate::rows::ciphers::{self, IETF_ROWS, LEGACY_ROWS, NONCE_4, NumberedLists, X_ROWS};
 use crate::rows::lists::{CipherList, Listed, wrong_list};
 use crate::rows::{
-    COUNTING, FROM_1, LEGACY_NONCE, R0, Verdict, cores, failed, first_failure, first_wrong_row,
-    generators as row_generators,
+    COUNTING, FROM_1, LEGACY_NONCE, R0, Verdict, cores, failed, failed_for, first_failure,
+    first_wrong_row, generators as row_generators,
 };
 use chacha20::backends::{Lanes4, Lanes8, Lanes16, Rows8, Soft};
 use chacha20::cipher::{
@@ -88,9 +88,12 @@ fn wrong_x<C: Fresh<XNonce>>() -> Verdict {
 // A cipher without rounds.
 fn wrong_zero<C: Fresh<Nonce>>() -> Verdict {
     let mut cipher = C::fresh(&[0; 32], &[0; 12]);
+    let direct_run = runs::wrong_end(&mut Directly(&mut cipher));
     let direct = ends::wrong_zero_groups(&mut Directly(&mut cipher));
     first_failure(&[
-        wrong_lists::<Nonce, C>(&[0; 32], &[0; 12], &runs::RUN),
+        failed_for("the run, called directly", direct_run),
+        failed_for("the run as a list", runs::wrong_end(&mut cipher)),
+        wrong_lists::<Nonce, C>(&[0; 32], &[0; 12], &runs::FIRST_BLOCKS),
         direct,
         ends::wrong_zero_groups(&mut cipher),
     ])

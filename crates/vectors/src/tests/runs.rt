@@ -1,46 +1,85 @@
 //! A run on the cipher without rounds, and row 1 as lists of calls.
 
-use crate::rows::lists::CipherList;
+use super::direct::all_done;
+use crate::rows::lists::{CipherList, Listed, answers_are};
 use chacha20::{CipherAnswer, CipherCall};
 
-/// A run on a new cipher without rounds, for a key and a nonce of zeros: two refusals, which change nothing. Then the rest
-/// of the first block, and the front of the next; and the first bytes, which the run itself writes over.
-pub static RUN: [CipherList; 3] = [
+// A run on a cipher without rounds at position 0, for a key and a nonce of zeros, over the input 1, 2, 3: two refusals,
+// which change nothing.
+static CALLS: [CipherCall; 8] = [
+    CipherCall::Apply { at: 0, len: 4 },
+    CipherCall::Seek(0),
+    CipherCall::ApplyFrom {
+        from: 0,
+        from_len: 3,
+        at: 0,
+        len: 3,
+    },
+    CipherCall::ApplyFrom {
+        from: 0,
+        from_len: 3,
+        at: 0,
+        len: 4,
+    },
+    CipherCall::Pos,
+    CipherCall::SeekI32(-1),
+    CipherCall::PosI32,
+    CipherCall::Write { at: 3, len: 1 },
+];
+
+static ANSWERS: [CipherAnswer; 8] = [
+    CipherAnswer::Done,
+    CipherAnswer::Done,
+    CipherAnswer::Done,
+    CipherAnswer::Refused,
+    CipherAnswer::Position(3),
+    CipherAnswer::Refused,
+    CipherAnswer::PositionI32(3),
+    CipherAnswer::Done,
+];
+
+// The four bytes of data, zeros at first, after each call.
+static AFTER: [[u8; 4]; 8] = [
+    *b"\xca\xf0\xe0\xc2",
+    *b"\xca\xf0\xe0\xc2",
+    *b"\xcb\xf2\xe3\xc2",
+    *b"\xcb\xf2\xe3\xc2",
+    *b"\xcb\xf2\xe3\xc2",
+    *b"\xcb\xf2\xe3\xc2",
+    *b"\xcb\xf2\xe3\xc2",
+    *b"\xcb\xf2\xe3\xc2",
+];
+
+/// The first call of the run with which, as the last one, the answers or the data are wrong. The last call writes over
+/// what the others leave, so the run also ends with each of them.
+pub fn wrong_end<C: Listed>(cipher: &mut C) -> Option<usize> {
+    for last in 0..8usize {
+        let mut data = [0; 4];
+        let right = all_done(cipher, &[], &mut [], &[CipherCall::Seek(0)])
+            && answers_are(
+                cipher,
+                &[1, 2, 3],
+                &mut data,
+                &CALLS[..=last],
+                &ANSWERS[..=last],
+            )
+            && data == AFTER[last];
+        if !right {
+            return Some(last);
+        }
+    }
+    None
+}
+
+/// The first two blocks of a new cipher without rounds.
+pub static FIRST_BLOCKS: [CipherList; 2] = [
     CipherList {
-        name: "the run",
-        input: &[1, 2, 3],
+        name: "the first four bytes",
+        input: &[],
         data: &[0; 4],
-        calls: &[
-            CipherCall::Apply { at: 0, len: 4 },
-            CipherCall::Seek(0),
-            CipherCall::ApplyFrom {
-                from: 0,
-                from_len: 3,
-                at: 0,
-                len: 3,
-            },
-            CipherCall::ApplyFrom {
-                from: 0,
-                from_len: 3,
-                at: 0,
-                len: 4,
-            },
-            CipherCall::Pos,
-            CipherCall::SeekI32(-1),
-            CipherCall::PosI32,
-            CipherCall::Write { at: 3, len: 1 },
-        ],
-        answers: &[
-            CipherAnswer::Done,
-            CipherAnswer::Done,
-            CipherAnswer::Done,
-            CipherAnswer::Refused,
-            CipherAnswer::Position(3),
-            CipherAnswer::Refused,
-            CipherAnswer::PositionI32(3),
-            CipherAnswer::Done,
-        ],
-        after: b"\xcb\xf2\xe3\xc2",
+        calls: &[CipherCall::Apply { at: 0, len: 4 }],
+        answers: &[CipherAnswer::Done],
+        after: b"\xca\xf0\xe0\xc2",
     },
     CipherList {
         name: "the rest of the block, and the next one",
@@ -54,14 +93,6 @@ pub static RUN: [CipherList; 3] = [
         after: b"\xdc\xc8\x40\x66\x64\x5a\xc4\xf2\xe8\xca\x40\xd6\
             \0\0\0\0\0\0\0\0\0\0\0\0\0\0\0\0\0\0\0\0\0\0\0\0\
             \0\0\0\0\0\0\0\0\0\0\0\0\0\0\0\0\0\0\0\0\0\0\0\0\xca\xf0\xe0\xc2",
-    },
-    CipherList {
-        name: "the first four bytes",
-        input: &[],
-        data: &[0; 4],
-        calls: &[CipherCall::Seek(0), CipherCall::Apply { at: 0, len: 4 }],
-        answers: &[CipherAnswer::Done, CipherAnswer::Done],
-        after: b"\xca\xf0\xe0\xc2",
     },
 ];
 
