@@ -2,9 +2,9 @@
 
 ghost use Rattle.std.specs.Prelude.{◌≤◌, ◌^◌, length};
 
-use super::direct::all_done;
+use super::direct::{Directly, all_done};
 use crate::rows::ciphers::is_at;
-use crate::rows::lists::{CipherList, Listed, answers_are};
+use crate::rows::lists::{CipherList, Listed, answers_are, wrong_list};
 use crate::rows::{COUNTING, FROM_1, LEGACY_NONCE, Verdict, failed, failed_for, first_failure};
 use chacha20::cipher::{KeyIvInit, StreamCipher, StreamCipherSeek};
 use chacha20::{CipherAnswer, CipherCall, Key, LegacyNonce, Nonce};
@@ -14,44 +14,80 @@ const LIMIT: u128 = 274877906944;
 
 const LEGACY_LIMIT: u128 = 1180591620717411303424;
 
+// The last bytes of a cipher without rounds whose counter has 32 bits, from the position 16 bytes before its limit on.
+const LAST_16: CipherList = CipherList {
+    name: "the last sixteen bytes, and none after them",
+    input: &[],
+    data: &[0; 17],
+    calls: &[
+        CipherCall::Apply { at: 0, len: 17 },
+        CipherCall::Pos,
+        CipherCall::Apply { at: 0, len: 16 },
+        CipherCall::Pos,
+        CipherCall::Apply { at: 16, len: 1 },
+        CipherCall::Apply { at: 17, len: 0 },
+    ],
+    answers: &[
+        CipherAnswer::Refused,
+        CipherAnswer::Position(274877906928),
+        CipherAnswer::Done,
+        CipherAnswer::Position(274877906944),
+        CipherAnswer::Refused,
+        CipherAnswer::Done,
+    ],
+    after: b"\xfe\xff\xff\xff\0\0\0\0\0\0\0\0\0\0\0\0\0",
+};
+
+// Its first bytes, from position 0 on.
+const FIRST_4: CipherList = CipherList {
+    name: "the first four bytes, after the end",
+    input: &[],
+    data: &[0; 4],
+    calls: &[CipherCall::Apply { at: 0, len: 4 }, CipherCall::Pos],
+    answers: &[CipherAnswer::Done, CipherAnswer::Position(4)],
+    after: b"\xca\xf0\xe0\xc2",
+};
+
+// From 16 bytes before its last block on.
+const INTO_LAST: CipherList = CipherList {
+    name: "into the last block",
+    input: &[],
+    data: &[0; 17],
+    calls: &[CipherCall::Apply { at: 0, len: 17 }, CipherCall::Pos],
+    answers: &[CipherAnswer::Done, CipherAnswer::Position(274877906881)],
+    after: b"\xfc\xff\xff\xff\0\0\0\0\0\0\0\0\0\0\0\0\xca",
+};
+
 /// At the end of a cipher without rounds whose counter has 32 bits. The limit itself is a position, and the next number
 /// isn't; what is refused changes nothing.
-pub static ZERO_ENDS: [CipherList; 2] = [
+pub static ZERO_ENDS: [CipherList; 7] = [
     CipherList {
-        name: "the last sixteen bytes, the start after them, and into the last block",
+        name: "16 bytes before the limit",
         input: &[],
-        data: &[0; 38],
-        calls: &[
-            CipherCall::Seek(274877906928),
-            CipherCall::Apply { at: 0, len: 17 },
-            CipherCall::Apply { at: 0, len: 16 },
-            CipherCall::Pos,
-            CipherCall::Apply { at: 16, len: 1 },
-            CipherCall::Apply { at: 38, len: 0 },
-            CipherCall::Seek(0),
-            CipherCall::Apply { at: 17, len: 4 },
-            CipherCall::Pos,
-            CipherCall::Seek(274877906864),
-            CipherCall::Apply { at: 21, len: 17 },
-            CipherCall::Pos,
-        ],
-        answers: &[
-            CipherAnswer::Done,
-            CipherAnswer::Refused,
-            CipherAnswer::Done,
-            CipherAnswer::Position(274877906944),
-            CipherAnswer::Refused,
-            CipherAnswer::Done,
-            CipherAnswer::Done,
-            CipherAnswer::Done,
-            CipherAnswer::Position(4),
-            CipherAnswer::Done,
-            CipherAnswer::Done,
-            CipherAnswer::Position(274877906881),
-        ],
-        after: b"\xfe\xff\xff\xff\0\0\0\0\0\0\0\0\0\0\0\0\0\xca\xf0\xe0\xc2\
-            \xfc\xff\xff\xff\0\0\0\0\0\0\0\0\0\0\0\0\xca",
+        data: &[],
+        calls: &[CipherCall::Seek(274877906928)],
+        answers: &[CipherAnswer::Done],
+        after: &[],
     },
+    LAST_16,
+    CipherList {
+        name: "the start",
+        input: &[],
+        data: &[],
+        calls: &[CipherCall::Seek(0)],
+        answers: &[CipherAnswer::Done],
+        after: &[],
+    },
+    FIRST_4,
+    CipherList {
+        name: "16 bytes before the last block",
+        input: &[],
+        data: &[],
+        calls: &[CipherCall::Seek(274877906864)],
+        answers: &[CipherAnswer::Done],
+        after: &[],
+    },
+    INTO_LAST,
     CipherList {
         name: "at the limit",
         input: &[1, 2, 3],
@@ -500,6 +536,33 @@ pub fn wrong_legacy_groups<C: Listed>(cipher: &mut C) -> Verdict {
     wrong_ends(cipher, start, &last)
 }
 
+/// The same ends of a cipher without rounds, by direct calls with positions of 64 and of 32 bits.
+pub fn wrong_zero_types<C: StreamCipherSeek>(cipher: &mut C) -> Verdict
+    requires { 274877906944 ≤ C.limit }
+{
+    cipher.seek(274877906928u64);
+    let last = wrong_list(&mut Directly(cipher), &[LAST_16]);
+    cipher.seek(0u32);
+    let first = wrong_list(&mut Directly(cipher), &[FIRST_4]);
+    cipher.seek(274877906864u64);
+    let into_last = wrong_list(&mut Directly(cipher), &[INTO_LAST]);
+    first_failure(&[last, first, into_last, wrong_limit(cipher)])
+}
+
+// The limit is a position, and the next number isn't.
+fn wrong_limit<C: StreamCipherSeek>(cipher: &mut C) -> Verdict {
+    failed(
+        "the limit in 64 bits, no bytes and one, and a position after it",
+        &[
+            cipher.try_seek(274877906944u64).is_ok(),
+            cipher.check_remaining(0).is_ok(),
+            cipher.check_remaining(1).is_err(),
+            cipher.try_seek(274877906945u64).is_err(),
+            is_at::<C, u64>(cipher, Some(274877906944)),
+        ],
+    )
+}
+
 /// Positions of 31 bits and of a length, in their own types.
 pub fn wrong_ietf_types<C>() -> Verdict
 where
@@ -517,7 +580,7 @@ where
     )
 }
 
-/// Positions of 64 bits and of a length, and past them, in their own types.
+/// Positions of 64 bits and of a length, past them and at the limit, in their own types.
 pub fn wrong_legacy_types<C>() -> Verdict
 where
     C: KeyIvInit<Key = Key, Iv = LegacyNonce> + StreamCipherSeek + Drop,
@@ -528,12 +591,14 @@ where
     let at = is_at::<C, u64>(&cipher, Some(18446744073709551615));
     let _ = cipher.try_apply_keystream(&mut [0]);
     failed(
-        "64 bits; one more in 64 bits, as a length, and in 128",
+        "64 bits; one more in 64 bits, as a length, and in 128; the limit in 128 and in 64",
         &[
             at,
             is_at::<C, u64>(&cipher, None),
             is_at::<C, usize>(&cipher, None),
             is_at::<C, u128>(&cipher, Some(18446744073709551616)),
+            cipher.try_seek(LEGACY_LIMIT).is_ok(),
+            is_at::<C, u64>(&cipher, None),
         ],
     )
 }

@@ -214,6 +214,7 @@ where
 {
     first_failure(&[
         wrong_zero::<Cipher<I>>(),
+        ends::wrong_zero_types(&mut Cipher::<I>::new(&[0; 32], &[0; 12])),
         wrong_zero_ends::<Nonce, Cipher<I>>(&[0; 12]),
         wrong_zero_ends::<XNonce, Cipher<X>>(&[0; 24]),
         cores::row_13::<I, L>(),
