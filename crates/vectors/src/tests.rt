@@ -3,6 +3,7 @@
 mod backends;
 mod beside;
 mod core_calls;
+mod derived;
 mod direct;
 mod ends;
 mod everywhere;

@@ -7,8 +7,8 @@ use super::direct::{Directly, Fresh, stream_ends};
 use super::streams::{X_KEY, X_NONCE, XCHACHA_FROM_64, legacy_stream};
 use super::width3::Width3;
 use super::{
-    all_right, backends, beside, core_calls, ends, generator_runs, generator_traits, generators,
-    odd_cuts, positions, records, rfc8439, runs, streams, wraps,
+    all_right, backends, beside, core_calls, derived, ends, generator_runs, generator_traits,
+    generators, odd_cuts, positions, records, rfc8439, runs, streams, wraps,
 };
 use crate::rows::ciphers::{self, IETF_ROWS, LEGACY_ROWS, NONCE_4, NumberedLists, X_ROWS};
 use crate::rows::lists::{CipherList, Listed, wrong_list};
@@ -173,6 +173,11 @@ where
     ])
 }
 
+// A cipher with nonces of 24 bytes, compared with the one under the derived key and nonce.
+fn wrong_derived<R: Rounds, B: StreamCipherBackend<R, Ietf>>() -> Verdict {
+    derived::wrong_stream::<R, Cipher<XChaChaCore<R, B>>, Cipher<ChaChaCore<R, Ietf, B>>>()
+}
+
 // Beside ciphers over the plain backend, which hand out the blocks of the RFC one by one.
 fn with_20_rounds<B>() -> Verdict
 where
@@ -274,6 +279,9 @@ where
         without_rounds::<B>(),
         wrong_cuts::<R8, B>(),
         wrong_cuts::<R12, B>(),
+        wrong_derived::<R8, B>(),
+        wrong_derived::<R12, B>(),
+        wrong_derived::<R20, B>(),
         with_20_rounds::<B>(),
         wrong_generators::<B>(),
         backends::wrong_beside_soft::<B>(),
