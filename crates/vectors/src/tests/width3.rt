@@ -5,9 +5,11 @@ ghost use Rattle.std.specs.Prelude.{◌≡◌, ◌<◌, ℕ, length, slice_get, 
 ghost use Rattle.chacha20.specs.State.{state_after, next_block};
 
 use chacha20::backends::Soft;
-use chacha20::cipher::{ParBlocksSizeUser, RngBackend, StreamCipherBackend};
-use chacha20::variants::Variant;
-use chacha20::{Rounds, Steps};
+use chacha20::cipher::{KeyIvInit, ParBlocksSizeUser, RngBackend, StreamCipherBackend};
+use chacha20::variants::{Ietf, Variant};
+use chacha20::{ChaChaCore, ChaChaRng, R8, R20, Rounds, Steps};
+use std::alloc::Global;
+use std::fmt::Debug;
 
 /// Three blocks in a parallel call, each made by `Soft`. It counts nothing: the blocks are made with `Steps` of its own.
 pub struct Width3;
@@ -66,4 +68,20 @@ impl<R: Rounds> RngBackend<R> for Width3 {
     fn gen_ks_blocks(state: &mut [u32; 16], buffer: &mut [u32; 64], _: &mut Steps) {
         <Soft as RngBackend<R>>::gen_ks_blocks(state, buffer, &mut Steps::new());
     }
+}
+
+fn has_text<T: Debug>(alloc: Global, value: &T, expected: &str) -> bool {
+    match format!(in alloc; "{value:?}") {
+        Ok(text) => text.as_str() == expected,
+        Err(_) => false,
+    }
+}
+
+// The texts of `Debug` don't name the backend.
+#[test]
+fn texts(rt: HostRuntime) {
+    let core = ChaChaCore::<R20, Ietf, Width3>::new(&[0; 32], &[0; 12]);
+    let rng = ChaChaRng::<R8, Width3>::from_seed([0; 32]);
+    assert!(rt; has_text(rt.alloc(), &core, "ChaChaCore<R: 10, V: 32-bit)> { ... }"));
+    assert!(rt; has_text(rt.alloc(), &rng, "ChaCha8Rng { ... }"));
 }
