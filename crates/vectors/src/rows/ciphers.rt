@@ -52,7 +52,9 @@ where
     requires { 2 ^ 32 ≤ C.limit }
 {
     enter(verdicts, 1, row_1::<C>());
+    enter(verdicts, 11, row_11::<C>());
     enter(verdicts, 12, row_12::<C>());
+    enter(verdicts, 18, row_18::<C>());
     enter_table::<C>(verdicts, &COUNTING, &NONCE_4, &IETF_ROWS);
     first_ciphertext::<C>()
 }
@@ -349,6 +351,22 @@ static ROW_6_FROM_17: [CipherList; 1] = [CipherList {
     after: b"\x98\x24\x6f",
 }];
 
+// The block with the greatest counter, with positions of 64 bits and one below 0.
+fn row_11<C: KeyIvInit<Key = Key, Iv = Nonce> + StreamCipherSeek + Drop>() -> Verdict {
+    let mut cipher = C::new(&COUNTING, &NONCE_4);
+    failed(
+        "the block with the greatest counter, in 64 bits",
+        &[
+            cipher.try_seek(274877906880u64).is_ok(),
+            cipher.try_apply_keystream(&mut []).is_ok(),
+            cipher.try_apply_keystream(&mut [7]).is_ok(),
+            cipher.try_seek(274877906881u64).is_ok(),
+            cipher.try_seek(-1i32).is_err(),
+            is_at::<C, u64>(&cipher, Some(274877906881)),
+        ],
+    )
+}
+
 // Positions that a type can't say.
 fn row_12<C: KeyIvInit<Key = Key, Iv = Nonce> + StreamCipherSeek + Drop>() -> Verdict
     requires { 2 ^ 32 ≤ C.limit }
@@ -376,6 +394,21 @@ where
             sought,
             is_at::<C, u64>(&cipher, None),
             is_at::<C, u128>(&cipher, Some(1180591620717411303360)),
+        ],
+    )
+}
+
+// The last byte, with positions of 64 bits.
+fn row_18<C: KeyIvInit<Key = Key, Iv = Nonce> + StreamCipherSeek + Drop>() -> Verdict {
+    let mut cipher = C::new(&COUNTING, &NONCE_4);
+    failed(
+        "the last byte, and one after it, in 64 bits",
+        &[
+            is_at::<C, u64>(&cipher, Some(0)),
+            cipher.try_seek(274877906943u64).is_ok(),
+            cipher.try_apply_keystream(&mut [0]).is_ok(),
+            is_at::<C, u64>(&cipher, Some(274877906944)),
+            cipher.try_apply_keystream(&mut [0]).is_err(),
         ],
     )
 }
