@@ -1,8 +1,9 @@
 //! Worked rows: published calls with their answers, for any core and generator of their kind, and for the cipher over any
 //! core. A row is right if each call answers as published.
 
-ghost use Rattle.std.specs.Prelude.{◌≡◌, ◌↔◌, All, IfSome, IsNone, IsSome, IsTrue, None, Some, SomeIndex, false, true, slice_index_or, slice_set};
+ghost use Rattle.std.specs.Prelude.{◌≡◌, ◌↔◌, ◌<◌, ◌∷◌, [], All, IfSome, IsNone, IsSome, IsTrue, None, Some, SomeIndex, false, true, slice_index_or, slice_set};
 ghost use Rattle.std.specs.Option.{option_flatten, option_or};
+ghost use Rattle.vectors.specs.Rows.{AreEntered, AreEnteredBy, Keeps};
 
 pub mod ciphers;
 pub mod cores;
@@ -101,11 +102,23 @@ pub type Verdicts = [Option<Verdict>; 24];
 
 /// Enters what fails in a row, or in a part of it. What failed in another part stays.
 pub fn enter(verdicts: &mut Verdicts, number: usize, failed: Verdict)
-    ensures { verdicts.new ≡ slice_set verdicts.old number
+    ensures table { verdicts.new ≡ slice_set verdicts.old number
         (Some (option_or (option_flatten (slice_index_or verdicts.old number None)) failed)) }
+    ensures kept { Keeps verdicts.old verdicts.new }
+    ensures entered { number < 24 → IsSome (slice_index_or verdicts.new number None) }
 {
     if number < verdicts.len() {
         verdicts[number] = Some(verdicts[number].flatten().or(failed));
+    }
+}
+
+/// Enters several verdicts, each with its row's number.
+pub fn enter_all(verdicts: &mut Verdicts, rows: &[(usize, Verdict)])
+    ensures kept { Keeps verdicts.old verdicts.new }
+    ensures entered { AreEnteredBy (λ row. row.0) rows.now verdicts.new }
+{
+    'each: for i in 0..rows.len() {
+        enter(verdicts, rows[i].0, rows[i].1);
     }
 }
 
@@ -127,7 +140,10 @@ pub fn first_wrong_row(verdicts: &Verdicts) -> Verdict
 }
 
 /// The first row's ciphertext, and each row's verdict, for the named ciphers and generators.
-pub fn worked() -> ([u8; 16], Verdicts) {
+pub fn worked() -> ([u8; 16], Verdicts)
+    ensures { AreEntered (1 ∷ 3 ∷ 4 ∷ 5 ∷ 6 ∷ 7 ∷ 8 ∷ 9 ∷ 10 ∷ 11 ∷ 12 ∷ 13 ∷ 14 ∷ 15 ∷ 16 ∷ 17
+        ∷ 18 ∷ 19 ∷ 20 ∷ 21 ∷ 22 ∷ 23 ∷ []) result.1 }
+{
     let mut verdicts = [None; 24];
     let ciphertext = ciphers::enter_ietf_rows::<ChaChaCore<R20, Ietf, Lanes16>>(&mut verdicts);
     ciphers::enter_legacy_rows::<ChaCha20LegacyCore>(&mut verdicts);
@@ -136,7 +152,7 @@ pub fn worked() -> ([u8; 16], Verdicts) {
         ChaChaCore<R0, Ietf, Lanes16>,
         ChaChaCore<R0, Legacy, Lanes16>,
     >();
-    enter(&mut verdicts, 13, no_rounds);
+    enter_all(&mut verdicts, &[(13, no_rounds)]);
     generators::enter_rows::<Lanes8>(&mut verdicts);
     (ciphertext, verdicts)
 }

@@ -1,10 +1,13 @@
 //! Rows of ciphers.
 
-ghost use Rattle.std.specs.Prelude.{◌≡◌, ◌≤◌, ◌<◌, ◌+◌, ◌^◌, length};
+ghost use Rattle.std.specs.Prelude.{◌≡◌, ◌≤◌, ◌<◌, ◌+◌, ◌^◌, ◌∷◌, [], length};
 ghost use Rattle.chacha20.specs.Keystream.{xor_stream};
+ghost use Rattle.vectors.specs.Rows.{AreEntered, AreEnteredBy, Keeps};
 
 use super::lists::{CipherList, Listed, wrong_list};
-use super::{COUNTING, FROM_1, LEGACY_NONCE, Verdict, Verdicts, enter, failed, first_failure};
+use super::{
+    COUNTING, FROM_1, LEGACY_NONCE, Verdict, Verdicts, enter, enter_all, failed, first_failure,
+};
 use chacha20::cipher::{KeyIvInit, SeekNum, StreamCipher, StreamCipherSeek, StreamCipherSeekCore};
 use chacha20::{
     CipherAnswer, CipherCall, Key, LegacyNonce, Nonce, R20, StreamCipherCoreWrapper, XNonce,
@@ -25,6 +28,8 @@ static CIPHERTEXT: [u8; 16] = *b"\xe4\x05\x62\x6e\x4f\x12\x36\xb3\x67\x0e\xe4\x2
 pub fn enter_ietf_rows<K>(verdicts: &mut Verdicts) -> [u8; 16]
 where
     K: KeyIvInit<Key = Key, Iv = Nonce> + StreamCipherSeekCore<Counter = u32> + Drop,
+    ensures kept { Keeps verdicts.old verdicts.new }
+    ensures entered { AreEntered (1 ∷ 4 ∷ 11 ∷ 12 ∷ 16 ∷ 18 ∷ 22 ∷ []) verdicts.new }
 {
     enter_rows_of_ietf::<StreamCipherCoreWrapper<K>>(verdicts)
 }
@@ -33,6 +38,8 @@ where
 pub fn enter_legacy_rows<K>(verdicts: &mut Verdicts)
 where
     K: KeyIvInit<Key = Key, Iv = LegacyNonce> + StreamCipherSeekCore<Counter = u64> + Drop,
+    ensures kept { Keeps verdicts.old verdicts.new }
+    ensures entered { AreEntered (6 ∷ 12 ∷ 22 ∷ []) verdicts.new }
 {
     enter_rows_of_legacy::<StreamCipherCoreWrapper<K>>(verdicts);
 }
@@ -41,8 +48,10 @@ where
 pub fn enter_x_rows<K>(verdicts: &mut Verdicts)
 where
     K: KeyIvInit<Key = Key, Iv = XNonce> + StreamCipherSeekCore + Drop,
+    ensures kept { Keeps verdicts.old verdicts.new }
+    ensures entered { AreEntered (3 ∷ 5 ∷ []) verdicts.new }
 {
-    enter(verdicts, 3, row_3());
+    enter_all(verdicts, &[(3, row_3())]);
     enter_table::<StreamCipherCoreWrapper<K>>(verdicts, &FROM_80, &X_NONCE, &X_ROWS);
 }
 
@@ -50,11 +59,16 @@ fn enter_rows_of_ietf<C>(verdicts: &mut Verdicts) -> [u8; 16]
 where
     C: KeyIvInit<Key = Key, Iv = Nonce> + StreamCipherSeek + Listed + Drop,
     requires { 2 ^ 32 ≤ C.limit }
+    ensures kept { Keeps verdicts.old verdicts.new }
+    ensures entered { AreEntered (1 ∷ 4 ∷ 11 ∷ 12 ∷ 16 ∷ 18 ∷ 22 ∷ []) verdicts.new }
 {
-    enter(verdicts, 1, row_1::<C>());
-    enter(verdicts, 11, row_11::<C>());
-    enter(verdicts, 12, row_12::<C>());
-    enter(verdicts, 18, row_18::<C>());
+    let rows = [
+        (1, row_1::<C>()),
+        (11, row_11::<C>()),
+        (12, row_12::<C>()),
+        (18, row_18::<C>()),
+    ];
+    enter_all(verdicts, &rows);
     enter_table::<C>(verdicts, &COUNTING, &NONCE_4, &IETF_ROWS);
     first_ciphertext::<C>()
 }
@@ -63,9 +77,10 @@ fn enter_rows_of_legacy<C>(verdicts: &mut Verdicts)
 where
     C: KeyIvInit<Key = Key, Iv = LegacyNonce> + StreamCipherSeek + Listed + Drop,
     requires { 2 ^ 32 ≤ C.limit }
+    ensures kept { Keeps verdicts.old verdicts.new }
+    ensures entered { AreEntered (6 ∷ 12 ∷ 22 ∷ []) verdicts.new }
 {
-    enter(verdicts, 6, row_6::<C>());
-    enter(verdicts, 12, legacy_row_12::<C>());
+    enter_all(verdicts, &[(6, row_6::<C>()), (12, legacy_row_12::<C>())]);
     enter_table::<C>(verdicts, &FROM_1, &LEGACY_NONCE, &LEGACY_ROWS);
 }
 
@@ -75,13 +90,13 @@ fn enter_table<C: KeyIvInit + Listed + Drop>(
     key: &C::Key,
     nonce: &C::Iv,
     rows: &[NumberedLists],
-) {
-    for (number, lists) in rows {
-        enter(
-            verdicts,
-            *number,
-            wrong_list(&mut C::new(key, nonce), *lists),
-        );
+)
+    ensures kept { Keeps verdicts.old verdicts.new }
+    ensures entered { AreEnteredBy (λ row. row.0) rows.now verdicts.new }
+{
+    'each: for i in 0..rows.len() {
+        let (number, lists) = rows[i];
+        enter(verdicts, number, wrong_list(&mut C::new(key, nonce), lists));
     }
 }
 

@@ -1,29 +1,46 @@
 //! Rows of generators.
 
+ghost use Rattle.std.specs.Prelude.{◌∷◌, []};
+ghost use Rattle.vectors.specs.Rows.{AreEntered, AreEnteredBy, Keeps};
+
 use super::lists::{RngList, wrong_draw};
-use super::{FROM_1, Verdict, Verdicts, enter, failed};
+use super::{FROM_1, Verdict, Verdicts, enter, enter_all, failed};
 use chacha20::cipher::RngBackend;
 use chacha20::{ChaChaRng, R8, R12, R20, RngAnswer, RngCall, Rounds, Seed};
 
 /// Enters each row for generators over a backend.
-pub fn enter_rows<B: RngBackend<R8> + RngBackend<R12> + RngBackend<R20>>(verdicts: &mut Verdicts) {
-    enter(verdicts, 14, row_14::<R8, B>());
-    enter(verdicts, 14, row_14::<R12, B>());
-    enter_rows_of_20::<B>(verdicts);
+pub fn enter_rows<B: RngBackend<R8> + RngBackend<R12> + RngBackend<R20>>(verdicts: &mut Verdicts)
+    ensures kept { Keeps verdicts.old verdicts.new }
+    ensures entered { AreEntered
+        (7 ∷ 8 ∷ 9 ∷ 10 ∷ 14 ∷ 15 ∷ 17 ∷ 19 ∷ 20 ∷ 21 ∷ 23 ∷ []) verdicts.new }
+{
+    let rows = [
+        (14, row_14::<R8, B>()),
+        (14, row_14::<R12, B>()),
+        (14, row_14::<R20, B>()),
+        (15, row_15::<B>()),
+        (17, row_17::<B>()),
+        (23, row_23::<B>()),
+    ];
+    enter_all(verdicts, &rows);
+    enter_tables::<B>(verdicts, &TABLES);
 }
 
-fn enter_rows_of_20<B: RngBackend<R20>>(verdicts: &mut Verdicts) {
-    enter(verdicts, 14, row_14::<R20, B>());
-    enter(verdicts, 15, row_15::<B>());
-    enter(verdicts, 17, row_17::<B>());
-    enter(verdicts, 23, row_23::<B>());
-    for (number, seed, lists) in &TABLES {
-        enter(verdicts, *number, wrong_table::<B>(*seed, *lists));
+// Lists of calls on a new generator, with the row's number and the seed.
+type NumberedTable = (usize, Seed, &'static [RngList]);
+
+fn enter_tables<B: RngBackend<R20>>(verdicts: &mut Verdicts, tables: &[NumberedTable])
+    ensures kept { Keeps verdicts.old verdicts.new }
+    ensures entered { AreEnteredBy (λ row. row.0) tables.now verdicts.new }
+{
+    'each: for i in 0..tables.len() {
+        let (number, seed, lists) = tables[i];
+        enter(verdicts, number, wrong_table::<B>(seed, lists));
     }
 }
 
 // Rows that are lists of calls on a new generator alone, with its seed.
-static TABLES: [(usize, Seed, &'static [RngList]); 7] = [
+static TABLES: [NumberedTable; 7] = [
     // Bytes in pieces: what is left of a word is lost.
     (
         7,

@@ -1,0 +1,9 @@
+use Rattle.std.proofs.Common.{refl}
+use Rattle.vectors.proofs.RowLemmas.{joined, by-number, chosen}
+use Rattle.vectors.proofs.rows.ciphers.enter_rows_of_legacy.Goals as goal
+
+pub returns-clause-entered : goal.returns-clause-entered
+returns-clause-entered g c =
+    let first = by-number _ _ _ c.enter_all.ensures.entered in
+    let tables = by-number _ _ _ c.enter_table.ensures.entered in
+    chosen _ _ _ (joined _ _ _ _ c.enter_table.ensures.kept first tables) refl

@@ -1,0 +1,22 @@
+-- Tables of what fails in rows, by the row's number: nothing where no part of a row is entered yet,
+-- and else the first failure of its parts, if there is one.
+use Rattle.std.specs.Prelude.{ℕ, ◌≡◌, ◌<◌, List, Option, None, IsSome, All, slice_index_or}
+use Rattle.std.specs.Option.{option_flatten}
+
+-- rows with these numbers are entered
+pub record AreEntered {Failure : Type 0} (numbers : List ℕ) (table : List (Option (Option Failure)))
+    : Type 0 where
+  pub each : All (λ number. IsSome (slice_index_or table number None)) numbers
+
+-- so are the rows with the numbers of these entries, where a table of 24 rows has room for them
+pub record AreEnteredBy {Entry Failure : Type 0} (number : Entry → ℕ) (entries : List Entry)
+    (table : List (Option (Option Failure))) : Type 0 where
+  pub each : All (λ entry. number entry < 24
+      → IsSome (slice_index_or table (number entry) None)) entries
+
+-- from one table to the next no row is lost, and no failure
+pub record Keeps {Failure : Type 0} (before after : List (Option (Option Failure))) : Type 0 where
+  pub rows : (number : ℕ) → IsSome (slice_index_or before number None)
+      → IsSome (slice_index_or after number None)
+  pub failures : (number : ℕ) → IsSome (option_flatten (slice_index_or before number None))
+      → slice_index_or after number None ≡ slice_index_or before number None
