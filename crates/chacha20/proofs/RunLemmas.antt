@@ -11,6 +11,7 @@ use Rattle.std.proofs.Math.Seq.{take-add}
 use Rattle.std.specs.Bool.{Decides}
 use Rattle.std.proofs.lemmas.Bool.{le-leb, leb-true, cases_Bool, false≢true}
 use Rattle.std.proofs.lemmas.Int.{to_z-of_z}
+use Rattle.std.proofs.lemmas.Result.{on_ok_weaker, on_err_weaker}
 use mir.Val.{to_z, of_z}
 use mir.Syntax.{w32}
 use Rattle.std.proofs.lemmas.Bool.Decides.{Decides-and, Decides-eqb, Decides-like}
@@ -54,26 +55,33 @@ put-next at len more ys zs xs inside size =
     ∙ ap (λ t. (ys ++ zs) ++ t) (drop-drop more len (drop at xs)))
 
 -- what is left of a call that is accepted where the test says yes
-outcome-is : {E : Type 0} {P : Type 0} (test : Bool) (r : Result (Unit {0}) E) (c d : Cipher) (bytes new : List ℕ) (p : ℕ) (after : List ℕ) (a : CipherAnswer)
-    → Decides test P → IsOk r ↔ P → OnOk r (a ≡ Done) → OnErr r (a ≡ Refused) → OnOk r (d ≡ record c { position = p }) → OnOk r (new ≡ after)
-    → OnErr r ((new ≡ bytes) × (d ≡ c)) → done_if test c bytes p after ≡ record { answer = a; cipher = d; bytes = new }
-outcome-is true (Ok x) c d bytes new p after a tells accepted done refused moved written kept =
-    λ i. record { answer = sym done i; cipher = sym moved i; bytes = sym written i }
-outcome-is false (Ok x) c d bytes new p after a tells accepted done refused moved written kept = absurd (false≢true (tells.1 (accepted.0 refl)))
-outcome-is true (Err e) c d bytes new p after a tells accepted done refused moved written kept = absurd (false≢true (accepted.1 (tells.0 refl)))
-outcome-is false (Err e) c d bytes new p after a tells accepted done refused moved written kept =
+outcome-is : {E P : Type 0} (test : Bool) (r : Result (Unit {0}) E) (c d : Cipher) (bytes new : List ℕ) (p : ℕ)
+    (after : List ℕ) (a : CipherAnswer) → Decides test P → IsOk r ↔ P → OnOk r (a ≡ Done) → OnErr r (a ≡ Refused)
+    → OnOk r (d.fixed ≡ c.fixed) → OnOk r (d.position ≡ p) → OnOk r (new ≡ after) → OnErr r ((new ≡ bytes) × (d ≡ c))
+    → done_if test c bytes p after ≡ record { answer = a; cipher = d; bytes = new }
+outcome-is true (Ok x) c d bytes new p after a tells accepted done refused fixed moved written kept =
+    λ i. record { answer = sym done i; cipher = record { fixed = sym fixed i; position = sym moved i }; bytes = sym written i }
+outcome-is false (Ok x) c d bytes new p after a tells accepted done refused fixed moved written kept =
+    absurd (false≢true (tells.1 (accepted.0 refl)))
+outcome-is true (Err e) c d bytes new p after a tells accepted done refused fixed moved written kept =
+    absurd (false≢true (accepted.1 (tells.0 refl)))
+outcome-is false (Err e) c d bytes new p after a tells accepted done refused fixed moved written kept =
     λ i. record { answer = sym refused i; cipher = sym kept.1 i; bytes = sym kept.0 i }
 
 on_ok : {T E P : Type 0} (r : Result T E) → P → OnOk r P
 on_ok (Ok x) holds = holds
 on_ok (Err e) holds = tt
 
-pub check_remaining-is : {E : Type 0} (s : Setting) (c : Cipher) (bytes : List ℕ) (len : ℕ) (r : Result (Unit {0}) E) (a : CipherAnswer)
-    → IsOk r ↔ (c.position + len ≤ s.limit) → OnOk r (a ≡ Done) → OnErr r (a ≡ Refused)
+on_ok_given : {T E P Q : Type 0} (r : Result T E) → (IsOk r → P → Q) → OnOk r P → OnOk r Q
+on_ok_given (Ok x) then holds = then refl holds
+on_ok_given (Err e) then holds = tt
+
+pub check_remaining-is : {E : Type 0} (s : Setting) (c : Cipher) (bytes : List ℕ) (len : ℕ) (r : Result (Unit {0}) E)
+    (a : CipherAnswer) → IsOk r ↔ (c.position + len ≤ s.limit) → OnOk r (a ≡ Done) → OnErr r (a ≡ Refused)
     → cipher_outcome s c bytes (CheckRemaining len) ≡ record { answer = a; cipher = c; bytes = bytes }
 check_remaining-is s c bytes len r a accepted done refused =
-    outcome-is (nat_le (c.position + len) s.limit) r c c bytes bytes c.position bytes a (leb-true _ _, le-leb _ _) accepted done refused (on_ok r refl) (on_ok r refl)
-    (on_err r (refl, refl))
+    outcome-is (nat_le (c.position + len) s.limit) r c c bytes bytes c.position bytes a (leb-true _ _, le-leb _ _)
+    accepted done refused (on_ok r refl) (on_ok r refl) (on_ok r refl) (on_err r (refl, refl))
 
 lengths-Decides : (a b p limit m n : ℕ) → m ≡ a → n ≡ b → Decides ((a == b) && nat_le (p + b) limit) ((m ≡ n) × (p + m ≤ limit))
 lengths-Decides a b p limit m n same same' =
@@ -81,61 +89,63 @@ lengths-Decides a b p limit m n same same' =
     (Decides-and _ _ (Decides-eqb a b) (leb-true (p + b) limit, le-leb (p + b) limit))
 
 -- the input that is read, of k bytes, and the range that is written, of l
-pub apply_from-is : {E : Type 0} (s : Setting) (c d : Cipher) (bytes new : List ℕ) (from from_len at len k l : ℕ) (r : Result (Unit {0}) E) (a : CipherAnswer)
+pub apply_from-is : {E : Type 0} (s : Setting) (c d : Cipher) (bytes new : List ℕ) (from from_len at len k l : ℕ)
+    (r : Result (Unit {0}) E) (a : CipherAnswer)
     → k ≡ from_len → l ≡ len → from + from_len ≤ length s.input → at + len ≤ length bytes
-    → IsOk r ↔ ((length (take k (drop from s.input)) ≡ length (take l (drop at bytes))) × (c.position + length (take k (drop from s.input)) ≤ s.limit))
+    → IsOk r ↔ ((length (take k (drop from s.input)) ≡ length (take l (drop at bytes)))
+    × (c.position + length (take k (drop from s.input)) ≤ s.limit))
     → OnOk r (new ≡ xor_stream (s.stream c.fixed) c.position (take k (drop from s.input)))
-    → OnOk r (d ≡ record c { position = c.position + length (take k (drop from s.input)) })
+    → OnOk r (d.fixed ≡ c.fixed) → OnOk r (d.position ≡ c.position + length (take k (drop from s.input)))
     → OnErr r ((new ≡ take l (drop at bytes)) × (d ≡ c)) → OnOk r (a ≡ Done) → OnErr r (a ≡ Refused)
-    → cipher_outcome s c bytes (ApplyFrom from from_len at len) ≡ record { answer = a; cipher = d; bytes = put at l new bytes }
-apply_from-is {E} s c d bytes new from from_len at len k l (Ok x) a read wrote inside outside accepted written moved kept done refused =
+    → cipher_outcome s c bytes (ApplyFrom from from_len at len)
+    ≡ record { answer = a; cipher = d; bytes = put at l new bytes }
+apply_from-is s c d bytes new from from_len at len k l r a read wrote inside outside accepted written fixed moved kept done refused =
     let ins = ap (λ n. length (take n (drop from s.input))) read ∙ length-part from from_len s.input inside in
     let outs = ap (λ n. length (take n (drop at bytes))) wrote ∙ length-part at len bytes outside in
     let stream = s.stream c.fixed in
-    outcome-is {E = E} ((from_len == len) && nat_le (c.position + len) s.limit) (Ok x) c d bytes (put at l new bytes) (c.position + len)
-    (put at len (xor_stream stream c.position (part from from_len s.input)) bytes) a (lengths-Decides from_len len c.position s.limit _ _ ins outs) accepted done refused
-    (moved ∙ ap (λ n. record c { position = c.position + n }) ((accepted.0 refl).0 ∙ outs))
-    (ap₂ (λ n ys. put at n ys bytes) wrote (written ∙ ap (λ n. xor_stream stream c.position (take n (drop from s.input))) read)) tt
-apply_from-is {E} s c d bytes new from from_len at len k l (Err e) a read wrote inside outside accepted written moved kept done refused =
-    let ins = ap (λ n. length (take n (drop from s.input))) read ∙ length-part from from_len s.input inside in
-    let outs = ap (λ n. length (take n (drop at bytes))) wrote ∙ length-part at len bytes outside in
-    outcome-is {E = E} ((from_len == len) && nat_le (c.position + len) s.limit) (Err e) c d bytes (put at l new bytes) (c.position + len)
-    (put at len (xor_stream (s.stream c.fixed) c.position (part from from_len s.input)) bytes) a (lengths-Decides from_len len c.position s.limit _ _ ins outs) accepted done
-    refused tt tt (ap (λ ys. put at l ys bytes) kept.0 ∙ put_same at l bytes, kept.1)
+    outcome-is ((from_len == len) && nat_le (c.position + len) s.limit) r c d bytes (put at l new bytes) (c.position + len)
+    (put at len (xor_stream stream c.position (part from from_len s.input)) bytes) a
+    (lengths-Decides from_len len c.position s.limit _ _ ins outs) accepted done refused fixed
+    (on_ok_given r (λ ok place. place ∙ ap (λ n. c.position + n) ((accepted.0 ok).0 ∙ outs)) moved)
+    (on_ok_weaker r (λ made. ap₂ (λ n ys. put at n ys bytes) wrote
+    (made ∙ ap (λ n. xor_stream stream c.position (take n (drop from s.input))) read)) written)
+    (on_err_weaker r (λ same. (ap (λ ys. put at l ys bytes) same.0 ∙ put_same at l bytes, same.1)) kept)
 
 -- the range that is written over, of l bytes; what is written is made from their number and from the bytes
-pub ranged-is : {E : Type 0} (s : Setting) (c d : Cipher) (bytes new : List ℕ) (make : ℕ → List ℕ → List ℕ) (at len l : ℕ) (r : Result (Unit {0}) E) (a : CipherAnswer)
+pub ranged-is : {E : Type 0} (s : Setting) (c d : Cipher) (bytes new : List ℕ) (make : ℕ → List ℕ → List ℕ) (at len l : ℕ)
+    (r : Result (Unit {0}) E) (a : CipherAnswer)
     → l ≡ len → at + len ≤ length bytes → IsOk r ↔ (c.position + length (take l (drop at bytes)) ≤ s.limit)
     → OnOk r (new ≡ make (length (take l (drop at bytes))) (take l (drop at bytes)))
-    → OnOk r (d ≡ record c { position = c.position + length (take l (drop at bytes)) }) → OnErr r ((new ≡ take l (drop at bytes)) × (d ≡ c))
-    → OnOk r (a ≡ Done) → OnErr r (a ≡ Refused)
+    → OnOk r (d.fixed ≡ c.fixed) → OnOk r (d.position ≡ c.position + length (take l (drop at bytes)))
+    → OnErr r ((new ≡ take l (drop at bytes)) × (d ≡ c)) → OnOk r (a ≡ Done) → OnErr r (a ≡ Refused)
     → done_if (nat_le (c.position + len) s.limit) c bytes (c.position + len) (put at len (make len (part at len bytes)) bytes)
     ≡ record { answer = a; cipher = d; bytes = put at l new bytes }
-ranged-is {E} s c d bytes new make at len l (Ok x) a wrote inside accepted written moved kept done refused =
+ranged-is s c d bytes new make at len l r a wrote inside accepted written fixed moved kept done refused =
     let outs = ap (λ k. length (take k (drop at bytes))) wrote ∙ length-part at len bytes inside in
-    outcome-is {E = E} (nat_le (c.position + len) s.limit) (Ok x) c d bytes (put at l new bytes) (c.position + len) (put at len (make len (part at len bytes)) bytes) a
-    (rw outs (leb-true _ _, le-leb _ _)) accepted done refused (moved ∙ ap (λ k. record c { position = c.position + k }) outs)
-    (ap₂ (λ k ys. put at k ys bytes) wrote (written ∙ ap₂ make outs (ap (λ k. take k (drop at bytes)) wrote))) tt
-ranged-is {E} s c d bytes new make at len l (Err e) a wrote inside accepted written moved kept done refused =
-    let outs = ap (λ k. length (take k (drop at bytes))) wrote ∙ length-part at len bytes inside in
-    outcome-is {E = E} (nat_le (c.position + len) s.limit) (Err e) c d bytes (put at l new bytes) (c.position + len) (put at len (make len (part at len bytes)) bytes) a
-    (rw outs (leb-true _ _, le-leb _ _)) accepted done refused tt tt (ap (λ ys. put at l ys bytes) kept.0 ∙ put_same at l bytes, kept.1)
+    outcome-is (nat_le (c.position + len) s.limit) r c d bytes (put at l new bytes) (c.position + len)
+    (put at len (make len (part at len bytes)) bytes) a (rw outs (leb-true _ _, le-leb _ _)) accepted done refused fixed
+    (on_ok_weaker r (λ place. place ∙ ap (λ k. c.position + k) outs) moved)
+    (on_ok_weaker r (λ made. ap₂ (λ k ys. put at k ys bytes) wrote
+    (made ∙ ap₂ make outs (ap (λ k. take k (drop at bytes)) wrote))) written)
+    (on_err_weaker r (λ same. (ap (λ ys. put at l ys bytes) same.0 ∙ put_same at l bytes, same.1)) kept)
 
 pub seek-is : {E : Type 0} (s : Setting) (c d : Cipher) (bytes : List ℕ) (p : ℕ) (r : Result (Unit {0}) E) (a : CipherAnswer)
-    → IsOk r ↔ (p ≤ s.limit) → OnOk r (d ≡ record c { position = p }) → OnErr r (d ≡ c) → OnOk r (a ≡ Done) → OnErr r (a ≡ Refused)
+    → IsOk r ↔ (p ≤ s.limit) → OnOk r (d.fixed ≡ c.fixed) → OnOk r (d.position ≡ p) → OnErr r (d ≡ c)
+    → OnOk r (a ≡ Done) → OnErr r (a ≡ Refused)
     → cipher_outcome s c bytes (Seek p) ≡ record { answer = a; cipher = d; bytes = bytes }
-seek-is {E} s c d bytes p (Ok x) a accepted moved kept done refused =
-    outcome-is {E = E} (nat_le p s.limit) (Ok x) c d bytes bytes p bytes a (leb-true _ _, le-leb _ _) accepted done refused moved refl tt
-seek-is {E} s c d bytes p (Err e) a accepted moved kept done refused =
-    outcome-is {E = E} (nat_le p s.limit) (Err e) c d bytes bytes p bytes a (leb-true _ _, le-leb _ _) accepted done refused tt tt (refl, kept)
+seek-is s c d bytes p r a accepted fixed moved kept done refused =
+    outcome-is (nat_le p s.limit) r c d bytes bytes p bytes a (leb-true _ _, le-leb _ _) accepted done refused
+    fixed moved (on_ok r refl) (on_err_weaker r (λ same. (refl, same)) kept)
 
 pub seek_i32-is : {E : Type 0} (s : Setting) (c d : Cipher) (bytes : List ℕ) (z : ℤ) (r : Result (Unit {0}) E) (a : CipherAnswer)
-    → IsOk r ↔ IsSomeAnd (signed_position z) (λ p. p ≤ s.limit) → OnOk r (IfSome (signed_position z) (λ p. d ≡ record c { position = p })) → OnErr r (d ≡ c)
+    → IsOk r ↔ IsSomeAnd (signed_position z) (λ p. p ≤ s.limit) → OnOk r (d.fixed ≡ c.fixed)
+    → OnOk r (IfSome (signed_position z) (λ p. d.position ≡ p)) → OnErr r (d ≡ c)
     → OnOk r (a ≡ Done) → OnErr r (a ≡ Refused)
     → cipher_outcome s c bytes (SeekI32 z) ≡ record { answer = a; cipher = d; bytes = bytes }
-seek_i32-is s c d bytes (pos p) r a accepted moved kept done refused = seek-is s c d bytes p r a accepted moved kept done refused
-seek_i32-is s c d bytes (negsuc p) (Ok x) a accepted moved kept done refused = absurd (accepted.0 refl)
-seek_i32-is s c d bytes (negsuc p) (Err e) a accepted moved kept done refused =
+seek_i32-is s c d bytes (pos p) r a accepted fixed moved kept done refused =
+    seek-is s c d bytes p r a accepted fixed moved kept done refused
+seek_i32-is s c d bytes (negsuc p) (Ok x) a accepted fixed moved kept done refused = absurd (accepted.0 refl)
+seek_i32-is s c d bytes (negsuc p) (Err e) a accepted fixed moved kept done refused =
     λ i. record { answer = sym refused i; cipher = sym kept i; bytes = bytes }
 
 pub pos-is : (s : Setting) (c : Cipher) (bytes : List ℕ) (p : ℕ) → Some p ≡ Some c.position

@@ -1,10 +1,9 @@
 -- Bytes of a block kept in a buffer.
-use Rattle.std.proofs.Common.{◌≡◌, ℕ, zero, suc, min, ◌+◌, ◌-◌, ◌*◌, ◌/◌, ◌%◌, ◌<◌, ◌≤◌, ◌⊎◌, inl, inr, Bool, true, false, nat_eq, nat_lt, Fits, w8, List, length, take, drop, slice_index, bit_xor, arith, sym, ap, ap₂, subst, ◌∙◌}
+use Rattle.std.proofs.Common.{◌≡◌, ℕ, zero, suc, min, ◌+◌, ◌-◌, ◌*◌, ◌/◌, ◌%◌, ◌<◌, ◌≤◌, ◌⊎◌, inl, inr, Bool, true, false, nat_eq, nat_lt, Fits, w8, List, length, take, drop, slice_index, bit_xor, arith, sym, ap, subst, ◌∙◌}
 use Rattle.std.proofs.lemmas.Bool.{false≢true, eqb-true, lt-ltb, le-ltb}
 use Rattle.std.proofs.Math.Dec.{eqb-suc-zero}
 use Rattle.std.proofs.lemmas.List.{get_or-take, get_or-drop}
 use Rattle.std.proofs.Math.Nat.{eq-or-lt_of_le, mod-eq_of_lt, mod-lt, mod_self}
-use Rattle.chacha_base.specs.Cipher.{Cipher}
 use Rattle.chacha_base.specs.Keystream.{keystream, xor_stream}
 use Rattle.chacha_base.specs.Limit.{limit_of}
 use Rattle.chacha_base.specs.Buffered.{IsBuffered, blocks_made, left_at, position_of}
@@ -118,16 +117,13 @@ buffered-more modulus block counter k p n new number left buffer place some fits
       held = λ more. held more ∙ ap (λ i. block (i - 1)) (sym made);
     }
 
-moved-more : (a : Cipher) (modulus : ℕ) (fixed : List ℕ) (counter k n new number left : ℕ) → fixed ≡ a.fixed → 64 * counter ≡ a.position → 0 < n
-    → a.position + n ≤ limit_of modulus → 64 * k ≡ n + left → left < 64 → new ≡ (counter + k) % modulus → number ≡ new
-    → (let cipher : Cipher = record { fixed = fixed; position = position_of (blocks_made modulus (nat_eq number 0) new) left } in cipher)
-    ≡ record a { position = a.position + n }
-moved-more a modulus fixed counter k n new number left alike place some fits blocks part moved same =
+moved-more : (modulus counter k p n new number left : ℕ) → 64 * counter ≡ p → 0 < n → p + n ≤ limit_of modulus → 64 * k ≡ n + left
+    → left < 64 → new ≡ (counter + k) % modulus → number ≡ new → position_of (blocks_made modulus (nat_eq number 0) new) left ≡ p + n
+moved-more modulus counter k p n new number left place some fits blocks part moved same =
     let all : counter + k ≤ modulus = omega arith in
     let made = blocks_made-wrapped modulus (counter + k) new (omega arith) (eq-or-lt_of_le all) moved in
-    let there : position_of (counter + k) left ≡ a.position + n = omega arith in
-    ap₂ (λ f q. let cipher : Cipher = record { fixed = f; position = q } in cipher) alike
-    (ap (λ i. position_of (blocks_made modulus (nat_eq i 0) new) left) same ∙ ap (λ i. position_of i left) made ∙ there)
+    let there : position_of (counter + k) left ≡ p + n = omega arith in
+    ap (λ i. position_of (blocks_made modulus (nat_eq i 0) new) left) same ∙ ap (λ i. position_of i left) made ∙ there
 
 -- at a block's front nothing is left of the block before
 left-at_front : (made left p : ℕ) → left < 64 → left ≤ 64 * made → position_of made left ≡ p → p % 64 ≡ 0 → left ≡ 0
@@ -142,15 +138,14 @@ buffered-whole {modulus} {block} {past} {counter} {left} {buffer} other p n new 
     buffered-more modulus other counter (n / 64) p n new number left buffer (counter-at_front modulus past counter left p n kept.part place front some fits) some fits
     (omega (arith, whole, none)) kept.part moved same (λ more. absurd (omega (arith, none, more)))
 
-pub moved-whole : {modulus : ℕ} {block : ℕ → List ℕ} {past : Bool} {counter left : ℕ} {buffer : List ℕ} (a : Cipher) (fixed : List ℕ) (n new number : ℕ)
-    → IsBuffered modulus block past counter buffer left → fixed ≡ a.fixed → position_of (blocks_made modulus past counter) left ≡ a.position
-    → a.position % 64 ≡ 0 → 0 < n → n % 64 ≡ 0 → a.position + n ≤ limit_of modulus → new ≡ (counter + n / 64) % modulus → number ≡ new
-    → (let cipher : Cipher = record { fixed = fixed; position = position_of (blocks_made modulus (nat_eq number 0) new) left } in cipher)
-    ≡ record a { position = a.position + n }
-moved-whole {modulus} {block} {past} {counter} {left} {buffer} a fixed n new number kept alike place front some whole fits moved same =
-    let none = left-at_front (blocks_made modulus past counter) left a.position kept.part kept.begun place front in
-    moved-more a modulus fixed counter (n / 64) n new number left alike (counter-at_front modulus past counter left a.position n kept.part place front some fits) some fits
-    (omega (arith, whole, none)) kept.part moved same
+pub moved-whole : {modulus : ℕ} {block : ℕ → List ℕ} {past : Bool} {counter left : ℕ} {buffer : List ℕ} (p n new number : ℕ)
+    → IsBuffered modulus block past counter buffer left → position_of (blocks_made modulus past counter) left ≡ p → p % 64 ≡ 0 → 0 < n
+    → n % 64 ≡ 0 → p + n ≤ limit_of modulus → new ≡ (counter + n / 64) % modulus → number ≡ new
+    → position_of (blocks_made modulus (nat_eq number 0) new) left ≡ p + n
+moved-whole {modulus} {block} {past} {counter} {left} {buffer} p n new number kept place front some whole fits moved same =
+    let none = left-at_front (blocks_made modulus past counter) left p kept.part kept.begun place front in
+    moved-more modulus counter (n / 64) p n new number left (counter-at_front modulus past counter left p n kept.part place front some fits)
+    some fits (omega (arith, whole, none)) kept.part moved same
 
 -- after a last part, for which one block was made
 pub buffered-last : {modulus : ℕ} {block : ℕ → List ℕ} {past : Bool} {counter left : ℕ} {buffer : List ℕ} (other : ℕ → List ℕ) (p n m new number : ℕ)
@@ -162,14 +157,13 @@ buffered-last {modulus} {block} {past} {counter} {left} {buffer} other p n m new
     buffered-more modulus other counter 1 p n new number (64 - m) made (counter-at_front modulus past counter left p n kept.part place front some fits) some fits
     (omega (arith, size, part)) (omega (arith, size, some)) moved same (λ more. held ∙ ap other here)
 
-pub moved-last : {modulus : ℕ} {block : ℕ → List ℕ} {past : Bool} {counter left : ℕ} {buffer : List ℕ} (a : Cipher) (fixed : List ℕ) (n m new number : ℕ)
-    → IsBuffered modulus block past counter buffer left → fixed ≡ a.fixed → position_of (blocks_made modulus past counter) left ≡ a.position
-    → a.position % 64 ≡ 0 → 0 < n → n < 64 → m ≡ n → a.position + n ≤ limit_of modulus → new ≡ (counter + 1) % modulus → number ≡ new
-    → (let cipher : Cipher = record { fixed = fixed; position = position_of (blocks_made modulus (nat_eq number 0) new) (64 - m) } in cipher)
-    ≡ record a { position = a.position + n }
-moved-last {modulus} {block} {past} {counter} {left} {buffer} a fixed n m new number kept alike place front some part size fits moved same =
-    moved-more a modulus fixed counter 1 n new number (64 - m) alike (counter-at_front modulus past counter left a.position n kept.part place front some fits) some fits
-    (omega (arith, size, part)) (omega (arith, size, some)) moved same
+pub moved-last : {modulus : ℕ} {block : ℕ → List ℕ} {past : Bool} {counter left : ℕ} {buffer : List ℕ} (p n m new number : ℕ)
+    → IsBuffered modulus block past counter buffer left → position_of (blocks_made modulus past counter) left ≡ p → p % 64 ≡ 0 → 0 < n
+    → n < 64 → m ≡ n → p + n ≤ limit_of modulus → new ≡ (counter + 1) % modulus → number ≡ new
+    → position_of (blocks_made modulus (nat_eq number 0) new) (64 - m) ≡ p + n
+moved-last {modulus} {block} {past} {counter} {left} {buffer} p n m new number kept place front some part size fits moved same =
+    moved-more modulus counter 1 p n new number (64 - m) (counter-at_front modulus past counter left p n kept.part place front some fits)
+    some fits (omega (arith, size, part)) (omega (arith, size, some)) moved same
 
 -- where fewer bytes of the buffered block are left
 pub buffered-begun : {modulus : ℕ} {block : ℕ → List ℕ} {past : Bool} {counter left : ℕ} {buffer : List ℕ} (m : ℕ)
@@ -182,12 +176,9 @@ buffered-begun {left = left} m kept = record {
   held = λ more. kept.held (omega (arith, more));
 }
 
-pub moved-begun : (a : Cipher) (fixed : List ℕ) (made left m n : ℕ) → fixed ≡ a.fixed → position_of made left ≡ a.position → left < 64 → left ≤ 64 * made
-    → n ≤ left_at a.position → m ≡ n
-    → (let cipher : Cipher = record { fixed = fixed; position = position_of made (left - m) } in cipher) ≡ record a { position = a.position + n }
-moved-begun a fixed made left m n alike place part begun fits size =
-    let there : position_of made (left - m) ≡ a.position + n = omega arith in
-    ap₂ (λ f q. let cipher : Cipher = record { fixed = f; position = q } in cipher) alike there
+pub moved-begun : (made left p m n : ℕ) → position_of made left ≡ p → left < 64 → left ≤ 64 * made → n ≤ left_at p → m ≡ n
+    → position_of made (left - m) ≡ p + n
+moved-begun made left p m n place part begun fits size = omega arith
 
 pub begun-fits : (made left p n m : ℕ) → left < 64 → left ≤ 64 * made → position_of made left ≡ p → n ≤ left_at p → m ≡ n → m ≤ left
 begun-fits made left p n m part begun place fits size = omega arith

@@ -293,25 +293,16 @@ pub trait StreamCipherSeekCore: StreamCipherCore {
 }
 
 /// A cipher that XORs (exclusive or) bytes with a keystream, from its position on, and moves on past them. Positions
-/// and lengths are in bytes; the limit is the greatest position. The stream is the keystream of the cipher's own
-/// blocks, which `KeyIvInit` ties to a key and a nonce.
+/// and lengths are in bytes; the limit is the greatest position. The keystream is the blocks of the cipher's fixed
+/// part in order of counter; `KeyIvInit` ties them to a key and a nonce.
 pub trait StreamCipher: Keystream {
-    // The greatest position.
-    ghost limit: { ℕ };
-
-    // The cipher at another position.
-    ghost at: { Self → ℕ → Self };
-
-    // Byte p of the cipher's keystream.
-    ghost stream: { Self → ℕ → ℕ };
-
     // What an application from a position on to so many bytes may count.
     ghost cost: { ℕ → ℕ → Bounds };
 
     /// Whether the cipher can take so many more bytes: `Err` exactly where they would pass the limit.
     fn check_remaining(&self, len: usize) -> Result<(), StreamCipherError>
-        ensures accepted { IsOk result ↔ (Self.position self.now + len ≤ limit) }
-        ensures within { Self.position self.now ≤ limit };
+        ensures accepted { IsOk result ↔ (Self.position self.now + len ≤ limit_of Self.modulus) }
+        ensures within { Self.position self.now ≤ limit_of Self.modulus };
 
     /// XORs bytes with the keystream, and counts the steps. `Err` exactly where the bytes would pass the limit; then
     /// nothing changes. This crate's own.
@@ -320,11 +311,14 @@ pub trait StreamCipher: Keystream {
         buf: &mut [u8],
         steps: &mut Steps,
     ) -> Result<(), StreamCipherError>
-        ensures accepted { IsOk result ↔ (Self.position self.old + length buf.old ≤ limit) }
-        ensures bytes { OnOk result
-            (buf.new ≡ xor_stream (stream self.old) (Self.position self.old) buf.old) }
-        ensures moved { OnOk result
-            (self.new ≡ at self.old (Self.position self.old + length buf.old)) }
+        ensures accepted { IsOk result
+            ↔ (Self.position self.old + length buf.old ≤ limit_of Self.modulus) }
+        ensures bytes { OnOk result (buf.new
+            ≡ xor_stream (keystream Self.modulus (Self.block_at (Self.fixed self.old)))
+            (Self.position self.old) buf.old) }
+        ensures fixed { OnOk result (Self.fixed self.new ≡ Self.fixed self.old) }
+        ensures position { OnOk result
+            (Self.position self.new ≡ Self.position self.old + length buf.old) }
         ensures steps { OnOk result
             (Grows (cost (Self.position self.old) (length buf.old)) steps.old steps.new) }
         ensures refused { OnErr result
@@ -333,11 +327,14 @@ pub trait StreamCipher: Keystream {
     /// XORs bytes with the keystream (RFC 8439, section 2.4). `Err` exactly where the bytes would pass the limit; then
     /// nothing changes. Decryption is the same call.
     final fn try_apply_keystream(&mut self, buf: &mut [u8]) -> Result<(), StreamCipherError>
-        ensures accepted { IsOk result ↔ (Self.position self.old + length buf.old ≤ limit) }
-        ensures bytes { OnOk result
-            (buf.new ≡ xor_stream (stream self.old) (Self.position self.old) buf.old) }
-        ensures moved { OnOk result
-            (self.new ≡ at self.old (Self.position self.old + length buf.old)) }
+        ensures accepted { IsOk result
+            ↔ (Self.position self.old + length buf.old ≤ limit_of Self.modulus) }
+        ensures bytes { OnOk result (buf.new
+            ≡ xor_stream (keystream Self.modulus (Self.block_at (Self.fixed self.old)))
+            (Self.position self.old) buf.old) }
+        ensures fixed { OnOk result (Self.fixed self.new ≡ Self.fixed self.old) }
+        ensures position { OnOk result
+            (Self.position self.new ≡ Self.position self.old + length buf.old) }
         ensures refused { OnErr result ((buf.new ≡ buf.old) × (self.new ≡ self.old)) }
     {
         let mut steps = Steps::new();
@@ -347,11 +344,14 @@ pub trait StreamCipher: Keystream {
     /// Writes the keystream over the bytes: each becomes the keystream's byte at its position. `Err` exactly where the
     /// bytes would pass the limit; then nothing changes.
     final fn try_write_keystream(&mut self, buf: &mut [u8]) -> Result<(), StreamCipherError>
-        ensures accepted { IsOk result ↔ (Self.position self.old + length buf.old ≤ limit) }
-        ensures bytes { OnOk result
-            (buf.new ≡ stream_part (stream self.old) (Self.position self.old) (length buf.old)) }
-        ensures moved { OnOk result
-            (self.new ≡ at self.old (Self.position self.old + length buf.old)) }
+        ensures accepted { IsOk result
+            ↔ (Self.position self.old + length buf.old ≤ limit_of Self.modulus) }
+        ensures bytes { OnOk result (buf.new
+            ≡ stream_part (keystream Self.modulus (Self.block_at (Self.fixed self.old)))
+            (Self.position self.old) (length buf.old)) }
+        ensures fixed { OnOk result (Self.fixed self.new ≡ Self.fixed self.old) }
+        ensures position { OnOk result
+            (Self.position self.new ≡ Self.position self.old + length buf.old) }
         ensures refused { OnErr result ((buf.new ≡ buf.old) × (self.new ≡ self.old)) }
     {
         if let Err(refusal) = self.check_remaining(buf.len()) {
@@ -376,11 +376,13 @@ pub trait StreamCipher: Keystream {
         output: &mut [u8],
     ) -> Result<(), StreamCipherError>
         ensures accepted { IsOk result ↔ ((length input.now ≡ length output.old)
-            × (Self.position self.old + length input.now ≤ limit)) }
-        ensures bytes { OnOk result
-            (output.new ≡ xor_stream (stream self.old) (Self.position self.old) input.now) }
-        ensures moved { OnOk result
-            (self.new ≡ at self.old (Self.position self.old + length input.now)) }
+            × (Self.position self.old + length input.now ≤ limit_of Self.modulus)) }
+        ensures bytes { OnOk result (output.new
+            ≡ xor_stream (keystream Self.modulus (Self.block_at (Self.fixed self.old)))
+            (Self.position self.old) input.now) }
+        ensures fixed { OnOk result (Self.fixed self.new ≡ Self.fixed self.old) }
+        ensures position { OnOk result
+            (Self.position self.new ≡ Self.position self.old + length input.now) }
         ensures refused { OnErr result ((output.new ≡ output.old) × (self.new ≡ self.old)) }
     {
         if input.len() != output.len() {
@@ -402,19 +404,24 @@ pub trait StreamCipher: Keystream {
 
     /// XORs bytes with the keystream (RFC 8439, section 2.4). The caller proves that they stay within the limit.
     final fn apply_keystream(&mut self, buf: &mut [u8])
-        requires { Self.position self.old + length buf.old ≤ limit }
-        ensures bytes { buf.new ≡ xor_stream (stream self.old) (Self.position self.old) buf.old }
-        ensures moved { self.new ≡ at self.old (Self.position self.old + length buf.old) }
+        requires { Self.position self.old + length buf.old ≤ limit_of Self.modulus }
+        ensures bytes { buf.new
+            ≡ xor_stream (keystream Self.modulus (Self.block_at (Self.fixed self.old)))
+            (Self.position self.old) buf.old }
+        ensures fixed { Self.fixed self.new ≡ Self.fixed self.old }
+        ensures position { Self.position self.new ≡ Self.position self.old + length buf.old }
     {
         self.try_apply_keystream(buf).unwrap()
     }
 
     /// Writes the keystream over the bytes. The caller proves that they stay within the limit.
     final fn write_keystream(&mut self, buf: &mut [u8])
-        requires { Self.position self.old + length buf.old ≤ limit }
+        requires { Self.position self.old + length buf.old ≤ limit_of Self.modulus }
         ensures bytes { buf.new
-            ≡ stream_part (stream self.old) (Self.position self.old) (length buf.old) }
-        ensures moved { self.new ≡ at self.old (Self.position self.old + length buf.old) }
+            ≡ stream_part (keystream Self.modulus (Self.block_at (Self.fixed self.old)))
+            (Self.position self.old) (length buf.old) }
+        ensures fixed { Self.fixed self.new ≡ Self.fixed self.old }
+        ensures position { Self.position self.new ≡ Self.position self.old + length buf.old }
     {
         self.try_write_keystream(buf).unwrap()
     }
@@ -423,28 +430,21 @@ pub trait StreamCipher: Keystream {
     /// lengths are equal and that the bytes stay within the limit.
     final fn apply_keystream_b2b(&mut self, input: &[u8], output: &mut [u8])
         requires same { length input.now ≡ length output.old }
-        requires fits { Self.position self.old + length input.now ≤ limit }
+        requires fits { Self.position self.old + length input.now ≤ limit_of Self.modulus }
         ensures bytes { output.new
-            ≡ xor_stream (stream self.old) (Self.position self.old) input.now }
-        ensures moved { self.new ≡ at self.old (Self.position self.old + length input.now) }
+            ≡ xor_stream (keystream Self.modulus (Self.block_at (Self.fixed self.old)))
+            (Self.position self.old) input.now }
+        ensures fixed { Self.fixed self.new ≡ Self.fixed self.old }
+        ensures position { Self.position self.new ≡ Self.position self.old + length input.now }
     {
         self.try_apply_keystream_b2b(input, output).unwrap()
     }
 
     ghost first_is: { Self.first_position ≡ 0 };
 
-    ghost limit_is: { limit ≡ limit_of Self.modulus };
-
-    ghost stream_is: { (c : Self)
-        → stream c ≡ keystream Self.modulus (Self.block_at (Self.fixed c)) };
-
-    ghost at_position: { (c : Self) → at c (Self.position c) ≡ c };
-
-    ghost position_at: { (c : Self) (p : ℕ) → Self.position (at c p) ≡ p };
-
-    ghost stream_at: { (c : Self) (p : ℕ) → stream (at c p) ≡ stream c };
-
-    ghost at_at: { (c : Self) (p q : ℕ) → at (at c p) q ≡ at c q };
+    // Two ciphers with the same fixed part at the same position are equal.
+    ghost determined: { (a b : Self)
+        → Self.fixed a ≡ Self.fixed b → Self.position a ≡ Self.position b → a ≡ b };
 }
 
 /// A cipher whose position can be read and set. A position counts bytes from the start of the keystream.
@@ -452,20 +452,24 @@ pub trait StreamCipherSeek: StreamCipher {
     /// Moves to a position. `Err` exactly where the number is negative or past the limit; then nothing changes. The
     /// limit itself is accepted.
     fn try_seek<T: SeekNum>(&mut self, pos: T) -> Result<(), StreamCipherError>
-        ensures accepted { IsOk result ↔ IsSomeAnd (T.position pos) (λ p. p ≤ Self.limit) }
-        ensures moved { OnOk result (IfSome (T.position pos) (λ p. self.new ≡ Self.at self.old p)) }
+        ensures accepted { IsOk result
+            ↔ IsSomeAnd (T.position pos) (λ p. p ≤ limit_of Self.modulus) }
+        ensures fixed { OnOk result (Self.fixed self.new ≡ Self.fixed self.old) }
+        ensures position { OnOk result
+            (IfSome (T.position pos) (λ p. Self.position self.new ≡ p)) }
         ensures refused { OnErr result (self.new ≡ self.old) };
 
     /// The position; `Err` exactly where the type cannot represent it.
     fn try_current_pos<T: SeekNum>(&self) -> Result<T, OverflowError>
         ensures accepted { IsOk result ↔ (Self.position self.now ≤ T.greatest) }
         ensures value { IfOk result (λ number. T.position number ≡ Some (Self.position self.now)) }
-        ensures within { Self.position self.now ≤ Self.limit };
+        ensures within { Self.position self.now ≤ limit_of Self.modulus };
 
     /// Moves to a position. The caller proves that the number is not negative and within the limit.
     final fn seek<T: SeekNum>(&mut self, pos: T)
-        requires { IsSomeAnd (T.position pos) (λ p. p ≤ Self.limit) }
-        ensures { IfSome (T.position pos) (λ p. self.new ≡ Self.at self.old p) }
+        requires { IsSomeAnd (T.position pos) (λ p. p ≤ limit_of Self.modulus) }
+        ensures fixed { Self.fixed self.new ≡ Self.fixed self.old }
+        ensures position { IfSome (T.position pos) (λ p. Self.position self.new ≡ p) }
     {
         self.try_seek(pos).unwrap()
     }

@@ -93,27 +93,12 @@ impl<C: StreamCipherSeekCore + KeyIvInit> KeyIvInit for StreamCipherCoreWrapper<
 impl<C: StreamCipherSeekCore> StreamCipher for StreamCipherCoreWrapper<C> {
     ghost use Rattle.std.specs.Prelude.{refl};
 
-    ghost limit = { limit_of C.modulus };
-
-    ghost at = { λ w p. record w { position = p } };
-
-    ghost stream = { λ w p. keystream C.modulus (C.block_at w.fixed) p };
-
     ghost cost = { for_bytes C.PAR_BLOCKS C.par_cost C.one_cost };
 
     ghost first_is = { refl };
 
-    ghost limit_is = { refl };
-
-    ghost stream_is = { λ c. refl };
-
-    ghost at_position = { λ c. refl };
-
-    ghost position_at = { λ c p. refl };
-
-    ghost stream_at = { λ c p. refl };
-
-    ghost at_at = { λ c p q. refl };
+    ghost determined = { λ a b fixed position i.
+        record { fixed = fixed i; position = position i } };
 
     fn check_remaining(&self, len: usize) -> Result<(), StreamCipherError> {
         let blocks = if self.past {
@@ -182,8 +167,8 @@ impl<C: StreamCipherSeekCore> StreamCipherCoreWrapper<C> {
         requires { length bytes.old ≤ left_at self.old.position }
         ensures bytes { bytes.new ≡ xor_stream
             (keystream C.modulus (C.block_at self.old.fixed)) self.old.position bytes.old }
-        ensures moved { self.new
-            ≡ record self.old { position = self.old.position + length bytes.old } }
+        ensures fixed { self.new.fixed ≡ self.old.fixed }
+        ensures position { self.new.position ≡ self.old.position + length bytes.old }
     {
         let from = 64 - self.left as usize;
         xor_bytes(bytes, &self.buffer[from..from + bytes.len()]);
@@ -197,8 +182,8 @@ impl<C: StreamCipherSeekCore> StreamCipherCoreWrapper<C> {
         requires fits { self.old.position + length blocks.old ≤ limit_of C.modulus }
         ensures bytes { blocks.new ≡ xor_stream
             (keystream C.modulus (C.block_at self.old.fixed)) self.old.position blocks.old }
-        ensures moved { self.new
-            ≡ record self.old { position = self.old.position + length blocks.old } }
+        ensures fixed { self.new.fixed ≡ self.old.fixed }
+        ensures position { self.new.position ≡ self.old.position + length blocks.old }
         ensures steps { Grows
             (for_blocks C.PAR_BLOCKS C.par_cost C.one_cost
             (length blocks.old / 64) 0) steps.old steps.new }
@@ -216,8 +201,8 @@ impl<C: StreamCipherSeekCore> StreamCipherCoreWrapper<C> {
         requires fits { self.old.position + length bytes.old ≤ limit_of C.modulus }
         ensures bytes { bytes.new ≡ xor_stream
             (keystream C.modulus (C.block_at self.old.fixed)) self.old.position bytes.old }
-        ensures moved { self.new
-            ≡ record self.old { position = self.old.position + length bytes.old } }
+        ensures fixed { self.new.fixed ≡ self.old.fixed }
+        ensures position { self.new.position ≡ self.old.position + length bytes.old }
         ensures steps { Grows
             (for_call 0 (min 1 (length bytes.old))
             (min 1 (length bytes.old) * C.one_cost)) steps.old steps.new }
@@ -233,7 +218,8 @@ impl<C: StreamCipherSeekCore> StreamCipherCoreWrapper<C> {
     // Moves to a position. It makes the block that the position lies in, and none at the front of a block.
     fn move_to(&mut self, place: u128, steps: &mut Steps)
         requires { place ≤ limit_of C.modulus }
-        ensures moved { self.new ≡ record self.old { position = place } }
+        ensures fixed { self.new.fixed ≡ self.old.fixed }
+        ensures position { self.new.position ≡ place }
         ensures steps { Grows
             (for_call 0 (min 1 (place % 64))
             (min 1 (place % 64) * C.one_cost)) steps.old steps.new }

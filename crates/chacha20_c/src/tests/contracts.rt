@@ -22,8 +22,8 @@ use chacha20::{
 
 type Ietf20<B> = StreamCipherCoreWrapper<ChaChaCore<R20, Ietf, B>>;
 
-// A message under a key and a nonce, by any cipher. The proof rewrites by the clauses of two public contracts and by the
-// laws of ciphers, and knows nothing else.
+// A message under a key and a nonce, by any cipher. The proof rewrites by the clauses of two public contracts and by one
+// law of ciphers, and knows nothing else.
 fn encrypt<C: KeyIvInit + StreamCipher + Drop>(
     key: &C::Key,
     nonce: &C::Iv,

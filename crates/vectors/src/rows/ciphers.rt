@@ -1,7 +1,8 @@
 //! Rows of ciphers.
 
 ghost use Rattle.std.specs.Prelude.{◌≡◌, ◌≤◌, ◌<◌, ◌+◌, ◌^◌, ◌∷◌, [], length};
-ghost use Rattle.chacha20.specs.Keystream.{xor_stream};
+ghost use Rattle.chacha20.specs.Keystream.{keystream, xor_stream};
+ghost use Rattle.chacha20.specs.Limit.{limit_of};
 ghost use Rattle.vectors.specs.Rows.{AreEntered, AreEnteredBy, Keeps};
 
 use super::lists::{CipherList, Listed, wrong_list};
@@ -58,7 +59,7 @@ where
 fn enter_rows_of_ietf<C>(verdicts: &mut Verdicts) -> [u8; 16]
 where
     C: KeyIvInit<Key = Key, Iv = Nonce> + StreamCipherSeek + Listed + Drop,
-    requires { 2 ^ 32 ≤ C.limit }
+    requires { 2 ^ 32 ≤ limit_of C.modulus }
     ensures kept { Keeps verdicts.old verdicts.new }
     ensures entered { AreEntered (1 ∷ 4 ∷ 11 ∷ 12 ∷ 16 ∷ 18 ∷ 22 ∷ []) verdicts.new }
 {
@@ -76,7 +77,7 @@ where
 fn enter_rows_of_legacy<C>(verdicts: &mut Verdicts)
 where
     C: KeyIvInit<Key = Key, Iv = LegacyNonce> + StreamCipherSeek + Listed + Drop,
-    requires { 2 ^ 32 ≤ C.limit }
+    requires { 2 ^ 32 ≤ limit_of C.modulus }
     ensures kept { Keeps verdicts.old verdicts.new }
     ensures entered { AreEntered (6 ∷ 12 ∷ 22 ∷ []) verdicts.new }
 {
@@ -277,7 +278,7 @@ fn first_ciphertext<C: KeyIvInit<Key = Key, Iv = Nonce> + StreamCipher + Drop>()
 
 // There and back, and there again in pieces of 3.
 fn row_1<C: KeyIvInit<Key = Key, Iv = Nonce> + StreamCipherSeek + Drop>() -> Verdict
-    requires { 2 ^ 32 ≤ C.limit }
+    requires { 2 ^ 32 ≤ limit_of C.modulus }
 {
     let mut cipher = C::new(&[0x42; 32], &[0x24; 12]);
     let mut data = PLAINTEXT;
@@ -298,9 +299,11 @@ fn row_1<C: KeyIvInit<Key = Key, Iv = Nonce> + StreamCipherSeek + Drop>() -> Ver
 /// those of one application.
 pub fn apply_in_pieces<C: StreamCipher>(cipher: &mut C, bytes: &mut [u8], size: usize)
     requires some { 0 < size }
-    requires fits { C.position cipher.old + length bytes.old ≤ C.limit }
-    ensures bytes { bytes.new ≡ xor_stream (C.stream cipher.old) (C.position cipher.old) bytes.old }
-    ensures moved { cipher.new ≡ C.at cipher.old (C.position cipher.old + length bytes.old) }
+    requires fits { C.position cipher.old + length bytes.old ≤ limit_of C.modulus }
+    ensures bytes { bytes.new ≡ xor_stream (keystream C.modulus (C.block_at (C.fixed cipher.old)))
+        (C.position cipher.old) bytes.old }
+    ensures fixed { C.fixed cipher.new ≡ C.fixed cipher.old }
+    ensures position { C.position cipher.new ≡ C.position cipher.old + length bytes.old }
 {
     let mut done = 0;
     'pieces: while done < bytes.len() {
@@ -331,7 +334,7 @@ static X_NONCE: XNonce = *b"@ABCDEFGHIJKLMNOPQRSTUVX";
 fn row_6<C>() -> Verdict
 where
     C: KeyIvInit<Key = Key, Iv = LegacyNonce> + StreamCipherSeek + Listed + Drop,
-    requires { 2 ^ 32 ≤ C.limit }
+    requires { 2 ^ 32 ≤ limit_of C.modulus }
 {
     let mut cipher = C::new(&FROM_1, &LEGACY_NONCE);
     let start = wrong_list(&mut cipher, &ROW_6_START);
@@ -384,7 +387,7 @@ fn row_11<C: KeyIvInit<Key = Key, Iv = Nonce> + StreamCipherSeek + Drop>() -> Ve
 
 // Positions that a type can't say.
 fn row_12<C: KeyIvInit<Key = Key, Iv = Nonce> + StreamCipherSeek + Drop>() -> Verdict
-    requires { 2 ^ 32 ≤ C.limit }
+    requires { 2 ^ 32 ≤ limit_of C.modulus }
 {
     let mut cipher = C::new(&COUNTING, &[0; 12]);
     cipher.seek(2147483648u32);

@@ -1,6 +1,7 @@
 //! Ends of streams and greatest values, for any cipher of a kind: called directly, and by lists of calls.
 
 ghost use Rattle.std.specs.Prelude.{◌≤◌, ◌^◌, length};
+ghost use Rattle.chacha20.specs.Limit.{limit_of};
 
 use super::direct::{Directly, all_done};
 use crate::rows::ciphers::is_at;
@@ -538,7 +539,7 @@ pub fn wrong_legacy_groups<C: Listed>(cipher: &mut C) -> Verdict {
 
 /// The same ends of a cipher without rounds, by direct calls with positions of 64 and of 32 bits.
 pub fn wrong_zero_types<C: StreamCipherSeek>(cipher: &mut C) -> Verdict
-    requires { 274877906944 ≤ C.limit }
+    requires { 274877906944 ≤ limit_of C.modulus }
 {
     cipher.seek(274877906928u64);
     let last = wrong_list(&mut Directly(cipher), &[LAST_16]);
@@ -567,7 +568,7 @@ fn wrong_limit<C: StreamCipherSeek>(cipher: &mut C) -> Verdict {
 pub fn wrong_ietf_types<C>() -> Verdict
 where
     C: KeyIvInit<Key = Key, Iv = Nonce> + StreamCipherSeek + Drop,
-    requires { 2 ^ 32 ≤ C.limit }
+    requires { 2 ^ 32 ≤ limit_of C.modulus }
 {
     let mut cipher = C::new(&COUNTING, &[0; 12]);
     let far = cipher.try_seek(usize::MAX).is_err() && is_at::<C, u64>(&cipher, Some(0));
@@ -584,7 +585,7 @@ where
 pub fn wrong_legacy_types<C>() -> Verdict
 where
     C: KeyIvInit<Key = Key, Iv = LegacyNonce> + StreamCipherSeek + Drop,
-    requires { 2 ^ 64 ≤ C.limit }
+    requires { 2 ^ 64 ≤ limit_of C.modulus }
 {
     let mut cipher = C::new(&FROM_1, &LEGACY_NONCE);
     cipher.seek(usize::MAX);

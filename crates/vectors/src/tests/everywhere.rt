@@ -1,6 +1,7 @@
 //! Every test of a kind of cipher or generator, over each backend and a user's own. A proof meets each core once, here.
 
 ghost use Rattle.std.specs.Prelude.{◌≤◌, ◌^◌};
+ghost use Rattle.chacha20.specs.Limit.{limit_of};
 
 use super::beside::wrong_beside;
 use super::direct::{Directly, Fresh, stream_ends};
@@ -133,7 +134,7 @@ where
 fn wrong_ietf_calls<C>() -> Verdict
 where
     C: KeyIvInit<Key = Key, Iv = Nonce> + StreamCipherSeek + Listed + Drop,
-    requires { 2 ^ 32 ≤ C.limit }
+    requires { 2 ^ 32 ≤ limit_of C.modulus }
 {
     first_failure(&[
         ends::wrong_ietf_types::<C>(),

@@ -1,6 +1,7 @@
 //! Positions, in each type that can say them, of any cipher of RFC 8439.
 
 ghost use Rattle.std.specs.Prelude.{◌≤◌, ◌^◌};
+ghost use Rattle.chacha20.specs.Limit.{limit_of};
 
 use super::direct::Directly;
 use crate::rows::ciphers::is_at;
@@ -100,7 +101,7 @@ fn given<C: Listed>(cipher: &mut C, bytes: &mut [u8; 70000], call: CipherCall) -
 fn without_refusals<C>() -> Verdict
 where
     C: KeyIvInit<Key = Key, Iv = Nonce> + StreamCipherSeek + Drop,
-    requires { 2 ^ 32 ≤ C.limit }
+    requires { 2 ^ 32 ≤ limit_of C.modulus }
 {
     let mut cipher = C::new(&[0; 32], &[0; 12]);
     let mut written = [9; 4];
@@ -127,7 +128,7 @@ where
 pub fn wrong_positions<C>() -> Verdict
 where
     C: KeyIvInit<Key = Key, Iv = Nonce> + StreamCipherSeek + Listed + Drop,
-    requires { 2 ^ 32 ≤ C.limit }
+    requires { 2 ^ 32 ≤ limit_of C.modulus }
 {
     let mut cipher = C::new(&COUNTING, &[0; 12]);
     let places = wrong_places(&mut cipher);

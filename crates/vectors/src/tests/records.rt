@@ -1,7 +1,8 @@
 //! Code as a user writes it, over any cipher whose position can be set.
 
 ghost use Rattle.std.specs.Prelude.{◌≡◌, ◌↔◌, ◌≤◌, ◌+◌, ◌*◌, length, IsOk, OnOk, OnErr};
-ghost use Rattle.chacha20.specs.Keystream.{xor_stream};
+ghost use Rattle.chacha20.specs.Keystream.{keystream, xor_stream};
+ghost use Rattle.chacha20.specs.Limit.{limit_of};
 
 use crate::rows::{COUNTING, Verdict, failed};
 use chacha20::cipher::{KeyIvInit, StreamCipher, StreamCipherError, StreamCipherSeek};
@@ -14,11 +15,14 @@ fn encrypt_record<S: StreamCipherSeek>(
     k: u64,
     record: &mut [u8],
 ) -> Result<(), StreamCipherError>
-    ensures accepted { IsOk result ↔ (k * length «record».old + length «record».old ≤ S.limit) }
+    ensures accepted { IsOk result
+        ↔ (k * length «record».old + length «record».old ≤ limit_of S.modulus) }
     ensures bytes { OnOk result («record».new
-        ≡ xor_stream (S.stream cipher.old) (k * length «record».old) «record».old) }
-    ensures moved { OnOk result (cipher.new
-        ≡ S.at cipher.old (k * length «record».old + length «record».old)) }
+        ≡ xor_stream (keystream S.modulus (S.block_at (S.fixed cipher.old)))
+        (k * length «record».old) «record».old) }
+    ensures fixed { OnOk result (S.fixed cipher.new ≡ S.fixed cipher.old) }
+    ensures position { OnOk result
+        (S.position cipher.new ≡ k * length «record».old + length «record».old) }
     ensures refused { OnErr result ((«record».new ≡ «record».old) × (cipher.new ≡ cipher.old)) }
 {
     let len = record.len() as u128;

@@ -20,44 +20,50 @@ returns-in-Apply g c =
     let s = setting g.C.Keystream.modulus g.C.Keystream.block_at c.args.input.now in
     let w = c.args.cipher.now in
     let inside = rw c.in-Apply.is at c.requires in
+    let call = c.try_apply_keystream in
     ap (cipher_outcome s w c.args.data.now) c.in-Apply.is
     ∙ ranged-is s w _ c.args.data.now _ (λ n. xor_stream (s.stream w.fixed) w.position) c.in-Apply.at c.in-Apply.len _
-    c.try_apply_keystream.result _ (omega arith) inside c.try_apply_keystream.ensures.accepted c.try_apply_keystream.ensures.bytes
-    c.try_apply_keystream.ensures.moved c.try_apply_keystream.ensures.refused c.answer-in-Apply.ensures.done c.answer-in-Apply.ensures.refused
+    call.result _ (omega arith) inside call.ensures.accepted call.ensures.bytes call.ensures.fixed call.ensures.position
+    call.ensures.refused c.answer-in-Apply.ensures.done c.answer-in-Apply.ensures.refused
 
 pub returns-in-Write : goal.returns-in-Write
 returns-in-Write g c =
     let s = setting g.C.Keystream.modulus g.C.Keystream.block_at c.args.input.now in
     let w = c.args.cipher.now in
     let inside = rw c.in-Write.is at c.requires in
+    let call = c.try_write_keystream in
     ap (cipher_outcome s w c.args.data.now) c.in-Write.is
     ∙ ranged-is s w _ c.args.data.now _ (λ n old. stream_part (s.stream w.fixed) w.position n) c.in-Write.at c.in-Write.len _
-    c.try_write_keystream.result _ (omega arith) inside c.try_write_keystream.ensures.accepted c.try_write_keystream.ensures.bytes
-    c.try_write_keystream.ensures.moved c.try_write_keystream.ensures.refused c.answer-in-Write.ensures.done c.answer-in-Write.ensures.refused
+    call.result _ (omega arith) inside call.ensures.accepted call.ensures.bytes call.ensures.fixed call.ensures.position
+    call.ensures.refused c.answer-in-Write.ensures.done c.answer-in-Write.ensures.refused
 
 pub returns-in-ApplyFrom : goal.returns-in-ApplyFrom
 returns-in-ApplyFrom g c =
     let s = setting g.C.Keystream.modulus g.C.Keystream.block_at c.args.input.now in
     let inside = rw c.in-ApplyFrom.is at c.requires in
+    let call = c.try_apply_keystream_b2b in
     ap (cipher_outcome s c.args.cipher.now c.args.data.now) c.in-ApplyFrom.is
     ∙ apply_from-is s c.args.cipher.now _ c.args.data.now _ c.in-ApplyFrom.from c.in-ApplyFrom.from_len c.in-ApplyFrom.at c.in-ApplyFrom.len _ _
-    c.try_apply_keystream_b2b.result _ (omega arith) (omega arith) inside.0 inside.1 c.try_apply_keystream_b2b.ensures.accepted c.try_apply_keystream_b2b.ensures.bytes
-    c.try_apply_keystream_b2b.ensures.moved c.try_apply_keystream_b2b.ensures.refused c.answer-in-ApplyFrom.ensures.done c.answer-in-ApplyFrom.ensures.refused
+    call.result _ (omega arith) (omega arith) inside.0 inside.1 call.ensures.accepted call.ensures.bytes call.ensures.fixed
+    call.ensures.position call.ensures.refused c.answer-in-ApplyFrom.ensures.done c.answer-in-ApplyFrom.ensures.refused
 
 pub returns-in-Seek : goal.returns-in-Seek
 returns-in-Seek g c =
     let s = setting g.C.Keystream.modulus g.C.Keystream.block_at c.args.input.now in
+    let call = c.try_seek in
     ap (cipher_outcome s c.args.cipher.now c.args.data.now) c.in-Seek.is
-    ∙ seek-is s c.args.cipher.now _ c.args.data.now c.in-Seek.position c.try_seek.result _ c.try_seek.ensures.accepted c.try_seek.ensures.moved c.try_seek.ensures.refused
-    c.answer-in-Seek.ensures.done c.answer-in-Seek.ensures.refused
+    ∙ seek-is s c.args.cipher.now _ c.args.data.now c.in-Seek.position call.result _ call.ensures.accepted call.ensures.fixed
+    call.ensures.position call.ensures.refused c.answer-in-Seek.ensures.done c.answer-in-Seek.ensures.refused
 
 pub returns-in-SeekI32 : goal.returns-in-SeekI32
 returns-in-SeekI32 g c =
     let s = setting g.C.Keystream.modulus g.C.Keystream.block_at c.args.input.now in
     let fits : SFits w32 c.in-SeekI32.position = search rules in
+    let call = c.try_seek-in-SeekI32 in
     ap (cipher_outcome s c.args.cipher.now c.args.data.now) (c.in-SeekI32.is ∙ ap SeekI32 (sym (to_z-of_z w32 c.in-SeekI32.position fits)))
-    ∙ seek_i32-is s c.args.cipher.now _ c.args.data.now (to_z w32 (of_z w32 c.in-SeekI32.position)) c.try_seek-in-SeekI32.result _ c.try_seek-in-SeekI32.ensures.accepted
-    c.try_seek-in-SeekI32.ensures.moved c.try_seek-in-SeekI32.ensures.refused c.answer-in-SeekI32.ensures.done c.answer-in-SeekI32.ensures.refused
+    ∙ seek_i32-is s c.args.cipher.now _ c.args.data.now (to_z w32 (of_z w32 c.in-SeekI32.position)) call.result _
+    call.ensures.accepted call.ensures.fixed call.ensures.position call.ensures.refused
+    c.answer-in-SeekI32.ensures.done c.answer-in-SeekI32.ensures.refused
 
 pub returns-in-Ok : goal.returns-in-Ok
 returns-in-Ok g c =

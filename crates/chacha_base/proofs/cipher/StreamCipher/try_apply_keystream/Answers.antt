@@ -7,8 +7,11 @@ returns-clause-accepted g c = c.try_apply_keystream_counted.ensures.accepted
 pub returns-clause-bytes : goal.returns-clause-bytes
 returns-clause-bytes g c = c.try_apply_keystream_counted.ensures.bytes
 
-pub returns-clause-moved : goal.returns-clause-moved
-returns-clause-moved g c = c.try_apply_keystream_counted.ensures.moved
+pub returns-clause-fixed : goal.returns-clause-fixed
+returns-clause-fixed g c = c.try_apply_keystream_counted.ensures.fixed
+
+pub returns-clause-position : goal.returns-clause-position
+returns-clause-position g c = c.try_apply_keystream_counted.ensures.position
 
 pub returns-clause-refused : goal.returns-clause-refused
 returns-clause-refused g c =

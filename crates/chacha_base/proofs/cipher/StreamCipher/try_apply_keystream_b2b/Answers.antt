@@ -1,61 +1,58 @@
-use Rattle.std.proofs.Common.{◌≡◌, ◌+◌, ◌≤◌, length, take, add-zero, arith, refl, sym, ap, subst, ◌∙◌}
+use Rattle.std.proofs.Common.{◌≡◌, ◌+◌, ◌≤◌, length, take, arith, refl, sym, ap, subst, ◌∙◌}
 use Rattle.std.proofs.Math.Seq.{take-length}
 use Rattle.std.proofs.lemmas.Bool.{false≢true}
-use Rattle.chacha_base.specs.Keystream.{xor_stream}
-use Rattle.chacha_base.proofs.CipherLemmas.{position_is, moved_on}
+use Rattle.chacha_base.specs.Keystream.{keystream, xor_stream}
+use Rattle.chacha_base.specs.Limit.{limit_of}
+use Rattle.chacha_base.proofs.CipherLemmas.{moved_on}
 use Rattle.chacha_base.proofs.PieceLemmas.{xor_stream-written, piece-within, piece-long, piece-fits}
 use Rattle.chacha_base.proofs.cipher.StreamCipher.try_apply_keystream_b2b.Goals as goal
 
 pub pieces-init : goal.pieces-init
-pieces-init g c = record { within = omega arith; moved = rw add-zero (sym (g.met.Self.StreamCipher.at_position c.args.self.now)); bytes = refl }
+pieces-init g c = record { within = omega arith; fixed = refl; position = omega arith; bytes = refl }
 
 pub apply_keystream-requires : goal.apply_keystream-requires
 apply_keystream-requires g c =
-    let cipher = g.Self.StreamCipher in
-    let position = g.Self.Keystream.position in
-    let place : position c.pieces.self ≡ position c.args.self.now + c.pieces.done =
-    position_is cipher.at position _ _ _ g.met.Self.StreamCipher.position_at c.pieces.invariant.moved in
-    let inside = piece-within 65536 (length c.args.input.now) c.pieces.done c.min.result c.min.ensures c.pieces.invariant.within in
+    let len = length c.args.input.now in
+    let inside = piece-within 65536 len c.pieces.done c.min.result c.min.ensures c.pieces.invariant.within in
     let size = ap length c.copy_from_slice.ensures.after ∙ piece-long c.pieces.done c.min.result c.args.input.now inside in
-    piece-fits _ (position c.args.self.now) c.pieces.done c.min.result _ (length c.args.input.now) cipher.limit place size inside (c.in_default.ensures.accepted.0 refl)
+    piece-fits _ (g.Self.Keystream.position c.args.self.now) c.pieces.done c.min.result _ len (limit_of g.Self.Keystream.modulus)
+    c.pieces.invariant.position size inside (c.in_default.ensures.accepted.0 refl)
 
 pub pieces-preserved : goal.pieces-preserved
 pieces-preserved g c =
-    let cipher = g.Self.StreamCipher in
-    let position = g.Self.Keystream.position in
-    let laws = g.met.Self.StreamCipher in
+    let cipher = g.Self.Keystream in
     let old = c.args.self.now in
-    let p = position old in
+    let stream = keystream cipher.modulus (cipher.block_at (cipher.fixed old)) in
     let done = c.pieces.done in
     let n = c.min.result in
-    let before = c.pieces.invariant.moved in
-    let place : position c.pieces.self ≡ p + done = position_is cipher.at position _ _ _ laws.position_at before in
-    let same : cipher.stream c.pieces.self ≡ cipher.stream old = ap cipher.stream before ∙ laws.stream_at old (p + done) in
-    let inside = piece-within 65536 (length c.args.input.now) done n c.min.ensures c.pieces.invariant.within in
+    let before = c.pieces.invariant in
+    let inside = piece-within 65536 (length c.args.input.now) done n c.min.ensures before.within in
     let size : length c.copy_from_slice.new.self ≡ n = ap length c.copy_from_slice.ensures.after ∙ piece-long done n c.args.input.now inside in
     record {
       within = inside;
-      moved = moved_on cipher.at position old c.pieces.self _ p done n laws.position_at laws.at_at before (rw (← size) c.apply_keystream.ensures.moved);
-      bytes = xor_stream-written (cipher.stream old) p done n _ c.args.input.now c.pieces.output _ c.pieces.invariant.within
-          (subst (λ m. done ≤ m) (c.if-input-output.false ∙ sym c.pieces.auto.output) c.pieces.invariant.within) (c.apply_keystream.auto.buf ∙ size) c.pieces.invariant.bytes
-          (rw (same, place, c.copy_from_slice.ensures.after) at c.apply_keystream.ensures.bytes);
+      fixed = c.apply_keystream.ensures.fixed ∙ before.fixed;
+      position = moved_on _ _ (cipher.position old) done n _ before.position size c.apply_keystream.ensures.position;
+      bytes = xor_stream-written stream (cipher.position old) done n _ c.args.input.now c.pieces.output _ before.within
+          (subst (λ m. done ≤ m) (c.if-input-output.false ∙ sym c.pieces.auto.output) before.within) (c.apply_keystream.auto.buf ∙ size) before.bytes
+          (rw (before.fixed, before.position, c.copy_from_slice.ensures.after) at c.apply_keystream.ensures.bytes);
     }
 
 pub returns-clause-bytes : goal.returns-clause-bytes
 returns-clause-bytes g c =
-    let cipher = g.Self.StreamCipher in
-    let position = g.Self.Keystream.position in
+    let cipher = g.Self.Keystream in
     let old = c.args.self.now in
+    let stream = keystream cipher.modulus (cipher.block_at (cipher.fixed old)) in
     let output_done : c.pieces.done ≡ length c.pieces.output = omega arith in
     let input_done : c.pieces.done ≡ length c.args.input.now = omega arith in
     sym (ap (λ n. take n c.pieces.output) output_done ∙ take-length c.pieces.output)
     ∙ c.pieces.invariant.bytes
-    ∙ ap (xor_stream (cipher.stream old) (position old)) (ap (λ n. take n c.args.input.now) input_done ∙ take-length c.args.input.now)
+    ∙ ap (xor_stream stream (cipher.position old)) (ap (λ n. take n c.args.input.now) input_done ∙ take-length c.args.input.now)
 
-pub returns-clause-moved : goal.returns-clause-moved
-returns-clause-moved g c =
-    let all : c.pieces.done ≡ length c.args.input.now = omega arith in
-    rw (← all) c.pieces.invariant.moved
+pub returns-clause-fixed : goal.returns-clause-fixed
+returns-clause-fixed g c = c.pieces.invariant.fixed
+
+pub returns-clause-position : goal.returns-clause-position
+returns-clause-position g c = omega (arith, c.pieces.invariant.position)
 
 pub returns-then-input-output-clause-refused : goal.returns-then-input-output-clause-refused
 returns-then-input-output-clause-refused g c = (refl, refl)

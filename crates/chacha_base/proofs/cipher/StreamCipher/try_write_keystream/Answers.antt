@@ -1,47 +1,45 @@
-use Rattle.std.proofs.Common.{◌≡◌, ◌+◌, ◌≤◌, ◌-◌, length, take, drop, replicate, add-zero, arith, refl, sym, ap, subst, ◌∙◌}
+use Rattle.std.proofs.Common.{◌≡◌, ◌+◌, ◌≤◌, ◌-◌, length, take, drop, replicate, arith, refl, sym, ap, subst, ◌∙◌}
 use Rattle.std.proofs.Math.Seq.{take-length}
-use Rattle.chacha_base.proofs.CipherLemmas.{position_is, moved_on}
+use Rattle.chacha_base.specs.Keystream.{keystream}
+use Rattle.chacha_base.specs.Limit.{limit_of}
+use Rattle.chacha_base.proofs.CipherLemmas.{moved_on}
 use Rattle.chacha_base.proofs.KeystreamLemmas.{xor_stream-zeros}
 use Rattle.chacha_base.proofs.PieceLemmas.{stream_part-written, piece-within, piece-long, piece-fits}
 use Rattle.chacha_base.proofs.cipher.StreamCipher.try_write_keystream.Goals as goal
 
 pub pieces-init : goal.pieces-init
-pieces-init g c = record { within = omega arith; moved = rw add-zero (sym (g.met.Self.StreamCipher.at_position c.args.self.now)); bytes = refl }
+pieces-init g c = record { within = omega arith; fixed = refl; position = omega arith; bytes = refl }
 
 pub apply_keystream-requires : goal.apply_keystream-requires
 apply_keystream-requires g c =
-    let cipher = g.Self.StreamCipher in
     let position = g.Self.Keystream.position in
-    let place : position c.pieces.self ≡ position c.args.self.now + c.pieces.done =
-    position_is cipher.at position _ _ _ g.met.Self.StreamCipher.position_at c.pieces.invariant.moved in
+    let limit = limit_of g.Self.Keystream.modulus in
     let before : c.pieces.done ≤ length c.pieces.buf = subst (λ m. c.pieces.done ≤ m) (sym c.pieces.auto.buf) c.pieces.invariant.within in
     let inside = piece-within 65536 (length c.pieces.buf) c.pieces.done c.min.result c.min.ensures before in
     let size = c.fill.ensures.len ∙ piece-long c.pieces.done c.min.result c.pieces.buf inside in
-    piece-fits _ (position c.args.self.now) c.pieces.done c.min.result _ (length c.pieces.buf) cipher.limit place size inside
-    (subst (λ m. position c.args.self.now + m ≤ cipher.limit) (sym c.pieces.auto.buf) (c.in_default.ensures.accepted.0 refl))
+    piece-fits _ (position c.args.self.now) c.pieces.done c.min.result _ (length c.pieces.buf) limit c.pieces.invariant.position size inside
+    (subst (λ m. position c.args.self.now + m ≤ limit) (sym c.pieces.auto.buf) (c.in_default.ensures.accepted.0 refl))
 
 pub pieces-preserved : goal.pieces-preserved
 pieces-preserved g c =
-    let cipher = g.Self.StreamCipher in
-    let position = g.Self.Keystream.position in
-    let laws = g.met.Self.StreamCipher in
+    let cipher = g.Self.Keystream in
     let old = c.args.self.now in
-    let p = position old in
+    let stream = keystream cipher.modulus (cipher.block_at (cipher.fixed old)) in
+    let p = cipher.position old in
     let done = c.pieces.done in
     let n = c.min.result in
-    let before = c.pieces.invariant.moved in
-    let place : position c.pieces.self ≡ p + done = position_is cipher.at position _ _ _ laws.position_at before in
-    let same : cipher.stream c.pieces.self ≡ cipher.stream old = ap cipher.stream before ∙ laws.stream_at old (p + done) in
-    let front : done ≤ length c.pieces.buf = subst (λ m. done ≤ m) (sym c.pieces.auto.buf) c.pieces.invariant.within in
+    let before = c.pieces.invariant in
+    let front : done ≤ length c.pieces.buf = subst (λ m. done ≤ m) (sym c.pieces.auto.buf) before.within in
     let inside = piece-within 65536 (length c.pieces.buf) done n c.min.ensures front in
     let size : length c.fill.new.self ≡ n = c.fill.ensures.len ∙ piece-long done n c.pieces.buf inside in
     let filled : c.fill.new.self ≡ replicate (length (take (done + n - done) (drop done c.pieces.buf))) 0 = c.fill.ensures.after (λ y h. h) in
     let zeros : c.fill.new.self ≡ replicate n 0 = filled ∙ ap (λ m. replicate m 0) (piece-long done n c.pieces.buf inside) in
     record {
       within = subst (λ m. done + n ≤ m) c.pieces.auto.buf inside;
-      moved = moved_on cipher.at position old c.pieces.self _ p done n laws.position_at laws.at_at before (rw (← size) c.apply_keystream.ensures.moved);
-      bytes = stream_part-written (cipher.stream old) p done n _ c.pieces.buf _ front (c.apply_keystream.auto.buf ∙ size) c.pieces.invariant.bytes
-          ((rw (same, place, zeros) at c.apply_keystream.ensures.bytes) ∙ xor_stream-zeros (cipher.stream old) (p + done) n);
+      fixed = c.apply_keystream.ensures.fixed ∙ before.fixed;
+      position = moved_on _ _ p done n _ before.position size c.apply_keystream.ensures.position;
+      bytes = stream_part-written stream p done n _ c.pieces.buf _ front (c.apply_keystream.auto.buf ∙ size) before.bytes
+          ((rw (before.fixed, before.position, zeros) at c.apply_keystream.ensures.bytes) ∙ xor_stream-zeros stream (p + done) n);
     }
 
 pub returns-clause-bytes : goal.returns-clause-bytes
@@ -51,7 +49,8 @@ returns-clause-bytes g c =
     let bytes = rw all at c.pieces.invariant.bytes in
     sym (take-length c.pieces.buf) ∙ bytes ∙ rw same refl
 
-pub returns-clause-moved : goal.returns-clause-moved
-returns-clause-moved g c =
-    let all : c.pieces.done ≡ length c.args.buf.now = omega arith in
-    rw (← all) c.pieces.invariant.moved
+pub returns-clause-fixed : goal.returns-clause-fixed
+returns-clause-fixed g c = c.pieces.invariant.fixed
+
+pub returns-clause-position : goal.returns-clause-position
+returns-clause-position g c = omega (arith, c.pieces.invariant.position)

@@ -19,10 +19,13 @@ returns-clause-bytes g c =
 pub invariant_of-self : goal.invariant_of-self
 invariant_of-self g c = buffered-begun (length c.xor_bytes.new.output) c.self.invariant
 
-pub returns-clause-moved : goal.returns-clause-moved
-returns-clause-moved g c =
-    moved-begun c.args.self.now (g.C.Keystream.fixed c.self.inside.core) (blocks_made g.C.Keystream.modulus c.self.inside.past (g.C.StreamCipherCore.counter c.self.inside.core))
-    c.self.inside.left (length c.xor_bytes.new.output) (length c.args.bytes.now) (ap (λ v. v.fixed) c.self.view_is) (ap (λ v. v.position) c.self.view_is)
+pub returns-clause-fixed : goal.returns-clause-fixed
+returns-clause-fixed g c = ap (λ v. v.fixed) c.self.view_is
+
+pub returns-clause-position : goal.returns-clause-position
+returns-clause-position g c =
+    moved-begun (blocks_made g.C.Keystream.modulus c.self.inside.past (g.C.StreamCipherCore.counter c.self.inside.core)) c.self.inside.left
+    c.args.self.now.position (length c.xor_bytes.new.output) (length c.args.bytes.now) (ap (λ v. v.position) c.self.view_is)
     c.self.invariant.part c.self.invariant.begun c.requires c.xor_bytes.auto.output
 
 pub xor_bytes-requires : goal.xor_bytes-requires

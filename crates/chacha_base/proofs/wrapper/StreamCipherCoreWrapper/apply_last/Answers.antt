@@ -30,10 +30,13 @@ invariant_of-self g c =
     (c.requires.front some) some c.requires.part c.xor_bytes.auto.output c.requires.fits c.write_block_counted.ensures.counter (c.to_u64.ensures.value ∙ c.get_block_pos.ensures)
     (c.write_block_counted.ensures.block ∙ ap (λ f. block f counter) (sym c.write_block_counted.ensures.fixed))
 
-pub returns-then-not-is_empty-clause-moved : goal.returns-then-not-is_empty-clause-moved
-returns-then-not-is_empty-clause-moved g c =
+pub returns-then-not-is_empty-clause-fixed : goal.returns-then-not-is_empty-clause-fixed
+returns-then-not-is_empty-clause-fixed g c = c.write_block_counted.ensures.fixed ∙ ap (λ v. v.fixed) c.self.view_is
+
+pub returns-then-not-is_empty-clause-position : goal.returns-then-not-is_empty-clause-position
+returns-then-not-is_empty-clause-position g c =
     let some = some-not_empty (length c.args.bytes.now) c.is_empty.result c.is_empty.ensures c.if-not-is_empty.true in
-    moved-last c.args.self.now (g.C.Keystream.fixed c.write_block_counted.new.self) (length c.args.bytes.now) (length c.xor_bytes.new.output)
-    (g.C.StreamCipherCore.counter c.write_block_counted.new.self) c.to_u64.result c.self.invariant
-    (c.write_block_counted.ensures.fixed ∙ ap (λ v. v.fixed) c.self.view_is) (ap (λ v. v.position) c.self.view_is)
-    (c.requires.front some) some c.requires.part c.xor_bytes.auto.output c.requires.fits c.write_block_counted.ensures.counter (c.to_u64.ensures.value ∙ c.get_block_pos.ensures)
+    moved-last c.args.self.now.position (length c.args.bytes.now) (length c.xor_bytes.new.output)
+    (g.C.StreamCipherCore.counter c.write_block_counted.new.self) c.to_u64.result c.self.invariant (ap (λ v. v.position) c.self.view_is)
+    (c.requires.front some) some c.requires.part c.xor_bytes.auto.output c.requires.fits c.write_block_counted.ensures.counter
+    (c.to_u64.ensures.value ∙ c.get_block_pos.ensures)

@@ -27,10 +27,12 @@ invariant_of-self g c =
     (g.C.StreamCipherCore.counter c.apply_blocks_counted.new.self) c.to_u64.result c.self.invariant (ap (λ v. v.position) c.self.view_is)
     (c.requires.front some) some c.requires.whole c.requires.fits c.apply_blocks_counted.ensures.counter (c.to_u64.ensures.value ∙ c.get_block_pos.ensures)
 
-pub returns-then-not-is_empty-clause-moved : goal.returns-then-not-is_empty-clause-moved
-returns-then-not-is_empty-clause-moved g c =
+pub returns-then-not-is_empty-clause-fixed : goal.returns-then-not-is_empty-clause-fixed
+returns-then-not-is_empty-clause-fixed g c = c.apply_blocks_counted.ensures.fixed ∙ ap (λ v. v.fixed) c.self.view_is
+
+pub returns-then-not-is_empty-clause-position : goal.returns-then-not-is_empty-clause-position
+returns-then-not-is_empty-clause-position g c =
     let some = some-not_empty (length c.args.blocks.now) c.is_empty.result c.is_empty.ensures c.if-not-is_empty.true in
-    moved-whole c.args.self.now (g.C.Keystream.fixed c.apply_blocks_counted.new.self) (length c.args.blocks.now)
-    (g.C.StreamCipherCore.counter c.apply_blocks_counted.new.self) c.to_u64.result c.self.invariant
-    (c.apply_blocks_counted.ensures.fixed ∙ ap (λ v. v.fixed) c.self.view_is) (ap (λ v. v.position) c.self.view_is)
-    (c.requires.front some) some c.requires.whole c.requires.fits c.apply_blocks_counted.ensures.counter (c.to_u64.ensures.value ∙ c.get_block_pos.ensures)
+    moved-whole c.args.self.now.position (length c.args.blocks.now) (g.C.StreamCipherCore.counter c.apply_blocks_counted.new.self) c.to_u64.result
+    c.self.invariant (ap (λ v. v.position) c.self.view_is) (c.requires.front some) some c.requires.whole c.requires.fits
+    c.apply_blocks_counted.ensures.counter (c.to_u64.ensures.value ∙ c.get_block_pos.ensures)

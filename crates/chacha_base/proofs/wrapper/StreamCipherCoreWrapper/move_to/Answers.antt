@@ -1,5 +1,4 @@
-use Rattle.std.proofs.Common.{◌≡◌, ◌*◌, ◌/◌, ◌%◌, ◌-◌, ◌<◌, ◌≤◌, ◌⊎◌, ◌∙◌, min, nat_lt, inl, inr, ap, ap₂, sym, subst}
-use Rattle.chacha_base.specs.Cipher.{Cipher}
+use Rattle.std.proofs.Common.{◌≡◌, ◌*◌, ◌/◌, ◌%◌, ◌-◌, ◌<◌, ◌≤◌, ◌⊎◌, ◌∙◌, min, nat_lt, inl, inr, ap, sym, subst}
 use Rattle.chacha_base.specs.Buffered.{IsBuffered, blocks_made, position_of}
 use Rattle.chacha_base.specs.Counts.{Counts, Grows, for_call}
 use Rattle.chacha_base.proofs.BufferedLemmas.{sought-modulus, buffered-sought_front, moved-sought_front, buffered-sought_part, moved-sought_part}
@@ -34,9 +33,18 @@ invariant_of-self g c =
           w.if-used-gt0.false which here)
     ]
 
-pub returns-clause-moved : goal.returns-clause-moved
-returns-clause-moved g c =
+pub returns-clause-fixed : goal.returns-clause-fixed
+returns-clause-fixed g c =
+    let fixed = c.set_block_pos.ensures.fixed ∙ ap (λ v. v.fixed) c.self.view_is in
+    elim c.if-used-gt0.branch [
+      | then-used-gt0 w ↦ ap (λ s. g.C.Keystream.fixed s.core) w.self-inside-is ∙ w.write_block_counted.ensures.fixed ∙ fixed
+      | else-used-gt0 w ↦ ap (λ s. g.C.Keystream.fixed s.core) w.self-inside-is ∙ fixed
+    ]
+
+pub returns-clause-position : goal.returns-clause-position
+returns-clause-position g c =
     let modulus = g.C.Keystream.modulus in
+    let counter = g.C.StreamCipherCore.counter in
     let last = c.from-last.result in
     let place = c.args.place in
     let left = (64 - place % 64) % 64 in
@@ -45,19 +53,14 @@ returns-clause-moved g c =
     let which : ((last < place / 64) × (start ≡ 0)) ⊎ ((place / 64 ≤ last) × (start ≡ place / 64)) =
     elim c.if-block-last.branch [ then-block-last w ↦ inl (w.if-block-last.true, w.counter-is) | else-block-last w ↦ inr (w.if-block-last.false, w.counter-is) ] in
     let here = c.set_block_pos.ensures.counter ∙ c.from_u64.ensures in
-    let fixed = c.set_block_pos.ensures.fixed ∙ ap (λ v. v.fixed) c.self.view_is in
     elim c.if-used-gt0.branch [
       | then-used-gt0 w ↦
-          ap (λ s. let cipher : Cipher = record { fixed = g.C.Keystream.fixed s.core; position = position_of (blocks_made modulus (nat_lt (64 * last) place) (g.C.StreamCipherCore.counter s.core)) left } in cipher)
-          w.self-inside-is
-          ∙ ap₂ (λ f p. let cipher : Cipher = record { fixed = f; position = p } in cipher) (w.write_block_counted.ensures.fixed ∙ fixed)
-          (moved-sought_part modulus last place start (g.C.StreamCipherCore.counter c.set_block_pos.new.self) (g.C.StreamCipherCore.counter w.write_block_counted.new.self)
-          size c.requires w.if-used-gt0.true which here w.write_block_counted.ensures.counter)
+          ap (λ s. position_of (blocks_made modulus (nat_lt (64 * last) place) (counter s.core)) left) w.self-inside-is
+          ∙ moved-sought_part modulus last place start (counter c.set_block_pos.new.self) (counter w.write_block_counted.new.self)
+          size c.requires w.if-used-gt0.true which here w.write_block_counted.ensures.counter
       | else-used-gt0 w ↦
-          ap (λ s. let cipher : Cipher = record { fixed = g.C.Keystream.fixed s.core; position = position_of (blocks_made modulus (nat_lt (64 * last) place) (g.C.StreamCipherCore.counter s.core)) left } in cipher)
-          w.self-inside-is
-          ∙ ap₂ (λ f p. let cipher : Cipher = record { fixed = f; position = p } in cipher) fixed
-          (moved-sought_front modulus last place start (g.C.StreamCipherCore.counter c.set_block_pos.new.self) size c.requires w.if-used-gt0.false which here)
+          ap (λ s. position_of (blocks_made modulus (nat_lt (64 * last) place) (counter s.core)) left) w.self-inside-is
+          ∙ moved-sought_front modulus last place start (counter c.set_block_pos.new.self) size c.requires w.if-used-gt0.false which here
     ]
 
 pub returns-clause-steps : goal.returns-clause-steps

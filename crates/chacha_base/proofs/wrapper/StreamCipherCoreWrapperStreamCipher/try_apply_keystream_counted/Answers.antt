@@ -15,15 +15,14 @@ returns-clause-bytes g c =
     let whole = c.apply_whole.new.self in
     let blocks = c.split_at_mut-blocks.result.0.now in
     let last = c.split_at_mut-blocks.result.1.now in
-    let fixed_begun = ap (λ s. s.fixed) c.apply_begun.ensures.moved in
-    let fixed_whole = ap (λ s. s.fixed) c.apply_whole.ensures.moved in
+    let fixed_begun = c.apply_begun.ensures.fixed in
     xor_stream-parts (keystream modulus (block c.args.self.now.fixed)) c.args.self.now.position begun.position c.args.buf.now
     c.split_at_mut-front.result.0.now c.split_at_mut-front.result.1.now _ _ c.split_at_mut-front.ensures.value
-    (ap (λ s. s.position) c.apply_begun.ensures.moved) c.apply_begun.ensures.bytes
+    c.apply_begun.ensures.position c.apply_begun.ensures.bytes
     (xor_stream-parts (keystream modulus (block c.args.self.now.fixed)) begun.position whole.position c.split_at_mut-front.result.1.now blocks last _ _
-    c.split_at_mut-blocks.ensures.value (ap (λ s. s.position) c.apply_whole.ensures.moved)
+    c.split_at_mut-blocks.ensures.value c.apply_whole.ensures.position
     (c.apply_whole.ensures.bytes ∙ ap (λ f. xor_stream (keystream modulus (block f)) begun.position blocks) fixed_begun)
-    (c.apply_last.ensures.bytes ∙ ap (λ f. xor_stream (keystream modulus (block f)) whole.position last) (fixed_whole ∙ fixed_begun)))
+    (c.apply_last.ensures.bytes ∙ ap (λ f. xor_stream (keystream modulus (block f)) whole.position last) (c.apply_whole.ensures.fixed ∙ fixed_begun)))
 
 pub returns-clause-steps : goal.returns-clause-steps
 returns-clause-steps g c =
@@ -38,11 +37,14 @@ returns-clause-steps g c =
 pub returns-clause-accepted : goal.returns-clause-accepted
 returns-clause-accepted g c = c.in_default.ensures.accepted
 
-pub returns-clause-moved : goal.returns-clause-moved
-returns-clause-moved g c =
+pub returns-clause-fixed : goal.returns-clause-fixed
+returns-clause-fixed g c = c.apply_last.ensures.fixed ∙ c.apply_whole.ensures.fixed ∙ c.apply_begun.ensures.fixed
+
+pub returns-clause-position : goal.returns-clause-position
+returns-clause-position g c =
     let rest = length c.split_at_mut-front.result.1.now in
-    moved-parts c.args.self.now c.apply_begun.new.self c.apply_last.new.self _ rest _ c.apply_begun.ensures.moved
-    (moved-parts c.apply_begun.new.self c.apply_whole.new.self c.apply_last.new.self _ _ rest c.apply_whole.ensures.moved c.apply_last.ensures.moved
+    moved-parts c.args.self.now.position c.apply_begun.new.self.position c.apply_last.new.self.position _ rest _ c.apply_begun.ensures.position
+    (moved-parts c.apply_begun.new.self.position c.apply_whole.new.self.position c.apply_last.new.self.position _ _ rest c.apply_whole.ensures.position c.apply_last.ensures.position
     (parts-all rest _ _ _ c.split_at_mut-blocks.ensures.front_len c.split_at_mut-blocks.ensures.back_len))
     (parts-all (length c.args.buf.now) _ _ _ c.split_at_mut-front.ensures.front_len c.split_at_mut-front.ensures.back_len)
 
@@ -61,14 +63,14 @@ apply_whole-requires-clause-whole g c = whole-is (length c.split_at_mut-front.re
 pub apply_whole-requires-clause-front : goal.apply_whole-requires-clause-front
 apply_whole-requires-clause-front g c some =
     begun-front c.args.self.now.position c.apply_begun.new.self.position (length c.args.buf.now) c.begun-begun.result _ _ c.begun-begun.ensures
-    c.split_at_mut-front.ensures.front_len c.split_at_mut-front.ensures.back_len (ap (λ s. s.position) c.apply_begun.ensures.moved)
+    c.split_at_mut-front.ensures.front_len c.split_at_mut-front.ensures.back_len c.apply_begun.ensures.position
     (whole-some (length c.split_at_mut-front.result.1.now) _ c.split_at_mut-blocks.ensures.front_len some)
 
 pub apply_whole-requires-clause-fits : goal.apply_whole-requires-clause-fits
 apply_whole-requires-clause-fits g c =
     whole-fits c.apply_begun.new.self.position (length c.split_at_mut-front.result.1.now) _ (limit_of g.C.Keystream.modulus) c.split_at_mut-blocks.ensures.front_len
     (rest-fits c.args.self.now.position c.apply_begun.new.self.position (length c.args.buf.now) _ _ _ (limit_of g.C.Keystream.modulus)
-    c.split_at_mut-front.ensures.front_len c.split_at_mut-front.ensures.back_len (ap (λ s. s.position) c.apply_begun.ensures.moved)
+    c.split_at_mut-front.ensures.front_len c.split_at_mut-front.ensures.back_len c.apply_begun.ensures.position
     (c.in_default.ensures.accepted.0 refl))
 
 pub apply_last-requires-clause-part : goal.apply_last-requires-clause-part
@@ -78,15 +80,15 @@ pub apply_last-requires-clause-front : goal.apply_last-requires-clause-front
 apply_last-requires-clause-front g c some =
     last-front c.apply_begun.new.self.position c.apply_whole.new.self.position (length c.split_at_mut-front.result.1.now) _ _
     (begun-front c.args.self.now.position c.apply_begun.new.self.position (length c.args.buf.now) c.begun-begun.result _ _ c.begun-begun.ensures
-    c.split_at_mut-front.ensures.front_len c.split_at_mut-front.ensures.back_len (ap (λ s. s.position) c.apply_begun.ensures.moved))
-    c.split_at_mut-blocks.ensures.front_len c.split_at_mut-blocks.ensures.back_len (ap (λ s. s.position) c.apply_whole.ensures.moved) some
+    c.split_at_mut-front.ensures.front_len c.split_at_mut-front.ensures.back_len c.apply_begun.ensures.position)
+    c.split_at_mut-blocks.ensures.front_len c.split_at_mut-blocks.ensures.back_len c.apply_whole.ensures.position some
 
 pub apply_last-requires-clause-fits : goal.apply_last-requires-clause-fits
 apply_last-requires-clause-fits g c =
     rest-fits c.apply_begun.new.self.position c.apply_whole.new.self.position (length c.split_at_mut-front.result.1.now) _ _ _ (limit_of g.C.Keystream.modulus)
-    c.split_at_mut-blocks.ensures.front_len c.split_at_mut-blocks.ensures.back_len (ap (λ s. s.position) c.apply_whole.ensures.moved)
+    c.split_at_mut-blocks.ensures.front_len c.split_at_mut-blocks.ensures.back_len c.apply_whole.ensures.position
     (rest-fits c.args.self.now.position c.apply_begun.new.self.position (length c.args.buf.now) _ _ _ (limit_of g.C.Keystream.modulus)
-    c.split_at_mut-front.ensures.front_len c.split_at_mut-front.ensures.back_len (ap (λ s. s.position) c.apply_begun.ensures.moved)
+    c.split_at_mut-front.ensures.front_len c.split_at_mut-front.ensures.back_len c.apply_begun.ensures.position
     (c.in_default.ensures.accepted.0 refl))
 
 pub returns-in-Err-clause-accepted : goal.returns-in-Err-clause-accepted

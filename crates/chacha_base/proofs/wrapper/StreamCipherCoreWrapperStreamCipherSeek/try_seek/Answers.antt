@@ -19,6 +19,9 @@ returns-in-Some-clause-accepted g c =
     g.met.C.StreamCipherSeekCore.counters c.last.ensures c.from.ensures (omega (arith, c.if-place-from.true)) in
     (λ e. subst (λ o. IsSomeAnd o (λ p. p ≤ limit_of g.C.Keystream.modulus)) c.in-Some.ensures.value fits, λ some. refl)
 
-pub returns-in-Some-clause-moved : goal.returns-in-Some-clause-moved
-returns-in-Some-clause-moved g c =
-    subst (λ o. IfSome o (λ p. c.move_to.new.self ≡ record c.args.self.now { position = p })) c.in-Some.ensures.value c.move_to.ensures.moved
+pub returns-in-Some-clause-fixed : goal.returns-in-Some-clause-fixed
+returns-in-Some-clause-fixed g c = c.move_to.ensures.fixed
+
+pub returns-in-Some-clause-position : goal.returns-in-Some-clause-position
+returns-in-Some-clause-position g c =
+    subst (λ o. IfSome o (λ p. c.move_to.new.self.position ≡ p)) c.in-Some.ensures.value c.move_to.ensures.position
