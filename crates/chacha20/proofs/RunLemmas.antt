@@ -60,7 +60,11 @@ outcome-is : {E P : Type 0} (test : Bool) (r : Result (Unit {0}) E) (c d : Ciphe
     → OnOk r (d.fixed ≡ c.fixed) → OnOk r (d.position ≡ p) → OnOk r (new ≡ after) → OnErr r ((new ≡ bytes) × (d ≡ c))
     → done_if test c bytes p after ≡ record { answer = a; cipher = d; bytes = new }
 outcome-is true (Ok x) c d bytes new p after a tells accepted done refused fixed moved written kept =
-    λ i. record { answer = sym done i; cipher = record { fixed = sym fixed i; position = sym moved i }; bytes = sym written i }
+    λ i. record {
+      answer = sym done i;
+      cipher = record { fixed = sym fixed i; position = sym moved i };
+      bytes = sym written i;
+    }
 outcome-is false (Ok x) c d bytes new p after a tells accepted done refused fixed moved written kept =
     absurd (false≢true (tells.1 (accepted.0 refl)))
 outcome-is true (Err e) c d bytes new p after a tells accepted done refused fixed moved written kept =
@@ -99,12 +103,13 @@ pub apply_from-is : {E : Type 0} (s : Setting) (c d : Cipher) (bytes new : List 
     → OnErr r ((new ≡ take l (drop at bytes)) × (d ≡ c)) → OnOk r (a ≡ Done) → OnErr r (a ≡ Refused)
     → cipher_outcome s c bytes (ApplyFrom from from_len at len)
     ≡ record { answer = a; cipher = d; bytes = put at l new bytes }
-apply_from-is s c d bytes new from from_len at len k l r a read wrote inside outside accepted written fixed moved kept done refused =
+apply_from-is s c d bytes new from from_len at len k l r a read wrote inside outside accepted written fixed moved kept
+    done refused =
     let ins = ap (λ n. length (take n (drop from s.input))) read ∙ length-part from from_len s.input inside in
     let outs = ap (λ n. length (take n (drop at bytes))) wrote ∙ length-part at len bytes outside in
     let stream = s.stream c.fixed in
-    outcome-is ((from_len == len) && nat_le (c.position + len) s.limit) r c d bytes (put at l new bytes) (c.position + len)
-    (put at len (xor_stream stream c.position (part from from_len s.input)) bytes) a
+    outcome-is ((from_len == len) && nat_le (c.position + len) s.limit) r c d bytes (put at l new bytes)
+    (c.position + len) (put at len (xor_stream stream c.position (part from from_len s.input)) bytes) a
     (lengths-Decides from_len len c.position s.limit _ _ ins outs) accepted done refused fixed
     (on_ok_given r (λ ok place. place ∙ ap (λ n. c.position + n) ((accepted.0 ok).0 ∙ outs)) moved)
     (on_ok_weaker r (λ made. ap₂ (λ n ys. put at n ys bytes) wrote
@@ -112,8 +117,8 @@ apply_from-is s c d bytes new from from_len at len k l r a read wrote inside out
     (on_err_weaker r (λ same. (ap (λ ys. put at l ys bytes) same.0 ∙ put_same at l bytes, same.1)) kept)
 
 -- the range that is written over, of l bytes; what is written is made from their number and from the bytes
-pub ranged-is : {E : Type 0} (s : Setting) (c d : Cipher) (bytes new : List ℕ) (make : ℕ → List ℕ → List ℕ) (at len l : ℕ)
-    (r : Result (Unit {0}) E) (a : CipherAnswer)
+pub ranged-is : {E : Type 0} (s : Setting) (c d : Cipher) (bytes new : List ℕ) (make : ℕ → List ℕ → List ℕ)
+    (at len l : ℕ) (r : Result (Unit {0}) E) (a : CipherAnswer)
     → l ≡ len → at + len ≤ length bytes → IsOk r ↔ (c.position + length (take l (drop at bytes)) ≤ s.limit)
     → OnOk r (new ≡ make (length (take l (drop at bytes))) (take l (drop at bytes)))
     → OnOk r (d.fixed ≡ c.fixed) → OnOk r (d.position ≡ c.position + length (take l (drop at bytes)))

@@ -44,16 +44,18 @@ returns-in-ApplyFrom g c =
     let call = c.try_apply_keystream_b2b in
     ap (cipher_outcome s c.args.cipher.now c.args.data.now) c.in-ApplyFrom.is
     ∙ apply_from-is s c.args.cipher.now _ c.args.data.now _ c.in-ApplyFrom.from c.in-ApplyFrom.from_len c.in-ApplyFrom.at c.in-ApplyFrom.len _ _
-    call.result _ (omega arith) (omega arith) inside.0 inside.1 call.ensures.accepted call.ensures.bytes call.ensures.fixed
-    call.ensures.position call.ensures.refused c.answer-in-ApplyFrom.ensures.done c.answer-in-ApplyFrom.ensures.refused
+    call.result _ (omega arith) (omega arith) inside.0 inside.1 call.ensures.accepted call.ensures.bytes
+    call.ensures.fixed call.ensures.position call.ensures.refused
+    c.answer-in-ApplyFrom.ensures.done c.answer-in-ApplyFrom.ensures.refused
 
 pub returns-in-Seek : goal.returns-in-Seek
 returns-in-Seek g c =
     let s = setting g.C.Keystream.modulus g.C.Keystream.block_at c.args.input.now in
     let call = c.try_seek in
     ap (cipher_outcome s c.args.cipher.now c.args.data.now) c.in-Seek.is
-    ∙ seek-is s c.args.cipher.now _ c.args.data.now c.in-Seek.position call.result _ call.ensures.accepted call.ensures.fixed
-    call.ensures.position call.ensures.refused c.answer-in-Seek.ensures.done c.answer-in-Seek.ensures.refused
+    ∙ seek-is s c.args.cipher.now _ c.args.data.now c.in-Seek.position call.result _ call.ensures.accepted
+    call.ensures.fixed call.ensures.position call.ensures.refused
+    c.answer-in-Seek.ensures.done c.answer-in-Seek.ensures.refused
 
 pub returns-in-SeekI32 : goal.returns-in-SeekI32
 returns-in-SeekI32 g c =

@@ -2,7 +2,8 @@ use Rattle.std.proofs.Common.{zero-add}
 use Rattle.chacha20_c.proofs.tests.contracts.encrypt.Goals as goal
 
 pub returns-clause-accepted : goal.returns-clause-accepted
-returns-clause-accepted g c = rw (c.new.ensures.first, g.met.C.StreamCipher.first_is, zero-add) at c.try_apply_keystream.ensures.accepted
+returns-clause-accepted g c =
+    rw (c.new.ensures.first, g.met.C.StreamCipher.first_is, zero-add) at c.try_apply_keystream.ensures.accepted
 
 pub returns-clause-bytes : goal.returns-clause-bytes
 returns-clause-bytes g c =

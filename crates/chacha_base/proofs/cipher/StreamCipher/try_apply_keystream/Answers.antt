@@ -15,4 +15,5 @@ returns-clause-position g c = c.try_apply_keystream_counted.ensures.position
 
 pub returns-clause-refused : goal.returns-clause-refused
 returns-clause-refused g c =
-    on_err_weaker c.try_apply_keystream_counted.result (λ kept. (kept.0, kept.1)) c.try_apply_keystream_counted.ensures.refused
+    let call = c.try_apply_keystream_counted in
+    on_err_weaker call.result (λ kept. (kept.0, kept.1)) call.ensures.refused

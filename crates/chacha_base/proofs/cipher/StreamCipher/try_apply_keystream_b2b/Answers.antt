@@ -14,9 +14,10 @@ pub apply_keystream-requires : goal.apply_keystream-requires
 apply_keystream-requires g c =
     let len = length c.args.input.now in
     let inside = piece-within 65536 len c.pieces.done c.min.result c.min.ensures c.pieces.invariant.within in
-    let size = ap length c.copy_from_slice.ensures.after ∙ piece-long c.pieces.done c.min.result c.args.input.now inside in
-    piece-fits _ (g.Self.Keystream.position c.args.self.now) c.pieces.done c.min.result _ len (limit_of g.Self.Keystream.modulus)
-    c.pieces.invariant.position size inside (c.in_default.ensures.accepted.0 refl)
+    let size = ap length c.copy_from_slice.ensures.after
+    ∙ piece-long c.pieces.done c.min.result c.args.input.now inside in
+    piece-fits _ (g.Self.Keystream.position c.args.self.now) c.pieces.done c.min.result _ len
+    (limit_of g.Self.Keystream.modulus) c.pieces.invariant.position size inside (c.in_default.ensures.accepted.0 refl)
 
 pub pieces-preserved : goal.pieces-preserved
 pieces-preserved g c =
@@ -27,13 +28,15 @@ pieces-preserved g c =
     let n = c.min.result in
     let before = c.pieces.invariant in
     let inside = piece-within 65536 (length c.args.input.now) done n c.min.ensures before.within in
-    let size : length c.copy_from_slice.new.self ≡ n = ap length c.copy_from_slice.ensures.after ∙ piece-long done n c.args.input.now inside in
+    let size : length c.copy_from_slice.new.self ≡ n =
+    ap length c.copy_from_slice.ensures.after ∙ piece-long done n c.args.input.now inside in
     record {
       within = inside;
       fixed = c.apply_keystream.ensures.fixed ∙ before.fixed;
       position = moved_on _ _ (cipher.position old) done n _ before.position size c.apply_keystream.ensures.position;
       bytes = xor_stream-written stream (cipher.position old) done n _ c.args.input.now c.pieces.output _ before.within
-          (subst (λ m. done ≤ m) (c.if-input-output.false ∙ sym c.pieces.auto.output) before.within) (c.apply_keystream.auto.buf ∙ size) before.bytes
+          (subst (λ m. done ≤ m) (c.if-input-output.false ∙ sym c.pieces.auto.output) before.within)
+          (c.apply_keystream.auto.buf ∙ size) before.bytes
           (rw (before.fixed, before.position, c.copy_from_slice.ensures.after) at c.apply_keystream.ensures.bytes);
     }
 
@@ -46,7 +49,8 @@ returns-clause-bytes g c =
     let input_done : c.pieces.done ≡ length c.args.input.now = omega arith in
     sym (ap (λ n. take n c.pieces.output) output_done ∙ take-length c.pieces.output)
     ∙ c.pieces.invariant.bytes
-    ∙ ap (xor_stream stream (cipher.position old)) (ap (λ n. take n c.args.input.now) input_done ∙ take-length c.args.input.now)
+    ∙ ap (xor_stream stream (cipher.position old))
+    (ap (λ n. take n c.args.input.now) input_done ∙ take-length c.args.input.now)
 
 pub returns-clause-fixed : goal.returns-clause-fixed
 returns-clause-fixed g c = c.pieces.invariant.fixed
@@ -64,7 +68,8 @@ pub returns-in-Err-clause-refused : goal.returns-in-Err-clause-refused
 returns-in-Err-clause-refused g c = (refl, refl)
 
 pub returns-then-input-output-clause-accepted : goal.returns-then-input-output-clause-accepted
-returns-then-input-output-clause-accepted g c = (λ e. absurd (false≢true e), λ both. absurd (c.if-input-output.true both.0))
+returns-then-input-output-clause-accepted g c =
+    (λ e. absurd (false≢true e), λ both. absurd (c.if-input-output.true both.0))
 
 pub returns-clause-accepted : goal.returns-clause-accepted
 returns-clause-accepted g c = (λ e. (c.if-input-output.false, c.in_default.ensures.accepted.0 e), λ both. refl)

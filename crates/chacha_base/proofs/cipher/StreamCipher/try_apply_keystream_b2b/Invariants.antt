@@ -11,7 +11,8 @@ invariant-pieces g l =
       fixed : cipher.fixed l.self ≡ cipher.fixed old;
       position : cipher.position l.self ≡ cipher.position old + l.done;
       bytes : take l.done l.output
-          ≡ xor_stream (keystream cipher.modulus (cipher.block_at (cipher.fixed old))) (cipher.position old) (take l.done l.input);
+          ≡ xor_stream (keystream cipher.modulus (cipher.block_at (cipher.fixed old))) (cipher.position old)
+          (take l.done l.input);
     }
 
 abbrev pub decreases-pieces : goal.decreases-pieces

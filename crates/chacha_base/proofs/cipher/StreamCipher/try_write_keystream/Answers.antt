@@ -14,10 +14,12 @@ pub apply_keystream-requires : goal.apply_keystream-requires
 apply_keystream-requires g c =
     let position = g.Self.Keystream.position in
     let limit = limit_of g.Self.Keystream.modulus in
-    let before : c.pieces.done ≤ length c.pieces.buf = subst (λ m. c.pieces.done ≤ m) (sym c.pieces.auto.buf) c.pieces.invariant.within in
+    let before : c.pieces.done ≤ length c.pieces.buf =
+    subst (λ m. c.pieces.done ≤ m) (sym c.pieces.auto.buf) c.pieces.invariant.within in
     let inside = piece-within 65536 (length c.pieces.buf) c.pieces.done c.min.result c.min.ensures before in
     let size = c.fill.ensures.len ∙ piece-long c.pieces.done c.min.result c.pieces.buf inside in
-    piece-fits _ (position c.args.self.now) c.pieces.done c.min.result _ (length c.pieces.buf) limit c.pieces.invariant.position size inside
+    piece-fits _ (position c.args.self.now) c.pieces.done c.min.result _ (length c.pieces.buf) limit
+    c.pieces.invariant.position size inside
     (subst (λ m. position c.args.self.now + m ≤ limit) (sym c.pieces.auto.buf) (c.in_default.ensures.accepted.0 refl))
 
 pub pieces-preserved : goal.pieces-preserved
@@ -32,14 +34,17 @@ pieces-preserved g c =
     let front : done ≤ length c.pieces.buf = subst (λ m. done ≤ m) (sym c.pieces.auto.buf) before.within in
     let inside = piece-within 65536 (length c.pieces.buf) done n c.min.ensures front in
     let size : length c.fill.new.self ≡ n = c.fill.ensures.len ∙ piece-long done n c.pieces.buf inside in
-    let filled : c.fill.new.self ≡ replicate (length (take (done + n - done) (drop done c.pieces.buf))) 0 = c.fill.ensures.after (λ y h. h) in
-    let zeros : c.fill.new.self ≡ replicate n 0 = filled ∙ ap (λ m. replicate m 0) (piece-long done n c.pieces.buf inside) in
+    let filled : c.fill.new.self ≡ replicate (length (take (done + n - done) (drop done c.pieces.buf))) 0 =
+    c.fill.ensures.after (λ y h. h) in
+    let zeros : c.fill.new.self ≡ replicate n 0 =
+    filled ∙ ap (λ m. replicate m 0) (piece-long done n c.pieces.buf inside) in
     record {
       within = subst (λ m. done + n ≤ m) c.pieces.auto.buf inside;
       fixed = c.apply_keystream.ensures.fixed ∙ before.fixed;
       position = moved_on _ _ p done n _ before.position size c.apply_keystream.ensures.position;
-      bytes = stream_part-written stream p done n _ c.pieces.buf _ front (c.apply_keystream.auto.buf ∙ size) before.bytes
-          ((rw (before.fixed, before.position, zeros) at c.apply_keystream.ensures.bytes) ∙ xor_stream-zeros stream (p + done) n);
+      bytes = stream_part-written stream p done n _ c.pieces.buf _ front (c.apply_keystream.auto.buf ∙ size)
+          before.bytes ((rw (before.fixed, before.position, zeros) at c.apply_keystream.ensures.bytes)
+          ∙ xor_stream-zeros stream (p + done) n);
     }
 
 pub returns-clause-bytes : goal.returns-clause-bytes

@@ -7,7 +7,8 @@ use Rattle.chacha_base.proofs.wrapper.StreamCipherCoreWrapperKeyIvInit.new.Goals
 pub returns-clause-value : goal.returns-clause-value
 returns-clause-value g c =
     ap₂ (λ f n. let cipher : Cipher = record { fixed = f; position = position_of n 0 } in cipher)
-    (c.set_block_pos.ensures.fixed ∙ ap g.C.Keystream.fixed c.new-core.ensures.value) (c.set_block_pos.ensures.counter ∙ c.from_u64.ensures)
+    (c.set_block_pos.ensures.fixed ∙ ap g.C.Keystream.fixed c.new-core.ensures.value)
+    (c.set_block_pos.ensures.counter ∙ c.from_u64.ensures)
 
 pub returns-clause-first : goal.returns-clause-first
 returns-clause-first g c = ap (λ n. position_of n 0) (c.set_block_pos.ensures.counter ∙ c.from_u64.ensures)

@@ -13,7 +13,8 @@ invariant-pieces g l =
       fixed : cipher.fixed l.cipher ≡ cipher.fixed old;
       position : cipher.position l.cipher ≡ cipher.position old + l.done;
       bytes : take l.done l.bytes
-          ≡ xor_stream (keystream cipher.modulus (cipher.block_at (cipher.fixed old))) (cipher.position old) (take l.done whole);
+          ≡ xor_stream (keystream cipher.modulus (cipher.block_at (cipher.fixed old))) (cipher.position old)
+          (take l.done whole);
       rest : drop l.done l.bytes ≡ drop l.done whole;
     }
 
