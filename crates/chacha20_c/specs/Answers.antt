@@ -3,25 +3,29 @@
 use Rattle.std.specs.Prelude.{ℕ, List, ◌≡◌, ◌↔◌, ◌⊎◌, ◌≤◌, ◌+◌, length}
 use Rattle.chacha20.specs.Keystream.{stream_part, xor_stream}
 
--- bytes combined in place with a stream
-pub record Xored (limit : ℕ) (stream : ℕ → ℕ) (position answer : ℕ) (old new : List ℕ) : Type 0 where
-  pub accepted : answer ≡ 0 ↔ (position + length old ≤ limit)
-  pub bytes : answer ≡ 0 → new ≡ xor_stream stream position old
+-- a call that is accepted exactly where P holds, and then leaves the bytes `made`
+pub record Answered (P : Type 0) (answer : ℕ) (made old new : List ℕ) : Type 0 where
+  pub accepted : answer ≡ 0 ↔ P
+  pub bytes : answer ≡ 0 → new ≡ made
   pub refused : (answer ≡ 0) ⊎ ((answer ≡ 1) × (new ≡ old))
+
+-- bytes combined in place with a stream
+abbrev pub Xored : (limit : ℕ) (stream : ℕ → ℕ) (position answer : ℕ) (old new : List ℕ) → Type 0
+Xored limit stream position answer old new =
+    Answered (position + length old ≤ limit) answer (xor_stream stream position old) old new
 
 -- bytes combined from an input to an output, which has to be as long
-pub record XoredInto (limit : ℕ) (stream : ℕ → ℕ) (position answer : ℕ) (input old new : List ℕ)
-    : Type 0 where
-  pub accepted : answer ≡ 0 ↔ ((length input ≡ length old) × (position + length input ≤ limit))
-  pub bytes : answer ≡ 0 → new ≡ xor_stream stream position input
-  pub refused : (answer ≡ 0) ⊎ ((answer ≡ 1) × (new ≡ old))
+abbrev pub XoredInto : (limit : ℕ) (stream : ℕ → ℕ) (position answer : ℕ)
+    (input old new : List ℕ) → Type 0
+XoredInto limit stream position answer input old new =
+    Answered ((length input ≡ length old) × (position + length input ≤ limit)) answer
+    (xor_stream stream position input) old new
 
 -- the stream's own bytes, written over what was there
-pub record Written (limit : ℕ) (stream : ℕ → ℕ) (position answer : ℕ) (old new : List ℕ)
-    : Type 0 where
-  pub accepted : answer ≡ 0 ↔ (position + length old ≤ limit)
-  pub bytes : answer ≡ 0 → new ≡ stream_part stream position (length old)
-  pub refused : (answer ≡ 0) ⊎ ((answer ≡ 1) × (new ≡ old))
+abbrev pub Written : (limit : ℕ) (stream : ℕ → ℕ) (position answer : ℕ) (old new : List ℕ) → Type 0
+Written limit stream position answer old new =
+    Answered (position + length old ≤ limit) answer
+    (stream_part stream position (length old)) old new
 
 -- a test of so many bytes
 pub record Checked (limit position len answer : ℕ) : Type 0 where
