@@ -4,7 +4,7 @@ use Rattle.std.specs.Prelude.{slice_get, Some, slice_index_or}
 use Rattle.std.proofs.lemmas.List.{length-take-le}
 use Rattle.std.proofs.lemmas.Option.{get_or_from_slice_get}
 use Rattle.chacha_base.specs.Layout.{Layout, modulus}
-use Rattle.chacha_base.specs.State.{state_counter, fixed_words, state_block, state_after, next_block}
+use Rattle.chacha_base.specs.State.{state_counter, fixed_words, state_block, state_after, AreNextBlocks}
 use Rattle.chacha_base.proofs.StateLemmas.{fixed_words-state_after, state_counter-state_after}
 use Rattle.chacha_base.specs.Keystream.{keystream, xor_stream}
 use Rattle.chacha_base.proofs.KeystreamLemmas.{xor_stream-same, xor_stream-more, keystream-wrapped}
@@ -32,7 +32,7 @@ xor_stream-blocks modulus block c blocks xs whole made =
 pub applied-more : (n : ℕ) (layout : Layout) (s : List ℕ) (i : ℕ) (blocks : List (List ℕ)) (old : List ℕ) {t : List ℕ} {k e : ℕ} {now after : List ℕ}
     → length s ≡ 16 → t ≡ state_after layout i s → i + k ≡ e → 64 * e ≤ length old → length now ≡ length old → length blocks ≡ k
     → now ≡ applied n layout s (take (64 * i) old) ++ drop (64 * i) old
-    → after ≡ xored_at i blocks now → ((j : ℕ) → j < k → slice_get blocks j ≡ Some (next_block n layout t j))
+    → after ≡ xored_at i blocks now → AreNextBlocks n layout t k blocks
     → after ≡ applied n layout s (take (64 * e) old) ++ drop (64 * e) old
 applied-more n layout s i blocks old {t} {k} {e} {now} {after} h moved all room same count before xored made =
     let m = modulus layout in

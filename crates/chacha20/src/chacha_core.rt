@@ -1,12 +1,12 @@
 //! A state of sixteen words, and the engine that hands out its blocks.
 
-ghost use Rattle.std.specs.Prelude.{◌≡◌, ◌≤◌, ◌<◌, ℕ, ◌+◌, ◌*◌, ◌/◌, ◌%◌, List, ◌++◌, length, replicate, min, slice_get, Some};
+ghost use Rattle.std.specs.Prelude.{◌≡◌, ◌≤◌, ◌<◌, ℕ, ◌+◌, ◌*◌, ◌/◌, ◌%◌, List, ◌++◌, length, replicate, min, Some};
 ghost use Rattle.chacha_base.specs.Layout.{ietf, legacy, modulus};
 ghost use Rattle.chacha_base.specs.Block.{constants, start, block};
 ghost use Rattle.chacha_base.specs.Bytes.{words};
-ghost use Rattle.chacha_base.specs.State.{state_counter, fixed_words, state_at, state_block, state_after, next_block};
+ghost use Rattle.chacha_base.specs.State.{state_counter, fixed_words, state_at, state_block, state_after, AreNextBlocks};
 ghost use Rattle.chacha_base.specs.Keystream.{xor_stream};
-ghost use Rattle.chacha_base.specs.Counts.{Grows, for_call, for_tail, for_blocks};
+ghost use Rattle.chacha_base.specs.Counts.{Grows, for_call, for_tail, for_whole_blocks};
 ghost use Rattle.chacha20.specs.Blocks.{xored_at, applied};
 ghost use Rattle.chacha20.specs.Text.{core_text};
 
@@ -214,8 +214,7 @@ fn write_blocks<R: Rounds, V: Variant, B: StreamCipherBackend<R, V>>(
     state: &mut [u32; 16],
     blocks: &mut [[u8; 64]],
 )
-    ensures blocks { (i : ℕ) → i < length blocks.old
-        → slice_get blocks.new i ≡ Some (next_block R.COUNT V.layout state.old i) }
+    ensures blocks { AreNextBlocks R.COUNT V.layout state.old (length blocks.old) blocks.new }
     ensures state { state.new ≡ state_after V.layout (length blocks.old) state.old }
 {
     let mut steps = Steps::new();
@@ -248,8 +247,7 @@ fn write_tail<R: Rounds, V: Variant, B: StreamCipherBackend<R, V>>(
     steps: &mut Steps,
 )
     requires { length blocks.old < B.PAR_BLOCKS }
-    ensures blocks { (i : ℕ) → i < length blocks.old
-        → slice_get blocks.new i ≡ Some (next_block R.COUNT V.layout state.old i) }
+    ensures blocks { AreNextBlocks R.COUNT V.layout state.old (length blocks.old) blocks.new }
     ensures state { state.new ≡ state_after V.layout (length blocks.old) state.old }
     ensures steps { Grows
         (for_tail (B.ONE_STEPS * R.COUNT) (length blocks.old)) steps.old steps.new }
@@ -270,8 +268,8 @@ fn apply_through<R: Rounds, V: Variant, B: StreamCipherBackend<R, V>>(
     ensures data { «data».new ≡ applied R.COUNT V.layout state.old «data».old }
     ensures state { state.new ≡ state_after V.layout (length «data».old / 64) state.old }
     ensures steps { Grows
-        (for_blocks B.PAR_BLOCKS (B.PAR_STEPS * R.COUNT) (B.ONE_STEPS * R.COUNT)
-        (length «data».old / 64) 0) steps.old steps.new }
+        (for_whole_blocks B.PAR_BLOCKS (B.PAR_STEPS * R.COUNT) (B.ONE_STEPS * R.COUNT)
+        (length «data».old / 64)) steps.old steps.new }
 {
     let width = B::PAR_BLOCKS;
     let count = data.len() / 64;
@@ -297,8 +295,8 @@ fn apply_blocks<R: Rounds, V: Variant, B: StreamCipherBackend<R, V>>(
     ensures data { «data».new ≡ applied R.COUNT V.layout state.old «data».old }
     ensures state { state.new ≡ state_after V.layout (length «data».old / 64) state.old }
     ensures steps { Grows
-        (for_blocks B.PAR_BLOCKS (B.PAR_STEPS * R.COUNT) (B.ONE_STEPS * R.COUNT)
-        (length «data».old / 64) 0) steps.old steps.new }
+        (for_whole_blocks B.PAR_BLOCKS (B.PAR_STEPS * R.COUNT) (B.ONE_STEPS * R.COUNT)
+        (length «data».old / 64)) steps.old steps.new }
 {
     if B::PAR_BLOCKS == 1 || data.len() == 64 {
         apply_through::<R, V, B>(state, &mut [[0; 64]; 1], data, steps);

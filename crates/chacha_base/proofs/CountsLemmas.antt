@@ -2,7 +2,8 @@
 use Rattle.std.proofs.Common.{◌≡◌, ℕ, ◌+◌, ◌-◌, ◌*◌, ◌/◌, ◌%◌, ◌<◌, ◌≤◌, min, refl, ap, ◌∙◌, arith, subst}
 use Rattle.std.proofs.lemmas.Grind.{common_steps}
 use Rattle.std.proofs.Math.Nat.{add-mul, mul_assoc, mul-le-mul_right}
-use Rattle.chacha_base.specs.Counts.{Counts, Bounds, Grows, for_call, for_tail, tail_of_16, for_blocks, for_bytes}
+use Rattle.chacha_base.specs.Counts.{Counts, Bounds, Grows, for_call, for_single, for_group, for_last_part}
+use Rattle.chacha_base.specs.Counts.{for_tail, tail_of_16, for_blocks, for_whole_blocks, for_bytes}
 use Rattle.chacha_base.specs.Buffered.{left_at}
 
 -- nothing more
@@ -17,7 +18,8 @@ grows-none a = record {
 }
 
 -- one other call, and exactly so many quarter rounds
-pub grows-other : (n : ℕ) (a b : Counts) → b ≡ record a { other = a.other + 1; rounds = a.rounds + n } → Grows (for_call 0 1 n) a b
+pub grows-other : (n : ℕ) (a b : Counts) → b ≡ record a { other = a.other + 1; rounds = a.rounds + n }
+    → Grows (for_single n) a b
 grows-other n a b exact =
     let par : b.par ≡ a.par = ap (λ s. s.par) exact in
     let other : b.other ≡ a.other + 1 = ap (λ s. s.other) exact in
@@ -47,13 +49,13 @@ grows-par n a b exact =
     }
 
 -- one other call for a last part, and none where there is none
-pub grows-last : (one n : ℕ) {a b : Counts} → 0 < n → Grows (for_call 0 1 one) a b → Grows (for_call 0 (min 1 n) (min 1 n * one)) a b
+pub grows-last : (one n : ℕ) {a b : Counts} → 0 < n → Grows (for_single one) a b → Grows (for_last_part one n) a b
 grows-last one n {a} {b} some grows =
     let single : 1 ≡ min 1 n = omega arith in
     let cost : one ≡ 1 * one = omega arith in
-    subst (λ k. Grows (for_call 0 k (k * one)) a b) single (subst (λ m. Grows (for_call 0 1 m) a b) cost grows)
+    subst (λ k. Grows (for_call 0 k (k * one)) a b) single (subst (λ m. Grows (for_single m) a b) cost grows)
 
-pub grows-no_last : (one n : ℕ) (a : Counts) → n ≤ 0 → Grows (for_call 0 (min 1 n) (min 1 n * one)) a a
+pub grows-no_last : (one n : ℕ) (a : Counts) → n ≤ 0 → Grows (for_last_part one n) a a
 grows-no_last one n a none =
     let calls : 0 ≡ min 1 n = omega arith in
     let rounds : 0 ≡ 0 * one = omega arith in
@@ -72,7 +74,7 @@ grows-then first then par other least most = record {
 }
 
 -- one group more
-pub grows-group : {k cost : ℕ} {a b c : Counts} → Grows (for_call k 0 (k * cost)) a b → Grows (for_call 1 0 cost) b c
+pub grows-group : {k cost : ℕ} {a b c : Counts} → Grows (for_call k 0 (k * cost)) a b → Grows (for_group cost) b c
     → Grows (for_call (k + 1) 0 ((k + 1) * cost)) a c
 grows-group {k} {cost} groups group =
     let sum = add-mul k 1 cost in
@@ -80,14 +82,15 @@ grows-group {k} {cost} groups group =
 
 -- groups, and then the rest
 pub grows-blocks : (w par one m : ℕ) {a b c : Counts} → Grows (for_call (m / w) 0 (m / w * par)) a b → Grows (for_tail one (m % w)) b c
-    → Grows (for_blocks w par one m 0) a c
+    → Grows (for_whole_blocks w par one m) a c
 grows-blocks w par one m groups tail =
     let least = add-mul (min 1 (m % w)) 0 one in
     let most = add-mul (m % w) 0 one in
     grows-then groups tail (omega arith) (omega arith) (omega (arith, least)) (omega (arith, most))
 
 -- k single blocks after the others
-grows-more : (w par one m k : ℕ) (a b c : Counts) → Grows (for_blocks w par one m 0) a b → Grows (for_call 0 k (k * one)) b c
+grows-more : (w par one m k : ℕ) (a b c : Counts) → Grows (for_whole_blocks w par one m) a b
+    → Grows (for_call 0 k (k * one)) b c
     → Grows (for_blocks w par one m k) a c
 grows-more w par one m k a b c first then =
     let least = add-mul (min 1 (m % w)) k one in
@@ -98,7 +101,7 @@ grows-more w par one m k a b c first then =
 
 -- whole blocks and a last part
 pub grows-rest : (w par one n whole last : ℕ) (a b c : Counts) → whole ≡ n / 64 * 64 → last + n / 64 * 64 ≡ n
-    → Grows (for_blocks w par one (whole / 64) 0) a b → Grows (for_call 0 (min 1 last) (min 1 last * one)) b c
+    → Grows (for_whole_blocks w par one (whole / 64)) a b → Grows (for_last_part one last) b c
     → Grows (for_blocks w par one (n / 64) (min 1 (n % 64))) a c
 grows-rest w par one n whole last a b c cut all first then =
     let blocks : whole / 64 ≡ n / 64 = omega arith in

@@ -12,7 +12,8 @@ use Rattle.chacha_base.specs.Bytes.{bytes, words}
 use Rattle.chacha_base.specs.Block.{constants, start}
 use Rattle.chacha_base.specs.Rounds.{rounds, add_states, mix}
 use Rattle.chacha_base.specs.Words.{add}
-use Rattle.chacha_base.specs.State.{state_counter, fixed_words, state_of, state_at, counter_after, state_after, state_block, next_block, next_word, next_words}
+use Rattle.chacha_base.specs.State.{state_counter, fixed_words, state_of, state_at, counter_after, state_after}
+use Rattle.chacha_base.specs.State.{state_block, next_block, AreNextBlocks, next_word, next_words}
 use Rattle.chacha_base.proofs.ListLemmas.{each, one_more, written_more}
 
 -- each word is below 2 ^ 32
@@ -172,9 +173,8 @@ next_words-more n layout s t i now part moved made room before =
 -- k blocks more of a state that is a blocks on
 pub next_blocks-more : (n : ℕ) (layout : Layout) (s t : List ℕ) (a k : ℕ) (now part : List (List ℕ)) → length s ≡ 16 → t ≡ state_after layout a s
     → a ≤ length now → length part ≡ k
-    → ((i : ℕ) → i < a → slice_get now i ≡ Some (next_block n layout s i))
-    → ((i : ℕ) → i < k → slice_get part i ≡ Some (next_block n layout t i))
-    → (i : ℕ) → i < a + k → slice_get (put_mid a k now part) i ≡ Some (next_block n layout s i)
+    → AreNextBlocks n layout s a now → AreNextBlocks n layout t k part
+    → AreNextBlocks n layout s (a + k) (put_mid a k now part)
 next_blocks-more n layout s t a k now part h moved room long before made =
     written_more (next_block n layout s) a k now part room long before
     (λ i less.
@@ -185,8 +185,7 @@ next_blocks-more n layout s t a k now part h moved room long before made =
 -- one block more of a state that is i blocks on
 pub next_block-more : (n : ℕ) (layout : Layout) (s t : List ℕ) (i : ℕ) (now : List (List ℕ)) (block : List ℕ) → length s ≡ 16 → t ≡ state_after layout i s
     → i < length now → block ≡ next_block n layout t 0
-    → ((j : ℕ) → j < i → slice_get now j ≡ Some (next_block n layout s j))
-    → (j : ℕ) → j < i + 1 → slice_get (set now i block) j ≡ Some (next_block n layout s j)
+    → AreNextBlocks n layout s i now → AreNextBlocks n layout s (i + 1) (set now i block)
 next_block-more n layout s t i now block h moved room made before =
     let here : i + 0 ≡ i = omega arith in
     one_more (next_block n layout s) i now block room

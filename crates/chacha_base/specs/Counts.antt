@@ -28,6 +28,18 @@ pub record Grows (bounds : Bounds) (old new : Counts) : Type 0 where
 abbrev pub for_call : (par other rounds : ℕ) → Bounds
 for_call par other rounds = record { par = par; other = other; least = rounds; most = rounds }
 
+-- for one block
+abbrev pub for_single : (rounds : ℕ) → Bounds
+for_single rounds = for_call 0 1 rounds
+
+-- for a parallel call
+abbrev pub for_group : (rounds : ℕ) → Bounds
+for_group rounds = for_call 1 0 rounds
+
+-- for a last part of n bytes, fewer than a block: one block, and none for no bytes
+abbrev pub for_last_part : (one n : ℕ) → Bounds
+for_last_part one n = for_call 0 (min 1 n) (min 1 n * one)
+
 -- for k blocks, fewer than a parallel call makes, with `one` quarter rounds for a single block
 abbrev pub for_tail : (one k : ℕ) → Bounds
 for_tail one k = record { par = 0; other = k; least = min 1 k * one; most = k * one }
@@ -47,6 +59,10 @@ for_blocks w par one m k = record {
   least = m / w * par + (min 1 (m % w) + k) * one;
   most = m / w * par + (m % w + k) * one;
 }
+
+-- for m blocks and no more
+abbrev pub for_whole_blocks : (w par one m : ℕ) → Bounds
+for_whole_blocks w par one m = for_blocks w par one m 0
 
 -- for so many bytes from position p on: first those that the begun block still has, then whole
 -- blocks, then a last part

@@ -1,6 +1,7 @@
 -- A state as a counter and its other words, and the blocks that it gives one after another (this
 -- crate).
-use Rattle.std.specs.Prelude.{ℕ, ◌+◌, ◌/◌, ◌%◌, List, ◌++◌, map, take, drop, slice_index}
+use Rattle.std.specs.Prelude.{ℕ, ◌+◌, ◌/◌, ◌%◌, ◌<◌, ◌≡◌, Some, slice_get, slice_index}
+use Rattle.std.specs.Prelude.{List, ◌++◌, map, take, drop}
 use Rattle.std.specs.List.{range_with_len}
 use Rattle.chacha_base.specs.Bytes.{bytes}
 use Rattle.chacha_base.specs.Layout.{Layout, modulus, counter_words, counter_len, row_counter}
@@ -37,6 +38,11 @@ state_after layout i s = state_at layout (counter_after layout s i) s
 -- block i from a state on
 abbrev pub next_block : ℕ → Layout → List ℕ → ℕ → List ℕ
 next_block n layout s i = bytes (mix n (state_after layout i s))
+
+-- the first k of these blocks are the next k blocks from a state on
+abbrev pub AreNextBlocks : ℕ → Layout → List ℕ → ℕ → List (List ℕ) → Type 0
+AreNextBlocks n layout s k blocks =
+    (i : ℕ) → i < k → slice_get blocks i ≡ Some (next_block n layout s i)
 
 -- word i from a state on: word i mod 16 of the block that is i div 16 blocks on
 abbrev pub next_word : ℕ → Layout → List ℕ → ℕ → ℕ

@@ -3,9 +3,9 @@
 ghost use Rattle.std.specs.Prelude.{◌≡◌, ◌↔◌, ◌≤◌, ◌<◌, ◌+◌, ◌-◌, ◌*◌, ◌/◌, ◌%◌, ◌^◌, ℕ, List, [], length, slice_get, slice_index_or, Some, IsOk, IfOk, OnOk, OnErr, IsSomeAnd, IfSome};
 ghost use Rattle.chacha_base.specs.Layout.{legacy};
 ghost use Rattle.chacha_base.specs.Limit.{limit_of, remaining};
-ghost use Rattle.chacha_base.specs.State.{state_after, next_block, next_words};
+ghost use Rattle.chacha_base.specs.State.{state_after, next_block, AreNextBlocks, next_words};
 ghost use Rattle.chacha_base.specs.Keystream.{keystream, xor_stream, stream_part};
-ghost use Rattle.chacha_base.specs.Counts.{Bounds, Grows, for_call, for_tail, for_blocks};
+ghost use Rattle.chacha_base.specs.Counts.{Bounds, Grows, for_single, for_group, for_tail, for_whole_blocks};
 
 mod seek_num;
 
@@ -125,21 +125,19 @@ pub trait StreamCipherBackend<R: Rounds, V: Variant>: ParBlocksSizeUser {
     fn gen_ks_block(state: &mut [u32; 16], block: &mut [u8; 64], steps: &mut Steps)
         ensures block { block.new ≡ next_block R.COUNT V.layout state.old 0 }
         ensures state { state.new ≡ state_after V.layout 1 state.old }
-        ensures steps { Grows (for_call 0 1 (ONE_STEPS * R.COUNT)) steps.old steps.new };
+        ensures steps { Grows (for_single (ONE_STEPS * R.COUNT)) steps.old steps.new };
 
     /// The next `PAR_BLOCKS` blocks.
     fn gen_par_ks_blocks(state: &mut [u32; 16], blocks: &mut [[u8; 64]], steps: &mut Steps)
         requires { length blocks.old ≡ Self.PAR_BLOCKS }
-        ensures blocks { (i : ℕ) → i < length blocks.old
-            → slice_get blocks.new i ≡ Some (next_block R.COUNT V.layout state.old i) }
+        ensures blocks { AreNextBlocks R.COUNT V.layout state.old (length blocks.old) blocks.new }
         ensures state { state.new ≡ state_after V.layout (length blocks.old) state.old }
-        ensures steps { Grows (for_call 1 0 (PAR_STEPS * R.COUNT)) steps.old steps.new };
+        ensures steps { Grows (for_group (PAR_STEPS * R.COUNT)) steps.old steps.new };
 
     /// As many of the next blocks as there is room for: fewer than `PAR_BLOCKS`, also none.
     fn gen_tail_blocks(state: &mut [u32; 16], blocks: &mut [[u8; 64]], steps: &mut Steps)
         requires { length blocks.old < Self.PAR_BLOCKS }
-        ensures blocks { (i : ℕ) → i < length blocks.old
-            → slice_get blocks.new i ≡ Some (next_block R.COUNT V.layout state.old i) }
+        ensures blocks { AreNextBlocks R.COUNT V.layout state.old (length blocks.old) blocks.new }
         ensures state { state.new ≡ state_after V.layout (length blocks.old) state.old }
         ensures steps { Grows
             (for_tail (ONE_STEPS * R.COUNT) (length blocks.old)) steps.old steps.new };
@@ -238,7 +236,7 @@ pub trait StreamCipherCore: Keystream + BlockSizeUser + ParBlocksSizeUser {
         ensures block { block.new ≡ Self.block_at (Self.fixed self.old) (counter self.old) }
         ensures fixed { Self.fixed self.new ≡ Self.fixed self.old }
         ensures counter { counter self.new ≡ (counter self.old + 1) % Self.modulus }
-        ensures steps { Grows (for_call 0 1 one_cost) steps.old steps.new };
+        ensures steps { Grows (for_single one_cost) steps.old steps.new };
 
     /// XORs whole blocks of bytes, so a multiple of 64 bytes, with the next blocks, and counts the steps. This crate's
     /// own.
@@ -251,8 +249,8 @@ pub trait StreamCipherCore: Keystream + BlockSizeUser + ParBlocksSizeUser {
         ensures counter { counter self.new
             ≡ (counter self.old + length «data».old / 64) % Self.modulus }
         ensures steps { Grows
-            (for_blocks Self.PAR_BLOCKS par_cost one_cost
-            (length «data».old / 64) 0) steps.old steps.new };
+            (for_whole_blocks Self.PAR_BLOCKS par_cost one_cost (length «data».old / 64))
+            steps.old steps.new };
 
     ghost block_size: { Self.BLOCK_SIZE ≡ 64 };
 

@@ -1,9 +1,9 @@
 //! From a state to its next blocks: a whole group is made, of which a caller takes what it needs.
 
-ghost use Rattle.std.specs.Prelude.{◌≡◌, ◌≤◌, ◌<◌, ◌≢◌, ℕ, ◌+◌, ◌*◌, min, [], length, drop, slice_get, slice_index_or, Some};
+ghost use Rattle.std.specs.Prelude.{◌≡◌, ◌≤◌, ◌<◌, ◌≢◌, ℕ, ◌+◌, ◌*◌, min, [], length, drop, slice_index_or};
 ghost use Rattle.chacha_base.specs.Layout.{legacy};
 ghost use Rattle.chacha_base.specs.Rounds.{mix};
-ghost use Rattle.chacha_base.specs.State.{state_after, next_block, next_words};
+ghost use Rattle.chacha_base.specs.State.{state_after, next_block, AreNextBlocks, next_words};
 ghost use Rattle.chacha_base.specs.Counts.{Grows, for_tail};
 
 use crate::backends::group::Group;
@@ -105,8 +105,7 @@ pub fn write_group<R: Rounds, V: Variant, G: Group, const W: usize>(
     requires width { G.BLOCKS ≡ W }
     requires few { W ≤ 16 }
     requires all { length blocks.old ≡ W }
-    ensures blocks { (i : ℕ) → i < length blocks.old
-        → slice_get blocks.new i ≡ Some (next_block R.COUNT V.layout state.old i) }
+    ensures blocks { AreNextBlocks R.COUNT V.layout state.old (length blocks.old) blocks.new }
     ensures state { state.new ≡ state_after V.layout (length blocks.old) state.old }
     ensures steps { steps.new ≡ record steps.old {
       par = steps.old.par + 1;
@@ -129,8 +128,7 @@ pub fn write_tail<R: Rounds, V: Variant, G: Group, const W: usize>(
     requires width { G.BLOCKS ≡ W }
     requires few { W ≤ 16 }
     requires within { length blocks.old ≤ W }
-    ensures blocks { (i : ℕ) → i < length blocks.old
-        → slice_get blocks.new i ≡ Some (next_block R.COUNT V.layout state.old i) }
+    ensures blocks { AreNextBlocks R.COUNT V.layout state.old (length blocks.old) blocks.new }
     ensures state { state.new ≡ state_after V.layout (length blocks.old) state.old }
     ensures steps { Grows
         (for_tail (2 * G.ROUND_STEPS * R.COUNT) (length blocks.old)) steps.old steps.new }

@@ -1,8 +1,8 @@
 //! Sixteen blocks at once, in vectors of sixteen words.
 
-ghost use Rattle.std.specs.Prelude.{◌≡◌, ◌≤◌, ◌<◌, ℕ, ◌+◌, ◌*◌, min, length, slice_get, Some};
+ghost use Rattle.std.specs.Prelude.{◌≡◌, ◌≤◌, ◌<◌, ◌+◌, ◌*◌, min, length};
 ghost use Rattle.chacha_base.specs.Counts.{Grows, for_tail, tail_of_16};
-ghost use Rattle.chacha_base.specs.State.{state_after, next_block};
+ghost use Rattle.chacha_base.specs.State.{state_after, AreNextBlocks};
 
 use crate::backends::columns::Columns;
 use crate::backends::group::{Group, Twice};
@@ -42,8 +42,7 @@ fn tail_by<R: Rounds, V: Variant, G: Group, const W: usize>(
     requires within { length blocks.old ≤ W }
     requires narrowest { min 1 (length blocks.old) * (2 * G.ROUND_STEPS)
         ≡ tail_of_16 (length blocks.old) }
-    ensures blocks { (i : ℕ) → i < length blocks.old
-        → slice_get blocks.new i ≡ Some (next_block R.COUNT V.layout state.old i) }
+    ensures blocks { AreNextBlocks R.COUNT V.layout state.old (length blocks.old) blocks.new }
     ensures state { state.new ≡ state_after V.layout (length blocks.old) state.old }
     ensures steps { Grows (for_tail (2 * R.COUNT) (length blocks.old)) steps.old steps.new }
     ensures rounds { steps.new.rounds
@@ -83,8 +82,7 @@ impl<R: Rounds, V: Variant> StreamCipherBackend<R, V> for Lanes16 {
 
     fn gen_tail_blocks(state: &mut [u32; 16], blocks: &mut [[u8; 64]], steps: &mut Steps)
         requires { length blocks.old < 16 }
-        ensures blocks { (i : ℕ) → i < length blocks.old
-            → slice_get blocks.new i ≡ Some (next_block R.COUNT V.layout state.old i) }
+        ensures blocks { AreNextBlocks R.COUNT V.layout state.old (length blocks.old) blocks.new }
         ensures state { state.new ≡ state_after V.layout (length blocks.old) state.old }
         ensures steps { Grows (for_tail (2 * R.COUNT) (length blocks.old)) steps.old steps.new }
         ensures rounds { steps.new.rounds

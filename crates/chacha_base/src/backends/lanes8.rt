@@ -1,8 +1,8 @@
 //! Four blocks at once, two to a vector of eight words.
 
-ghost use Rattle.std.specs.Prelude.{◌≡◌, ◌<◌, ℕ, ◌+◌, ◌*◌, min, length, slice_get, Some};
+ghost use Rattle.std.specs.Prelude.{◌≡◌, ◌<◌, ◌+◌, ◌*◌, min, length};
 ghost use Rattle.chacha_base.specs.Counts.{Grows, for_tail};
-ghost use Rattle.chacha_base.specs.State.{state_after, next_block};
+ghost use Rattle.chacha_base.specs.State.{state_after, AreNextBlocks};
 
 use crate::backends::group::Twice;
 use crate::backends::kernel::{write_buffer, write_group, write_one, write_tail};
@@ -51,8 +51,7 @@ impl<R: Rounds, V: Variant> StreamCipherBackend<R, V> for Lanes8 {
 
     fn gen_tail_blocks(state: &mut [u32; 16], blocks: &mut [[u8; 64]], steps: &mut Steps)
         requires { length blocks.old < 4 }
-        ensures blocks { (i : ℕ) → i < length blocks.old
-            → slice_get blocks.new i ≡ Some (next_block R.COUNT V.layout state.old i) }
+        ensures blocks { AreNextBlocks R.COUNT V.layout state.old (length blocks.old) blocks.new }
         ensures state { state.new ≡ state_after V.layout (length blocks.old) state.old }
         ensures steps { Grows (for_tail (4 * R.COUNT) (length blocks.old)) steps.old steps.new }
         ensures rounds { steps.new.rounds

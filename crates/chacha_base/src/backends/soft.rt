@@ -1,10 +1,10 @@
 //! The plain backend: one block at a time, on words.
 
-ghost use Rattle.std.specs.Prelude.{◌≡◌, ◌<◌, ℕ, ◌+◌, ◌*◌, length, slice_get, Some};
+ghost use Rattle.std.specs.Prelude.{◌≡◌, ◌<◌, ◌+◌, ◌*◌, length};
 ghost use Rattle.chacha_base.specs.Rounds.{add_states, mix};
 ghost use Rattle.chacha_base.specs.Bytes.{bytes};
 ghost use Rattle.chacha_base.specs.Counts.{Grows, for_tail};
-ghost use Rattle.chacha_base.specs.State.{state_after, next_block};
+ghost use Rattle.chacha_base.specs.State.{state_after, AreNextBlocks};
 
 use crate::backends::kernel::advance;
 use crate::bytes::write_bytes;
@@ -83,8 +83,7 @@ impl<R: Rounds, V: Variant> StreamCipherBackend<R, V> for Soft {
     // A parallel call makes one block, so a tail has none, and the counter moves on by none.
     fn gen_tail_blocks(state: &mut [u32; 16], _blocks: &mut [[u8; 64]], _steps: &mut Steps)
         requires { length _blocks.old < 1 }
-        ensures blocks { (i : ℕ) → i < length _blocks.old
-            → slice_get _blocks.new i ≡ Some (next_block R.COUNT V.layout state.old i) }
+        ensures blocks { AreNextBlocks R.COUNT V.layout state.old (length _blocks.old) _blocks.new }
         ensures state { state.new ≡ state_after V.layout (length _blocks.old) state.old }
         ensures steps { Grows (for_tail (8 * R.COUNT) (length _blocks.old)) _steps.old _steps.new }
         ensures rounds { _steps.new.rounds ≡ _steps.old.rounds + length _blocks.old * 8 * R.COUNT }

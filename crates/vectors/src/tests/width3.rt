@@ -1,8 +1,8 @@
 //! A backend of a user's own, over the public names of `chacha20` alone: a pattern to copy. Other tests run rows and
 //! streams over it.
 
-ghost use Rattle.std.specs.Prelude.{◌≡◌, ◌<◌, ℕ, length, slice_get, Some};
-ghost use Rattle.chacha20.specs.State.{state_after, next_block};
+ghost use Rattle.std.specs.Prelude.{◌≡◌, length};
+ghost use Rattle.chacha20.specs.State.{state_after, AreNextBlocks};
 
 use chacha20::backends::Soft;
 use chacha20::cipher::{KeyIvInit, ParBlocksSizeUser, RngBackend, StreamCipherBackend};
@@ -16,8 +16,7 @@ pub struct Width3;
 
 // The next blocks, one by one.
 fn one_by_one<R: Rounds, V: Variant>(state: &mut [u32; 16], blocks: &mut [[u8; 64]])
-    ensures blocks { (i : ℕ) → i < length blocks.old
-        → slice_get blocks.new i ≡ Some (next_block R.COUNT V.layout state.old i) }
+    ensures blocks { AreNextBlocks R.COUNT V.layout state.old (length blocks.old) blocks.new }
     ensures state { state.new ≡ state_after V.layout (length blocks.old) state.old }
 {
     let mut steps = Steps::new();

@@ -1,6 +1,5 @@
-use Rattle.std.proofs.Common.{◌≡◌, ℕ, ◌<◌, ◌≤◌, ◌-◌, length}
-use Rattle.std.specs.Prelude.{slice_get, Some}
-use Rattle.chacha_base.specs.State.{state_after, next_block}
+use Rattle.std.proofs.Common.{◌≡◌, ◌≤◌, ◌-◌, length}
+use Rattle.chacha_base.specs.State.{state_after, AreNextBlocks}
 use Rattle.chacha20.proofs.chacha_core.write_blocks.Given as goal
 
 abbrev pub invariant-groups : goal.invariant-groups
@@ -9,7 +8,7 @@ invariant-groups g l =
     record {
       within : l.done ≤ length l.blocks;
       state : l.state ≡ state_after layout l.done l.fn.state;
-      done : (i : ℕ) → i < l.done → slice_get l.blocks i ≡ Some (next_block g.R.Rounds.COUNT layout l.fn.state i);
+      done : AreNextBlocks g.R.Rounds.COUNT layout l.fn.state l.done l.blocks;
     }
 
 abbrev pub decreases-groups : goal.decreases-groups

@@ -1,10 +1,9 @@
-use Rattle.std.proofs.Common.{◌≡◌, ℕ, ◌<◌}
-use Rattle.std.specs.Prelude.{slice_get, Some}
-use Rattle.chacha20.specs.State.{state_after, next_block}
+use Rattle.std.proofs.Common.{◌≡◌}
+use Rattle.chacha20.specs.State.{state_after, AreNextBlocks}
 use Rattle.vectors.proofs.tests.width3.one_by_one.Given as goal
 
 abbrev pub invariant-each : goal.invariant-each
 invariant-each g l = record {
-  blocks : (j : ℕ) → j < l.i → slice_get l.blocks j ≡ Some (next_block g.R.Rounds.COUNT g.V.Variant.layout l.fn.state j);
+  blocks : AreNextBlocks g.R.Rounds.COUNT g.V.Variant.layout l.fn.state l.i l.blocks;
   state : l.state ≡ state_after g.V.Variant.layout l.i l.fn.state;
 }
