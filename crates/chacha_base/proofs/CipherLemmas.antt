@@ -6,9 +6,9 @@ use Rattle.std.specs.Prelude.{Result, Ok, Err, OnErr}
 pub moved_on : (now new p done n size : ℕ) → now ≡ p + done → size ≡ n → new ≡ now + size → new ≡ p + (done + n)
 moved_on now new p done n size before long moved = omega arith
 
--- a position that has moved twice
-pub moved-parts : (a b c i j n : ℕ) → b ≡ a + i → c ≡ b + j → i + j ≡ n → c ≡ a + n
-moved-parts a b c i j n first then all = omega arith
+-- a position that has moved over three parts
+pub moved-parts : (p q r s i j k n : ℕ) → q ≡ p + i → r ≡ q + j → s ≡ r + k → i + j + k ≡ n → s ≡ p + n
+moved-parts p q r s i j k n first next last all = omega arith
 
 -- what holds anyway holds of a refusal
 pub on_err : {T E : Type 0} {P : Type 0} (r : Result T E) → P → OnErr r P

@@ -1,10 +1,10 @@
 //! A byte stream over a core of blocks.
 
-ghost use Rattle.std.specs.Prelude.{◌≡◌, ℕ, ◌+◌, ◌-◌, ◌*◌, ◌/◌, ◌%◌, ◌≤◌, ◌<◌, length, min};
+ghost use Rattle.std.specs.Prelude.{◌≡◌, ◌+◌, ◌/◌, ◌%◌, ◌≤◌, ◌<◌, length, min};
 ghost use Rattle.chacha_base.specs.Keystream.{keystream, xor_stream};
 ghost use Rattle.chacha_base.specs.Limit.{limit_of};
 ghost use Rattle.chacha_base.specs.Buffered.{left_at};
-ghost use Rattle.chacha_base.specs.Counts.{Grows, for_bytes, for_blocks, for_call};
+ghost use Rattle.chacha_base.specs.Counts.{Grows, for_bytes, for_last_part, for_whole_blocks};
 
 use crate::bytes::xor_bytes;
 use crate::cipher::{
@@ -101,16 +101,11 @@ impl<C: StreamCipherSeekCore> StreamCipher for StreamCipherCoreWrapper<C> {
         record { fixed = fixed i; position = position i } };
 
     fn check_remaining(&self, len: usize) -> Result<(), StreamCipherError> {
-        let blocks = if self.past {
-            Some(0)
+        let remaining = Self::limit() - self.position();
+        if len as u128 <= remaining {
+            Ok(())
         } else {
-            self.core.remaining_blocks()
-        };
-        match blocks {
-            Some(blocks) if len as u128 > 64 * blocks as u128 + self.left as u128 => Err(
-                StreamCipherError,
-            ),
-            _ => Ok(()),
+            Err(StreamCipherError)
         }
     }
 
@@ -136,7 +131,7 @@ impl<C: StreamCipherSeekCore> StreamCipher for StreamCipherCoreWrapper<C> {
 impl<C: StreamCipherSeekCore> StreamCipherSeek for StreamCipherCoreWrapper<C> {
     fn try_seek<T: SeekNum>(&mut self, pos: T) -> Result<(), StreamCipherError> {
         match pos.to_position() {
-            Some(place) if place <= 64 * u128::from(C::Counter::last()) + 64 => {
+            Some(place) if place <= Self::limit() => {
                 self.move_to(place, &mut Steps::new());
                 Ok(())
             }
@@ -145,16 +140,32 @@ impl<C: StreamCipherSeekCore> StreamCipherSeek for StreamCipherCoreWrapper<C> {
     }
 
     fn try_current_pos<T: SeekNum>(&self) -> Result<T, OverflowError> {
-        let made = if self.past {
-            u128::from(C::Counter::last()) + 1
-        } else {
-            u128::from(self.core.get_block_pos().to_u64())
-        };
-        T::from_position(64 * made - self.left as u128)
+        T::from_position(self.position())
     }
 }
 
 impl<C: StreamCipherSeekCore> StreamCipherCoreWrapper<C> {
+    // The greatest position.
+    fn limit() -> u128
+        ensures { result ≡ limit_of C.modulus }
+    {
+        64 * (u128::from(C::Counter::last()) + 1)
+    }
+
+    // The position, at most the greatest one.
+    fn position(&self) -> u128
+        ensures value { result ≡ self.now.position }
+        ensures within { result ≤ limit_of C.modulus }
+    {
+        // Where the block that the core made last ends.
+        let end = if self.past {
+            Self::limit()
+        } else {
+            64 * u128::from(self.core.get_block_pos().to_u64())
+        };
+        end - self.left as u128
+    }
+
     // How many of so many bytes are left of the block that the position lies in.
     fn begun(&self, len: usize) -> usize
         ensures { result ≡ min len (left_at self.now.position) }
@@ -185,8 +196,8 @@ impl<C: StreamCipherSeekCore> StreamCipherCoreWrapper<C> {
         ensures fixed { self.new.fixed ≡ self.old.fixed }
         ensures position { self.new.position ≡ self.old.position + length blocks.old }
         ensures steps { Grows
-            (for_blocks C.PAR_BLOCKS C.par_cost C.one_cost
-            (length blocks.old / 64) 0) steps.old steps.new }
+            (for_whole_blocks C.PAR_BLOCKS C.par_cost C.one_cost (length blocks.old / 64))
+            steps.old steps.new }
     {
         if !blocks.is_empty() {
             self.core.apply_blocks_counted(blocks, steps);
@@ -203,9 +214,7 @@ impl<C: StreamCipherSeekCore> StreamCipherCoreWrapper<C> {
             (keystream C.modulus (C.block_at self.old.fixed)) self.old.position bytes.old }
         ensures fixed { self.new.fixed ≡ self.old.fixed }
         ensures position { self.new.position ≡ self.old.position + length bytes.old }
-        ensures steps { Grows
-            (for_call 0 (min 1 (length bytes.old))
-            (min 1 (length bytes.old) * C.one_cost)) steps.old steps.new }
+        ensures steps { Grows (for_last_part C.one_cost (length bytes.old)) steps.old steps.new }
     {
         if !bytes.is_empty() {
             self.core.write_block_counted(&mut self.buffer, steps);
@@ -220,9 +229,7 @@ impl<C: StreamCipherSeekCore> StreamCipherCoreWrapper<C> {
         requires { place ≤ limit_of C.modulus }
         ensures fixed { self.new.fixed ≡ self.old.fixed }
         ensures position { self.new.position ≡ place }
-        ensures steps { Grows
-            (for_call 0 (min 1 (place % 64))
-            (min 1 (place % 64) * C.one_cost)) steps.old steps.new }
+        ensures steps { Grows (for_last_part C.one_cost (place % 64)) steps.old steps.new }
     {
         let last = u128::from(C::Counter::last());
         let used = (place % 64) as usize;

@@ -2,21 +2,17 @@ use Rattle.std.proofs.Common.{◌≡◌, ◌≤◌, subst, refl, arith}
 use Rattle.std.specs.Prelude.{IsSomeAnd, IfSome}
 use Rattle.std.proofs.lemmas.Grind.{common_steps}
 use Rattle.chacha_base.specs.Limit.{limit_of}
-use Rattle.chacha_base.proofs.BufferedLemmas.{sought-fits}
 use Rattle.chacha_base.proofs.wrapper.StreamCipherCoreWrapperStreamCipherSeek.try_seek.Goals as goal
 
 pub move_to-requires : goal.move_to-requires
-move_to-requires g c =
-    sought-fits g.C.Keystream.modulus g.C.Counter.StreamCipherCounter.M c.last.result c.from.result _
-    g.met.C.StreamCipherSeekCore.counters c.last.ensures c.from.ensures (omega (arith, c.if-place-from.true))
+move_to-requires g c = subst (λ limit. c.in-Some.place ≤ limit) c.limit.ensures c.if-place-limit.true
 
 pub returns-in_default-clause-accepted : goal.returns-in_default-clause-accepted
 returns-in_default-clause-accepted g c = grind (arith, common_steps)
 
 pub returns-in-Some-clause-accepted : goal.returns-in-Some-clause-accepted
 returns-in-Some-clause-accepted g c =
-    let fits = sought-fits g.C.Keystream.modulus g.C.Counter.StreamCipherCounter.M c.last.result c.from.result c.in-Some.place
-    g.met.C.StreamCipherSeekCore.counters c.last.ensures c.from.ensures (omega (arith, c.if-place-from.true)) in
+    let fits = subst (λ limit. c.in-Some.place ≤ limit) c.limit.ensures c.if-place-limit.true in
     (λ e. subst (λ o. IsSomeAnd o (λ p. p ≤ limit_of g.C.Keystream.modulus)) c.in-Some.ensures.value fits, λ some. refl)
 
 pub returns-in-Some-clause-fixed : goal.returns-in-Some-clause-fixed
