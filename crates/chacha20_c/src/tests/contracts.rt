@@ -13,6 +13,7 @@ use super::{COUNTING, FROM_1, FROM_80, NONCE, X_NONCE, readme};
 use chacha20::backends::{Lanes4, Lanes8, Lanes16, Rows8, Soft};
 use chacha20::cipher::{
     KeyIvInit, RngBackend, StreamCipher, StreamCipherBackend, StreamCipherCore, StreamCipherError,
+    StreamCipherSeek,
 };
 use chacha20::variants::{Ietf, Variant};
 use chacha20::{
@@ -35,6 +36,16 @@ fn encrypt<C: KeyIvInit + StreamCipher + Drop>(
     ensures refused { OnErr result (message.new ≡ message.old) }
 {
     C::new(key, nonce).try_apply_keystream(message)
+}
+
+// A cipher that has sought back to its position is the one that was there, by a law of ciphers.
+fn apply_and_seek_back<C: StreamCipherSeek>(cipher: &mut C, position: u128, bytes: &mut [u8])
+    requires position { C.position cipher.old ≡ position }
+    requires fits { position + length bytes.old ≤ limit_of C.modulus }
+    ensures { cipher.new ≡ cipher.old }
+{
+    cipher.apply_keystream(bytes);
+    cipher.seek(position);
 }
 
 // A message under a key and a nonce. No message is too long for a new cipher.
