@@ -16,7 +16,8 @@ returns-clause-window c message same =
     same ∙ (rw zero-add at (window-xor_stream stream 0 start n message)) in
     let decrypted : xor_stream stream start c.args.window.now ≡ window =
     ap (xor_stream stream start) encrypted ∙ xor_stream-xor_stream stream start window in
+    let sought = c.in_ok-try_seek.ensures in
     let apply = c.try_apply_keystream in
     let bytes : OnOk apply.result (apply.new.buf ≡ xor_stream stream start c.args.window.now) =
-    rw (← c.new-cipher.ensures.blocks) (rw c.in_ok-try_seek.ensures.moved at apply.ensures.bytes) in
+    rw (← c.new-cipher.ensures.blocks) (rw (sought.fixed, sought.position) at apply.ensures.bytes) in
     rw decrypted at bytes
