@@ -1,7 +1,7 @@
 //! Tables of lists of calls with their answers. An entry of a `static` costs a proof a millisecond in each
 //! function that names it, and a call in code half a second.
 
-ghost use Rattle.std.specs.Prelude.{◌≤◌, ◌+◌, IsTrue, All, length};
+ghost use Rattle.std.specs.Prelude.{◌≤◌, ◌+◌, ◌↔◌, IsTrue, All, length};
 ghost use Rattle.chacha20.specs.Runs.{InSlices};
 ghost use Rattle.chacha20.specs.GeneratorRuns.{InData};
 
@@ -70,7 +70,7 @@ impl<K: StreamCipherSeekCore> Listed for StreamCipherCoreWrapper<K> {
 
 /// Whether the ranges of a call lie in slices of these lengths.
 pub fn in_slices(call: CipherCall, input: usize, bytes: usize) -> bool
-    ensures { IsTrue result → InSlices input bytes call }
+    ensures { IsTrue result ↔ InSlices input bytes call }
 {
     match call {
         CipherCall::Apply { at, len } | CipherCall::Write { at, len } => in_range(at, len, bytes),
@@ -85,13 +85,13 @@ pub fn in_slices(call: CipherCall, input: usize, bytes: usize) -> bool
 }
 
 fn in_range(at: usize, len: usize, bytes: usize) -> bool
-    ensures { IsTrue result → at + len ≤ bytes }
+    ensures { IsTrue result ↔ (at + len ≤ bytes) }
 {
     at <= bytes && len <= bytes - at
 }
 
 fn all_in_slices(calls: &[CipherCall], input: usize, bytes: usize) -> bool
-    ensures { IsTrue result → All (InSlices input bytes) calls.now }
+    ensures { IsTrue result ↔ All (InSlices input bytes) calls.now }
 {
     'each: for i in 0..calls.len() {
         if !in_slices(calls[i], input, bytes) {
@@ -102,7 +102,7 @@ fn all_in_slices(calls: &[CipherCall], input: usize, bytes: usize) -> bool
 }
 
 fn all_in_data(calls: &[RngCall], bytes: usize) -> bool
-    ensures { IsTrue result → All (InData bytes) calls.now }
+    ensures { IsTrue result ↔ All (InData bytes) calls.now }
 {
     'each: for i in 0..calls.len() {
         if let RngCall::Fill { at, len } = calls[i] {
