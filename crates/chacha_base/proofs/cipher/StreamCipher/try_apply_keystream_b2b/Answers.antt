@@ -1,4 +1,4 @@
-use Rattle.std.proofs.Common.{◌≡◌, ◌+◌, ◌≤◌, length, take, arith, refl, sym, ap, subst, ◌∙◌}
+use Rattle.std.proofs.Common.{◌≡◌, ◌+◌, ◌≤◌, length, take, add-zero, arith, refl, sym, ap, ap₂, subst, ◌∙◌}
 use Rattle.std.proofs.Math.Seq.{take-length}
 use Rattle.std.proofs.lemmas.Bool.{false≢true}
 use Rattle.chacha_base.specs.Keystream.{keystream, xor_stream}
@@ -8,7 +8,7 @@ use Rattle.chacha_base.proofs.PieceLemmas.{xor_stream-written, piece-within, pie
 use Rattle.chacha_base.proofs.cipher.StreamCipher.try_apply_keystream_b2b.Goals as goal
 
 pub pieces-init : goal.pieces-init
-pieces-init g c = record { within = omega arith; fixed = refl; position = omega arith; bytes = refl }
+pieces-init g c = record { within = omega arith; fixed = refl; position = sym (add-zero _); bytes = refl }
 
 pub apply_keystream-requires : goal.apply_keystream-requires
 apply_keystream-requires g c =
@@ -37,7 +37,10 @@ pieces-preserved g c =
       bytes = xor_stream-written stream (cipher.position old) done n _ c.args.input.now c.pieces.output _ before.within
           (subst (λ m. done ≤ m) (c.if-input-output.false ∙ sym c.pieces.auto.output) before.within)
           (c.apply_keystream.auto.buf ∙ size) before.bytes
-          (rw (before.fixed, before.position, c.copy_from_slice.ensures.after) at c.apply_keystream.ensures.bytes);
+          (c.apply_keystream.ensures.bytes
+          ∙ ap (λ f. xor_stream (keystream cipher.modulus (cipher.block_at f)) (cipher.position c.pieces.self)
+          c.copy_from_slice.new.self) before.fixed
+          ∙ ap₂ (xor_stream stream) before.position c.copy_from_slice.ensures.after);
     }
 
 pub returns-clause-bytes : goal.returns-clause-bytes

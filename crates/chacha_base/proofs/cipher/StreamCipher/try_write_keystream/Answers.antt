@@ -1,6 +1,7 @@
-use Rattle.std.proofs.Common.{◌≡◌, ◌+◌, ◌≤◌, ◌-◌, length, take, drop, replicate, arith, refl, sym, ap, subst, ◌∙◌}
+use Rattle.std.proofs.Common.{◌≡◌, ◌+◌, ◌≤◌, ◌-◌, length, take, drop, replicate, add-zero, arith}
+use Rattle.std.proofs.Common.{refl, sym, ap, ap₂, subst, ◌∙◌}
 use Rattle.std.proofs.Math.Seq.{take-length}
-use Rattle.chacha_base.specs.Keystream.{keystream}
+use Rattle.chacha_base.specs.Keystream.{keystream, xor_stream}
 use Rattle.chacha_base.specs.Limit.{limit_of}
 use Rattle.chacha_base.proofs.CipherLemmas.{moved_on}
 use Rattle.chacha_base.proofs.KeystreamLemmas.{xor_stream-zeros}
@@ -8,7 +9,7 @@ use Rattle.chacha_base.proofs.PieceLemmas.{stream_part-written, piece-within, pi
 use Rattle.chacha_base.proofs.cipher.StreamCipher.try_write_keystream.Goals as goal
 
 pub pieces-init : goal.pieces-init
-pieces-init g c = record { within = omega arith; fixed = refl; position = omega arith; bytes = refl }
+pieces-init g c = record { within = omega arith; fixed = refl; position = sym (add-zero _); bytes = refl }
 
 pub apply_keystream-requires : goal.apply_keystream-requires
 apply_keystream-requires g c =
@@ -43,8 +44,10 @@ pieces-preserved g c =
       fixed = c.apply_keystream.ensures.fixed ∙ before.fixed;
       position = moved_on _ _ p done n _ before.position size c.apply_keystream.ensures.position;
       bytes = stream_part-written stream p done n _ c.pieces.buf _ front (c.apply_keystream.auto.buf ∙ size)
-          before.bytes ((rw (before.fixed, before.position, zeros) at c.apply_keystream.ensures.bytes)
-          ∙ xor_stream-zeros stream (p + done) n);
+          before.bytes (c.apply_keystream.ensures.bytes
+          ∙ ap (λ f. xor_stream (keystream cipher.modulus (cipher.block_at f)) (cipher.position c.pieces.self)
+          c.fill.new.self) before.fixed
+          ∙ ap₂ (xor_stream stream) before.position zeros ∙ xor_stream-zeros stream (p + done) n);
     }
 
 pub returns-clause-bytes : goal.returns-clause-bytes
