@@ -5,7 +5,7 @@
 #include "chacha20.h"
 #include "chacha20_wipe.h"
 
-#if CHACHA20_VERSION_MAJOR != 0 || CHACHA20_VERSION_MINOR < 4
+#if CHACHA20_VERSION_MAJOR != 0 || CHACHA20_VERSION_MINOR < 5
 #error "another version"
 #endif
 

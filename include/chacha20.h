@@ -1,7 +1,10 @@
 /* SPDX-License-Identifier: Apache-2.0 OR MIT
 
-   ChaCha stream ciphers, HChaCha and seekable generators of random words. Each function that this
-   header declares and does not define is proved to meet its contract (crates/chacha20_c).
+   ChaCha stream ciphers, HChaCha and seekable generators of random words.
+
+   Proved to meet its contract (crates/chacha20_c) is each function that this header declares and
+   does not define, chacha20_version alone excepted. Not proved are chacha20_version, the functions
+   that the header defines, and the choice between the builds for different processors.
 
    For every function:
 
@@ -27,9 +30,13 @@
 #include <stddef.h>
 #include <stdint.h>
 
-#define CHACHA20_VERSION "0.4.0"
+/* The version of this header. While the first number is 0, the second changes whenever a function,
+   its parameters or its meaning does, and with it the shared library's soname, libchacha20.so.0.5,
+   and the version node of its symbols, CHACHA20_0.5. All libraries of one soname have the same
+   functions, so a program that was built with one of them runs with each. */
+#define CHACHA20_VERSION "0.5.0"
 #define CHACHA20_VERSION_MAJOR 0
-#define CHACHA20_VERSION_MINOR 4
+#define CHACHA20_VERSION_MINOR 5
 #define CHACHA20_VERSION_PATCH 0
 
 /* Sizes, the same for 8, 12 and 20 rounds. */
@@ -104,6 +111,9 @@ extern "C" {
 
 /* A length has 64 bits in the library; where size_t has fewer, this is an error. */
 typedef char chacha20_size_t_has_64_bits[sizeof(size_t) == 8 ? 1 : -1];
+
+/* The version of the library that runs, as CHACHA20_VERSION is that of the header. Not proved. */
+const char *chacha20_version(void) CHACHA20_NOEXCEPT;
 
 /* Ciphers
 
