@@ -330,7 +330,20 @@ static void one_refusal(struct run *run) {
     if (other_len != len) {
         holds(run, cipher->xor_between(key, nonce, 0, 0, expected, len, made, other_len) == 1, "unequal lengths");
     }
+    size_t apart = below(run, 2) ? 1 + below(run, len) : len - 1, both = len + apart;
+    if (apart > 0 && apart < len && both <= 300) {
+        holds(run, cipher->xor(key, nonce, 0, 0, made, made + apart, len) == 1 &&
+                       cipher->xor(key, nonce, 0, 0, made + apart, made, len) == 1,
+              "an overlap in part was taken");
+    }
     same_bytes(run, made, input, 300, "a refused call wrote");
+    if (2 * len <= 300) {
+        memcpy(expected, made, 2 * len);
+        holds(run, cipher->xor(key, nonce, 0, 0, made, made + len, len) == 0 &&
+                       cipher->xor_in_place(key, nonce, 0, 0, expected + len, len) == 0,
+              "neighbours were refused");
+        same_bytes(run, made, expected + len, len, "bytes from a neighbour");
+    }
 }
 
 static void one_subkey(struct run *run, int at_rounds) {

@@ -11,7 +11,7 @@
 #include "../c/processor.h"
 #include "library.h"
 
-enum { LONGEST = 2600 };
+enum { LONGEST = (1 << 16) + 1000 };
 
 static uint8_t key[32], nonce[24], state[CHACHA_RNG_STATE_BYTES], input[LONGEST], output[LONGEST];
 static unsigned calls, wrong_answers;
@@ -60,9 +60,11 @@ static void by_generator(const struct library *library, int at_rounds, uint64_t 
 }
 
 static void by_library(const struct library *library) {
+    static const size_t lengths[] = {0, 23, 46, 69, 490, 911, 1332, 1753, 2174, 2595, LONGEST};
     static const uint64_t positions[] = {0, 1, 63, 64, 1000, ((uint64_t)1 << 37) + 5};
     for (int i = 0; i < (int)(sizeof positions / sizeof positions[0]); i++) {
-        for (size_t len = 0; len <= LONGEST; len += len < 70 ? 23 : 421) {
+        for (int j = 0; j < (int)(sizeof lengths / sizeof lengths[0]); j++) {
+            size_t len = lengths[j];
             for (int layout = 0; layout < LAYOUTS; layout++) {
                 done(library->check[layout](positions[i] / 64, positions[i] % 64, len));
                 for (int at_rounds = 0; at_rounds < ROUNDS; at_rounds++) {

@@ -14,8 +14,9 @@
 #include "../include/chacha20_wipe.h"
 #include "library.h"
 
-enum { STACK = 1 << 16, MOST = 2600, KINDS = 14 };
+enum { STACK = 1 << 16, MOST = (1 << 16) + 1000, KINDS = 14 };
 
+static const size_t lengths[] = {0, 35, 70, 105, 140, 550, 960, 1370, 1780, 2190, 2600, MOST};
 static uint8_t stack[STACK] __attribute__((aligned(64)));
 static uint8_t key[32], nonce[24], state[CHACHA_RNG_STATE_BYTES], input[MOST], output[MOST];
 static const struct library *library;
@@ -89,7 +90,8 @@ int main(void) {
             for (layout = 0; layout < LAYOUTS; layout++) {
                 for (at_rounds = 0; at_rounds < ROUNDS; at_rounds++) {
                     if (!library->ciphers[layout][at_rounds].xor_in_place) continue;
-                    for (len = 0; len <= MOST; len += len < 140 ? 35 : 410) {
+                    for (size_t j = 0; j < sizeof lengths / sizeof lengths[0]; j++) {
+                        len = lengths[j];
                         memcpy(state, key, 32);
                         size_t one = depth(0xa5), other = depth(0x5a);
                         if (other > one) one = other;

@@ -52,7 +52,7 @@
 
 /* Bytes in the stream of a key and a nonce of 12 or 24 bytes: all 2^32 blocks, 274877906944 bytes.
    A legacy stream has 2^64 blocks, 2^70 bytes. */
-#define CHACHA20_STREAM_BYTES ((uint64_t)1 << 38)
+#define CHACHA20_STREAM_BYTES (UINT64_C(1) << 38)
 
 /* The answers. After CHACHA20_REFUSED every byte is as it was: so data are NOT encrypted, and may
    not be sent. */
@@ -91,10 +91,15 @@
 #define CHACHA20_INLINE_WORD
 #endif
 
-#if defined(__GNUC__)
+#if defined(__cplusplus)
+#define CHACHA20_INLINE inline
+#define CHACHA20_ADDRESS(pointer) reinterpret_cast<uintptr_t>(pointer)
+#elif defined(__GNUC__)
 #define CHACHA20_INLINE static CHACHA20_INLINE_WORD __attribute__((__unused__))
+#define CHACHA20_ADDRESS(pointer) ((uintptr_t)(pointer))
 #else
 #define CHACHA20_INLINE static CHACHA20_INLINE_WORD
+#define CHACHA20_ADDRESS(pointer) ((uintptr_t)(pointer))
 #endif
 
 #if !defined(__cplusplus)
@@ -306,95 +311,45 @@ void chacha_rng_set_stream(uint8_t state[CHACHA20_MIN(49)], uint64_t stream) CHA
 
 /* The same with one length, for callers in C; not proved, since a compiler of C makes them.
 
-   NAME_xor        combines `input` into `output`, which are equal or apart
+   NAME_xor        combines `input` into `output`, which are equal or apart; where they overlap
+                   otherwise, it answers CHACHA20_REFUSED and writes nothing
    NAME_keystream  writes the keystream
    NAME_rng_fill   fills `output` from a generator
 
    With length 0 the pointers to data may be null. */
 
-CHACHA20_MUST_USE CHACHA20_INLINE uint32_t chacha20_xor(
-    const uint8_t key[CHACHA20_MIN(32)], const uint8_t nonce[CHACHA20_MIN(12)], uint64_t position,
-    uint8_t *output, const uint8_t *input, size_t len) CHACHA20_NOEXCEPT {
-    if (len == 0) return chacha20_check(position, 0);
-    if (output == input) return chacha20_xor_in_place(key, nonce, position, output, len);
-    return chacha20_xor_between(key, nonce, position, input, len, output, len);
-}
-CHACHA20_MUST_USE CHACHA20_INLINE uint32_t chacha20_keystream(
-    const uint8_t key[CHACHA20_MIN(32)], const uint8_t nonce[CHACHA20_MIN(12)], uint64_t position,
-    uint8_t *output, size_t len) CHACHA20_NOEXCEPT {
-    if (len == 0) return chacha20_check(position, 0);
-    return chacha20_write_keystream(key, nonce, position, output, len);
+/* Whether two buffers of one length that begin at two places have a byte in common. */
+CHACHA20_INLINE int chacha20_overlap(
+    const uint8_t *one, const uint8_t *other, size_t len) CHACHA20_NOEXCEPT {
+    uintptr_t apart = CHACHA20_ADDRESS(one) - CHACHA20_ADDRESS(other);
+    return apart < len || 0 - apart < len;
 }
 
-CHACHA20_MUST_USE CHACHA20_INLINE uint32_t chacha12_xor(
-    const uint8_t key[CHACHA20_MIN(32)], const uint8_t nonce[CHACHA20_MIN(12)], uint64_t position,
-    uint8_t *output, const uint8_t *input, size_t len) CHACHA20_NOEXCEPT {
-    if (len == 0) return chacha20_check(position, 0);
-    if (output == input) return chacha12_xor_in_place(key, nonce, position, output, len);
-    return chacha12_xor_between(key, nonce, position, input, len, output, len);
-}
-CHACHA20_MUST_USE CHACHA20_INLINE uint32_t chacha12_keystream(
-    const uint8_t key[CHACHA20_MIN(32)], const uint8_t nonce[CHACHA20_MIN(12)], uint64_t position,
-    uint8_t *output, size_t len) CHACHA20_NOEXCEPT {
-    if (len == 0) return chacha20_check(position, 0);
-    return chacha12_write_keystream(key, nonce, position, output, len);
-}
+#define CHACHA20_DEFINE(NAME, NONCE_BYTES)                                                      \
+    CHACHA20_MUST_USE CHACHA20_INLINE uint32_t NAME##_xor(                                      \
+        const uint8_t key[CHACHA20_MIN(32)], const uint8_t nonce[CHACHA20_MIN(NONCE_BYTES)],    \
+        uint64_t position, uint8_t *output, const uint8_t *input,                               \
+        size_t len) CHACHA20_NOEXCEPT {                                                         \
+        if (len == 0) return chacha20_check(position, 0);                                       \
+        if (output == input) return NAME##_xor_in_place(key, nonce, position, output, len);     \
+        if (chacha20_overlap(output, input, len)) return CHACHA20_REFUSED;                      \
+        return NAME##_xor_between(key, nonce, position, input, len, output, len);               \
+    }                                                                                           \
+    CHACHA20_MUST_USE CHACHA20_INLINE uint32_t NAME##_keystream(                                \
+        const uint8_t key[CHACHA20_MIN(32)], const uint8_t nonce[CHACHA20_MIN(NONCE_BYTES)],    \
+        uint64_t position, uint8_t *output, size_t len) CHACHA20_NOEXCEPT {                     \
+        if (len == 0) return chacha20_check(position, 0);                                       \
+        return NAME##_write_keystream(key, nonce, position, output, len);                       \
+    }
 
-CHACHA20_MUST_USE CHACHA20_INLINE uint32_t chacha8_xor(
-    const uint8_t key[CHACHA20_MIN(32)], const uint8_t nonce[CHACHA20_MIN(12)], uint64_t position,
-    uint8_t *output, const uint8_t *input, size_t len) CHACHA20_NOEXCEPT {
-    if (len == 0) return chacha20_check(position, 0);
-    if (output == input) return chacha8_xor_in_place(key, nonce, position, output, len);
-    return chacha8_xor_between(key, nonce, position, input, len, output, len);
-}
-CHACHA20_MUST_USE CHACHA20_INLINE uint32_t chacha8_keystream(
-    const uint8_t key[CHACHA20_MIN(32)], const uint8_t nonce[CHACHA20_MIN(12)], uint64_t position,
-    uint8_t *output, size_t len) CHACHA20_NOEXCEPT {
-    if (len == 0) return chacha20_check(position, 0);
-    return chacha8_write_keystream(key, nonce, position, output, len);
-}
+CHACHA20_DEFINE(chacha20, 12)
+CHACHA20_DEFINE(chacha12, 12)
+CHACHA20_DEFINE(chacha8, 12)
+CHACHA20_DEFINE(xchacha20, 24)
+CHACHA20_DEFINE(xchacha12, 24)
+CHACHA20_DEFINE(xchacha8, 24)
 
-CHACHA20_MUST_USE CHACHA20_INLINE uint32_t xchacha20_xor(
-    const uint8_t key[CHACHA20_MIN(32)], const uint8_t nonce[CHACHA20_MIN(24)], uint64_t position,
-    uint8_t *output, const uint8_t *input, size_t len) CHACHA20_NOEXCEPT {
-    if (len == 0) return chacha20_check(position, 0);
-    if (output == input) return xchacha20_xor_in_place(key, nonce, position, output, len);
-    return xchacha20_xor_between(key, nonce, position, input, len, output, len);
-}
-CHACHA20_MUST_USE CHACHA20_INLINE uint32_t xchacha20_keystream(
-    const uint8_t key[CHACHA20_MIN(32)], const uint8_t nonce[CHACHA20_MIN(24)], uint64_t position,
-    uint8_t *output, size_t len) CHACHA20_NOEXCEPT {
-    if (len == 0) return chacha20_check(position, 0);
-    return xchacha20_write_keystream(key, nonce, position, output, len);
-}
-
-CHACHA20_MUST_USE CHACHA20_INLINE uint32_t xchacha12_xor(
-    const uint8_t key[CHACHA20_MIN(32)], const uint8_t nonce[CHACHA20_MIN(24)], uint64_t position,
-    uint8_t *output, const uint8_t *input, size_t len) CHACHA20_NOEXCEPT {
-    if (len == 0) return chacha20_check(position, 0);
-    if (output == input) return xchacha12_xor_in_place(key, nonce, position, output, len);
-    return xchacha12_xor_between(key, nonce, position, input, len, output, len);
-}
-CHACHA20_MUST_USE CHACHA20_INLINE uint32_t xchacha12_keystream(
-    const uint8_t key[CHACHA20_MIN(32)], const uint8_t nonce[CHACHA20_MIN(24)], uint64_t position,
-    uint8_t *output, size_t len) CHACHA20_NOEXCEPT {
-    if (len == 0) return chacha20_check(position, 0);
-    return xchacha12_write_keystream(key, nonce, position, output, len);
-}
-
-CHACHA20_MUST_USE CHACHA20_INLINE uint32_t xchacha8_xor(
-    const uint8_t key[CHACHA20_MIN(32)], const uint8_t nonce[CHACHA20_MIN(24)], uint64_t position,
-    uint8_t *output, const uint8_t *input, size_t len) CHACHA20_NOEXCEPT {
-    if (len == 0) return chacha20_check(position, 0);
-    if (output == input) return xchacha8_xor_in_place(key, nonce, position, output, len);
-    return xchacha8_xor_between(key, nonce, position, input, len, output, len);
-}
-CHACHA20_MUST_USE CHACHA20_INLINE uint32_t xchacha8_keystream(
-    const uint8_t key[CHACHA20_MIN(32)], const uint8_t nonce[CHACHA20_MIN(24)], uint64_t position,
-    uint8_t *output, size_t len) CHACHA20_NOEXCEPT {
-    if (len == 0) return chacha20_check(position, 0);
-    return xchacha8_write_keystream(key, nonce, position, output, len);
-}
+#undef CHACHA20_DEFINE
 
 CHACHA20_MUST_USE CHACHA20_INLINE uint32_t chacha20_legacy_xor(
     const uint8_t key[CHACHA20_MIN(32)], const uint8_t nonce[CHACHA20_MIN(8)], uint64_t block,
@@ -403,6 +358,7 @@ CHACHA20_MUST_USE CHACHA20_INLINE uint32_t chacha20_legacy_xor(
     if (output == input) {
         return chacha20_legacy_xor_in_place(key, nonce, block, offset, output, len);
     }
+    if (chacha20_overlap(output, input, len)) return CHACHA20_REFUSED;
     return chacha20_legacy_xor_between(key, nonce, block, offset, input, len, output, len);
 }
 CHACHA20_MUST_USE CHACHA20_INLINE uint32_t chacha20_legacy_keystream(
@@ -416,12 +372,10 @@ CHACHA20_INLINE void chacha20_rng_fill(
     uint8_t state[CHACHA20_MIN(49)], uint8_t *output, size_t len) CHACHA20_NOEXCEPT {
     if (len != 0) chacha20_rng_fill_bytes(state, output, len);
 }
-
 CHACHA20_INLINE void chacha12_rng_fill(
     uint8_t state[CHACHA20_MIN(49)], uint8_t *output, size_t len) CHACHA20_NOEXCEPT {
     if (len != 0) chacha12_rng_fill_bytes(state, output, len);
 }
-
 CHACHA20_INLINE void chacha8_rng_fill(
     uint8_t state[CHACHA20_MIN(49)], uint8_t *output, size_t len) CHACHA20_NOEXCEPT {
     if (len != 0) chacha8_rng_fill_bytes(state, output, len);
