@@ -110,6 +110,87 @@
 #define CHACHA20_NOEXCEPT throw()
 #endif
 
+/* What a compiler can report of a call: a null pointer, a length past the end of a buffer, an array
+   that is too short, and what is written where something else is read. Lengths are reported by gcc
+   from version 10 on, where it optimizes, and by clang where they are constants. */
+#if defined(__GNUC__)
+#define CHACHA20_NEVER_NULL __attribute__((__nonnull__))
+#define CHACHA20_KEY_NEVER_NULL __attribute__((__nonnull__(1, 2)))
+#else
+#define CHACHA20_NEVER_NULL
+#define CHACHA20_KEY_NEVER_NULL
+#endif
+#if defined(__has_attribute)
+#if __has_attribute(__access__)
+#define CHACHA20_ACCESS(how, at, len_at) __attribute__((__access__(how, at, len_at)))
+#endif
+#if __has_attribute(__diagnose_if__)
+#define CHACHA20_WARN_IF(fact, text) __attribute__((__diagnose_if__(fact, text, "warning")))
+#endif
+#endif
+#if defined(__clang__)
+#pragma clang diagnostic push
+#pragma clang diagnostic ignored "-Wgcc-compat" /* that gcc has no such attribute */
+#endif
+#if !defined(CHACHA20_ACCESS)
+#define CHACHA20_ACCESS(how, at, len_at)
+#endif
+#if !defined(CHACHA20_WARN_IF)
+#define CHACHA20_WARN_IF(fact, text)
+#endif
+
+/* A buffer, which is parameter `at`, with its length, which is parameter `len_at`. */
+#define CHACHA20_BUFFER(how, at, len_at, buffer, len)         \
+    CHACHA20_ACCESS(how, at, len_at)                          \
+    CHACHA20_WARN_IF(!buffer && len != 0, #buffer " is null") \
+    CHACHA20_WARN_IF(__builtin_object_size(buffer, 0) < len, #buffer " is shorter than " #len)
+/* An array of at least so many bytes; of C's arrays the declaration says so itself. */
+#if defined(__cplusplus)
+#define CHACHA20_ARRAY(array, bytes)                                                            \
+    CHACHA20_WARN_IF(__builtin_object_size(array, 0) < bytes, #array " is shorter than " #bytes)
+#else
+#define CHACHA20_ARRAY(array, bytes)
+#endif
+#define CHACHA20_DIFFER(one, other) CHACHA20_WARN_IF(one == other, #one " and " #other " overlap")
+
+#define CHACHA20_KEY_AND_NONCE(nonce_bytes) \
+    CHACHA20_ARRAY(key, 32)                 \
+    CHACHA20_ARRAY(nonce, nonce_bytes)
+#define CHACHA20_IN_PLACE(nonce_bytes, at, len_at)          \
+    CHACHA20_NEVER_NULL CHACHA20_KEY_AND_NONCE(nonce_bytes) \
+    CHACHA20_BUFFER(__read_write__, at, len_at, data, len)  \
+    CHACHA20_DIFFER(key, data) CHACHA20_DIFFER(nonce, data)
+#define CHACHA20_BETWEEN(nonce_bytes, input_at, input_len_at, output_at, output_len_at) \
+    CHACHA20_NEVER_NULL CHACHA20_KEY_AND_NONCE(nonce_bytes)                             \
+    CHACHA20_BUFFER(__read_only__, input_at, input_len_at, input, input_len)            \
+    CHACHA20_BUFFER(__write_only__, output_at, output_len_at, output, output_len)       \
+    CHACHA20_DIFFER(key, output) CHACHA20_DIFFER(nonce, output) CHACHA20_DIFFER(input, output)
+#define CHACHA20_WRITE(nonce_bytes, at, len_at)              \
+    CHACHA20_NEVER_NULL CHACHA20_KEY_AND_NONCE(nonce_bytes)  \
+    CHACHA20_BUFFER(__write_only__, at, len_at, output, len) \
+    CHACHA20_DIFFER(key, output) CHACHA20_DIFFER(nonce, output)
+#define CHACHA20_SUBKEY                                                   \
+    CHACHA20_NEVER_NULL CHACHA20_ARRAY(key, 32) CHACHA20_ARRAY(input, 16) \
+    CHACHA20_ARRAY(subkey, 32) CHACHA20_DIFFER(key, subkey) CHACHA20_DIFFER(input, subkey)
+#define CHACHA20_STATE CHACHA20_NEVER_NULL CHACHA20_ARRAY(state, 49)
+#define CHACHA20_FILL                                                      \
+    CHACHA20_STATE CHACHA20_BUFFER(__write_only__, 2, 3, output, len)      \
+    CHACHA20_DIFFER(state, output)
+
+/* The same for the functions that this header defines, which take null with length 0. */
+#define CHACHA20_INLINE_XOR(nonce_bytes, output_at, input_at, len_at) \
+    CHACHA20_KEY_NEVER_NULL CHACHA20_KEY_AND_NONCE(nonce_bytes)       \
+    CHACHA20_BUFFER(__read_only__, input_at, len_at, input, len)      \
+    CHACHA20_BUFFER(__write_only__, output_at, len_at, output, len)   \
+    CHACHA20_DIFFER(key, output) CHACHA20_DIFFER(nonce, output)
+#define CHACHA20_INLINE_WRITE(nonce_bytes, at, len_at)          \
+    CHACHA20_KEY_NEVER_NULL CHACHA20_KEY_AND_NONCE(nonce_bytes) \
+    CHACHA20_BUFFER(__write_only__, at, len_at, output, len)    \
+    CHACHA20_DIFFER(key, output) CHACHA20_DIFFER(nonce, output)
+#define CHACHA20_INLINE_FILL                                                     \
+    CHACHA20_ARRAY(state, 49) CHACHA20_BUFFER(__write_only__, 2, 3, output, len) \
+    CHACHA20_DIFFER(state, output)
+
 #ifdef __cplusplus
 extern "C" {
 #endif
@@ -150,71 +231,71 @@ const char *chacha20_version(void) CHACHA20_NOEXCEPT;
 /* ChaCha20 of RFC 8439; 12 and 8 rounds are not the RFC's. */
 CHACHA20_MUST_USE uint32_t chacha20_xor_in_place(
     const uint8_t key[CHACHA20_MIN(32)], const uint8_t nonce[CHACHA20_MIN(12)], uint64_t position,
-    uint8_t *CHACHA20_APART data, size_t len) CHACHA20_NOEXCEPT;
+    uint8_t *CHACHA20_APART data, size_t len) CHACHA20_NOEXCEPT CHACHA20_IN_PLACE(12, 4, 5);
 CHACHA20_MUST_USE uint32_t chacha20_xor_between(
     const uint8_t key[CHACHA20_MIN(32)], const uint8_t nonce[CHACHA20_MIN(12)], uint64_t position,
     const uint8_t *input, size_t input_len, uint8_t *CHACHA20_APART output,
-    size_t output_len) CHACHA20_NOEXCEPT;
+    size_t output_len) CHACHA20_NOEXCEPT CHACHA20_BETWEEN(12, 4, 5, 6, 7);
 CHACHA20_MUST_USE uint32_t chacha20_write_keystream(
     const uint8_t key[CHACHA20_MIN(32)], const uint8_t nonce[CHACHA20_MIN(12)], uint64_t position,
-    uint8_t *CHACHA20_APART output, size_t len) CHACHA20_NOEXCEPT;
+    uint8_t *CHACHA20_APART output, size_t len) CHACHA20_NOEXCEPT CHACHA20_WRITE(12, 4, 5);
 
 CHACHA20_MUST_USE uint32_t chacha12_xor_in_place(
     const uint8_t key[CHACHA20_MIN(32)], const uint8_t nonce[CHACHA20_MIN(12)], uint64_t position,
-    uint8_t *CHACHA20_APART data, size_t len) CHACHA20_NOEXCEPT;
+    uint8_t *CHACHA20_APART data, size_t len) CHACHA20_NOEXCEPT CHACHA20_IN_PLACE(12, 4, 5);
 CHACHA20_MUST_USE uint32_t chacha12_xor_between(
     const uint8_t key[CHACHA20_MIN(32)], const uint8_t nonce[CHACHA20_MIN(12)], uint64_t position,
     const uint8_t *input, size_t input_len, uint8_t *CHACHA20_APART output,
-    size_t output_len) CHACHA20_NOEXCEPT;
+    size_t output_len) CHACHA20_NOEXCEPT CHACHA20_BETWEEN(12, 4, 5, 6, 7);
 CHACHA20_MUST_USE uint32_t chacha12_write_keystream(
     const uint8_t key[CHACHA20_MIN(32)], const uint8_t nonce[CHACHA20_MIN(12)], uint64_t position,
-    uint8_t *CHACHA20_APART output, size_t len) CHACHA20_NOEXCEPT;
+    uint8_t *CHACHA20_APART output, size_t len) CHACHA20_NOEXCEPT CHACHA20_WRITE(12, 4, 5);
 
 CHACHA20_MUST_USE uint32_t chacha8_xor_in_place(
     const uint8_t key[CHACHA20_MIN(32)], const uint8_t nonce[CHACHA20_MIN(12)], uint64_t position,
-    uint8_t *CHACHA20_APART data, size_t len) CHACHA20_NOEXCEPT;
+    uint8_t *CHACHA20_APART data, size_t len) CHACHA20_NOEXCEPT CHACHA20_IN_PLACE(12, 4, 5);
 CHACHA20_MUST_USE uint32_t chacha8_xor_between(
     const uint8_t key[CHACHA20_MIN(32)], const uint8_t nonce[CHACHA20_MIN(12)], uint64_t position,
     const uint8_t *input, size_t input_len, uint8_t *CHACHA20_APART output,
-    size_t output_len) CHACHA20_NOEXCEPT;
+    size_t output_len) CHACHA20_NOEXCEPT CHACHA20_BETWEEN(12, 4, 5, 6, 7);
 CHACHA20_MUST_USE uint32_t chacha8_write_keystream(
     const uint8_t key[CHACHA20_MIN(32)], const uint8_t nonce[CHACHA20_MIN(12)], uint64_t position,
-    uint8_t *CHACHA20_APART output, size_t len) CHACHA20_NOEXCEPT;
+    uint8_t *CHACHA20_APART output, size_t len) CHACHA20_NOEXCEPT CHACHA20_WRITE(12, 4, 5);
 
 /* XChaCha20 (draft-irtf-cfrg-xchacha), whose nonces may be random; 12 and 8 rounds are not the
    draft's. */
 CHACHA20_MUST_USE uint32_t xchacha20_xor_in_place(
     const uint8_t key[CHACHA20_MIN(32)], const uint8_t nonce[CHACHA20_MIN(24)], uint64_t position,
-    uint8_t *CHACHA20_APART data, size_t len) CHACHA20_NOEXCEPT;
+    uint8_t *CHACHA20_APART data, size_t len) CHACHA20_NOEXCEPT CHACHA20_IN_PLACE(24, 4, 5);
 CHACHA20_MUST_USE uint32_t xchacha20_xor_between(
     const uint8_t key[CHACHA20_MIN(32)], const uint8_t nonce[CHACHA20_MIN(24)], uint64_t position,
     const uint8_t *input, size_t input_len, uint8_t *CHACHA20_APART output,
-    size_t output_len) CHACHA20_NOEXCEPT;
+    size_t output_len) CHACHA20_NOEXCEPT CHACHA20_BETWEEN(24, 4, 5, 6, 7);
 CHACHA20_MUST_USE uint32_t xchacha20_write_keystream(
     const uint8_t key[CHACHA20_MIN(32)], const uint8_t nonce[CHACHA20_MIN(24)], uint64_t position,
-    uint8_t *CHACHA20_APART output, size_t len) CHACHA20_NOEXCEPT;
+    uint8_t *CHACHA20_APART output, size_t len) CHACHA20_NOEXCEPT CHACHA20_WRITE(24, 4, 5);
 
 CHACHA20_MUST_USE uint32_t xchacha12_xor_in_place(
     const uint8_t key[CHACHA20_MIN(32)], const uint8_t nonce[CHACHA20_MIN(24)], uint64_t position,
-    uint8_t *CHACHA20_APART data, size_t len) CHACHA20_NOEXCEPT;
+    uint8_t *CHACHA20_APART data, size_t len) CHACHA20_NOEXCEPT CHACHA20_IN_PLACE(24, 4, 5);
 CHACHA20_MUST_USE uint32_t xchacha12_xor_between(
     const uint8_t key[CHACHA20_MIN(32)], const uint8_t nonce[CHACHA20_MIN(24)], uint64_t position,
     const uint8_t *input, size_t input_len, uint8_t *CHACHA20_APART output,
-    size_t output_len) CHACHA20_NOEXCEPT;
+    size_t output_len) CHACHA20_NOEXCEPT CHACHA20_BETWEEN(24, 4, 5, 6, 7);
 CHACHA20_MUST_USE uint32_t xchacha12_write_keystream(
     const uint8_t key[CHACHA20_MIN(32)], const uint8_t nonce[CHACHA20_MIN(24)], uint64_t position,
-    uint8_t *CHACHA20_APART output, size_t len) CHACHA20_NOEXCEPT;
+    uint8_t *CHACHA20_APART output, size_t len) CHACHA20_NOEXCEPT CHACHA20_WRITE(24, 4, 5);
 
 CHACHA20_MUST_USE uint32_t xchacha8_xor_in_place(
     const uint8_t key[CHACHA20_MIN(32)], const uint8_t nonce[CHACHA20_MIN(24)], uint64_t position,
-    uint8_t *CHACHA20_APART data, size_t len) CHACHA20_NOEXCEPT;
+    uint8_t *CHACHA20_APART data, size_t len) CHACHA20_NOEXCEPT CHACHA20_IN_PLACE(24, 4, 5);
 CHACHA20_MUST_USE uint32_t xchacha8_xor_between(
     const uint8_t key[CHACHA20_MIN(32)], const uint8_t nonce[CHACHA20_MIN(24)], uint64_t position,
     const uint8_t *input, size_t input_len, uint8_t *CHACHA20_APART output,
-    size_t output_len) CHACHA20_NOEXCEPT;
+    size_t output_len) CHACHA20_NOEXCEPT CHACHA20_BETWEEN(24, 4, 5, 6, 7);
 CHACHA20_MUST_USE uint32_t xchacha8_write_keystream(
     const uint8_t key[CHACHA20_MIN(32)], const uint8_t nonce[CHACHA20_MIN(24)], uint64_t position,
-    uint8_t *CHACHA20_APART output, size_t len) CHACHA20_NOEXCEPT;
+    uint8_t *CHACHA20_APART output, size_t len) CHACHA20_NOEXCEPT CHACHA20_WRITE(24, 4, 5);
 
 /* Whether the ciphers above, all of them, take so many bytes from a position on, or refuse them
    because position + len, a sum that never wraps, is greater than CHACHA20_STREAM_BYTES. */
@@ -226,14 +307,16 @@ CHACHA20_MUST_USE uint32_t chacha20_check(uint64_t position, size_t len) CHACHA2
    can be reached. Refused is what would pass byte 64 * 2^64. */
 CHACHA20_MUST_USE uint32_t chacha20_legacy_xor_in_place(
     const uint8_t key[CHACHA20_MIN(32)], const uint8_t nonce[CHACHA20_MIN(8)], uint64_t block,
-    uint64_t offset, uint8_t *CHACHA20_APART data, size_t len) CHACHA20_NOEXCEPT;
+    uint64_t offset, uint8_t *CHACHA20_APART data, size_t len)
+    CHACHA20_NOEXCEPT CHACHA20_IN_PLACE(8, 5, 6);
 CHACHA20_MUST_USE uint32_t chacha20_legacy_xor_between(
     const uint8_t key[CHACHA20_MIN(32)], const uint8_t nonce[CHACHA20_MIN(8)], uint64_t block,
     uint64_t offset, const uint8_t *input, size_t input_len, uint8_t *CHACHA20_APART output,
-    size_t output_len) CHACHA20_NOEXCEPT;
+    size_t output_len) CHACHA20_NOEXCEPT CHACHA20_BETWEEN(8, 5, 6, 7, 8);
 CHACHA20_MUST_USE uint32_t chacha20_legacy_write_keystream(
     const uint8_t key[CHACHA20_MIN(32)], const uint8_t nonce[CHACHA20_MIN(8)], uint64_t block,
-    uint64_t offset, uint8_t *CHACHA20_APART output, size_t len) CHACHA20_NOEXCEPT;
+    uint64_t offset, uint8_t *CHACHA20_APART output, size_t len)
+    CHACHA20_NOEXCEPT CHACHA20_WRITE(8, 5, 6);
 CHACHA20_MUST_USE uint32_t chacha20_legacy_check(
     uint64_t block, uint64_t offset, size_t len) CHACHA20_NOEXCEPT;
 
@@ -241,13 +324,13 @@ CHACHA20_MUST_USE uint32_t chacha20_legacy_check(
    of 16 bytes more; 12 and 8 rounds are not the draft's. Nothing is refused. */
 void hchacha20(
     const uint8_t key[CHACHA20_MIN(32)], const uint8_t input[CHACHA20_MIN(16)],
-    uint8_t subkey[CHACHA20_MIN_APART(32)]) CHACHA20_NOEXCEPT;
+    uint8_t subkey[CHACHA20_MIN_APART(32)]) CHACHA20_NOEXCEPT CHACHA20_SUBKEY;
 void hchacha12(
     const uint8_t key[CHACHA20_MIN(32)], const uint8_t input[CHACHA20_MIN(16)],
-    uint8_t subkey[CHACHA20_MIN_APART(32)]) CHACHA20_NOEXCEPT;
+    uint8_t subkey[CHACHA20_MIN_APART(32)]) CHACHA20_NOEXCEPT CHACHA20_SUBKEY;
 void hchacha8(
     const uint8_t key[CHACHA20_MIN(32)], const uint8_t input[CHACHA20_MIN(16)],
-    uint8_t subkey[CHACHA20_MIN_APART(32)]) CHACHA20_NOEXCEPT;
+    uint8_t subkey[CHACHA20_MIN_APART(32)]) CHACHA20_NOEXCEPT CHACHA20_SUBKEY;
 
 /* Generators
 
@@ -268,46 +351,50 @@ void hchacha8(
 
 /* Writes the state of a seed: word 0 of stream 0. */
 void chacha_rng_from_seed(
-    const uint8_t seed[CHACHA20_MIN(32)], uint8_t state[CHACHA20_MIN_APART(49)]) CHACHA20_NOEXCEPT;
+    const uint8_t seed[CHACHA20_MIN(32)], uint8_t state[CHACHA20_MIN_APART(49)])
+    CHACHA20_NOEXCEPT CHACHA20_STATE CHACHA20_ARRAY(seed, 32) CHACHA20_DIFFER(seed, state);
 
 /* The next word. */
-uint32_t chacha20_rng_next_u32(uint8_t state[CHACHA20_MIN(49)]) CHACHA20_NOEXCEPT;
-uint32_t chacha12_rng_next_u32(uint8_t state[CHACHA20_MIN(49)]) CHACHA20_NOEXCEPT;
-uint32_t chacha8_rng_next_u32(uint8_t state[CHACHA20_MIN(49)]) CHACHA20_NOEXCEPT;
+uint32_t chacha20_rng_next_u32(uint8_t state[CHACHA20_MIN(49)]) CHACHA20_NOEXCEPT CHACHA20_STATE;
+uint32_t chacha12_rng_next_u32(uint8_t state[CHACHA20_MIN(49)]) CHACHA20_NOEXCEPT CHACHA20_STATE;
+uint32_t chacha8_rng_next_u32(uint8_t state[CHACHA20_MIN(49)]) CHACHA20_NOEXCEPT CHACHA20_STATE;
 
 /* The next two words; the first is the low half. */
-uint64_t chacha20_rng_next_u64(uint8_t state[CHACHA20_MIN(49)]) CHACHA20_NOEXCEPT;
-uint64_t chacha12_rng_next_u64(uint8_t state[CHACHA20_MIN(49)]) CHACHA20_NOEXCEPT;
-uint64_t chacha8_rng_next_u64(uint8_t state[CHACHA20_MIN(49)]) CHACHA20_NOEXCEPT;
+uint64_t chacha20_rng_next_u64(uint8_t state[CHACHA20_MIN(49)]) CHACHA20_NOEXCEPT CHACHA20_STATE;
+uint64_t chacha12_rng_next_u64(uint8_t state[CHACHA20_MIN(49)]) CHACHA20_NOEXCEPT CHACHA20_STATE;
+uint64_t chacha8_rng_next_u64(uint8_t state[CHACHA20_MIN(49)]) CHACHA20_NOEXCEPT CHACHA20_STATE;
 
 /* Writes len bytes: those of the next words, the low byte of each first. The bytes of the last word
    for which there is no room are lost; length 0 takes no word. */
 void chacha20_rng_fill_bytes(
     uint8_t state[CHACHA20_MIN_APART(49)], uint8_t *CHACHA20_APART output,
-    size_t len) CHACHA20_NOEXCEPT;
+    size_t len) CHACHA20_NOEXCEPT CHACHA20_FILL;
 void chacha12_rng_fill_bytes(
     uint8_t state[CHACHA20_MIN_APART(49)], uint8_t *CHACHA20_APART output,
-    size_t len) CHACHA20_NOEXCEPT;
+    size_t len) CHACHA20_NOEXCEPT CHACHA20_FILL;
 void chacha8_rng_fill_bytes(
     uint8_t state[CHACHA20_MIN_APART(49)], uint8_t *CHACHA20_APART output,
-    size_t len) CHACHA20_NOEXCEPT;
+    size_t len) CHACHA20_NOEXCEPT CHACHA20_FILL;
 
 /* The word position, *low + 2^64 * *high, where *high is below 16; low and high are two objects.
    Setting takes any two numbers, modulo 2^68. */
 void chacha_rng_get_word_pos(
     const uint8_t state[CHACHA20_MIN(49)], uint64_t *CHACHA20_APART low,
-    uint64_t *CHACHA20_APART high) CHACHA20_NOEXCEPT;
+    uint64_t *CHACHA20_APART high) CHACHA20_NOEXCEPT CHACHA20_STATE CHACHA20_DIFFER(low, high);
 void chacha_rng_set_word_pos(
-    uint8_t state[CHACHA20_MIN(49)], uint64_t low, uint64_t high) CHACHA20_NOEXCEPT;
+    uint8_t state[CHACHA20_MIN(49)], uint64_t low, uint64_t high) CHACHA20_NOEXCEPT CHACHA20_STATE;
 
 /* The number of the block that the next word lies in. Setting moves to the block's first word. */
-uint64_t chacha_rng_get_block_pos(const uint8_t state[CHACHA20_MIN(49)]) CHACHA20_NOEXCEPT;
+uint64_t chacha_rng_get_block_pos(const uint8_t state[CHACHA20_MIN(49)])
+    CHACHA20_NOEXCEPT CHACHA20_STATE;
 void chacha_rng_set_block_pos(
-    uint8_t state[CHACHA20_MIN(49)], uint64_t block_pos) CHACHA20_NOEXCEPT;
+    uint8_t state[CHACHA20_MIN(49)], uint64_t block_pos) CHACHA20_NOEXCEPT CHACHA20_STATE;
 
 /* The stream. Setting moves to word 0 of the stream; the seed stays. */
-uint64_t chacha_rng_get_stream(const uint8_t state[CHACHA20_MIN(49)]) CHACHA20_NOEXCEPT;
-void chacha_rng_set_stream(uint8_t state[CHACHA20_MIN(49)], uint64_t stream) CHACHA20_NOEXCEPT;
+uint64_t chacha_rng_get_stream(const uint8_t state[CHACHA20_MIN(49)])
+    CHACHA20_NOEXCEPT CHACHA20_STATE;
+void chacha_rng_set_stream(uint8_t state[CHACHA20_MIN(49)], uint64_t stream)
+    CHACHA20_NOEXCEPT CHACHA20_STATE;
 
 /* The same with one length, for callers in C; not proved, since a compiler of C makes them.
 
@@ -328,14 +415,21 @@ CHACHA20_INLINE int chacha20_overlap(
 #define CHACHA20_DEFINE(NAME, NONCE_BYTES)                                                      \
     CHACHA20_MUST_USE CHACHA20_INLINE uint32_t NAME##_xor(                                      \
         const uint8_t key[CHACHA20_MIN(32)], const uint8_t nonce[CHACHA20_MIN(NONCE_BYTES)],    \
-        uint64_t position, uint8_t *output, const uint8_t *input,                               \
-        size_t len) CHACHA20_NOEXCEPT {                                                         \
+        uint64_t position, uint8_t *output, const uint8_t *input, size_t len)                   \
+        CHACHA20_NOEXCEPT CHACHA20_INLINE_XOR(NONCE_BYTES, 4, 5, 6);                            \
+    CHACHA20_MUST_USE CHACHA20_INLINE uint32_t NAME##_keystream(                                \
+        const uint8_t key[CHACHA20_MIN(32)], const uint8_t nonce[CHACHA20_MIN(NONCE_BYTES)],    \
+        uint64_t position, uint8_t *output, size_t len)                                         \
+        CHACHA20_NOEXCEPT CHACHA20_INLINE_WRITE(NONCE_BYTES, 4, 5);                             \
+    CHACHA20_INLINE uint32_t NAME##_xor(                                                        \
+        const uint8_t key[CHACHA20_MIN(32)], const uint8_t nonce[CHACHA20_MIN(NONCE_BYTES)],    \
+        uint64_t position, uint8_t *output, const uint8_t *input, size_t len) CHACHA20_NOEXCEPT {\
         if (len == 0) return chacha20_check(position, 0);                                       \
         if (output == input) return NAME##_xor_in_place(key, nonce, position, output, len);     \
         if (chacha20_overlap(output, input, len)) return CHACHA20_REFUSED;                      \
         return NAME##_xor_between(key, nonce, position, input, len, output, len);               \
     }                                                                                           \
-    CHACHA20_MUST_USE CHACHA20_INLINE uint32_t NAME##_keystream(                                \
+    CHACHA20_INLINE uint32_t NAME##_keystream(                                                  \
         const uint8_t key[CHACHA20_MIN(32)], const uint8_t nonce[CHACHA20_MIN(NONCE_BYTES)],    \
         uint64_t position, uint8_t *output, size_t len) CHACHA20_NOEXCEPT {                     \
         if (len == 0) return chacha20_check(position, 0);                                       \
@@ -353,6 +447,13 @@ CHACHA20_DEFINE(xchacha8, 24)
 
 CHACHA20_MUST_USE CHACHA20_INLINE uint32_t chacha20_legacy_xor(
     const uint8_t key[CHACHA20_MIN(32)], const uint8_t nonce[CHACHA20_MIN(8)], uint64_t block,
+    uint64_t offset, uint8_t *output, const uint8_t *input, size_t len)
+    CHACHA20_NOEXCEPT CHACHA20_INLINE_XOR(8, 5, 6, 7);
+CHACHA20_MUST_USE CHACHA20_INLINE uint32_t chacha20_legacy_keystream(
+    const uint8_t key[CHACHA20_MIN(32)], const uint8_t nonce[CHACHA20_MIN(8)], uint64_t block,
+    uint64_t offset, uint8_t *output, size_t len) CHACHA20_NOEXCEPT CHACHA20_INLINE_WRITE(8, 5, 6);
+CHACHA20_INLINE uint32_t chacha20_legacy_xor(
+    const uint8_t key[CHACHA20_MIN(32)], const uint8_t nonce[CHACHA20_MIN(8)], uint64_t block,
     uint64_t offset, uint8_t *output, const uint8_t *input, size_t len) CHACHA20_NOEXCEPT {
     if (len == 0) return chacha20_legacy_check(block, offset, 0);
     if (output == input) {
@@ -361,28 +462,93 @@ CHACHA20_MUST_USE CHACHA20_INLINE uint32_t chacha20_legacy_xor(
     if (chacha20_overlap(output, input, len)) return CHACHA20_REFUSED;
     return chacha20_legacy_xor_between(key, nonce, block, offset, input, len, output, len);
 }
-CHACHA20_MUST_USE CHACHA20_INLINE uint32_t chacha20_legacy_keystream(
+CHACHA20_INLINE uint32_t chacha20_legacy_keystream(
     const uint8_t key[CHACHA20_MIN(32)], const uint8_t nonce[CHACHA20_MIN(8)], uint64_t block,
     uint64_t offset, uint8_t *output, size_t len) CHACHA20_NOEXCEPT {
     if (len == 0) return chacha20_legacy_check(block, offset, 0);
     return chacha20_legacy_write_keystream(key, nonce, block, offset, output, len);
 }
 
-CHACHA20_INLINE void chacha20_rng_fill(
-    uint8_t state[CHACHA20_MIN(49)], uint8_t *output, size_t len) CHACHA20_NOEXCEPT {
-    if (len != 0) chacha20_rng_fill_bytes(state, output, len);
-}
-CHACHA20_INLINE void chacha12_rng_fill(
-    uint8_t state[CHACHA20_MIN(49)], uint8_t *output, size_t len) CHACHA20_NOEXCEPT {
-    if (len != 0) chacha12_rng_fill_bytes(state, output, len);
-}
-CHACHA20_INLINE void chacha8_rng_fill(
-    uint8_t state[CHACHA20_MIN(49)], uint8_t *output, size_t len) CHACHA20_NOEXCEPT {
-    if (len != 0) chacha8_rng_fill_bytes(state, output, len);
-}
+#define CHACHA20_DEFINE(NAME)                                                                   \
+    CHACHA20_INLINE void NAME##_fill(                                                           \
+        uint8_t state[CHACHA20_MIN(49)], uint8_t *output, size_t len)                           \
+        CHACHA20_NOEXCEPT CHACHA20_INLINE_FILL;                                                 \
+    CHACHA20_INLINE void NAME##_fill(                                                           \
+        uint8_t state[CHACHA20_MIN(49)], uint8_t *output, size_t len) CHACHA20_NOEXCEPT {       \
+        if (len != 0) NAME##_fill_bytes(state, output, len);                                    \
+    }
+
+CHACHA20_DEFINE(chacha20_rng)
+CHACHA20_DEFINE(chacha12_rng)
+CHACHA20_DEFINE(chacha8_rng)
+
+#undef CHACHA20_DEFINE
 
 #ifdef __cplusplus
 }
+#endif
+
+/* C++ compiles no call with an array whose size is that of something else: a nonce of another
+   layout, an iv of 16 bytes, a key of 128 bits, a seed in place of a state. A constant array makes
+   the call ambiguous, any other the function deleted. Pointers, as from data() of std::array, are
+   not looked at. The names are overloaded thereby, so auto and decltype can't take a function of
+   one; CHACHA20_NO_OVERLOADS, defined before this header, leaves the overloads out. */
+#if defined(__cplusplus) && __cplusplus >= 201103L && !defined(CHACHA20_NO_OVERLOADS)
+
+#define CHACHA20_NOT_SIZES(NAME, KEY, NONCE, ...)                                               \
+    uint32_t NAME##_xor_in_place(KEY, NONCE, __VA_ARGS__, uint8_t *, size_t) = delete;          \
+    uint32_t NAME##_xor_between(                                                                \
+        KEY, NONCE, __VA_ARGS__, const uint8_t *, size_t, uint8_t *, size_t) = delete;          \
+    uint32_t NAME##_write_keystream(KEY, NONCE, __VA_ARGS__, uint8_t *, size_t) = delete;       \
+    uint32_t NAME##_xor(                                                                        \
+        KEY, NONCE, __VA_ARGS__, uint8_t *, const uint8_t *, size_t) = delete;                  \
+    uint32_t NAME##_keystream(KEY, NONCE, __VA_ARGS__, uint8_t *, size_t) = delete;
+#define CHACHA20_NOT_NONCES(NAME, ONE, TWO, THREE, ...)                                         \
+    CHACHA20_NOT_SIZES(NAME, const uint8_t (&)[16], const uint8_t *, __VA_ARGS__)               \
+    CHACHA20_NOT_SIZES(NAME, const uint8_t *, const uint8_t (&)[ONE], __VA_ARGS__)              \
+    CHACHA20_NOT_SIZES(NAME, const uint8_t *, const uint8_t (&)[TWO], __VA_ARGS__)              \
+    CHACHA20_NOT_SIZES(NAME, const uint8_t *, const uint8_t (&)[THREE], __VA_ARGS__)
+
+CHACHA20_NOT_NONCES(chacha20, 8, 16, 24, uint64_t)
+CHACHA20_NOT_NONCES(chacha12, 8, 16, 24, uint64_t)
+CHACHA20_NOT_NONCES(chacha8, 8, 16, 24, uint64_t)
+CHACHA20_NOT_NONCES(xchacha20, 8, 12, 16, uint64_t)
+CHACHA20_NOT_NONCES(xchacha12, 8, 12, 16, uint64_t)
+CHACHA20_NOT_NONCES(xchacha8, 8, 12, 16, uint64_t)
+CHACHA20_NOT_NONCES(chacha20_legacy, 12, 16, 24, uint64_t, uint64_t)
+
+#define CHACHA20_NOT_SUBKEYS(NAME)                                             \
+    void NAME(const uint8_t (&)[16], const uint8_t *, uint8_t *) = delete;     \
+    void NAME(const uint8_t *, const uint8_t (&)[8], uint8_t *) = delete;      \
+    void NAME(const uint8_t *, const uint8_t (&)[12], uint8_t *) = delete;     \
+    void NAME(const uint8_t *, const uint8_t *, uint8_t (&)[16]) = delete;
+
+CHACHA20_NOT_SUBKEYS(hchacha20)
+CHACHA20_NOT_SUBKEYS(hchacha12)
+CHACHA20_NOT_SUBKEYS(hchacha8)
+
+#define CHACHA20_NOT_SEEDS(NAME)                                    \
+    uint32_t NAME##_next_u32(uint8_t (&)[32]) = delete;             \
+    uint64_t NAME##_next_u64(uint8_t (&)[32]) = delete;             \
+    void NAME##_fill_bytes(uint8_t (&)[32], uint8_t *, size_t) = delete; \
+    void NAME##_fill(uint8_t (&)[32], uint8_t *, size_t) = delete;
+
+CHACHA20_NOT_SEEDS(chacha20_rng)
+CHACHA20_NOT_SEEDS(chacha12_rng)
+CHACHA20_NOT_SEEDS(chacha8_rng)
+
+void chacha_rng_from_seed(const uint8_t (&)[16], uint8_t *) = delete;
+void chacha_rng_from_seed(const uint8_t *, uint8_t (&)[32]) = delete;
+
+#undef CHACHA20_NOT_SIZES
+#undef CHACHA20_NOT_NONCES
+#undef CHACHA20_NOT_SUBKEYS
+#undef CHACHA20_NOT_SEEDS
+
+#endif
+
+#if defined(__clang__)
+#pragma clang diagnostic pop
 #endif
 
 #endif
