@@ -8,24 +8,18 @@
 #include <stdlib.h>
 #include <string.h>
 
-#include "../c/processor.h"
 #include "bench.h"
 
 int main(int argc, char **argv) {
-    struct machine machine = {.levels = {&library_v2}, .level_count = 1};
-    struct processor processor = this_processor();
+    struct machine machine = {.build_count = 0};
     int is_check = argc > 1 && strcmp(argv[1], "check") == 0, is_time = argc > 1 && strcmp(argv[1], "time") == 0;
     if (!is_check && !is_time) {
         fputs("bench check [BYTES [SEED]]\nbench time [TURNS]\n", stderr);
         return 2;
     }
-    if (has_x86_64_v3(&processor)) {
-        machine.levels[machine.level_count++] = &library_v3;
-    } else {
-        puts("not run: the build for x86-64-v3, which this processor doesn't have");
-    }
-    /* The one that chooses makes one of the two calls, so it is compared and not timed. */
-    if (is_check) machine.levels[machine.level_count++] = &library_chosen;
+    machine.build_count = find_builds(machine.builds);
+    /* The one that chooses makes a call of another, so it is compared and not timed. */
+    if (is_time && machine.build_count > 1) machine.build_count--;
     machine.other_count = find_others(machine.others);
     if (is_time) return time_all(&machine, argc > 2 ? atoi(argv[2]) : 101);
     return check(&machine, argc > 3 ? strtoull(argv[3], NULL, 10) : 20260101,

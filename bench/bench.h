@@ -10,8 +10,8 @@
 
 /* What this machine can run: builds of the library, and other implementations. */
 struct machine {
-    const struct library *levels[3];
-    int level_count;
+    const struct library *builds[MOST_BUILDS];
+    int build_count;
     struct other others[MOST_OTHERS];
     int other_count;
 };

@@ -68,8 +68,8 @@ static void holds(struct run *run, int fact, const char *what) {
     if (!fact) wrong(run, 1, what);
 }
 
-static const struct library *any_level(struct run *run) {
-    return run->machine->levels[below(run, (uint64_t)run->machine->level_count)];
+static const struct library *any_build(struct run *run) {
+    return run->machine->builds[below(run, (uint64_t)run->machine->build_count)];
 }
 
 /* One that was found and has the layout with so many rounds, or plain C. */
@@ -147,7 +147,7 @@ static uint32_t combine_by_keystream(const uint8_t *bytes, uint8_t *output, size
 /* Combines one part of a message by one of the functions of a cipher. */
 static uint32_t combine_part(struct run *run, enum layout layout, int at_rounds, const uint8_t *key,
                              const uint8_t *nonce, wide position, size_t from, size_t len) {
-    const struct cipher *cipher = &any_level(run)->ciphers[layout][at_rounds];
+    const struct cipher *cipher = &any_build(run)->ciphers[layout][at_rounds];
     if (run->spoilt == ONE_POSITION) position += position < 64 ? 1 : (wide)-1;
     struct place at = place_of(run, layout, position);
     uint8_t *part = made + from;
@@ -227,15 +227,15 @@ static void one_generator(struct run *run) {
     const struct other *other = any_other(run, LEGACY, rounds_of[at_rounds], 4 * words);
     wrapping_blocks(other, rounds_of[at_rounds], seed, nonce, block, expected, 4 * (words + in_block));
     const uint8_t *right = expected + 4 * in_block;
-    any_level(run)->from_seed(seed, state);
-    any_level(run)->set_stream(state, stream);
+    any_build(run)->from_seed(seed, state);
+    any_build(run)->set_stream(state, stream);
     if (in_block == 0) {
-        any_level(run)->set_block_pos(state, block);
+        any_build(run)->set_block_pos(state, block);
     } else {
-        any_level(run)->set_word_pos(state, block << 4 | in_block, block >> 60 | next(run) << 4);
+        any_build(run)->set_word_pos(state, block << 4 | in_block, block >> 60 | next(run) << 4);
     }
     while (done < words) {
-        const struct library *library = any_level(run);
+        const struct library *library = any_build(run);
         size_t left = 4 * (words - done), len = below(run, (left < 70 || below(run, 2) ? left : 70) + 1);
         int read = (int)below(run, 5);
         if (read == 1 && left < 8) continue;
@@ -272,17 +272,17 @@ static void one_generator(struct run *run) {
     uint8_t kept[CHACHA_RNG_STATE_BYTES];
     state[48] |= (uint8_t)(below(run, 16) << 4);
     memcpy(kept, state, sizeof kept);
-    any_level(run)->get_word_pos(state, &low, &high);
+    any_build(run)->get_word_pos(state, &low, &high);
     holds(run, low == (uint64_t)word_pos && high == (uint64_t)(word_pos >> 64), "a word position");
-    holds(run, any_level(run)->get_block_pos(state) == (uint64_t)(word_pos / 16), "a block position");
-    holds(run, any_level(run)->get_stream(state) == stream && memcmp(state, seed, 32) == 0, "a stream or a seed");
+    holds(run, any_build(run)->get_block_pos(state) == (uint64_t)(word_pos / 16), "a block position");
+    holds(run, any_build(run)->get_stream(state) == stream && memcmp(state, seed, 32) == 0, "a stream or a seed");
     same_bytes(run, state, kept, sizeof kept, "a state that was read");
-    any_level(run)->set_stream(state, stream + 1);
-    any_level(run)->get_word_pos(state, &low, &high);
-    holds(run, low == 0 && high == 0 && state[48] == 0 && any_level(run)->get_stream(state) == stream + 1,
+    any_build(run)->set_stream(state, stream + 1);
+    any_build(run)->get_word_pos(state, &low, &high);
+    holds(run, low == 0 && high == 0 && state[48] == 0 && any_build(run)->get_stream(state) == stream + 1,
           "another stream begins at its first word");
-    any_level(run)->set_block_pos(state, block);
-    any_level(run)->get_word_pos(state, &low, &high);
+    any_build(run)->set_block_pos(state, block);
+    any_build(run)->get_word_pos(state, &low, &high);
     holds(run, low == block << 4 && high == block >> 60 && memcmp(state, seed, 32) == 0, "a block's first word");
 }
 
@@ -292,7 +292,7 @@ static void one_refusal(struct run *run) {
     size_t len = 1 + below(run, 300), other_len = below(run, 300);
     wide end = end_of(layout), greatest = layout == LEGACY ? (wide)65 * UINT64_MAX : UINT64_MAX;
     wide past = below(run, 2) ? below(run, len) : (((wide)next(run) << 64) + next(run)) % (greatest - end);
-    const struct library *library = any_level(run);
+    const struct library *library = any_build(run);
     int at_rounds = layout == LEGACY ? 2 : (int)below(run, ROUNDS);
     const struct cipher *cipher = &library->ciphers[layout][at_rounds];
     struct place at = place_of(run, layout, end - len + 1 + past), last = place_of(run, layout, end - len);
@@ -356,7 +356,7 @@ static void one_subkey(struct run *run, int at_rounds) {
     random_bytes(run, key, sizeof key);
     random_bytes(run, block, sizeof block);
     other->hchacha(rounds_of[at_rounds], key, block, right);
-    any_level(run)->hchacha[at_rounds](key, block, found);
+    any_build(run)->hchacha[at_rounds](key, block, found);
     same_bytes(run, found, right, sizeof right, "a subkey");
 }
 
@@ -503,7 +503,7 @@ int check(const struct machine *machine, uint64_t seed, uint64_t bytes) {
     random_bytes(&run, input, sizeof input);
     int controlled = control(machine, ONE_BIT, "one bit turned");
     controlled &= control(machine, ONE_POSITION, "a position one byte away");
-    for (int i = 0; i < machine->level_count; i++) at_edges(&run, machine->levels[i]);
+    for (int i = 0; i < machine->build_count; i++) at_edges(&run, machine->builds[i]);
     printf("buffers at the ends of mapped pages: %" PRIu64 " differences\n", run.differences);
     while ((machine->other_count > 0 ? run.bytes_beside_found : run.bytes_beside_plain) < bytes) {
         one_message(&run);

@@ -13,7 +13,10 @@ struct described {
 };
 
 enum {
-    NEHALEM_1 = 0x0098e3bd,      /* SSE4.2, no AVX */
+    QEMU64_1 = (int)0x80002001, /* SSE3 and CMPXCHG16B alone, as kvm64 */
+    CONROE_1 = 0x0000e3bd,      /* SSSE3, no SSE4.1 */
+    PENRYN_1 = 0x0008e3fd,      /* SSE4.1, no SSE4.2 */
+    NEHALEM_1 = 0x0098e3bd,     /* SSE4.2, no AVX */
     SANDY_BRIDGE_1 = 0x1fbae3bf, /* AVX, no FMA */
     HASWELL_1 = 0x7ffafbff,
     HASWELL_7 = 0x000027ab,
@@ -31,38 +34,53 @@ enum {
 
 static const uint32_t skylake_x_7 = 0xd39ffffb;
 
+/* Haswell with other registers. */
+#define HASWELL(ONE, SEVEN, EXTENDED, SAVED) {HASWELL_1 ONE, HASWELL_7 SEVEN, HASWELL_EXTENDED EXTENDED, SAVED}
+
 int main(void) {
     const struct described all[] = {
-        {"nothing but x86-64", {0, 0, 0, 0}, 0},
-        {"Nehalem", {NEHALEM_1, 0, SANDY_BRIDGE_EXTENDED, 0}, 0},
-        {"Sandy Bridge", {SANDY_BRIDGE_1, 0, SANDY_BRIDGE_EXTENDED, SAVES_256}, 0},
-        {"Haswell", {HASWELL_1, HASWELL_7, HASWELL_EXTENDED, SAVES_256}, 1},
-        {"Haswell, whose system saves no vectors of 256 bits", {HASWELL_1, HASWELL_7, HASWELL_EXTENDED, SAVES_128}, 0},
-        {"Haswell, whose system saves no vectors", {HASWELL_1, HASWELL_7, HASWELL_EXTENDED, SAVES_X87}, 0},
-        {"Haswell, whose system doesn't say", {HASWELL_1 & ~OSXSAVE, HASWELL_7, HASWELL_EXTENDED, 0}, 0},
-        {"Haswell, whose host hides leaf 7", {HASWELL_1, 0, HASWELL_EXTENDED, SAVES_256}, 0},
-        {"Haswell, whose host hides LZCNT", {HASWELL_1, HASWELL_7, SANDY_BRIDGE_EXTENDED, SAVES_256}, 0},
-        {"Zen", {ZEN_1, ZEN_7, ZEN_EXTENDED, SAVES_256}, 1},
-        {"Skylake with AVX-512", {SKYLAKE_X_1, skylake_x_7, HASWELL_EXTENDED, SAVES_512}, 1},
-        {"lacks FMA", {HASWELL_1 & ~FMA, HASWELL_7, HASWELL_EXTENDED, SAVES_256}, 0},
-        {"lacks MOVBE", {HASWELL_1 & ~MOVBE, HASWELL_7, HASWELL_EXTENDED, SAVES_256}, 0},
-        {"lacks AVX", {HASWELL_1 & ~AVX, HASWELL_7, HASWELL_EXTENDED, SAVES_256}, 0},
-        {"lacks F16C", {HASWELL_1 & ~F16C, HASWELL_7, HASWELL_EXTENDED, SAVES_256}, 0},
-        {"lacks BMI1", {HASWELL_1, HASWELL_7 & ~BMI1, HASWELL_EXTENDED, SAVES_256}, 0},
-        {"lacks AVX2", {HASWELL_1, HASWELL_7 & ~AVX2, HASWELL_EXTENDED, SAVES_256}, 0},
-        {"lacks BMI2", {HASWELL_1, HASWELL_7 & ~BMI2, HASWELL_EXTENDED, SAVES_256}, 0},
-        {"saves 256 bits without 128", {HASWELL_1, HASWELL_7, HASWELL_EXTENDED, SAVES_256 & ~2}, 0},
+        {"nothing but x86-64", {0, 0, 0, 0}, 1},
+        {"qemu64", {(uint32_t)QEMU64_1, 0, SANDY_BRIDGE_EXTENDED, 0}, 1},
+        {"Conroe", {CONROE_1, 0, SANDY_BRIDGE_EXTENDED, 0}, 1},
+        {"Penryn", {PENRYN_1, 0, SANDY_BRIDGE_EXTENDED, 0}, 1},
+        {"Nehalem", {NEHALEM_1, 0, SANDY_BRIDGE_EXTENDED, 0}, 2},
+        {"Sandy Bridge", {SANDY_BRIDGE_1, 0, SANDY_BRIDGE_EXTENDED, SAVES_256}, 2},
+        {"Haswell", HASWELL(, , , SAVES_256), 3},
+        {"Haswell, whose system saves no vectors of 256 bits", HASWELL(, , , SAVES_128), 2},
+        {"Haswell, whose system saves no vectors", HASWELL(, , , SAVES_X87), 2},
+        {"Haswell, whose system doesn't say", HASWELL(& ~OSXSAVE, , , 0), 2},
+        {"Haswell, whose host hides leaf 7", HASWELL(, &0, , SAVES_256), 2},
+        {"Haswell, whose host hides leaf 80000001", HASWELL(, , &0, SAVES_256), 1},
+        {"Zen", {ZEN_1, ZEN_7, ZEN_EXTENDED, SAVES_256}, 3},
+        {"Skylake with AVX-512", {SKYLAKE_X_1, skylake_x_7, HASWELL_EXTENDED, SAVES_512}, 3},
+        {"lacks SSE3", HASWELL(& ~SSE3, , , SAVES_256), 1},
+        {"lacks SSSE3", HASWELL(& ~SSSE3, , , SAVES_256), 1},
+        {"lacks CMPXCHG16B", HASWELL(& ~CMPXCHG16B, , , SAVES_256), 1},
+        {"lacks SSE4.1", HASWELL(& ~SSE41, , , SAVES_256), 1},
+        {"lacks SSE4.2", HASWELL(& ~SSE42, , , SAVES_256), 1},
+        {"lacks POPCNT", HASWELL(& ~POPCNT, , , SAVES_256), 1},
+        {"lacks LAHF", HASWELL(, , & ~LAHF, SAVES_256), 1},
+        {"lacks FMA", HASWELL(& ~FMA, , , SAVES_256), 2},
+        {"lacks MOVBE", HASWELL(& ~MOVBE, , , SAVES_256), 2},
+        {"lacks AVX", HASWELL(& ~AVX, , , SAVES_256), 2},
+        {"lacks F16C", HASWELL(& ~F16C, , , SAVES_256), 2},
+        {"lacks BMI1", HASWELL(, & ~BMI1, , SAVES_256), 2},
+        {"lacks AVX2", HASWELL(, & ~AVX2, , SAVES_256), 2},
+        {"lacks BMI2", HASWELL(, & ~BMI2, , SAVES_256), 2},
+        {"lacks LZCNT", HASWELL(, , & ~LZCNT, SAVES_256), 2},
+        {"saves 256 bits without 128", HASWELL(, , , SAVES_256 & ~2), 2},
     };
     int count = sizeof all / sizeof all[0], wrong = 0;
     for (int i = 0; i < count; i++) {
-        int found = has_x86_64_v3(&all[i].processor);
-        if (found != all[i].wanted) printf("wrong: %s\n", all[i].name), wrong++;
+        int found = x86_64_level(&all[i].processor);
+        if (found != all[i].wanted) printf("wrong: %s has level %d\n", all[i].name, found), wrong++;
     }
     struct processor here = this_processor();
-    int wanted = __builtin_cpu_supports("avx2") && __builtin_cpu_supports("fma") && __builtin_cpu_supports("bmi") &&
-                 __builtin_cpu_supports("bmi2");
-    printf("this processor: x86-64-v%d\n", has_x86_64_v3(&here) ? 3 : 2);
-    if (has_x86_64_v3(&here) != wanted) printf("wrong: this processor, as its compiler sees it\n"), wrong++;
+    int wanted = 1;
+    if (__builtin_cpu_supports("sse4.2") && __builtin_cpu_supports("popcnt")) wanted = 2;
+    if (__builtin_cpu_supports("avx2") && __builtin_cpu_supports("fma") && __builtin_cpu_supports("bmi2")) wanted = 3;
+    printf("this processor: level %d of x86-64\n", x86_64_level(&here));
+    if (x86_64_level(&here) != wanted) printf("wrong: this processor, as its compiler sees it\n"), wrong++;
     printf("levels: %d processors, %d wrong\n", count + 1, wrong);
     return wrong != 0;
 }

@@ -45,9 +45,15 @@ struct library {
     void (*set_stream)(uint8_t *state, uint64_t stream);
 };
 
-/* The builds for x86-64-v2 and for x86-64-v3, and the one that chooses between them. */
+/* The builds for one level of x86-64 each, and the library that chooses between them, or has one build alone. */
+extern const struct library library_v1;
 extern const struct library library_v2;
 extern const struct library library_v3;
 extern const struct library library_chosen;
+
+enum { MOST_BUILDS = 4 };
+
+/* Those that this processor can run, the one that chooses last, and how many; it prints a line for each other. */
+int find_builds(const struct library *found[MOST_BUILDS]);
 
 #endif

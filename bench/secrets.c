@@ -8,7 +8,6 @@
 #include <string.h>
 #include <valgrind/memcheck.h>
 
-#include "../c/processor.h"
 #include "library.h"
 
 enum { LONGEST = (1 << 16) + 1000 };
@@ -84,18 +83,14 @@ static void by_library(const struct library *library) {
 
 int main(void) {
     static volatile uint8_t table[256], seen;
-    struct processor processor = this_processor();
+    const struct library *builds[MOST_BUILDS];
+    int build_count;
     if (!RUNNING_ON_VALGRIND) {
         puts("make secrets runs this under valgrind");
         return 2;
     }
-    by_library(&library_v2);
-    if (has_x86_64_v3(&processor)) {
-        by_library(&library_v3);
-    } else {
-        puts("not run: the build for x86-64-v3, which this processor doesn't have");
-    }
-    by_library(&library_chosen);
+    build_count = find_builds(builds);
+    for (int i = 0; i < build_count; i++) by_library(builds[i]);
     unsigned reports = VALGRIND_COUNT_ERRORS;
     all_secret();
     if (key[3] & 1) seen = 1;

@@ -10,7 +10,6 @@
 #include <string.h>
 #include <ucontext.h>
 
-#include "../c/processor.h"
 #include "../include/chacha20_wipe.h"
 #include "library.h"
 
@@ -78,14 +77,14 @@ static int holds_key(void) {
 }
 
 int main(void) {
-    const struct library *all[] = {&library_v2, &library_chosen, &library_v3};
-    struct processor processor = this_processor();
+    const struct library *builds[MOST_BUILDS];
+    int build_count = find_builds(builds);
     size_t deepest = 0;
     int left = 0, reached = 0, calls = 0;
     for (int i = 0; i < 32; i++) key[i] = (uint8_t)(0xc3 ^ 7 * i);
-    for (int i = 0; i < (has_x86_64_v3(&processor) ? 3 : 2); i++) {
+    for (int i = 0; i < build_count; i++) {
         size_t deepest_here = 0;
-        library = all[i];
+        library = builds[i];
         for (kind = 0; kind < KINDS; kind++) {
             for (layout = 0; layout < LAYOUTS; layout++) {
                 for (at_rounds = 0; at_rounds < ROUNDS; at_rounds++) {

@@ -13,7 +13,7 @@
 
 #include "bench.h"
 
-enum { MOST_CONTESTANTS = 2 + MOST_OTHERS, MOST_TURNS = 999 };
+enum { MOST_CONTESTANTS = MOST_BUILDS + MOST_OTHERS, MOST_TURNS = 999 };
 
 /* A build of the library, or another implementation. */
 struct contestant {
@@ -86,10 +86,10 @@ static const size_t sizes[] = {64, 1500, 64 << 10, 64 << 20};
 /* The library at each level beside the others: nanoseconds a call, and the library's time divided by the other's. */
 static void time_levels(const struct machine *machine, uint8_t *data, int turns) {
     struct contestant all[MOST_CONTESTANTS];
-    int count = 0, ours = machine->level_count;
+    int count = 0, ours = machine->build_count;
     for (int i = 0; i < ours; i++) {
-        all[count] = (struct contestant){.library = machine->levels[i]};
-        snprintf(all[count++].name, sizeof all[0].name, "chacha20, %s", machine->levels[i]->level);
+        all[count] = (struct contestant){.library = machine->builds[i]};
+        snprintf(all[count++].name, sizeof all[0].name, "chacha20, %s", machine->builds[i]->level);
     }
     for (int i = 0; i < machine->other_count; i++) {
         all[count] = (struct contestant){.other = &machine->others[i]};

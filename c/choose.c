@@ -1,37 +1,40 @@
 /* SPDX-License-Identifier: Apache-2.0 OR MIT
 
-   The 42 functions of chacha20.h, each as one call of the same function of the build for x86-64-v2
-   or of the build for x86-64-v3. Not proved: the proofs are of what is called here.
+   The 42 functions of chacha20.h, each as one call of the same function of the build for x86-64,
+   x86-64-v2 or x86-64-v3. Not proved: the proofs are of what is called here.
 
    The choice is made once, before main or when the shared library is loaded, and so before a second
-   thread can look. Until then, as in another constructor, x86-64-v2 is taken, which makes the same
-   bytes. No pointer to a function is kept that an attacker could change, and no call through one is
-   made. */
+   thread can look. Until then, as in another constructor, that for x86-64 is taken, which makes the
+   same bytes. No pointer to a function is kept that an attacker could change, and no call through
+   one is made. */
 
 #include "../include/chacha20.h"
 #include "processor.h"
 
-static int takes_v3;
+static int level = 1;
 
 __attribute__((constructor)) static void choose(void) {
     struct processor it = this_processor();
-    takes_v3 = has_x86_64_v3(&it);
+    level = x86_64_level(&it);
 }
 
 /* NAME with parameters, as a call with arguments: `return` for those that answer, nothing for others. */
-#define BOTH(RESULT, RETURN, NAME, PARAMETERS, ARGUMENTS) \
-    RESULT NAME##_x86_64_v2 PARAMETERS;                   \
-    RESULT NAME##_x86_64_v3 PARAMETERS;                   \
-    RESULT NAME PARAMETERS {                              \
-        if (takes_v3) {                                   \
-            RETURN NAME##_x86_64_v3 ARGUMENTS;            \
-        } else {                                          \
-            RETURN NAME##_x86_64_v2 ARGUMENTS;            \
-        }                                                 \
+#define CHOICE(RESULT, RETURN, NAME, PARAMETERS, ARGUMENTS) \
+    RESULT NAME##_x86_64 PARAMETERS;                        \
+    RESULT NAME##_x86_64_v2 PARAMETERS;                     \
+    RESULT NAME##_x86_64_v3 PARAMETERS;                     \
+    RESULT NAME PARAMETERS {                                \
+        if (level == 3) {                                   \
+            RETURN NAME##_x86_64_v3 ARGUMENTS;              \
+        } else if (level == 2) {                            \
+            RETURN NAME##_x86_64_v2 ARGUMENTS;              \
+        } else {                                            \
+            RETURN NAME##_x86_64 ARGUMENTS;                 \
+        }                                                   \
     }
 
-#define ANSWERS(RESULT, NAME, PARAMETERS, ARGUMENTS) BOTH(RESULT, return, NAME, PARAMETERS, ARGUMENTS)
-#define WRITES(NAME, PARAMETERS, ARGUMENTS) BOTH(void, (void)0;, NAME, PARAMETERS, ARGUMENTS)
+#define ANSWERS(RESULT, NAME, PARAMETERS, ARGUMENTS) CHOICE(RESULT, return, NAME, PARAMETERS, ARGUMENTS)
+#define WRITES(NAME, PARAMETERS, ARGUMENTS) CHOICE(void, (void)0;, NAME, PARAMETERS, ARGUMENTS)
 
 #define KEY const uint8_t key[CHACHA20_MIN(32)]
 #define STATE uint8_t state[CHACHA20_MIN(49)]

@@ -1,7 +1,7 @@
 /* SPDX-License-Identifier: Apache-2.0 OR MIT
 
-   Whether a processor has the level x86-64-v3, by what it and the system say of it. Not proved;
-   `make -C bench levels` tries the decision on described processors. */
+   Which level of x86-64 a processor has, by what it and the system say of it. Not proved; `make -C bench levels` tries
+   the decision on described processors. */
 
 #ifndef CHACHA20_PROCESSOR_H
 #define CHACHA20_PROCESSOR_H
@@ -18,25 +18,42 @@ struct processor {
 };
 
 enum {
+    SSE3 = 1 << 0,
+    SSSE3 = 1 << 9,
     FMA = 1 << 12,
+    CMPXCHG16B = 1 << 13,
+    SSE41 = 1 << 19,
+    SSE42 = 1 << 20,
     MOVBE = 1 << 22,
+    POPCNT = 1 << 23,
     OSXSAVE = 1 << 27,
     AVX = 1 << 28,
     F16C = 1 << 29,
     BMI1 = 1 << 3,
     AVX2 = 1 << 5,
     BMI2 = 1 << 8,
+    LAHF = 1 << 0,
     LZCNT = 1 << 5,
     SAVES_VECTORS_OF_128_AND_256_BITS = 6
 };
 
 static inline int has_all(uint32_t found, uint32_t wanted) { return (found & wanted) == wanted; }
 
-/* The System V ABI for x86-64 lists what the level has, beside what x86-64-v2 has. */
+/* The System V ABI for x86-64 lists what each level has beside what the one below has. */
+static inline int has_x86_64_v2(const struct processor *it) {
+    return has_all(it->leaf_1_ecx, SSE3 | SSSE3 | CMPXCHG16B | SSE41 | SSE42 | POPCNT) &&
+           has_all(it->leaf_80000001_ecx, LAHF);
+}
+
 static inline int has_x86_64_v3(const struct processor *it) {
-    return has_all(it->leaf_1_ecx, FMA | MOVBE | OSXSAVE | AVX | F16C) &&
+    return has_x86_64_v2(it) && has_all(it->leaf_1_ecx, FMA | MOVBE | OSXSAVE | AVX | F16C) &&
            has_all(it->leaf_7_ebx, BMI1 | AVX2 | BMI2) && has_all(it->leaf_80000001_ecx, LZCNT) &&
            has_all(it->xcr0, SAVES_VECTORS_OF_128_AND_256_BITS);
+}
+
+/* 1 for x86-64 alone, 2 for x86-64-v2, 3 for x86-64-v3. */
+static inline int x86_64_level(const struct processor *it) {
+    return has_x86_64_v3(it) ? 3 : has_x86_64_v2(it) ? 2 : 1;
 }
 
 static inline struct processor this_processor(void) {
