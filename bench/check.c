@@ -33,6 +33,7 @@ struct run {
     uint64_t bytes_beside_plain;
     uint64_t differences;
     uint64_t messages;
+    uint64_t buffers;
 };
 
 static uint8_t input[LONGEST + 64], expected[LONGEST + 128], made[LONGEST + 64], keystream[LONGEST + 64];
@@ -286,6 +287,46 @@ static void one_generator(struct run *run) {
     holds(run, low == block << 4 && high == block >> 60 && memcmp(state, seed, 32) == 0, "a block's first word");
 }
 
+/* Any 49 bytes, of which the word position is often near an end: of a block, of the words, of its lower 64 bits. */
+static void random_state(struct run *run, uint8_t state[CHACHA_RNG_STATE_BYTES]) {
+    uint64_t back = below(run, 300);
+    random_bytes(run, state, CHACHA_RNG_STATE_BYTES);
+    switch (below(run, 4)) {
+        case 0: any_build(run)->set_word_pos(state, 0 - back, 15); break;
+        case 1: any_build(run)->set_word_pos(state, 0 - back, 3); break;
+        case 2: any_build(run)->set_word_pos(state, 16 * back, 0); break;
+        default: state[48] |= 0xf0;
+    }
+}
+
+/* Words of a buffer beside those of the exports from the same state, over refills, wraps and restored states. */
+static void one_buffer(struct run *run) {
+    static struct chacha_rng_buffer buffer;
+    const struct library *library = any_build(run);
+    int at_rounds = (int)below(run, ROUNDS);
+    uint8_t state[CHACHA_RNG_STATE_BYTES], ended[CHACHA_RNG_STATE_BYTES];
+    random_state(run, state);
+    library->buffer_begin(&buffer, state);
+    for (uint64_t reads = below(run, 400); reads > 0; reads--) {
+        if (below(run, 2)) {
+            holds(run, library->buffered_u32[at_rounds](&buffer) == library->next_u32[at_rounds](state),
+                  "a buffered word");
+        } else {
+            holds(run, library->buffered_u64[at_rounds](&buffer) == library->next_u64[at_rounds](state),
+                  "two buffered words");
+        }
+        if (below(run, 40) > 0) continue;
+        library->buffer_end(&buffer, ended);
+        same_bytes(run, ended, state, sizeof ended, "a buffer's state");
+        if (below(run, 2)) library->buffer_begin(&buffer, ended);
+    }
+    /* What was not read yet doesn't move the state; its last byte is written as calls write it. */
+    state[48] &= 15;
+    library->buffer_end(&buffer, ended);
+    same_bytes(run, ended, state, sizeof ended, "a buffer's last state");
+    run->buffers++;
+}
+
 /* A refusal leaves what was there. */
 static void one_refusal(struct run *run) {
     enum layout layout = (enum layout)below(run, LAYOUTS);
@@ -509,8 +550,10 @@ int check(const struct machine *machine, uint64_t seed, uint64_t bytes) {
         one_message(&run);
         if (run.messages % 4 == 0) one_generator(&run);
         if (run.messages % 8 == 0) one_refusal(&run);
+        one_buffer(&run);
         if (run.messages % 16 == 0) one_subkey(&run, (int)below(&run, ROUNDS));
     }
+    printf("buffers of words, beside the exports: %" PRIu64 "\n", run.buffers);
     printf("8 and 12 rounds, beside plain C: %" PRIu64 " bytes\n", run.bytes_beside_plain);
     printf("check, seed %" PRIu64 ": %" PRIu64 " bytes beside", seed, run.bytes_beside_found);
     for (int i = 0; i < machine->other_count; i++) printf("%s %s", i ? " and" : "", machine->others[i].name);

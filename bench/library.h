@@ -36,6 +36,10 @@ struct library {
     uint64_t (*next_u64[ROUNDS])(uint8_t *state);
     void (*fill_bytes[ROUNDS])(uint8_t *state, uint8_t *output, size_t len);
     void (*fill[ROUNDS])(uint8_t *state, uint8_t *output, size_t len);
+    void (*buffer_begin)(struct chacha_rng_buffer *buffer, const uint8_t *state);
+    void (*buffer_end)(const struct chacha_rng_buffer *buffer, uint8_t *state);
+    uint32_t (*buffered_u32[ROUNDS])(struct chacha_rng_buffer *buffer);
+    uint64_t (*buffered_u64[ROUNDS])(struct chacha_rng_buffer *buffer);
     void (*from_seed)(const uint8_t *seed, uint8_t *state);
     void (*get_word_pos)(const uint8_t *state, uint64_t *low, uint64_t *high);
     void (*set_word_pos)(uint8_t *state, uint64_t low, uint64_t high);

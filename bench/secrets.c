@@ -53,6 +53,16 @@ static void by_generator(const struct library *library, int at_rounds, uint64_t 
     library->get_word_pos(state, &low, &high);
     /* The word position isn't secret, and no secret has come into it. */
     if (high == 1 && low == position + 2 * ((len + 3) / 4) + 3) calls += 7;
+    static struct chacha_rng_buffer buffer;
+    uint64_t pos_low, pos_high;
+    library->buffer_begin(&buffer, state);
+    for (int i = 0; i < 40; i++) {
+        (void)library->buffered_u32[at_rounds](&buffer);
+        (void)library->buffered_u64[at_rounds](&buffer);
+    }
+    library->buffer_end(&buffer, state);
+    library->get_word_pos(state, &pos_low, &pos_high);
+    if (pos_high == 1 && pos_low == low + 120) calls += 83;
     library->set_block_pos(state, library->get_block_pos(state) + 1);
     library->set_stream(state, 6);
     calls += 4;

@@ -13,11 +13,12 @@
 #include "../include/chacha20_wipe.h"
 #include "library.h"
 
-enum { STACK = 1 << 16, MOST = (1 << 16) + 1000, KINDS = 14 };
+enum { STACK = 1 << 16, MOST = (1 << 16) + 1000, KINDS = 15 };
 
 static const size_t lengths[] = {0, 35, 70, 105, 140, 550, 960, 1370, 1780, 2190, 2600, MOST};
 static uint8_t stack[STACK] __attribute__((aligned(64)));
 static uint8_t key[32], nonce[24], state[CHACHA_RNG_STATE_BYTES], input[MOST], output[MOST];
+static struct chacha_rng_buffer buffer;
 static const struct library *library;
 static const uint8_t *begin;
 static uint32_t answer;
@@ -42,6 +43,7 @@ static __attribute__((noinline)) void one_call(void) {
         case 10: library->set_stream(state, library->get_stream(state) + 1); break;
         case 11: answer = library->next_u32[at_rounds](state); break;
         case 12: answer = (uint32_t)library->next_u64[at_rounds](state); break;
+        case 13: answer = (uint32_t)library->buffered_u64[at_rounds](&buffer); break;
         default: library->fill_bytes[at_rounds](state, output, len);
     }
 }
@@ -56,6 +58,7 @@ static void on_stack(void) {
 static size_t depth(uint8_t paint) {
     size_t at = 0;
     memset(stack, paint, sizeof stack);
+    library->buffer_begin(&buffer, state);
     getcontext(&away);
     away.uc_stack.ss_sp = stack;
     away.uc_stack.ss_size = sizeof stack;

@@ -21,8 +21,8 @@
    - Keys, nonces and seeds are not wiped from the stack; chacha20_wipe.h has a recipe.
 
    Lengths and positions are in bytes, but for those of generators, which count words of 32 bits or
-   blocks of 64 bytes. The library is for any x86-64 processor and needs memcpy, memmove and memset, and nothing
-   else. The header takes C89 to C23 and C++98 to C++23. */
+   blocks of 64 bytes. The library is for any x86-64 processor; it needs memcpy, memmove and memset,
+   and nothing else. The header takes C89 to C23 and C++98 to C++23. */
 
 #ifndef CHACHA20_H
 #define CHACHA20_H
@@ -344,7 +344,8 @@ void hchacha8(
    number of rounds is not part of the state, but of the name of each read. Nothing is refused.
 
    A read makes the generator of the state anew, which makes four blocks; so take many words by one
-   fill_bytes, and not word by word. To get and to set a number makes no block.
+   fill_bytes, or single words from a buffer (chacha_rng_buffer, below). To get and to set a number
+   makes no block.
 
    The state is the secret: who reads it knows what came and what comes. A copy of it repeats the
    stream, and so does a process after fork; give each its own stream number or its own seed. */
@@ -395,6 +396,65 @@ uint64_t chacha_rng_get_stream(const uint8_t state[CHACHA20_MIN(49)])
     CHACHA20_NOEXCEPT CHACHA20_STATE;
 void chacha_rng_set_stream(uint8_t state[CHACHA20_MIN(49)], uint64_t stream)
     CHACHA20_NOEXCEPT CHACHA20_STATE;
+
+/* A buffer of words, for callers in C who take them one by one; not proved, since a compiler of C
+   makes it. It makes four blocks at a time by fill_bytes, and so gives the words that next_u32 and
+   next_u64 of the same state give.
+
+   begin puts a state into a buffer, the reads take words, and end writes the state from which the
+   next word comes; without end the state from before begin gives the same words again. All reads of
+   a buffer are of one number of rounds, until the next begin. The buffer holds words that come, and
+   words that came: it is as secret as the state, and a copy of it repeats the words. */
+struct chacha_rng_buffer {
+    uint8_t state[CHACHA_RNG_STATE_BYTES]; /* past the words */
+    uint8_t words[256];
+    size_t used; /* bytes of words; all of them where the next word isn't made yet */
+};
+
+CHACHA20_INLINE CHACHA20_NEVER_NULL void chacha_rng_buffer_begin(
+    struct chacha_rng_buffer *buffer, const uint8_t state[CHACHA20_MIN(49)]) CHACHA20_NOEXCEPT {
+    size_t i;
+    for (i = 0; i < sizeof buffer->state; i++) buffer->state[i] = state[i];
+    buffer->used = sizeof buffer->words;
+}
+CHACHA20_INLINE CHACHA20_NEVER_NULL void chacha_rng_buffer_end(
+    const struct chacha_rng_buffer *buffer, uint8_t state[CHACHA20_MIN(49)]) CHACHA20_NOEXCEPT {
+    uint64_t low, high, left = (sizeof buffer->words - buffer->used) / 4;
+    size_t i;
+    for (i = 0; i < sizeof buffer->state; i++) state[i] = buffer->state[i];
+    chacha_rng_get_word_pos(state, &low, &high);
+    chacha_rng_set_word_pos(state, low - left, high - (low < left));
+}
+
+/* The words that are left of the block that the state is in come first, so that the next refill
+   begins with a block. */
+#define CHACHA20_DEFINE(NAME)                                                                   \
+    CHACHA20_INLINE CHACHA20_NEVER_NULL uint32_t NAME##_buffered_u32(                           \
+        struct chacha_rng_buffer *buffer) CHACHA20_NOEXCEPT {                                   \
+        const uint8_t *word;                                                                    \
+        uint32_t a, b, c, d;                                                                    \
+        if (buffer->used == sizeof buffer->words) {                                             \
+            buffer->used = 4u * (buffer->state[40] & 15u);                                      \
+            NAME##_fill_bytes(                                                                  \
+                buffer->state, buffer->words + buffer->used,                                    \
+                sizeof buffer->words - buffer->used);                                           \
+        }                                                                                       \
+        word = buffer->words + buffer->used;                                                    \
+        buffer->used += 4;                                                                      \
+        a = word[0], b = word[1], c = word[2], d = word[3];                                     \
+        return a | b << 8 | c << 16 | d << 24;                                                  \
+    }                                                                                           \
+    CHACHA20_INLINE CHACHA20_NEVER_NULL uint64_t NAME##_buffered_u64(                           \
+        struct chacha_rng_buffer *buffer) CHACHA20_NOEXCEPT {                                   \
+        uint64_t low = NAME##_buffered_u32(buffer), high = NAME##_buffered_u32(buffer);         \
+        return low | high << 32;                                                                \
+    }
+
+CHACHA20_DEFINE(chacha20_rng)
+CHACHA20_DEFINE(chacha12_rng)
+CHACHA20_DEFINE(chacha8_rng)
+
+#undef CHACHA20_DEFINE
 
 /* The same with one length, for callers in C; not proved, since a compiler of C makes them.
 
@@ -539,6 +599,8 @@ CHACHA20_NOT_SEEDS(chacha8_rng)
 
 void chacha_rng_from_seed(const uint8_t (&)[16], uint8_t *) = delete;
 void chacha_rng_from_seed(const uint8_t *, uint8_t (&)[32]) = delete;
+void chacha_rng_buffer_begin(struct chacha_rng_buffer *, const uint8_t (&)[32]) = delete;
+void chacha_rng_buffer_end(const struct chacha_rng_buffer *, uint8_t (&)[32]) = delete;
 
 #undef CHACHA20_NOT_SIZES
 #undef CHACHA20_NOT_NONCES
