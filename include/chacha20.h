@@ -140,8 +140,10 @@
 #endif
 
 /* A buffer, which is parameter `at`, with its length, which is parameter `len_at`. */
-#define CHACHA20_BUFFER(how, at, len_at, buffer, len)         \
-    CHACHA20_ACCESS(how, at, len_at)                          \
+#define CHACHA20_BUFFER(how, at, len_at, buffer, len) \
+    CHACHA20_ACCESS(how, at, len_at)                  \
+    CHACHA20_LENGTH(buffer, len)
+#define CHACHA20_LENGTH(buffer, len)                          \
     CHACHA20_WARN_IF(!buffer && len != 0, #buffer " is null") \
     CHACHA20_WARN_IF(__builtin_object_size(buffer, 0) < len, #buffer " is shorter than " #len)
 /* An array of at least so many bytes; of C's arrays the declaration says so itself. */
@@ -177,11 +179,12 @@
     CHACHA20_STATE CHACHA20_BUFFER(__write_only__, 2, 3, output, len)      \
     CHACHA20_DIFFER(state, output)
 
-/* The same for the functions that this header defines, which take null with length 0. */
-#define CHACHA20_INLINE_XOR(nonce_bytes, output_at, input_at, len_at) \
-    CHACHA20_KEY_NEVER_NULL CHACHA20_KEY_AND_NONCE(nonce_bytes)       \
-    CHACHA20_BUFFER(__read_only__, input_at, len_at, input, len)      \
-    CHACHA20_BUFFER(__write_only__, output_at, len_at, output, len)   \
+/* The same for the functions that this header defines, which take null with length 0. gcc knows what
+   NAME_xor does to its output by what it calls. */
+#define CHACHA20_INLINE_XOR(nonce_bytes, input_at, len_at)       \
+    CHACHA20_KEY_NEVER_NULL CHACHA20_KEY_AND_NONCE(nonce_bytes)  \
+    CHACHA20_BUFFER(__read_only__, input_at, len_at, input, len) \
+    CHACHA20_LENGTH(output, len)                                 \
     CHACHA20_DIFFER(key, output) CHACHA20_DIFFER(nonce, output)
 #define CHACHA20_INLINE_WRITE(nonce_bytes, at, len_at)          \
     CHACHA20_KEY_NEVER_NULL CHACHA20_KEY_AND_NONCE(nonce_bytes) \
@@ -476,7 +479,7 @@ CHACHA20_INLINE int chacha20_overlap(
     CHACHA20_MUST_USE CHACHA20_INLINE uint32_t NAME##_xor(                                      \
         const uint8_t key[CHACHA20_MIN(32)], const uint8_t nonce[CHACHA20_MIN(NONCE_BYTES)],    \
         uint64_t position, uint8_t *output, const uint8_t *input, size_t len)                   \
-        CHACHA20_NOEXCEPT CHACHA20_INLINE_XOR(NONCE_BYTES, 4, 5, 6);                            \
+        CHACHA20_NOEXCEPT CHACHA20_INLINE_XOR(NONCE_BYTES, 5, 6);                               \
     CHACHA20_MUST_USE CHACHA20_INLINE uint32_t NAME##_keystream(                                \
         const uint8_t key[CHACHA20_MIN(32)], const uint8_t nonce[CHACHA20_MIN(NONCE_BYTES)],    \
         uint64_t position, uint8_t *output, size_t len)                                         \
@@ -508,7 +511,7 @@ CHACHA20_DEFINE(xchacha8, 24)
 CHACHA20_MUST_USE CHACHA20_INLINE uint32_t chacha20_legacy_xor(
     const uint8_t key[CHACHA20_MIN(32)], const uint8_t nonce[CHACHA20_MIN(8)], uint64_t block,
     uint64_t offset, uint8_t *output, const uint8_t *input, size_t len)
-    CHACHA20_NOEXCEPT CHACHA20_INLINE_XOR(8, 5, 6, 7);
+    CHACHA20_NOEXCEPT CHACHA20_INLINE_XOR(8, 6, 7);
 CHACHA20_MUST_USE CHACHA20_INLINE uint32_t chacha20_legacy_keystream(
     const uint8_t key[CHACHA20_MIN(32)], const uint8_t nonce[CHACHA20_MIN(8)], uint64_t block,
     uint64_t offset, uint8_t *output, size_t len) CHACHA20_NOEXCEPT CHACHA20_INLINE_WRITE(8, 5, 6);
