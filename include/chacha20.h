@@ -18,6 +18,9 @@
    - Nothing is kept between calls, nothing is allocated, no lock is taken, nothing is thrown. Calls
      in several threads, and in signal handlers, need no more than that no memory is written by one
      and used by another.
+   - A call takes at most 4,608 bytes of the stack (CHACHA20_DEEPEST of chacha20_wipe.h). A signal
+     handler on a stack of its own needs these beside what the system takes there, which is
+     sysconf(_SC_MINSIGSTKSZ): with AVX-512 6,144 bytes are too few, and 16,384 are enough.
    - Keys, nonces and seeds are not wiped from the stack; chacha20_wipe.h has a recipe.
 
    Lengths and positions are in bytes, but for those of generators, which count words of 32 bits or
