@@ -554,9 +554,10 @@ int check(const struct machine *machine, uint64_t seed, uint64_t bytes) {
         if (run.messages % 16 == 0) one_subkey(&run, (int)below(&run, ROUNDS));
     }
     printf("buffers of words, beside the exports: %" PRIu64 "\n", run.buffers);
-    printf("8 and 12 rounds, beside plain C: %" PRIu64 " bytes\n", run.bytes_beside_plain);
-    printf("check, seed %" PRIu64 ": %" PRIu64 " bytes beside", seed, run.bytes_beside_found);
+    if (machine->other_count > 0) printf("8 and 12 rounds, beside plain C: %" PRIu64 " bytes\n", run.bytes_beside_plain);
+    printf("check, seed %" PRIu64 ": %" PRIu64 " bytes beside", seed,
+           machine->other_count > 0 ? run.bytes_beside_found : run.bytes_beside_plain);
     for (int i = 0; i < machine->other_count; i++) printf("%s %s", i ? " and" : "", machine->others[i].name);
-    printf("%s, %" PRIu64 " differences\n", machine->other_count ? "" : " none that was found", run.differences);
+    printf("%s, %" PRIu64 " differences\n", machine->other_count ? "" : " plain C alone", run.differences);
     return controlled && run.differences == 0 ? 0 : 1;
 }

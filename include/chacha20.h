@@ -24,8 +24,8 @@
    - Keys, nonces and seeds are not wiped from the stack; chacha20_wipe.h has a recipe.
 
    Lengths and positions are in bytes, but for those of generators, which count words of 32 bits or
-   blocks of 64 bytes. The library is for any x86-64 processor; it needs memcpy, memmove and memset,
-   and nothing else. The header takes C89 to C23 and C++98 to C++23. */
+   blocks of 64 bytes. The library is for Linux on x86-64 and aarch64; it needs memcpy, memmove and
+   memset, and nothing else. The header takes C89 to C23 and C++98 to C++23. */
 
 #ifndef CHACHA20_H
 #define CHACHA20_H
