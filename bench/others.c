@@ -67,7 +67,7 @@ static void openssl_legacy(int rounds, const uint8_t *key, const uint8_t *nonce,
     openssl_xor(key, iv, data, len);
 }
 
-static int find_openssl(struct other *found) {
+int find_openssl(struct other *found) {
     static const char *const names[] = {"libcrypto.so.3", "libcrypto.so.1.1", "libcrypto.so", NULL};
     const char *(*version)(int) = NULL;
     void *handle = open_first(names);

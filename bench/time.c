@@ -1,28 +1,40 @@
 /* SPDX-License-Identifier: Apache-2.0 OR MIT
 
-   Times, all contestants by turns: each combines a buffer in place under a fixed key and nonce, from position 0 on, the
-   making of the cipher included. The figure is the median of the turns, in processor time, so that what else runs on
-   the machine disturbs it less. */
+   Times, all contestants by turns, the making of the cipher included. The figure is the least of the turns, in processor
+   time, so that what else runs on the machine disturbs it least. OpenSSL runs once more in another process, which hides
+   AVX from it, since it looks at the processor when it is loaded. */
 
 #define _POSIX_C_SOURCE 200809L
 
 #include <stdio.h>
 #include <stdlib.h>
 #include <string.h>
+#include <sys/wait.h>
 #include <time.h>
+#include <unistd.h>
 
 #include "bench.h"
 
-enum { MOST_CONTESTANTS = MOST_BUILDS + MOST_OTHERS, MOST_TURNS = 999 };
+enum { MOST_CONTESTANTS = MOST_BUILDS + MOST_OTHERS + 1, SIZES = 4 };
 
-/* A build of the library, or another implementation. */
+static const char *const sizes_in_words[SIZES] = {"64 bytes", "1500 bytes", "64 KiB", "64 MiB"};
+static const size_t sizes[SIZES] = {64, 1500, 64 << 10, 64 << 20};
+
+/* A build of the library, another implementation, or the process where AVX is hidden. */
 struct contestant {
     char name[64];
     const struct library *library;
     const struct other *other;
+    int is_hidden;
 };
 
 static const uint8_t key[32] = {1, 2, 3}, nonce[12] = {4, 5, 6};
+
+static double seconds(void) {
+    struct timespec now;
+    clock_gettime(CLOCK_PROCESS_CPUTIME_ID, &now);
+    return (double)now.tv_sec + 1e-9 * (double)now.tv_nsec;
+}
 
 static void call(const struct contestant *it, uint8_t *data, size_t len) {
     if (it->other) {
@@ -32,86 +44,178 @@ static void call(const struct contestant *it, uint8_t *data, size_t len) {
     }
 }
 
-static double seconds(void) {
-    struct timespec now;
-    clock_gettime(CLOCK_PROCESS_CPUTIME_ID, &now);
-    return (double)now.tv_sec + 1e-9 * (double)now.tv_nsec;
-}
-
-static double nanoseconds_a_call(const struct contestant *it, uint8_t *data, size_t len, int calls) {
+static double calls_here(const struct contestant *it, uint8_t *data, size_t len, int calls) {
     double begin = seconds();
     for (int i = 0; i < calls; i++) call(it, data, len);
     return (seconds() - begin) * 1e9 / calls;
 }
 
-static int ascending(const void *a, const void *b) {
-    double x = *(const double *)a, y = *(const double *)b;
-    return (x > y) - (x < y);
+/* The process where AVX is hidden: it answers a length and a number of calls with nanoseconds a call. */
+
+struct request {
+    size_t len;
+    int calls;
+};
+
+static int to_hidden = -1, from_hidden = -1;
+
+static void serve(int from, int to) {
+    struct other found[MOST_OTHERS];
+    struct request request;
+    uint8_t *data = aligned_alloc(64, sizes[SIZES - 1]);
+    setenv("OPENSSL_ia32cap", "~0x1000000000000000", 1);
+    if (!data || !find_openssl(found)) _exit(1);
+    memset(data, 0, sizes[SIZES - 1]);
+    struct contestant it = {.other = found};
+    while (read(from, &request, sizeof request) == (ssize_t)sizeof request) {
+        double answer = calls_here(&it, data, request.len, request.calls);
+        if (write(to, &answer, sizeof answer) != (ssize_t)sizeof answer) break;
+    }
+    _exit(0);
 }
 
-/* The median of each contestant, of whom each turn begins with another. */
-static void medians(const struct contestant *all, int count, uint8_t *data, size_t len, int turns, double *median) {
-    static double times[MOST_CONTESTANTS][MOST_TURNS];
+void hide_avx(void) {
+#if defined(__x86_64__)
+    int there[2], back[2];
+    fflush(stdout);
+    if (pipe(there) != 0 || pipe(back) != 0) return;
+    pid_t child = fork();
+    if (child == 0) {
+        close(there[1]), close(back[0]);
+        if (!freopen("/dev/null", "w", stdout)) _exit(1);
+        serve(there[0], back[1]);
+    }
+    close(there[0]), close(back[1]);
+    if (child < 0) return;
+    to_hidden = there[1], from_hidden = back[0];
+#endif
+}
+
+static double calls_hidden(size_t len, int calls) {
+    struct request request = {len, calls};
+    double answer;
+    if (write(to_hidden, &request, sizeof request) != (ssize_t)sizeof request ||
+        read(from_hidden, &answer, sizeof answer) != (ssize_t)sizeof answer) {
+        puts("the process without AVX has ended");
+        exit(2);
+    }
+    return answer;
+}
+
+static double nanoseconds_a_call(const struct contestant *it, uint8_t *data, size_t len, int calls) {
+    return it->is_hidden ? calls_hidden(len, calls) : calls_here(it, data, len, calls);
+}
+
+/* The least time of each contestant, of whom each turn begins with another. */
+static void least_times(const struct contestant *all, int count, uint8_t *data, size_t len, int turns, double *least) {
     int calls[MOST_CONTESTANTS];
     for (int i = 0; i < count; i++) {
-        call(&all[i], data, len);
-        calls[i] = (int)(1 + 4e5 / (1 + nanoseconds_a_call(&all[i], data, len, 1)));
+        nanoseconds_a_call(&all[i], data, len, 1);
+        least[i] = nanoseconds_a_call(&all[i], data, len, 1);
+        calls[i] = (int)(1 + 4e5 / (1 + least[i]));
     }
     for (int turn = 0; turn < turns; turn++) {
         for (int i = 0; i < count; i++) {
             int at = (turn + i) % count;
-            times[at][turn] = nanoseconds_a_call(&all[at], data, len, calls[at]);
+            double time = nanoseconds_a_call(&all[at], data, len, calls[at]);
+            if (time < least[at]) least[at] = time;
         }
     }
-    for (int i = 0; i < count; i++) {
-        qsort(times[i], (size_t)turns, sizeof times[i][0], ascending);
-        median[i] = times[i][turns / 2];
-    }
 }
 
-static void print_head(const struct contestant *all, int count) {
-    printf("\n| |");
-    for (int i = 0; i < count; i++) printf(" %s |", all[i].name);
-}
-
-static void print_rule(int columns) {
-    putchar('|');
-    for (int i = 0; i < columns; i++) printf("---|");
+static void print_head(const char *first, const char *const *rest, int count) {
+    printf("\n| %s |", first);
+    for (int i = 0; i < count; i++) printf(" %s |", rest[i]);
+    printf("\n|");
+    for (int i = 0; i <= count; i++) printf("---|");
     putchar('\n');
 }
 
-static const char *const sizes_in_words[] = {"64 bytes", "1500 bytes", "64 KiB", "64 MiB"};
-static const size_t sizes[] = {64, 1500, 64 << 10, 64 << 20};
-
 /* The library at each level beside the others: nanoseconds a call, and the library's time divided by the other's. */
-static void time_levels(const struct machine *machine, uint8_t *data, int turns) {
+static void time_calls(const struct machine *machine, uint8_t *data, int turns) {
     struct contestant all[MOST_CONTESTANTS];
+    const char *names[MOST_CONTESTANTS];
+    double least[SIZES][MOST_CONTESTANTS];
     int count = 0, ours = machine->build_count;
     for (int i = 0; i < ours; i++) {
         all[count] = (struct contestant){.library = machine->builds[i]};
-        snprintf(all[count++].name, sizeof all[0].name, "chacha20, %s", machine->builds[i]->level);
+        snprintf(all[count++].name, sizeof all[0].name, "%s", machine->builds[i]->level);
     }
     for (int i = 0; i < machine->other_count; i++) {
         all[count] = (struct contestant){.other = &machine->others[i]};
         snprintf(all[count++].name, sizeof all[0].name, "%s", machine->others[i].name);
     }
-    printf("\nChaCha20 in place, nanoseconds a call (medians), and the library's time divided by another's:\n");
-    print_head(all, count);
-    for (int i = 0; i < ours; i++) {
-        for (int j = ours; j < count; j++) printf(" %s / %s |", all[i].library->level, all[j].name);
-    }
-    putchar('\n');
-    print_rule(1 + count + ours * (count - ours));
-    for (int size = 0; size < 4; size++) {
-        double median[MOST_CONTESTANTS];
-        medians(all, count, data, sizes[size], sizes[size] > 1 << 20 ? turns / 3 + 1 : turns, median);
+    if (to_hidden >= 0) all[count++] = (struct contestant){.name = "OpenSSL without AVX", .is_hidden = 1};
+    for (int i = 0; i < count; i++) names[i] = all[i].name;
+    printf("\nChaCha20 in place, nanoseconds a call, the least of %d turns:\n", turns);
+    print_head("nanoseconds a call", names, count);
+    for (int size = 0; size < SIZES; size++) {
+        least_times(all, count, data, sizes[size], sizes[size] > 1 << 20 ? turns / 3 + 1 : turns, least[size]);
         printf("| %s |", sizes_in_words[size]);
-        for (int i = 0; i < count; i++) printf(" %.0f |", median[i]);
-        for (int i = 0; i < ours; i++) {
-            for (int j = ours; j < count; j++) printf(" %.2f |", median[i] / median[j]);
-        }
+        for (int i = 0; i < count; i++) printf(" %.0f |", least[size][i]);
         putchar('\n');
         fflush(stdout);
+    }
+    print_head("time divided by", sizes_in_words, SIZES);
+    for (int i = 0; i < ours; i++) {
+        for (int j = ours; j < count; j++) {
+            printf("| %s / %s |", names[i], names[j]);
+            for (int size = 0; size < SIZES; size++) printf(" %.2f |", least[size][i] / least[size][j]);
+            putchar('\n');
+        }
+    }
+}
+
+/* What pieces of a stream cost, and words of a generator. */
+
+static uint32_t words;
+
+static void pieces(const struct library *library, uint8_t *data) {
+    for (uint64_t at = 0; at < 1024; at += 16) {
+        words |= library->ciphers[IETF][2].xor_in_place(key, nonce, at / 64, at % 64, data + at, 16);
+    }
+}
+
+static void single_words(const struct library *library, uint8_t *data) {
+    for (int i = 0; i < 64; i++) words ^= library->next_u32[2](data);
+}
+
+static void buffered_words(const struct library *library, uint8_t *data) {
+    static struct chacha_rng_buffer buffer;
+    library->buffer_begin(&buffer, data);
+    for (int i = 0; i < 64; i++) words ^= library->buffered_u32[2](&buffer);
+    library->buffer_end(&buffer, data);
+}
+
+static void filled_words(const struct library *library, uint8_t *data) {
+    library->fill_bytes[2](data, data + 64, 256);
+}
+
+static void time_small(const struct machine *machine, uint8_t *data, int turns) {
+    static const struct {
+        const char *name;
+        void (*run)(const struct library *, uint8_t *);
+        int parts;
+    } all[] = {{"a piece of 16 bytes of a stream", pieces, 64},
+               {"a word by next_u32", single_words, 64},
+               {"a word by a buffer, with its begin and end", buffered_words, 64},
+               {"a word of fill_bytes of 256 bytes", filled_words, 64}};
+    const char *names[MOST_BUILDS];
+    for (int i = 0; i < machine->build_count; i++) names[i] = machine->builds[i]->level;
+    print_head("nanoseconds", names, machine->build_count);
+    for (int kind = 0; kind < 4; kind++) {
+        printf("| %s |", all[kind].name);
+        for (int i = 0; i < machine->build_count; i++) {
+            double least = 1e18;
+            for (int turn = 0; turn < turns; turn++) {
+                double begin = seconds(), time;
+                for (int calls = 0; calls < 20; calls++) all[kind].run(machine->builds[i], data);
+                time = (seconds() - begin) * 1e9 / (20 * all[kind].parts);
+                if (time < least) least = time;
+            }
+            printf(" %.1f |", least);
+        }
+        putchar('\n');
     }
 }
 
@@ -128,11 +232,14 @@ static void print_processor(void) {
 }
 
 int time_all(const struct machine *machine, int turns) {
-    uint8_t *data = aligned_alloc(64, sizes[3]);
-    if (!data || turns < 1 || turns > MOST_TURNS) return 2;
-    memset(data, 0, sizes[3]);
+    uint8_t *data = aligned_alloc(64, sizes[SIZES - 1]);
+    if (!data || turns < 1) return 2;
+    memset(data, 0, sizes[SIZES - 1]);
     print_processor();
-    time_levels(machine, data, turns);
+    time_calls(machine, data, turns);
+    time_small(machine, data, turns);
     free(data);
+    if (to_hidden >= 0) close(to_hidden), close(from_hidden);
+    while (wait(NULL) > 0) {}
     return 0;
 }
