@@ -15,7 +15,7 @@
 
 #include "bench.h"
 
-enum { MOST_CONTESTANTS = MOST_BUILDS + MOST_OTHERS + 1, SIZES = 4 };
+enum { MOST_CONTESTANTS = MOST_BUILDS + MOST_OTHERS + 1, SIZES = 4, PASSES = 30 };
 
 static const char *const sizes_in_words[SIZES] = {"64 bytes", "1500 bytes", "64 KiB", "64 MiB"};
 static const size_t sizes[SIZES] = {64, 1500, 64 << 10, 64 << 20};
@@ -106,13 +106,12 @@ static double nanoseconds_a_call(const struct contestant *it, uint8_t *data, siz
     return it->is_hidden ? calls_hidden(len, calls) : calls_here(it, data, len, calls);
 }
 
-/* The least time of each contestant, of whom each turn begins with another. */
+/* Lowers the least time of each contestant, of whom each turn begins with another. */
 static void least_times(const struct contestant *all, int count, uint8_t *data, size_t len, int turns, double *least) {
     int calls[MOST_CONTESTANTS];
     for (int i = 0; i < count; i++) {
         nanoseconds_a_call(&all[i], data, len, 1);
-        least[i] = nanoseconds_a_call(&all[i], data, len, 1);
-        calls[i] = (int)(1 + 4e5 / (1 + least[i]));
+        calls[i] = (int)(1 + 4e5 / (1 + nanoseconds_a_call(&all[i], data, len, 1)));
     }
     for (int turn = 0; turn < turns; turn++) {
         for (int i = 0; i < count; i++) {
@@ -147,10 +146,17 @@ static void time_calls(const struct machine *machine, uint8_t *data, int turns) 
     }
     if (to_hidden >= 0) all[count++] = (struct contestant){.name = "OpenSSL without AVX", .is_hidden = 1};
     for (int i = 0; i < count; i++) names[i] = all[i].name;
+    for (int i = 0; i < SIZES * MOST_CONTESTANTS; i++) least[i / MOST_CONTESTANTS][i % MOST_CONTESTANTS] = 1e18;
+    /* A size has its turns over the whole time, so that a minute in which the machine is busy isn't that of one size. */
+    for (int pass = 0; pass < PASSES; pass++) {
+        for (int size = 0; size < SIZES; size++) {
+            int share = turns / PASSES / (sizes[size] > 1 << 20 ? 10 : 1) + 1;
+            least_times(all, count, data, sizes[size], share, least[size]);
+        }
+    }
     printf("\nChaCha20 in place, nanoseconds a call, the least of %d turns:\n", turns);
     print_head("nanoseconds a call", names, count);
     for (int size = 0; size < SIZES; size++) {
-        least_times(all, count, data, sizes[size], sizes[size] > 1 << 20 ? turns / 3 + 1 : turns, least[size]);
         printf("| %s |", sizes_in_words[size]);
         for (int i = 0; i < count; i++) printf(" %.0f |", least[size][i]);
         putchar('\n');
