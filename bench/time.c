@@ -135,7 +135,7 @@ static void time_calls(const struct machine *machine, uint8_t *data, int turns) 
     struct contestant all[MOST_CONTESTANTS];
     const char *names[MOST_CONTESTANTS];
     double least[SIZES][MOST_CONTESTANTS];
-    int count = 0, ours = machine->build_count;
+    int count = 0, ours = machine->build_count, share = (turns + PASSES - 1) / PASSES;
     for (int i = 0; i < ours; i++) {
         all[count] = (struct contestant){.library = machine->builds[i]};
         snprintf(all[count++].name, sizeof all[0].name, "%s", machine->builds[i]->level);
@@ -150,11 +150,11 @@ static void time_calls(const struct machine *machine, uint8_t *data, int turns) 
     /* A size has its turns over the whole time, so that a minute in which the machine is busy isn't that of one size. */
     for (int pass = 0; pass < PASSES; pass++) {
         for (int size = 0; size < SIZES; size++) {
-            int share = turns / PASSES / (sizes[size] > 1 << 20 ? 10 : 1) + 1;
-            least_times(all, count, data, sizes[size], share, least[size]);
+            least_times(all, count, data, sizes[size], sizes[size] > 1 << 20 ? (share + 9) / 10 : share, least[size]);
         }
     }
-    printf("\nChaCha20 in place, nanoseconds a call, the least of %d turns:\n", turns);
+    printf("\nChaCha20 in place, nanoseconds a call, the least of %d turns, of %d for 64 MiB:\n", share * PASSES,
+           (share + 9) / 10 * PASSES);
     print_head("nanoseconds a call", names, count);
     for (int size = 0; size < SIZES; size++) {
         printf("| %s |", sizes_in_words[size]);

@@ -2,9 +2,9 @@
 
    ChaCha stream ciphers, HChaCha and seekable generators of random words.
 
-   Proved to meet its contract (crates/chacha20_c) is each function that this header declares and
-   does not define, chacha20_version alone excepted. Not proved are chacha20_version, the functions
-   that the header defines, and the choice between the builds for different processors.
+   Each function that this header declares and does not define is proved to meet its contract
+   (crates/chacha20_c), except chacha20_version. The functions that the header defines are not
+   proved, nor is the choice between the builds for different processors.
 
    For every function:
 
@@ -19,8 +19,8 @@
      in several threads, and in signal handlers, need no more than that no memory is written by one
      and used by another.
    - A call takes at most 4,608 bytes of the stack (CHACHA20_DEEPEST of chacha20_wipe.h). A signal
-     handler on a stack of its own needs these beside what the system takes there, which is
-     sysconf(_SC_MINSIGSTKSZ): with AVX-512 6,144 bytes are too few, and 16,384 are enough.
+     handler with a stack of its own needs these and what the system puts there, which is
+     sysconf(_SC_MINSIGSTKSZ). With AVX-512 6,144 bytes are too few; 16,384 are enough.
    - Keys, nonces and seeds are not wiped from the stack; chacha20_wipe.h has a recipe.
 
    Lengths and positions are in bytes, but for those of generators, which count words of 32 bits or
@@ -34,9 +34,9 @@
 #include <stdint.h>
 
 /* The version of this header. While the first number is 0, the second changes whenever a function,
-   its parameters or its meaning does, and with it the shared library's soname, libchacha20.so.0.5,
-   and the version node of its symbols, CHACHA20_0.5. All libraries of one soname have the same
-   functions, so a program that was built with one of them runs with each. */
+   its parameters or its meaning changes. The soname of the shared library, libchacha20.so.0.5, and
+   the version node of its symbols, CHACHA20_0.5, change with it. All libraries with one soname have
+   the same functions, so a program that was built with one of them runs with each. */
 #define CHACHA20_VERSION "0.5.0"
 #define CHACHA20_VERSION_MAJOR 0
 #define CHACHA20_VERSION_MINOR 5
@@ -182,8 +182,8 @@
     CHACHA20_STATE CHACHA20_BUFFER(__write_only__, 2, 3, output, len)      \
     CHACHA20_DIFFER(state, output)
 
-/* The same for the functions that this header defines, which take null with length 0. gcc knows what
-   NAME_xor does to its output by what it calls. */
+/* The same for the functions that this header defines, which take null with length 0. What NAME_xor
+   does to its output gcc sees by what it calls. */
 #define CHACHA20_INLINE_XOR(nonce_bytes, input_at, len_at)       \
     CHACHA20_KEY_NEVER_NULL CHACHA20_KEY_AND_NONCE(nonce_bytes)  \
     CHACHA20_BUFFER(__read_only__, input_at, len_at, input, len) \
@@ -403,14 +403,14 @@ uint64_t chacha_rng_get_stream(const uint8_t state[CHACHA20_MIN(49)])
 void chacha_rng_set_stream(uint8_t state[CHACHA20_MIN(49)], uint64_t stream)
     CHACHA20_NOEXCEPT CHACHA20_STATE;
 
-/* A buffer of words, for callers in C who take them one by one; not proved, since a compiler of C
-   makes it. It makes four blocks at a time by fill_bytes, and so gives the words that next_u32 and
-   next_u64 of the same state give.
+/* A buffer of words, for callers in C who take them one by one. It is not proved, since a compiler
+   of C makes it. It takes four blocks at a time by fill_bytes, so its words are those of next_u32
+   and next_u64 from the same state.
 
-   begin puts a state into a buffer, the reads take words, and end writes the state from which the
-   next word comes; without end the state from before begin gives the same words again. All reads of
-   a buffer are of one number of rounds, until the next begin. The buffer holds words that come, and
-   words that came: it is as secret as the state, and a copy of it repeats the words. */
+   begin puts a state into a buffer, the reads take words, and end writes the state that the next
+   word comes from. Without end, the state from before begin gives the same words again. All reads
+   after a begin are of one number of rounds. The buffer holds words that are to come and words that
+   came: it is as secret as the state, and a copy of it repeats the words. */
 struct chacha_rng_buffer {
     uint8_t state[CHACHA_RNG_STATE_BYTES]; /* past the words */
     uint8_t words[256];
@@ -554,11 +554,11 @@ CHACHA20_DEFINE(chacha8_rng)
 }
 #endif
 
-/* C++ compiles no call with an array whose size is that of something else: a nonce of another
-   layout, an iv of 16 bytes, a key of 128 bits, a seed in place of a state. A constant array makes
-   the call ambiguous, any other the function deleted. Pointers, as from data() of std::array, are
-   not looked at. The names are overloaded thereby, so auto and decltype can't take a function of
-   one; CHACHA20_NO_OVERLOADS, defined before this header, leaves the overloads out. */
+/* In C++ a call with an array of the wrong size does not compile: another layout's nonce, an iv of
+   16 bytes, a key of 128 bits, or a seed in place of a state. A constant array makes the call
+   ambiguous; any other array selects a deleted function. Pointers, such as data() of std::array,
+   are not checked. The names are overloaded, so auto and decltype cannot take such a function.
+   CHACHA20_NO_OVERLOADS, defined before this header, leaves the overloads out. */
 #if defined(__cplusplus) && __cplusplus >= 201103L && !defined(CHACHA20_NO_OVERLOADS)
 
 #define CHACHA20_NOT_SIZES(NAME, KEY, NONCE, ...)                                               \
