@@ -1,6 +1,6 @@
 /* SPDX-License-Identifier: Apache-2.0 OR MIT
 
-   The one function of the library that is not proved but for choose.c, which calls those that are. */
+   Which version of the library runs: the one function of the header that neither is proved nor calls one that is. */
 
 #include "../include/chacha20.h"
 
