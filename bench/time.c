@@ -59,6 +59,8 @@ struct request {
 
 static int to_hidden = -1, from_hidden = -1;
 
+#if defined(__x86_64__)
+
 static void serve(int from, int to) {
     struct other found[MOST_OTHERS];
     struct request request;
@@ -75,7 +77,6 @@ static void serve(int from, int to) {
 }
 
 void hide_avx(void) {
-#if defined(__x86_64__)
     int there[2], back[2];
     fflush(stdout);
     if (pipe(there) != 0 || pipe(back) != 0) return;
@@ -88,8 +89,13 @@ void hide_avx(void) {
     close(there[0]), close(back[1]);
     if (child < 0) return;
     to_hidden = there[1], from_hidden = back[0];
-#endif
 }
+
+#else
+
+void hide_avx(void) {}
+
+#endif
 
 static double calls_hidden(size_t len, int calls) {
     struct request request = {len, calls};
