@@ -1,4 +1,5 @@
--- Bytes combined with blocks in a row.
+-- Bytes XORed with blocks, group by group, as the engine does it. The proofs of `apply_through` and `xor_blocks`
+-- cite these. Read `xored_at` and `applied` of `Blocks` first.
 use Rattle.std.proofs.Common.{◌≡◌, ℕ, ◌+◌, ◌*◌, ◌/◌, ◌%◌, ◌<◌, ◌≤◌, List, [], ◌++◌, length, take, drop, slice_index, arith, refl, ap, ap₂, ◌∙◌, length-drop}
 use Rattle.std.specs.Prelude.{slice_get, Some, slice_index_or}
 use Rattle.std.proofs.lemmas.List.{length-take-le}

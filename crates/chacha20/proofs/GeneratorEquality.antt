@@ -1,4 +1,5 @@
--- Generators that are equal are one generator.
+-- `same_generator` computes whether two generators are one. The proofs of `==` and of `run_rng` cite this. Read
+-- `same_generator` of `Generator` first.
 use Rattle.std.proofs.Common.{◌≡◌, Bool, Decides, refl, sym, ap, ◌∙◌}
 use Rattle.std.specs.Prelude.{◌↔◌}
 use Rattle.std.specs.Bool.{IsTrue}

@@ -1,4 +1,6 @@
--- Start states whose key and nonce are read back from their words, and the generators that they stand for.
+-- The seed and the stream, read back from the words of a state, and the generator that they make with its counter.
+-- The proofs of construction and of `set_stream`, and the other lemma files on generators, cite these. Read `Unread`
+-- first.
 use Rattle.std.proofs.Common.{◌≡◌, ℕ, zero, suc, ◌+◌, ◌*◌, ◌-◌, ◌/◌, ◌%◌, ◌^◌, ◌<◌, List, [], ◌∷◌, ◌++◌, length, take, slice_index, arith, refl, sym, ap, ap₂, subst, ◌∙◌}
 use Rattle.std.proofs.lemmas.List.{take_at, drop_at, length-append, length-take-le}
 use Rattle.std.proofs.lemmas.Nat.{and_mask, or_shifted, from_le_bytes-to_le_bytes_4}

@@ -1,4 +1,5 @@
--- Lists of calls that apply a keystream, and runs of any calls whose answers are written one after another.
+-- Runs of calls whose answers are written one after another, and the laws of runs: seeking back, and cutting
+-- anywhere. The proofs of `run_cipher`, `call_cipher` and `run_rng` cite these. Read `Runs` first.
 use Rattle.std.proofs.Common.{inl, inr, ◌≡◌, ℕ, ◌+◌, ◌-◌, ◌≤◌, List, [], ◌∷◌, ◌++◌, length, get_or, take, drop, ◌<◌, arith, refl, sym, ap, ap₂, subst, ◌∙◌, append_assoc, append-nil, length-drop}
 use Rattle.std.specs.Prelude.{sum, nat_le, ◌==◌, ◌&&◌, ◌^◌, Bool, true, false, ℤ, pos, negsuc, ◌↔◌, Result, Ok, Err, Some, IsOk, OnOk, OnErr, IsSomeAnd, IfSome}
 use Rattle.std.specs.List.{AllByRecursion}

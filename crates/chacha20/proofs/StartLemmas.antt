@@ -1,4 +1,5 @@
--- Start states: written part by part, and the blocks from one on.
+-- Start states: written part by part, and the blocks from one on. The proofs of `new` of each core cite these. Read
+-- `start` of `Block` first.
 use Rattle.std.proofs.Common.{◌≡◌, ℕ, ◌*◌, List, [], ◌∷◌, ◌++◌, length, take, drop, replicate, refl, sym, ap, ◌∙◌}
 use Rattle.std.proofs.Math.Nat.{zero-mod}
 use Rattle.std.proofs.Math.Path.{fun_ext}

@@ -1,4 +1,5 @@
--- Generators as bytes, written part by part and read back.
+-- Generators as 49 bytes, written part by part and read back. The proofs of `serialize_state` and
+-- `deserialize_state` cite these, and those of the exports for C. Read `StateBytes` first.
 use Rattle.std.proofs.Common.{inl, inr, ◌≡◌, ℕ, ◌+◌, ◌*◌, ◌/◌, ◌%◌, ◌^◌, ◌<◌, List, [], ◌∷◌, ◌++◌, length, take, drop, slice_index, replicate, arith, refl, sym, ap, ap₂, ◌∙◌, append_assoc}
 use Rattle.std.proofs.lemmas.Bool.{cases_lt}
 use Rattle.std.proofs.lemmas.List.{take_at, drop_at, set_at, length-append, length-drop, length-take, length-take-le, get_or-take, get_or-drop, get_or_past, drop-drop}

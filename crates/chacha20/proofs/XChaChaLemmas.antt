@@ -1,4 +1,5 @@
--- Arrays that are written part by part.
+-- The derived nonce, the input of HChaCha and its 32 bytes, written part by part. The proofs of `hchacha` and of
+-- `new` of XChaCha cite these. Read `XChaCha` first.
 use Rattle.std.proofs.Common.{◌≡◌, ℕ, ◌+◌, ◌*◌, ◌≤◌, List, ◌++◌, length, take, drop, replicate, arith, refl, sym, ap, ◌∙◌, length-drop}
 use Rattle.std.proofs.lemmas.List.{length-take-le}
 use borrow.Rule.Slice.PartMut.{put_mid}

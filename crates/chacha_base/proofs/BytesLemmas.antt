@@ -1,4 +1,5 @@
--- Words as bytes, one word more.
+-- Words as bytes and back, one word more at a time. The proofs of `write_bytes` and `read_words` cite these, and
+-- those of rows, of start states and of fills. Read `Bytes` first.
 use Rattle.std.proofs.Common.{◌≡◌, ℕ, zero, suc, ◌+◌, ◌*◌, ◌-◌, ◌/◌, ◌%◌, ◌^◌, ◌≤◌, ◌<◌, List, [], ◌∷◌, ◌++◌, length, take, slice_index, arith, refl, sym, ap, ap₂, ◌∙◌, append_assoc}
 use Rattle.std.proofs.lemmas.List.{take_more}
 use Rattle.std.proofs.lemmas.Slice.{take-put_mid}

@@ -1,4 +1,5 @@
--- A cipher that moves on.
+-- A cipher that has moved, and moves on. The loops over pieces of the byte stream cite these, and so may proofs of
+-- callers over any cipher.
 use Rattle.std.proofs.Common.{◌≡◌, ℕ, ◌+◌, arith}
 use Rattle.std.specs.Prelude.{Result, Ok, Err, OnErr}
 

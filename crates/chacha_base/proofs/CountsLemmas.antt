@@ -1,4 +1,5 @@
--- Counts of one call after another.
+-- Counts of one call after another. The proofs of rounds, of the kernel, of the engine and of the byte stream cite
+-- these. Read `Grows` of `Counts` first, and then the bounds below it.
 use Rattle.std.proofs.Common.{◌≡◌, ℕ, ◌+◌, ◌-◌, ◌*◌, ◌/◌, ◌%◌, ◌<◌, ◌≤◌, min, refl, ap, ◌∙◌, arith, subst}
 use Rattle.std.proofs.lemmas.Grind.{common_steps}
 use Rattle.std.proofs.Math.Nat.{add-mul, mul_assoc, mul-le-mul_right}

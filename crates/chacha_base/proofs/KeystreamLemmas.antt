@@ -1,4 +1,5 @@
--- Bytes combined with a stream, and bytes of a stream; `chacha20` passes on what callers cite.
+-- Bytes combined with a stream, and bytes of a stream. Cores, the byte stream and generators cite these; `chacha20`
+-- passes on what proofs of callers cite. Read `xor_stream` and `stream_part` of `Keystream` first.
 use Rattle.std.proofs.Common.{◌≡◌, ℕ, zero, suc, ◌+◌, ◌*◌, ◌/◌, ◌%◌, ◌<◌, ◌≤◌, List, take, drop, [], ◌∷◌, ◌++◌, length, slice_index, slice_index_or, bit_xor, replicate, arith, refl, sym, ap, ap₂, ◌∙◌, append_assoc, append-nil}
 use Rattle.std.proofs.Math.Nat.{mod-add-mod, mod-mod}
 use Rattle.std.proofs.Math.Seq.{take-add}

@@ -1,4 +1,5 @@
--- Bytes that are written or combined piece by piece, as in a loop over a slice.
+-- Bytes that are written or combined piece by piece. The loops of the byte stream cite these, and so may loops of
+-- callers, as that of `apply_in_pieces`. Read `KeystreamLemmas` first.
 use Rattle.std.proofs.Common.{◌≡◌, ℕ, min, ◌+◌, ◌-◌, ◌≤◌, List, ◌++◌, length, take, drop, arith, sym, ap, ap₂, ◌∙◌}
 use Rattle.std.proofs.Math.Seq.{take-add}
 use Rattle.std.proofs.lemmas.List.{length-take-le}

@@ -1,4 +1,5 @@
--- The rounds on states of sixteen words.
+-- The rounds on states of sixteen words, and that they are four quarter rounds one after another. The proofs of
+-- `rounds` and of `Soft` cite these. Read `Rounds` first.
 use Rattle.std.proofs.Common.{◌≡◌, ◌≢◌, ℕ, ◌<◌, List, length, slice_index, refl, ◌∙◌}
 use Rattle.std.proofs.Math.ListN.{set}
 use Rattle.std.proofs.lemmas.List.{length-set, get_or-set_same, get_or-set_other}

@@ -1,4 +1,5 @@
--- Blocks in the rows of vectors.
+-- Blocks in the rows of vectors: set, moved, summed and stored. The proofs of `rows`, `group` and the kernel cite
+-- these. Read `Lanes` and `Vectors` first.
 use Rattle.std.proofs.Common.{◌≡◌, ℕ, zero, suc, ◌<◌, ◌≢◌, ◌+◌, ◌-◌, ◌*◌, ◌%◌, Bool, true, false, List, [], ◌∷◌, ◌++◌, length, drop, slice_index, refl, ap, ◌∙◌, arith}
 use Rattle.std.proofs.Math.ListN.{set}
 use Rattle.std.proofs.lemmas.List.{length-set, get_or-set_same, get_or-set_other}

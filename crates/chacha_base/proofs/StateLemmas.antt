@@ -1,4 +1,6 @@
--- States of sixteen words: the counter, and the words that stay.
+-- States of sixteen words: the counter, the words that stay, and the blocks from a state on. The proofs of the
+-- kernel, of cores and of generators cite these; proofs of your own backend find them in `BackendLaws`. Read `State`
+-- first.
 use Rattle.std.proofs.Common.{◌≡◌, ℕ, ◌+◌, ◌*◌, ◌/◌, ◌%◌, ◌^◌, ◌<◌, ◌≤◌, List, ◌++◌, length, take, drop, slice_index, arith, refl, ap, ap₂, ◌∙◌}
 use Rattle.std.proofs.Math.ListN.{set}
 use Rattle.std.proofs.Math.Nat.{mod-add-mod, mod-eq_of_lt, mod-mod}

@@ -1,4 +1,5 @@
--- Rotations of words.
+-- Rotations of words, by the operations of the language. The proof of `rotated`, and `LaneLemmas`, cite these. Read
+-- `Words` first.
 use Rattle.std.proofs.Common.{◌≡◌, ℕ, ◌+◌, ◌-◌, ◌*◌, ◌/◌, ◌%◌, ◌^◌, ◌<◌, arith, sym, subst, ◌∙◌}
 use Rattle.std.proofs.lemmas.Nat.{mod-pow-add, or_shifted, pow_pos, shr_below}
 use Rattle.std.proofs.Math.Nat.{mul-div_cancel, mul-mod_left, mod-eq_of_lt}

@@ -1,4 +1,5 @@
--- What is found of a core is as expected exactly where its blocks are.
+-- What is found of a core is as expected exactly where its blocks are. The proof of `row_13` cites this. Read
+-- `Cores` first.
 use Rattle.std.proofs.Common.{◌≡◌, ℕ, ◌+◌, ◌-◌, ◌%◌, ◌^◌, ◌≤◌, Bool, ◌&&◌, eqb, List, [], ◌∷◌, ◌++◌, drop, get_or, replicate, arith, ap, ap₂, sym, ◌∙◌, mod-eq_of_lt}
 use Rattle.std.specs.Prelude.{◌↔◌, All, IsTrue}
 use Rattle.std.specs.Cmp.Lexicographic.{pointwise, pointwise_decides}

@@ -1,4 +1,5 @@
--- Tables of what fails in rows, and the rows that are entered in them.
+-- Tables of what fails in rows, and the rows that are entered in them. The proofs of the functions that enter rows
+-- cite these. Read `Rows` first.
 use Rattle.std.proofs.Common.{◌≡◌, ℕ, ◌<◌, Bool, true, false, ◌&&◌, ◌||◌, eqb, ltb, List, [], ◌∷◌, ◌++◌, map, Option, None, IsSome, All, slice_index_or, refl, subst}
 use Rattle.std.proofs.lemmas.Bool.{false≢true}
 use Rattle.std.proofs.lemmas.Bool.Decides.{Decides-eqb, Decides-ltb}
