@@ -75,8 +75,8 @@ impl<R: Rounds, V: Variant, B> ChaChaCore<R, V, B> {
         V::set_block_pos(&mut self.state[12..], pos);
     }
 
-    /// Sets all sixteen words to zero, the constants and the counter included. Nothing is claimed of other copies in
-    /// memory. This crate's own.
+    /// Sets all sixteen words to zero, the constants and the counter included (this crate). Nothing is claimed of other
+    /// copies in memory.
     pub fn zeroize(&mut self)
         ensures { self.new ≡ replicate 16 0 }
     {

@@ -1,5 +1,5 @@
-//! Lists of calls. This crate's own: one contract that speaks of any list of calls on a cipher, from any state on, and
-//! one that speaks of any list of calls on a generator.
+//! Lists of calls (this crate): one contract that speaks of any list of calls on a cipher, from any state on, and one that
+//! speaks of any list of calls on a generator.
 
 ghost use Rattle.std.specs.Prelude.{◌≡◌, ◌≤◌, ◌+◌, ℕ, List, [], ◌∷◌, All, length, sum, OnOk, OnErr};
 ghost use Rattle.chacha_base.specs.Keystream.{keystream};
@@ -115,9 +115,9 @@ fn call_cipher<C: StreamCipherSeekCore>(
     }
 }
 
-/// Makes the calls in order, from the cipher's state on, and writes the answer to each at its place, over what stood
-/// there. A refused call leaves cipher and data as they were. The caller proves that all ranges lie in the slices, and
-/// that there are as many answers as calls. This crate's own.
+/// Makes the calls in order, from the cipher's state on, and writes the answer to each at its place, over what was
+/// there (this crate). A refused call leaves cipher and data as they were. The caller proves that all ranges lie in the
+/// slices, and that there are as many answers as calls.
 pub fn run_cipher<C: StreamCipherSeekCore>(
     cipher: &mut StreamCipherCoreWrapper<C>,
     input: &[u8],

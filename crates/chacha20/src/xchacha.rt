@@ -20,10 +20,10 @@ use std::marker::Model;
 /// (draft-irtf-cfrg-xchacha).
 pub type XNonce = [u8; 24];
 
-/// XChaCha with 8 rounds, this crate's own number: the draft defines only 20. It takes as many bytes as `XChaCha20`.
+/// XChaCha with 8 rounds (this crate): the draft defines only 20. It takes as many bytes as `XChaCha20`.
 pub type XChaCha8 = StreamCipherCoreWrapper<XChaChaCore<R8, Lanes16>>;
 
-/// XChaCha with 12 rounds, this crate's own number: the draft defines only 20. It takes as many bytes as `XChaCha20`.
+/// XChaCha with 12 rounds (this crate): the draft defines only 20. It takes as many bytes as `XChaCha20`.
 pub type XChaCha12 = StreamCipherCoreWrapper<XChaChaCore<R12, Lanes16>>;
 
 /// XChaCha20 (draft-irtf-cfrg-xchacha, section 2.3), from block 0 on: ChaCha20 under the key and the nonce that
@@ -31,7 +31,7 @@ pub type XChaCha12 = StreamCipherCoreWrapper<XChaChaCore<R12, Lanes16>>;
 pub type XChaCha20 = StreamCipherCoreWrapper<XChaChaCore<R20, Lanes16>>;
 
 /// The 32 bytes that HChaCha makes from a key and 16 more bytes (draft-irtf-cfrg-xchacha, section 2.2, for `R20`; other
-/// numbers of rounds are this crate's own). Nothing is refused.
+/// numbers of rounds by this crate). Nothing is refused.
 pub fn hchacha<R: Rounds>(key: &Key, input: &[u8; 16]) -> [u8; 32]
     ensures { result ≡ hchacha R.COUNT key.now input.now }
 {

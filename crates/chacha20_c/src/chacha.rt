@@ -43,7 +43,7 @@ fn write_keystream<R: Rounds>(key: &Key, nonce: &Nonce, position: u64, output: &
     stateless::write_keystream::<Core<R>>(key, nonce, u128::from(position), output)
 }
 
-/// ChaCha with 8 rounds (this crate's own number):
+/// ChaCha with 8 rounds (this crate):
 /// combines `data` in place, by exclusive or, with the keystream from byte `position` on.
 /// Answers 0, or 1 where the bytes would pass the end of the stream, and then nothing is written.
 /// `data` overlaps no other argument.
@@ -92,7 +92,7 @@ pub extern "C" fn chacha8_write_keystream(
     write_keystream::<R8>(key, nonce, position, output)
 }
 
-/// ChaCha with 12 rounds (this crate's own number):
+/// ChaCha with 12 rounds (this crate):
 /// combines `data` in place, by exclusive or, with the keystream from byte `position` on.
 /// Answers 0, or 1 where the bytes would pass the end of the stream, and then nothing is written.
 /// `data` overlaps no other argument.
@@ -191,7 +191,7 @@ pub extern "C" fn chacha20_write_keystream(
 }
 
 /// Whether the ciphers with a nonce of 12 or of 24 bytes take `len` bytes from byte `position` on, whatever the number
-/// of rounds. Answers 0, or 1 where the bytes would pass the end of the stream. This crate's own.
+/// of rounds (this crate). Answers 0, or 1 where the bytes would pass the end of the stream.
 #[unsafe(no_mangle)]
 pub extern "C" fn chacha20_check(position: u64, len: usize) -> u32
     ensures { Checked (limit_of (modulus ietf)) position len result }

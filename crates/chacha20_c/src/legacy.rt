@@ -81,8 +81,8 @@ pub extern "C" fn chacha20_legacy_write_keystream(
     )
 }
 
-/// Whether the legacy cipher takes `len` bytes from byte 64 * `block_pos` + `offset` on, a sum that does not wrap.
-/// Answers 0, or 1 where the bytes would pass the end of the stream. This crate's own.
+/// Whether the legacy cipher takes `len` bytes from byte 64 * `block_pos` + `offset` on (this crate). That sum does not
+/// wrap. Answers 0, or 1 where the bytes would pass the end of the stream.
 #[unsafe(no_mangle)]
 pub extern "C" fn chacha20_legacy_check(block_pos: u64, offset: u64, len: usize) -> u32
     ensures { Checked (limit_of (modulus legacy)) (64 * block_pos + offset) len result }

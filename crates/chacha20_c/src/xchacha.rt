@@ -45,7 +45,7 @@ fn write_keystream<R: Rounds>(key: &Key, nonce: &XNonce, position: u64, output: 
     stateless::write_keystream::<Core<R>>(key, nonce, u128::from(position), output)
 }
 
-/// XChaCha with 8 rounds (this crate's own number):
+/// XChaCha with 8 rounds (this crate):
 /// combines `data` in place, by exclusive or, with the keystream from byte `position` on.
 /// Answers 0, or 1 where the bytes would pass the end of the stream, and then nothing is written.
 /// `data` overlaps no other argument.
@@ -97,7 +97,7 @@ pub extern "C" fn xchacha8_write_keystream(
     write_keystream::<R8>(key, nonce, position, output)
 }
 
-/// XChaCha with 12 rounds (this crate's own number):
+/// XChaCha with 12 rounds (this crate):
 /// combines `data` in place, by exclusive or, with the keystream from byte `position` on.
 /// Answers 0, or 1 where the bytes would pass the end of the stream, and then nothing is written.
 /// `data` overlaps no other argument.
@@ -201,7 +201,7 @@ pub extern "C" fn xchacha20_write_keystream(
     write_keystream::<R20>(key, nonce, position, output)
 }
 
-/// HChaCha with 8 rounds (this crate's own number): writes the 32 bytes that it makes of a key and of 16 bytes more.
+/// HChaCha with 8 rounds (this crate): writes the 32 bytes that it makes of a key and of 16 bytes more.
 /// It refuses nothing. `subkey` overlaps no other argument.
 #[unsafe(no_mangle)]
 pub extern "C" fn hchacha8(key: &Key, input: &[u8; 16], subkey: &mut Key)
@@ -210,7 +210,7 @@ pub extern "C" fn hchacha8(key: &Key, input: &[u8; 16], subkey: &mut Key)
     *subkey = hchacha::<R8>(key, input);
 }
 
-/// HChaCha with 12 rounds (this crate's own number): writes the 32 bytes that it makes of a key and of 16 bytes more.
+/// HChaCha with 12 rounds (this crate): writes the 32 bytes that it makes of a key and of 16 bytes more.
 /// It refuses nothing. `subkey` overlaps no other argument.
 #[unsafe(no_mangle)]
 pub extern "C" fn hchacha12(key: &Key, input: &[u8; 16], subkey: &mut Key)

@@ -64,8 +64,8 @@ pub trait ParBlocksSizeUser {
     ghost par_blocks_at_most: { PAR_BLOCKS ≤ 16 };
 }
 
-/// What hands out the blocks of a keystream: a core, or a cipher over one. It has no code, only what clauses say of
-/// blocks. This crate's own.
+/// What hands out the blocks of a keystream: a core, or a cipher over one (this crate). It has no code, only what
+/// clauses say of blocks.
 pub trait Keystream {
     // All of it but its counter or its position.
     ghost fixed: { Self → List ℕ };
@@ -115,10 +115,10 @@ pub trait StreamCipherBackend<R: Rounds, V: Variant>: ParBlocksSizeUser {
 
     ghost ONE_STEPS: { ℕ };
 
-    /// Quarter rounds of a parallel call, for each double round. This crate's own.
+    /// Quarter rounds of a parallel call, for each double round (this crate).
     const PAR_STEPS: usize;
 
-    /// Quarter rounds of a call for one block, for each double round. This crate's own.
+    /// Quarter rounds of a call for one block, for each double round (this crate).
     const ONE_STEPS: usize;
 
     /// The next block.
@@ -143,11 +143,11 @@ pub trait StreamCipherBackend<R: Rounds, V: Variant>: ParBlocksSizeUser {
             (for_tail (ONE_STEPS * R.COUNT) (length blocks.old)) steps.old steps.new };
 }
 
-/// Makes the words of a generator, four blocks at a time, in the layout with a counter of 64 bits.
+/// Makes the words of a generator, four blocks at a time, in the layout with a counter of 64 bits (this crate).
 ///
 /// From counter c on these are the words of blocks c to c + 3, one block after another; the state is then the one with
 /// counter c + 4, and all its other words stay. Counters wrap at 2^64. Nothing is refused. Anyone may implement it; a
-/// backend that counts nothing has the constant 0. This crate's own.
+/// backend that counts nothing has the constant 0.
 pub trait RngBackend<R: Rounds> {
     ghost RNG_STEPS: { ℕ };
 
@@ -231,15 +231,14 @@ pub trait StreamCipherCore: Keystream + BlockSizeUser + ParBlocksSizeUser {
         apply_group(self, &mut made[..rest], &mut blocks[done..]);
     }
 
-    /// Writes the next block, and counts its steps. This crate's own.
+    /// Writes the next block, and counts its steps (this crate).
     fn write_block_counted(&mut self, block: &mut [u8; 64], steps: &mut Steps)
         ensures block { block.new ≡ Self.block_at (Self.fixed self.old) (counter self.old) }
         ensures fixed { Self.fixed self.new ≡ Self.fixed self.old }
         ensures counter { counter self.new ≡ (counter self.old + 1) % Self.modulus }
         ensures steps { Grows (for_single one_cost) steps.old steps.new };
 
-    /// XORs whole blocks of bytes, so a multiple of 64 bytes, with the next blocks, and counts the steps. This crate's
-    /// own.
+    /// XORs whole blocks of bytes, so a multiple of 64 bytes, with the next blocks, and counts the steps (this crate).
     fn apply_blocks_counted(&mut self, data: &mut [u8], steps: &mut Steps)
         requires { length «data».old % 64 ≡ 0 }
         ensures data { «data».new
@@ -302,8 +301,8 @@ pub trait StreamCipher: Keystream {
         ensures accepted { IsOk result ↔ (Self.position self.now + len ≤ limit_of Self.modulus) }
         ensures within { Self.position self.now ≤ limit_of Self.modulus };
 
-    /// XORs bytes with the keystream, and counts the steps. `Err` exactly where the bytes would pass the limit; then
-    /// nothing changes. This crate's own.
+    /// XORs bytes with the keystream, and counts the steps (this crate). `Err` exactly where the bytes would pass the
+    /// limit; then nothing changes.
     fn try_apply_keystream_counted(
         &mut self,
         buf: &mut [u8],

@@ -20,7 +20,7 @@ pub trait Rounds: Copy {
     const COUNT: usize;
 }
 
-/// Four double rounds. This crate's own number; RFC 8439 defines only ten.
+/// Four double rounds (this crate); RFC 8439 defines only ten.
 #[derive(Clone, Copy, Debug)]
 pub struct R8;
 
@@ -30,7 +30,7 @@ impl Rounds for R8 {
     const COUNT: usize = 4;
 }
 
-/// Six double rounds. This crate's own number; RFC 8439 defines only ten.
+/// Six double rounds (this crate); RFC 8439 defines only ten.
 #[derive(Clone, Copy, Debug)]
 pub struct R12;
 

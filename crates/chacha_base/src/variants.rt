@@ -22,21 +22,21 @@ pub trait StreamCipherCounter: Sealed + Copy {
     /// Bits in a counter.
     const BITS: u32;
 
-    /// The counter with this number, which the caller proves below the number of counters. This crate's own.
+    /// The counter with this number, which the caller proves below the number of counters (this crate).
     fn from_u64(number: u64) -> Self
         requires { number < M }
         ensures { value result ≡ number };
 
-    /// A counter's number. This crate's own.
+    /// A counter's number (this crate).
     fn to_u64(self) -> u64
         ensures value { result ≡ value self }
         ensures below { result < M };
 
-    /// The greatest number of a counter. This crate's own.
+    /// The greatest number of a counter (this crate).
     fn last() -> u64
         ensures { result + 1 ≡ M };
 
-    /// The counter so many blocks on; it wraps, at 2^32 or 2^64. This crate's own.
+    /// The counter so many blocks on; it wraps, at 2^32 or 2^64 (this crate).
     fn advanced_by(self, blocks: usize) -> Self
         ensures { value result ≡ (value self + blocks) % M };
 

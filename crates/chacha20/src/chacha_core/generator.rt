@@ -17,7 +17,7 @@ use chacha_base::variants::Legacy;
 use rand_core::SeedableRng;
 use std::marker::PhantomData;
 
-/// What makes its output one buffer at a time. This crate's own.
+/// What makes its output one buffer at a time (this crate).
 pub trait Generator {
     /// What one call makes.
     type Output;

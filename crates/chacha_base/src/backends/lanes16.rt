@@ -13,9 +13,8 @@ use crate::rounds::{Rounds, Steps};
 use crate::variants::Variant;
 use std::simd::prelude::*;
 
-/// Sixteen blocks in a parallel call, with a vector of sixteen words for each word of a state. A tail is made in rows,
-/// by the narrowest group that holds it: one block alone takes a vector of four words for each row. This crate's own
-/// name.
+/// Sixteen blocks in a parallel call, with a vector of sixteen words for each word of a state (this crate). A tail is
+/// made in rows, by the narrowest group that holds it: one block alone takes a vector of four words for each row.
 #[derive(Clone, Copy, Debug)]
 pub struct Lanes16;
 

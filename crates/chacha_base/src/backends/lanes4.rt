@@ -14,7 +14,7 @@ use crate::variants::Variant;
 use std::simd::prelude::*;
 
 /// Four blocks in a parallel call, with a vector of four words for each word of a state; one to a vector in all other
-/// calls. A call for a single block makes four as well, and keeps the first. This crate's own name.
+/// calls (this crate). A call for a single block makes four as well, and keeps the first.
 #[derive(Clone, Copy, Debug)]
 pub struct Lanes4;
 

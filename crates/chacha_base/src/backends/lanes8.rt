@@ -12,8 +12,8 @@ use crate::rounds::{Rounds, Steps};
 use crate::variants::Variant;
 use std::simd::prelude::*;
 
-/// Four blocks in a parallel call, two to a vector of eight words. A call for a single block makes four as well, and
-/// keeps the first. This crate's own name.
+/// Four blocks in a parallel call, two to a vector of eight words (this crate). A call for a single block makes four
+/// as well, and keeps the first.
 #[derive(Clone, Copy, Debug)]
 pub struct Lanes8;
 

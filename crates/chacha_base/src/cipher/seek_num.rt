@@ -18,12 +18,12 @@ pub trait SeekNum: Sealed + Copy {
     // The type's greatest number.
     ghost greatest: { ℕ };
 
-    /// The number; `None` exactly where it is negative. This crate's own.
+    /// The number; `None` exactly where it is negative (this crate).
     fn to_position(self) -> Option<u128>
         ensures value { result ≡ position self }
         ensures below { IfSome result (λ p. p ≤ greatest) };
 
-    /// A position as a number of this type; `Err` exactly where the type cannot represent it. This crate's own.
+    /// A position as a number of this type; `Err` exactly where the type cannot represent it (this crate).
     fn from_position(place: u128) -> Result<Self, OverflowError>
         ensures accepted { IsOk result ↔ (place ≤ greatest) }
         ensures value { IfOk result (λ number. position number ≡ Some place) };

@@ -46,9 +46,9 @@ impl Count {
     }
 }
 
-/// How many steps were taken: parallel calls of a backend (`par`), other calls for a block (`other`), and quarter
-/// rounds on words or on vectors (`rounds`). The three numbers have no greatest value. They exist for clauses alone: at
-/// run time the type has no size, and there is nothing to read. This crate's own.
+/// How many steps were taken (this crate): parallel calls of a backend (`par`), other calls for a block (`other`), and
+/// quarter rounds on words or on vectors (`rounds`). The three numbers have no greatest value. They exist for clauses
+/// alone: at run time the type has no size, and there is nothing to read.
 pub struct Steps {
     par: Count,
     other: Count,
@@ -76,7 +76,7 @@ impl Model for Steps {
 }
 
 impl Steps {
-    /// No steps. This crate's own.
+    /// No steps (this crate).
     pub fn new() -> Steps
         ensures { result ≡ record { par = 0; other = 0; rounds = 0 } }
     {
