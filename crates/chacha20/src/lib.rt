@@ -21,7 +21,7 @@
 //!
 //! The clauses of a call say what it does. For ciphers they stand in `cipher::StreamCipher` and
 //! `cipher::StreamCipherSeek`, for generators at the calls of `ChaChaRng`. The tests are in the crates `vectors` and
-//! `chacha20_c`, since a crate that has tests is proved twice.
+//! `examples`, since a crate that has tests is proved twice.
 #![tactic(auto)]
 
 mod chacha;

@@ -1,3 +1,6 @@
 //! What people build on `chacha20`, one file each. Every function has a contract, and its proof uses nothing but the
 //! public contracts of `chacha20`. Copy a file with its folder of proofs, and change it.
 #![tactic(auto)]
+
+#[cfg(test)]
+mod tests;

@@ -1,5 +1,5 @@
 use Rattle.std.proofs.Common.{◌≡◌, ap}
-use Rattle.chacha20_c.proofs.tests.users.encrypt_6.Goals as goal
+use Rattle.examples.proofs.tests.users.encrypt_6.Goals as goal
 
 pub returns-clause-bytes : goal.returns-clause-bytes
 returns-clause-bytes c =

@@ -1,7 +1,7 @@
 use Rattle.std.proofs.Common.{◌≡◌, length, ◌∙◌}
 use Rattle.chacha20.specs.Generator.{next_u32}
 use Rattle.chacha20.proofs.RepeatedLemmas.{reads-then}
-use Rattle.chacha20_c.proofs.tests.users.draw_in_two.Goals as goal
+use Rattle.examples.proofs.tests.users.draw_in_two.Goals as goal
 
 pub returns : goal.returns
 returns g c =

@@ -1,5 +1,5 @@
 use Rattle.std.proofs.Common.{◌≡◌, ap}
-use Rattle.chacha20_c.proofs.tests.contracts.apply_586_bytes.Goals as goal
+use Rattle.examples.proofs.tests.contracts.apply_586_bytes.Goals as goal
 
 pub returns-clause-steps : goal.returns-clause-steps
 returns-clause-steps g c =

@@ -4,7 +4,7 @@ use Rattle.chacha20.specs.Block.{block}
 use Rattle.chacha20.specs.Keystream.{keystream, xor_stream}
 use Rattle.chacha20.specs.Layout.{ietf}
 use Rattle.chacha20.proofs.KeystreamLemmas.{xor_stream-xor_stream, window-xor_stream}
-use Rattle.chacha20_c.proofs.tests.users.decrypt_window.Goals as goal
+use Rattle.examples.proofs.tests.users.decrypt_window.Goals as goal
 
 pub returns-clause-window : goal.returns-clause-window
 returns-clause-window c message same =

@@ -1,5 +1,5 @@
 use Rattle.std.proofs.Common.{◌∙◌, sym}
-use Rattle.chacha20_c.proofs.tests.contracts.apply_and_seek_back.Goals as goal
+use Rattle.examples.proofs.tests.contracts.apply_and_seek_back.Goals as goal
 
 pub returns : goal.returns
 returns g c =

@@ -1,6 +1,6 @@
 use Rattle.std.proofs.Common.{◌≡◌, length, take}
 use Rattle.chacha20.specs.Generator.{next_u32, repeated}
-use Rattle.chacha20_c.proofs.tests.users.draw.Given as goal
+use Rattle.examples.proofs.tests.users.draw.Given as goal
 
 abbrev pub invariant-each : goal.invariant-each
 invariant-each g l = record {

@@ -3,7 +3,7 @@ use Rattle.std.specs.Prelude.{slice_set}
 use Rattle.std.proofs.lemmas.List.{take_more_set}
 use Rattle.chacha20.specs.Generator.{next_u32}
 use Rattle.chacha20.proofs.RepeatedLemmas.{reads-more}
-use Rattle.chacha20_c.proofs.tests.users.draw.Goals as goal
+use Rattle.examples.proofs.tests.users.draw.Goals as goal
 
 pub each-preserved : goal.each-preserved
 each-preserved g c =

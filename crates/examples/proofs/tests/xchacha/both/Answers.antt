@@ -4,7 +4,7 @@ use Rattle.chacha20.specs.Block.{start}
 use Rattle.chacha20.specs.Cipher.{Cipher}
 use Rattle.chacha20.specs.State.{fixed_words}
 use Rattle.chacha20.specs.XChaCha.{hchacha, subkey}
-use Rattle.chacha20_c.proofs.tests.xchacha.both.Goals as goal
+use Rattle.examples.proofs.tests.xchacha.both.Goals as goal
 
 pub returns-clause-value : goal.returns-clause-value
 returns-clause-value g c =

@@ -1,5 +1,5 @@
 use Rattle.std.proofs.Common.{zero-add}
-use Rattle.chacha20_c.proofs.tests.contracts.encrypt.Goals as goal
+use Rattle.examples.proofs.tests.contracts.encrypt.Goals as goal
 
 pub returns-clause-accepted : goal.returns-clause-accepted
 returns-clause-accepted g c =
