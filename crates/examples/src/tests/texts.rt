@@ -1,8 +1,10 @@
-//! The texts that `Debug` writes, of cores and generators over each backend, among them those of the named types.
+//! The texts that `Debug` writes: of cores and generators over each backend, among them those of the named types; and of
+//! types that derive it.
 
-use chacha20::cipher::{KeyIvInit, RngBackend};
+use chacha20::cipher::{KeyIvInit, OverflowError, RngBackend, StreamCipherError};
 use chacha20::{
-    ChaChaCore, ChaChaRng, Ietf, Lanes4, Lanes8, Lanes16, Legacy, R8, R12, R20, Rows8, Soft,
+    ChaChaCore, ChaChaRng, CipherAnswer, CipherCall, Ietf, Lanes4, Lanes8, Lanes16, Legacy, R8,
+    R12, R20, RngAnswer, RngCall, Rows8, Soft, XChaChaCore,
 };
 use std::alloc::Global;
 use std::fmt::Debug;
@@ -58,4 +60,36 @@ fn over_each_backend(rt: HostRuntime) {
         texts::<Lanes16>(rt.alloc()),
     ];
     assert_eq!(rt; found, [[[true; 3]; 2]; 5]);
+}
+
+#[test]
+fn derived(rt: HostRuntime) {
+    let alloc = rt.alloc();
+    let core = XChaChaCore::<R20, Lanes16>::new(&[0; 32], &[0; 24]);
+    let found = [
+        has_text(alloc, &R8, "R8"),
+        has_text(alloc, &R12, "R12"),
+        has_text(alloc, &R20, "R20"),
+        has_text(alloc, &Soft, "Soft"),
+        has_text(alloc, &Lanes4, "Lanes4"),
+        has_text(alloc, &Lanes8, "Lanes8"),
+        has_text(alloc, &Rows8, "Rows8"),
+        has_text(alloc, &Lanes16, "Lanes16"),
+        has_text(alloc, &StreamCipherError, "StreamCipherError"),
+        has_text(alloc, &OverflowError, "OverflowError"),
+        has_text(alloc, &CipherCall::Seek(9), "Seek(9)"),
+        has_text(alloc, &CipherAnswer::Position(9), "Position(9)"),
+        has_text(
+            alloc,
+            &RngCall::Fill { at: 1, len: 2 },
+            "Fill { at: 1, len: 2 }",
+        ),
+        has_text(alloc, &RngAnswer::U32(9), "U32(9)"),
+        has_text(
+            alloc,
+            &core,
+            "XChaChaCore { core: ChaChaCore<R: 10, V: 32-bit)> { ... } }",
+        ),
+    ];
+    assert!(rt; found == [true; 15]);
 }
