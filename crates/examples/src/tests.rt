@@ -1,5 +1,5 @@
-//! Tests that need no table of rows: what the named types are, what a caller proves from public contracts alone, and what
-//! users write. The tests over each backend are in the crate `vectors`. Both crates are proved at the same time.
+//! Tests that need no table of rows: what the named types are, what a caller proves from public contracts alone, and
+//! what users write. The tests over each backend are in the crate `vectors`. Both crates are proved at the same time.
 
 mod base;
 mod contracts;

@@ -23,8 +23,8 @@ use chacha20::{
 
 type Ietf20<B> = StreamCipherCoreWrapper<ChaChaCore<R20, Ietf, B>>;
 
-// A message under a key and a nonce, by any cipher. The proof rewrites by the clauses of two public contracts and by one
-// law of ciphers, and knows nothing else.
+// A message under a key and a nonce, by any cipher. The proof rewrites by the clauses of two public contracts and by
+// one law of ciphers, and knows nothing else.
 fn encrypt<C: KeyIvInit + StreamCipher + Drop>(
     key: &C::Key,
     nonce: &C::Iv,
@@ -155,7 +155,8 @@ fn same_group<R: Rounds, V: Variant, A: StreamCipherBackend<R, V>, B: StreamCiph
     B::gen_par_ks_blocks(other_state, other_blocks, steps);
 }
 
-// Two backends, whatever their widths: the same blocks of a tail that is shorter than both, and the same state after them.
+// Two backends, whatever their widths: the same blocks of a tail that is shorter than both, and the same state after
+// them.
 fn same_tail<R: Rounds, V: Variant, A: StreamCipherBackend<R, V>, B: StreamCipherBackend<R, V>>(
     state: &mut [u32; 16],
     blocks: &mut [[u8; 64]],

@@ -1,4 +1,5 @@
-//! Generators as generic code draws from them, by the trait `Rng` alone. What a draw must be is asked, and not which it is.
+//! Generators as generic code draws from them, by the trait `Rng` alone. What a draw must be is asked, and not which it
+//! is.
 
 ghost use Rattle.std.specs.Prelude.{◌<◌};
 

@@ -69,7 +69,8 @@ fn read_from(counter: u64) -> [u32; 64] {
     words
 }
 
-// The block with the greatest counter, and then the first; a counter whose low word is full; and the position after each.
+// The block with the greatest counter, and then the first; a counter whose low word is full; and the position after
+// each.
 #[test]
 fn four_blocks_of_20_rounds(rt: HostRuntime) {
     let mut core = ChaCha20LegacyCore::from_seed([0; 32]);

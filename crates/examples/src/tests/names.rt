@@ -125,8 +125,8 @@ static NONCE: Nonce = [0; 12];
 
 static LEGACY_NONCE: LegacyNonce = [0; 8];
 
-// What the names stand for. The bytes are those of draft-strombergson-chacha-test-vectors (TC1, keys of 256 bits), for a
-// key and a nonce of zeros. The nonce there is that of the legacy layout; at block 0 the layouts agree.
+// What the names stand for. The bytes are those of draft-strombergson-chacha-test-vectors (TC1, keys of 256 bits), for
+// a key and a nonce of zeros. The nonce there is that of the legacy layout; at block 0 the layouts agree.
 #[test]
 fn ciphers(rt: HostRuntime) {
     let found = [

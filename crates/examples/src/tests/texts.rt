@@ -1,5 +1,5 @@
-//! The texts that `Debug` writes: of cores and generators over each backend, among them those of the named types; and of
-//! types that derive it.
+//! The texts that `Debug` writes: of cores and generators over each backend, among them those of the named types; and
+//! of types that derive it.
 
 use chacha20::cipher::{KeyIvInit, OverflowError, RngBackend, StreamCipherError};
 use chacha20::{

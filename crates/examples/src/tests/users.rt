@@ -75,8 +75,8 @@ fn random_access(rt: HostRuntime) {
     assert!(rt; encrypted && hidden && decrypted && window == [7; 30]);
 }
 
-// A message under a key that a generator draws: the key, and whether the message is taken. One backend serves both: a bound
-// for each kind.
+// A message under a key that a generator draws: the key, and whether the message is taken. One backend serves both: a
+// bound for each kind.
 fn encrypt_drawn<B: StreamCipherBackend<R20, Ietf> + RngBackend<R20>>(
     rng: &mut ChaChaRng<R20, B>,
     message: &mut [u8],
