@@ -255,7 +255,7 @@ fn write_tail<R: Rounds, V: Variant, B: StreamCipherBackend<R, V>>(
     B::gen_tail_blocks(state, blocks, steps);
 }
 
-// XORs bytes with whole blocks, which are made in `room`: in groups as a parallel call makes them, and then the rest.
+// XORs bytes with whole blocks, which are made in `room`: as many at once as a parallel call makes, and then the rest.
 #[inline(always)]
 fn apply_through<R: Rounds, V: Variant, B: StreamCipherBackend<R, V>>(
     state: &mut [u32; 16],
@@ -264,7 +264,7 @@ fn apply_through<R: Rounds, V: Variant, B: StreamCipherBackend<R, V>>(
     steps: &mut Steps,
 )
     requires whole { length «data».old % 64 ≡ 0 }
-    requires room { min B.PAR_BLOCKS (length «data».old / 64) ≤ length room.old }
+    requires room { length room.old ≡ B.PAR_BLOCKS }
     ensures data { «data».new ≡ applied R.COUNT V.layout state.old «data».old }
     ensures state { state.new ≡ state_after V.layout (length «data».old / 64) state.old }
     ensures steps { Grows
@@ -274,9 +274,8 @@ fn apply_through<R: Rounds, V: Variant, B: StreamCipherBackend<R, V>>(
     let width = B::PAR_BLOCKS;
     let count = data.len() / 64;
     'groups: for group in 0..count / width {
-        let made = &mut room[..width];
-        B::gen_par_ks_blocks(state, made, steps);
-        xor_blocks(data, width * group, made);
+        B::gen_par_ks_blocks(state, room, steps);
+        xor_blocks(data, width * group, room);
     }
     let rest = count % width;
     let made = &mut room[..rest];
@@ -284,7 +283,27 @@ fn apply_through<R: Rounds, V: Variant, B: StreamCipherBackend<R, V>>(
     xor_blocks(data, count - rest, made);
 }
 
-// XORs bytes with whole blocks. The room for them is as wide as the backend needs, and a single block has its own.
+// XORs one block of bytes with the next block, where a parallel call makes more than one.
+#[inline(always)]
+fn apply_one<R: Rounds, V: Variant, B: StreamCipherBackend<R, V>>(
+    state: &mut [u32; 16],
+    data: &mut [u8],
+    steps: &mut Steps,
+)
+    requires several { 1 < B.PAR_BLOCKS }
+    requires one { length «data».old ≡ 64 }
+    ensures data { «data».new ≡ applied R.COUNT V.layout state.old «data».old }
+    ensures state { state.new ≡ state_after V.layout 1 state.old }
+    ensures steps { Grows
+        (for_whole_blocks B.PAR_BLOCKS (B.PAR_STEPS * R.COUNT) (B.ONE_STEPS * R.COUNT) 1)
+        steps.old steps.new }
+{
+    let mut block = [0; 64];
+    B::gen_ks_block(state, &mut block, steps);
+    xor_bytes(data, &block);
+}
+
+// XORs bytes with whole blocks. The room for them is as wide as the backend needs, and a single block needs none.
 #[inline(always)]
 fn apply_blocks<R: Rounds, V: Variant, B: StreamCipherBackend<R, V>>(
     state: &mut [u32; 16],
@@ -298,12 +317,15 @@ fn apply_blocks<R: Rounds, V: Variant, B: StreamCipherBackend<R, V>>(
         (for_whole_blocks B.PAR_BLOCKS (B.PAR_STEPS * R.COUNT) (B.ONE_STEPS * R.COUNT)
         (length «data».old / 64)) steps.old steps.new }
 {
-    if B::PAR_BLOCKS == 1 || data.len() == 64 {
+    let width = B::PAR_BLOCKS;
+    if width == 1 {
         apply_through::<R, V, B>(state, &mut [[0; 64]; 1], data, steps);
-    } else if B::PAR_BLOCKS <= 4 {
-        apply_through::<R, V, B>(state, &mut [[0; 64]; 4], data, steps);
+    } else if data.len() == 64 {
+        apply_one::<R, V, B>(state, data, steps);
+    } else if width <= 4 {
+        apply_through::<R, V, B>(state, &mut [[0; 64]; 4][..width], data, steps);
     } else {
-        apply_through::<R, V, B>(state, &mut [[0; 64]; 16], data, steps);
+        apply_through::<R, V, B>(state, &mut [[0; 64]; 16][..width], data, steps);
     }
 }
 
