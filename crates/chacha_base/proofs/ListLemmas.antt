@@ -178,20 +178,5 @@ four_written {X} n s a b c d long la lb lc =
     ∙ append-nil _
 
 -- the next part of a list, of k elements from element a on
-pub part-again : (a k : ℕ) → a + (a + k - a) ≡ a + k
-part-again a k = omega arith
-
 pub part-length : (a k : ℕ) → a + k - a ≡ k
 part-length a k = omega arith
-
-pub part-inside : (a k n : ℕ) → a ≤ n → k ≤ n - a → a + (a + k - a) ≤ n
-part-inside a k n before room = omega arith
-
-pub part-behind : (a k i : ℕ) → a + k ≤ i → a ≤ i
-part-behind a k i above = omega arith
-
-pub part-rest : (a n : ℕ) → a ≤ n → a + (n - a) ≡ n
-part-rest a n before = omega arith
-
-pub part-all : (a n : ℕ) → a ≤ n → a + (n - a) ≤ n
-part-all a n before = omega arith

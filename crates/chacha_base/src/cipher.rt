@@ -210,8 +210,7 @@ pub trait StreamCipherCore: Keystream + BlockSizeUser + ParBlocksSizeUser {
         ensures counter { counter self.new
             ≡ (counter self.old + length blocks.old) % Self.modulus };
 
-    /// XORs blocks of bytes with as many next blocks, in order. It makes the blocks in groups of `PAR_BLOCKS`, and the
-    /// rest at the end.
+    /// XORs blocks of bytes with as many next blocks, in order.
     final fn apply_keystream_blocks(&mut self, blocks: &mut [[u8; 64]])
         ensures blocks { (i : ℕ) → i < length blocks.old
             → slice_get blocks.new i
@@ -221,11 +220,10 @@ pub trait StreamCipherCore: Keystream + BlockSizeUser + ParBlocksSizeUser {
         ensures counter { counter self.new ≡ (counter self.old + length blocks.old) % Self.modulus }
     {
         let mut made = [[0; 64]; 16];
-        let width = Self::PAR_BLOCKS;
         let mut done = 0;
-        'groups: while blocks.len() - done >= width {
-            apply_group(self, &mut made[..width], &mut blocks[done..done + width]);
-            done += width;
+        'groups: while blocks.len() - done >= 16 {
+            apply_group(self, &mut made, &mut blocks[done..done + 16]);
+            done += 16;
         }
         let rest = blocks.len() - done;
         apply_group(self, &mut made[..rest], &mut blocks[done..]);
