@@ -5,13 +5,13 @@ use Rattle.std.proofs.Math.ListN.{set}
 use Rattle.std.proofs.lemmas.List.{length-set, get_or-set_same, get_or-set_other}
 use Rattle.std.specs.Prelude.{if◌then◌else◌}
 use Rattle.chacha_base.specs.declared.backends.vector.FourVectors.{FourVectors}
-use Rattle.chacha_base.specs.Layout.{Layout, ietf, legacy}
+use Rattle.chacha_base.specs.Layout.{Layout, ietf, legacy, row_at}
 use Rattle.chacha_base.specs.Lanes.{row, state_row, with_last_row}
 use Rattle.chacha_base.specs.Shifts.{rows_turned, shifted, shifted_back}
 use Rattle.chacha_base.specs.QuarterRound.{quarter}
 use Rattle.chacha_base.specs.Rounds.{columns, diagonals, rounds, add_states, mix}
 use Rattle.chacha_base.specs.Vectors.{lanes_at, sums_at, block_in_rows}
-use Rattle.chacha_base.specs.State.{state_after}
+use Rattle.chacha_base.specs.State.{state_at, state_after}
 use Rattle.chacha_base.proofs.ListLemmas.{each, four_listed}
 
 -- the sixteen words of a state, by its columns
@@ -126,17 +126,13 @@ with_last_row-state_after legacy i =
     each 16 (λ s. with_last_row s (drop 12 (state_after legacy i s)) ≡ state_after legacy i s)
     (λ x0 x1 x2 x3 x4 x5 x6 x7 x8 x9 x10 x11 x12 x13 x14 x15. refl)
 
--- the last row of one of the next states
-pub last_row-state_after : (layout : Layout) (i : ℕ) (s t : List ℕ) → length s ≡ 16 → t ≡ state_after layout i s
-    → state_row t 3 ≡ drop 12 (state_after layout i s)
-last_row-state_after ietf i s t h moved =
-    rw moved
-    (each 16 (λ s. state_row (state_after ietf i s) 3 ≡ drop 12 (state_after ietf i s))
-    (λ x0 x1 x2 x3 x4 x5 x6 x7 x8 x9 x10 x11 x12 x13 x14 x15. refl) s h)
-last_row-state_after legacy i s t h moved =
-    rw moved
-    (each 16 (λ s. state_row (state_after legacy i s) 3 ≡ drop 12 (state_after legacy i s))
-    (λ x0 x1 x2 x3 x4 x5 x6 x7 x8 x9 x10 x11 x12 x13 x14 x15. refl) s h)
+-- a copy of the last row that gets a counter is the last row of the state with that counter
+pub last_row-state_at : (layout : Layout) (c : ℕ) (s row : List ℕ) → length s ≡ 16 → row ≡ row_at layout c (state_row s 3)
+    → row ≡ drop 12 (state_at layout c s)
+last_row-state_at ietf c s row h set =
+    set ∙ each 16 (λ s. row_at ietf c (state_row s 3) ≡ drop 12 (state_at ietf c s)) (λ x0 x1 x2 x3 x4 x5 x6 x7 x8 x9 x10 x11 x12 x13 x14 x15. refl) s h
+last_row-state_at legacy c s row h set =
+    set ∙ each 16 (λ s. row_at legacy c (state_row s 3) ≡ drop 12 (state_at legacy c s)) (λ x0 x1 x2 x3 x4 x5 x6 x7 x8 x9 x10 x11 x12 x13 x14 x15. refl) s h
 
 -- a state of a group that starts at the next states, mixed
 pub mixed-next : (n count : ℕ) (layout : Layout) (i : ℕ) (s last start made sum : List ℕ) → length s ≡ 16 → count ≡ n

@@ -26,10 +26,11 @@ fn write_last_rows<V: Variant>(state: &[u32; 16], rows: &mut [[u32; 4]])
     ensures { (g : ℕ) → g < length rows.old
         → slice_index_or rows.new g [] ≡ drop 12 (state_after V.layout g state.now) }
 {
+    let first = V::get_block_pos(&state[12..]);
     'each: for g in 0..rows.len() {
-        let mut next = *state;
-        advance::<V>(&mut next, g);
-        rows[g] = [next[12], next[13], next[14], next[15]];
+        let mut row = [state[12], state[13], state[14], state[15]];
+        V::set_block_pos(&mut row, first.advanced_by(g));
+        rows[g] = row;
     }
 }
 
