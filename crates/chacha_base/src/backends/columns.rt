@@ -7,7 +7,7 @@ ghost use Rattle.chacha_base.specs.Lanes.{row};
 ghost use Rattle.chacha_base.specs.Vectors.{words_at, block_in_rows};
 
 use crate::backends::group::{BlockBuffer, Group, write_block};
-use crate::backends::vector::{FourVectors, Vector, quarter_round, sums};
+use crate::backends::vector::{ByBytes, ColumnVector, FourVectors, Vector, quarter_round, sums};
 use crate::rounds::Steps;
 use std::alloc::AllocError;
 
@@ -59,7 +59,7 @@ fn column<V: Vector>(state: &[u32; 16], last_rows: &[[u32; 4]], k: usize) -> Fou
 // Four words of each state brought together: of four states side by side, the first result has the words of the first
 // state, the second those of the second, and so on.
 #[inline(always)]
-fn transposed<V: Vector>(w0: V, w1: V, w2: V, w3: V) -> FourVectors<V>
+fn transposed<V: ColumnVector>(w0: V, w1: V, w2: V, w3: V) -> FourVectors<V>
     ensures first { (g : ℕ) → g < V.FOURS
         → row (V.lane result.0) g ≡ words_at V.lane w0 w1 w2 w3 (4 * g) }
     ensures second { (g : ℕ) → g < V.FOURS
@@ -78,7 +78,7 @@ fn transposed<V: Vector>(w0: V, w1: V, w2: V, w3: V) -> FourVectors<V>
 
 // The same blocks in rows: the first result has blocks 0, 4, 8 and so on, the second 1, 5 and 9.
 #[inline(always)]
-fn in_rows<V: Vector>(
+fn in_rows<V: ColumnVector>(
     states: Columns<V>,
 ) -> (
     FourVectors<V>,
@@ -133,7 +133,7 @@ fn write_four<V: Vector, B: BlockBuffer>(
     write_block(rows.3, g, &mut four[3]);
 }
 
-impl<V: Vector> Group for Columns<V> {
+impl<V: ColumnVector> Group for Columns<V> {
     ghost BLOCKS = { 4 * V.FOURS };
 
     ghost ROUND_STEPS = { 4 };
@@ -143,10 +143,10 @@ impl<V: Vector> Group for Columns<V> {
     #[inline(always)]
     fn column_round(self, steps: &mut Steps) -> Columns<V> {
         Columns(
-            quarter_round::<V, true>(self.0, steps),
-            quarter_round::<V, true>(self.1, steps),
-            quarter_round::<V, true>(self.2, steps),
-            quarter_round::<V, true>(self.3, steps),
+            quarter_round::<V, ByBytes>(self.0, steps),
+            quarter_round::<V, ByBytes>(self.1, steps),
+            quarter_round::<V, ByBytes>(self.2, steps),
+            quarter_round::<V, ByBytes>(self.3, steps),
         )
     }
 
@@ -154,10 +154,10 @@ impl<V: Vector> Group for Columns<V> {
     fn diagonal_round(self, steps: &mut Steps) -> Columns<V> {
         let Columns(k, l, m, n) = self;
         // The words of the fourth column are ready in the order a, d, c, b.
-        let s = quarter_round::<V, true>(FourVectors(n.0, k.1, l.2, m.3), steps);
-        let p = quarter_round::<V, true>(FourVectors(k.0, l.1, m.2, n.3), steps);
-        let q = quarter_round::<V, true>(FourVectors(l.0, m.1, n.2, k.3), steps);
-        let r = quarter_round::<V, true>(FourVectors(m.0, n.1, k.2, l.3), steps);
+        let s = quarter_round::<V, ByBytes>(FourVectors(n.0, k.1, l.2, m.3), steps);
+        let p = quarter_round::<V, ByBytes>(FourVectors(k.0, l.1, m.2, n.3), steps);
+        let q = quarter_round::<V, ByBytes>(FourVectors(l.0, m.1, n.2, k.3), steps);
+        let r = quarter_round::<V, ByBytes>(FourVectors(m.0, n.1, k.2, l.3), steps);
         Columns(
             FourVectors(p.0, s.1, r.2, q.3),
             FourVectors(q.0, p.1, s.2, r.3),

@@ -6,7 +6,7 @@ ghost use Rattle.chacha_base.specs.Shifts.{rows_turned};
 ghost use Rattle.chacha_base.specs.Vectors.{block_in_rows};
 
 use crate::backends::group::{BlockBuffer, Group, write_block};
-use crate::backends::vector::{FourVectors, Vector, quarter_round, sums};
+use crate::backends::vector::{ByShifts, FourVectors, Vector, quarter_round, sums};
 use crate::rounds::Steps;
 use std::alloc::AllocError;
 
@@ -80,14 +80,14 @@ impl<V: Vector, const STAYS: usize> Group for Rows<V, STAYS> {
 
     #[inline(always)]
     fn column_round(self, steps: &mut Steps) -> Rows<V, STAYS> {
-        Rows(quarter_round::<V, false>(self.0, steps))
+        Rows(quarter_round::<V, ByShifts>(self.0, steps))
     }
 
     #[inline(always)]
     fn diagonal_round(self, steps: &mut Steps) -> Rows<V, STAYS> {
         let left = 4 - STAYS % 4;
         let moved = rows_turned(self.0, left, left + 1, left + 2, left + 3);
-        let mixed = quarter_round::<V, false>(moved, steps);
+        let mixed = quarter_round::<V, ByShifts>(moved, steps);
         let right = 4 + STAYS % 4;
         Rows(rows_turned(mixed, right, right - 1, right - 2, right - 3))
     }

@@ -35,11 +35,6 @@ pub trait Vector: Copy {
         ensures { (j : ℕ) → j < 4 * FOURS
             → lane result j ≡ rotl (bit_xor (lane self j) (lane other j)) by };
 
-    /// The words in each lane XORed and rotated to the left by 8, in the way that is the fastest in columns.
-    fn xor_rotated_8(self, other: Self) -> Self
-        ensures { (j : ℕ) → j < 4 * FOURS
-            → lane result j ≡ rotl (bit_xor (lane self j) (lane other j)) 8 };
-
     /// Each four turned to the left by one place.
     fn turned_1(self) -> Self
         ensures { (g : ℕ) → g < FOURS → row (lane result) g ≡ turned 1 (row (lane self) g) };
@@ -65,19 +60,27 @@ pub trait Vector: Copy {
         }
     }
 
-    /// The first two words of each four by turns with those of another vector, and the last two.
-    fn interleaved(self, other: Self) -> (Self, Self)
-        ensures low { (g : ℕ) → g < FOURS → row (lane result.0) g
-            ≡ interleaved_low (row (lane self) g) (row (lane other) g) }
-        ensures high { (g : ℕ) → g < FOURS → row (lane result.1) g
-            ≡ interleaved_high (row (lane self) g) (row (lane other) g) };
-
     /// The words of one four.
     fn four(self, g: usize) -> u32x4
         requires { g < FOURS }
         ensures { row (slice_index result) 0 ≡ row (lane self) g };
 
     ghost fours_at_most: { FOURS ≤ 4 };
+}
+
+/// A vector of which columns can be made.
+pub trait ColumnVector: Vector {
+    /// The words in each lane XORed and rotated to the left by 8, as a permutation of bytes.
+    fn xor_rotated_8(self, other: Self) -> Self
+        ensures { (j : ℕ) → j < 4 * Self.FOURS
+            → Self.lane result j ≡ rotl (bit_xor (Self.lane self j) (Self.lane other j)) 8 };
+
+    /// The first two words of each four by turns with those of another vector, and the last two.
+    fn interleaved(self, other: Self) -> (Self, Self)
+        ensures low { (g : ℕ) → g < Self.FOURS → row (Self.lane result.0) g
+            ≡ interleaved_low (row (Self.lane self) g) (row (Self.lane other) g) }
+        ensures high { (g : ℕ) → g < Self.FOURS → row (Self.lane result.1) g
+            ≡ interleaved_high (row (Self.lane self) g) (row (Self.lane other) g) };
 }
 
 /// Words a, b, c and d of a quarter round in each lane: the four rows of some states, or a column or diagonal of one
@@ -97,23 +100,37 @@ impl<V: Copy> Clone for FourVectors<V> {
 
 impl<V: Copy> Copy for FourVectors<V> {}
 
-// The words in each lane XORed and rotated to the left by 8, as a permutation of bytes or by shifts.
-#[inline(always)]
-fn xor_rotated_8<V: Vector, const BYTES: bool>(one: V, other: V) -> V
-    ensures { (j : ℕ) → j < 4 * V.FOURS
-        → V.lane result j ≡ rotl (bit_xor (V.lane one j) (V.lane other j)) 8 }
-{
-    if BYTES {
-        one.xor_rotated_8(other)
-    } else {
+/// How a quarter round rotates words by 8.
+pub trait RotateBy8<V: Vector> {
+    /// The words in each lane XORed and rotated to the left by 8.
+    fn xor_rotated(one: V, other: V) -> V
+        ensures { (j : ℕ) → j < 4 * V.FOURS
+            → V.lane result j ≡ rotl (bit_xor (V.lane one j) (V.lane other j)) 8 };
+}
+
+/// By shifts, which is faster in rows.
+pub struct ByShifts;
+
+impl<V: Vector> RotateBy8<V> for ByShifts {
+    #[inline(always)]
+    fn xor_rotated(one: V, other: V) -> V {
         one.xor_rotated(other, 8)
     }
 }
 
-/// The quarter round of each lane (RFC 8439, section 2.1). It counts as one. `BYTES` says how words are rotated by 8: as
-/// a permutation of bytes, which is faster in columns, or by shifts, which is in rows.
+/// By a permutation of bytes, which is faster in columns.
+pub struct ByBytes;
+
+impl<V: ColumnVector> RotateBy8<V> for ByBytes {
+    #[inline(always)]
+    fn xor_rotated(one: V, other: V) -> V {
+        one.xor_rotated_8(other)
+    }
+}
+
+/// The quarter round of each lane (RFC 8439, section 2.1). It counts as one. `B` says how words are rotated by 8.
 #[inline(always)]
-pub fn quarter_round<V: Vector, const BYTES: bool>(
+pub fn quarter_round<V: Vector, B: RotateBy8<V>>(
     start: FourVectors<V>,
     steps: &mut Steps,
 ) -> FourVectors<V>
@@ -127,7 +144,7 @@ pub fn quarter_round<V: Vector, const BYTES: bool>(
     let c1 = c.plus(d1);
     let b1 = b.xor_rotated(c1, 12);
     let a2 = a1.plus(b1);
-    let d2 = xor_rotated_8::<V, BYTES>(d1, a2);
+    let d2 = B::xor_rotated(d1, a2);
     let c2 = c1.plus(d2);
     let b2 = b1.xor_rotated(c2, 7);
     steps.add_round();
@@ -193,12 +210,6 @@ impl Vector for u32x4 {
     }
 
     #[inline(always)]
-    fn xor_rotated_8(self, other: u32x4) -> u32x4 {
-        let bytes = (self ^ other).to_le_bytes();
-        u32x4::from_le_bytes(bytes.swizzle([3, 0, 1, 2, 7, 4, 5, 6, 11, 8, 9, 10, 15, 12, 13, 14]))
-    }
-
-    #[inline(always)]
     fn turned_1(self) -> u32x4 {
         self.swizzle([1, 2, 3, 0])
     }
@@ -214,15 +225,23 @@ impl Vector for u32x4 {
     }
 
     #[inline(always)]
+    fn four(self, _g: usize) -> u32x4 {
+        self
+    }
+}
+
+impl ColumnVector for u32x4 {
+    #[inline(always)]
+    fn xor_rotated_8(self, other: u32x4) -> u32x4 {
+        let bytes = (self ^ other).to_le_bytes();
+        u32x4::from_le_bytes(bytes.swizzle([3, 0, 1, 2, 7, 4, 5, 6, 11, 8, 9, 10, 15, 12, 13, 14]))
+    }
+
+    #[inline(always)]
     fn interleaved(self, other: u32x4) -> (u32x4, u32x4) {
         let low = self.shuffle(other, [0, 4, 1, 5]);
         let high = self.shuffle(other, [2, 6, 3, 7]);
         (low, high)
-    }
-
-    #[inline(always)]
-    fn four(self, _g: usize) -> u32x4 {
-        self
     }
 }
 
@@ -253,12 +272,6 @@ impl Vector for u32x8 {
     }
 
     #[inline(always)]
-    fn xor_rotated_8(self, other: u32x8) -> u32x8 {
-        // No columns of eight stand, so a permutation of bytes would gain nothing.
-        lanes_xor_rotated(self, other, 8)
-    }
-
-    #[inline(always)]
     fn turned_1(self) -> u32x8 {
         self.swizzle([1, 2, 3, 0, 5, 6, 7, 4])
     }
@@ -271,13 +284,6 @@ impl Vector for u32x8 {
     #[inline(always)]
     fn turned_3(self) -> u32x8 {
         self.swizzle([3, 0, 1, 2, 7, 4, 5, 6])
-    }
-
-    #[inline(always)]
-    fn interleaved(self, other: u32x8) -> (u32x8, u32x8) {
-        let low = self.shuffle(other, [0, 8, 1, 9, 4, 12, 5, 13]);
-        let high = self.shuffle(other, [2, 10, 3, 11, 6, 14, 7, 15]);
-        (low, high)
     }
 
     #[inline(always)]
@@ -316,16 +322,6 @@ impl Vector for u32x16 {
     }
 
     #[inline(always)]
-    fn xor_rotated_8(self, other: u32x16) -> u32x16 {
-        let bytes = (self ^ other).to_le_bytes();
-        u32x16::from_le_bytes(bytes.swizzle([
-            3, 0, 1, 2, 7, 4, 5, 6, 11, 8, 9, 10, 15, 12, 13, 14, 19, 16, 17, 18, 23, 20, 21, 22,
-            27, 24, 25, 26, 31, 28, 29, 30, 35, 32, 33, 34, 39, 36, 37, 38, 43, 40, 41, 42, 47, 44,
-            45, 46, 51, 48, 49, 50, 55, 52, 53, 54, 59, 56, 57, 58, 63, 60, 61, 62,
-        ]))
-    }
-
-    #[inline(always)]
     fn turned_1(self) -> u32x16 {
         self.swizzle([1, 2, 3, 0, 5, 6, 7, 4, 9, 10, 11, 8, 13, 14, 15, 12])
     }
@@ -341,6 +337,28 @@ impl Vector for u32x16 {
     }
 
     #[inline(always)]
+    fn four(self, g: usize) -> u32x4 {
+        match g {
+            0 => self.swizzle([0, 1, 2, 3]),
+            1 => self.swizzle([4, 5, 6, 7]),
+            2 => self.swizzle([8, 9, 10, 11]),
+            _ => self.swizzle([12, 13, 14, 15]),
+        }
+    }
+}
+
+impl ColumnVector for u32x16 {
+    #[inline(always)]
+    fn xor_rotated_8(self, other: u32x16) -> u32x16 {
+        let bytes = (self ^ other).to_le_bytes();
+        u32x16::from_le_bytes(bytes.swizzle([
+            3, 0, 1, 2, 7, 4, 5, 6, 11, 8, 9, 10, 15, 12, 13, 14, 19, 16, 17, 18, 23, 20, 21, 22,
+            27, 24, 25, 26, 31, 28, 29, 30, 35, 32, 33, 34, 39, 36, 37, 38, 43, 40, 41, 42, 47, 44,
+            45, 46, 51, 48, 49, 50, 55, 52, 53, 54, 59, 56, 57, 58, 63, 60, 61, 62,
+        ]))
+    }
+
+    #[inline(always)]
     fn interleaved(self, other: u32x16) -> (u32x16, u32x16) {
         let low = self.shuffle(
             other,
@@ -351,15 +369,5 @@ impl Vector for u32x16 {
             [2, 18, 3, 19, 6, 22, 7, 23, 10, 26, 11, 27, 14, 30, 15, 31],
         );
         (low, high)
-    }
-
-    #[inline(always)]
-    fn four(self, g: usize) -> u32x4 {
-        match g {
-            0 => self.swizzle([0, 1, 2, 3]),
-            1 => self.swizzle([4, 5, 6, 7]),
-            2 => self.swizzle([8, 9, 10, 11]),
-            _ => self.swizzle([12, 13, 14, 15]),
-        }
     }
 }

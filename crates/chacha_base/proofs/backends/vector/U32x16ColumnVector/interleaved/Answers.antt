@@ -1,6 +1,6 @@
 use Rattle.std.proofs.Common.{zero, suc, arith, lit≤}
 use Rattle.chacha_base.proofs.LaneLemmas.{by_turns}
-use Rattle.chacha_base.proofs.backends.vector.U32x16Vector.interleaved.Goals as goal
+use Rattle.chacha_base.proofs.backends.vector.U32x16ColumnVector.interleaved.Goals as goal
 
 pub returns-clause-low : goal.returns-clause-low
 returns-clause-low c zero h = by_turns c.args.self c.args.other 16 0 c.fits-self.0 (lit≤ tt)

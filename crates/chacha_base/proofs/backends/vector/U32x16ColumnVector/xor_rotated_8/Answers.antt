@@ -5,7 +5,7 @@ use Rattle.std.proofs.lemmas.Simd.{below_from_Fits}
 use Rattle.chacha_base.specs.Bytes.{bytes}
 use Rattle.chacha_base.proofs.LaneLemmas.{last_first, last_first_places, xor_moved-is-rotl}
 use Rattle.chacha_base.proofs.ListLemmas.{each}
-use Rattle.chacha_base.proofs.backends.vector.U32x16Vector.xor_rotated_8.Goals as goal
+use Rattle.chacha_base.proofs.backends.vector.U32x16ColumnVector.xor_rotated_8.Goals as goal
 
 pub returns : goal.returns
 returns c =
