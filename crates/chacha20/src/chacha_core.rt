@@ -6,7 +6,7 @@ ghost use Rattle.chacha_base.specs.Block.{constants, start, block};
 ghost use Rattle.chacha_base.specs.Bytes.{words};
 ghost use Rattle.chacha_base.specs.State.{state_counter, fixed_words, state_at, state_block, state_after, AreNextBlocks};
 ghost use Rattle.chacha_base.specs.Keystream.{xor_stream};
-ghost use Rattle.chacha_base.specs.Counts.{Grows, for_call, for_tail, for_whole_blocks};
+ghost use Rattle.chacha_base.specs.Counts.{Grows, for_call, for_whole_blocks};
 ghost use Rattle.chacha20.specs.Blocks.{xored_at, applied};
 ghost use Rattle.chacha20.specs.Text.{core_text};
 
@@ -239,22 +239,6 @@ fn xor_blocks(data: &mut [u8], first: usize, blocks: &[[u8; 64]])
     }
 }
 
-// Writes the blocks of a tail. A plain call in a function of its own, which is not marked to be inlined: so the compiler
-// first simplifies the tail itself, and then a tail of one block is small enough to stand where it is called.
-fn write_tail<R: Rounds, V: Variant, B: StreamCipherBackend<R, V>>(
-    state: &mut [u32; 16],
-    blocks: &mut [[u8; 64]],
-    steps: &mut Steps,
-)
-    requires { length blocks.old < B.PAR_BLOCKS }
-    ensures blocks { AreNextBlocks R.COUNT V.layout state.old (length blocks.old) blocks.new }
-    ensures state { state.new ≡ state_after V.layout (length blocks.old) state.old }
-    ensures steps { Grows
-        (for_tail (B.ONE_STEPS * R.COUNT) (length blocks.old)) steps.old steps.new }
-{
-    B::gen_tail_blocks(state, blocks, steps);
-}
-
 // XORs bytes with whole blocks, which are made in `room`: as many at once as a parallel call makes, and then the rest.
 #[inline(always)]
 fn apply_through<R: Rounds, V: Variant, B: StreamCipherBackend<R, V>>(
@@ -279,7 +263,7 @@ fn apply_through<R: Rounds, V: Variant, B: StreamCipherBackend<R, V>>(
     }
     let rest = count % width;
     let made = &mut room[..rest];
-    write_tail::<R, V, B>(state, made, steps);
+    B::gen_tail_blocks(state, made, steps);
     xor_blocks(data, count - rest, made);
 }
 
