@@ -1,12 +1,12 @@
 //! A state of sixteen words, and the engine that hands out its blocks.
 
-ghost use Rattle.std.specs.Prelude.{◌≡◌, ◌≤◌, ◌<◌, ℕ, ◌+◌, ◌*◌, ◌/◌, ◌%◌, List, ◌++◌, length, replicate, min, Some};
+ghost use Rattle.std.specs.Prelude.{◌≡◌, ◌≤◌, ◌<◌, ℕ, ◌+◌, ◌*◌, ◌/◌, ◌%◌, List, ◌++◌, length, replicate, Some};
 ghost use Rattle.chacha_base.specs.Layout.{ietf, legacy, modulus};
 ghost use Rattle.chacha_base.specs.Block.{constants, start, block};
 ghost use Rattle.chacha_base.specs.Bytes.{words};
 ghost use Rattle.chacha_base.specs.State.{state_counter, fixed_words, state_at, state_block, state_after, AreNextBlocks};
 ghost use Rattle.chacha_base.specs.Keystream.{xor_stream};
-ghost use Rattle.chacha_base.specs.Counts.{Grows, for_call, for_whole_blocks};
+ghost use Rattle.chacha_base.specs.Counts.{Grows, for_whole_blocks};
 ghost use Rattle.chacha20.specs.Blocks.{xored_at, applied};
 ghost use Rattle.chacha20.specs.Text.{core_text};
 
@@ -227,7 +227,7 @@ fn write_blocks<R: Rounds, V: Variant, B: StreamCipherBackend<R, V>>(
     B::gen_tail_blocks(state, &mut blocks[done..], &mut steps);
 }
 
-// XORs bytes with whole blocks, from the place of block `first` on.
+// XORs bytes with whole blocks, from block `first` on.
 #[inline(always)]
 fn xor_blocks(data: &mut [u8], first: usize, blocks: &[[u8; 64]])
     requires { 64 * (first + length blocks.now) ≤ length «data».old }

@@ -30,8 +30,8 @@ pub type XChaCha12 = StreamCipherCoreWrapper<XChaChaCore<R12, Lanes16>>;
 /// `XChaChaCore` derives. It takes 274877906944 bytes for one key and nonce: 64 from each of 2^32 blocks.
 pub type XChaCha20 = StreamCipherCoreWrapper<XChaChaCore<R20, Lanes16>>;
 
-/// The 32 bytes that HChaCha makes from a key and 16 more bytes (draft-irtf-cfrg-xchacha, section 2.2, for `R20`; other
-/// numbers of rounds by this crate). Nothing is refused.
+/// The 32 bytes that HChaCha makes from a key and 16 more bytes: for `R20` HChaCha20 (draft-irtf-cfrg-xchacha, section
+/// 2.2), for other numbers of rounds the same with them (this crate). Nothing is refused.
 pub fn hchacha<R: Rounds>(key: &Key, input: &[u8; 16]) -> [u8; 32]
     ensures { result ≡ hchacha R.COUNT key.now input.now }
 {

@@ -1,5 +1,5 @@
 -- Lanes of vectors: rotated, turned, interleaved, and written as bytes. The proofs of `vector`, and some of rows and
--- columns, cite these. Read `Lanes` and `Shifts` first.
+-- columns, cite these. Read `Lanes` and `Diagonalized` first.
 use Rattle.std.proofs.Common.{◌≡◌, ℕ, zero, suc, ◌<◌, ◌+◌, ◌-◌, ◌*◌, ◌/◌, ◌%◌, ◌^◌, List, [], ◌∷◌, ◌++◌, length, map, slice_index, replicate, bit_or, bit_xor, arith, refl, sym, ap, ◌∙◌}
 use Rattle.std.specs.Simd.Lanes.{zip2, Each1, pick_l, number_l, digits_l}
 use Rattle.std.proofs.lemmas.List.{get_or-map, get_or_append_left, get_or-append-add}

@@ -7,7 +7,7 @@ use Rattle.std.specs.Prelude.{if◌then◌else◌}
 use Rattle.chacha_base.specs.declared.backends.vector.FourVectors.{FourVectors}
 use Rattle.chacha_base.specs.Layout.{Layout, ietf, legacy, row_at}
 use Rattle.chacha_base.specs.Lanes.{row, state_row, with_last_row}
-use Rattle.chacha_base.specs.Shifts.{rows_turned, shifted, shifted_back}
+use Rattle.chacha_base.specs.Diagonalized.{rows_turned, diagonalized, undiagonalized}
 use Rattle.chacha_base.specs.QuarterRound.{quarter}
 use Rattle.chacha_base.specs.Rounds.{columns, diagonals, rounds, add_states, mix}
 use Rattle.chacha_base.specs.Vectors.{lanes_at, sums_at, block_in_rows}
@@ -113,8 +113,8 @@ turned_by (suc (suc zero)) h s = refl
 turned_by (suc (suc (suc zero))) h s = refl
 turned_by (suc (suc (suc (suc k)))) h s = absurd (omega arith)
 
-pub shifted-columns : (stays : ℕ) (s : List ℕ) → shifted_back stays (columns (shifted stays s)) ≡ diagonals s
-shifted-columns stays s = turned_by (stays % 4) (omega arith) s
+pub columns-diagonalized : (stays : ℕ) (s : List ℕ) → undiagonalized stays (columns (diagonalized stays s)) ≡ diagonals s
+columns-diagonalized stays s = turned_by (stays % 4) (omega arith) s
 
 -- a state with the last row of one of the next states is that state
 with_last_row-state_after : (layout : Layout) (i : ℕ) (s : List ℕ) → length s ≡ 16

@@ -15,6 +15,6 @@ pub mod Counts
 pub mod Number
 pub mod Buffered
 pub mod Lanes
-pub mod Shifts
+pub mod Diagonalized
 pub mod Vectors
 pub mod ColumnVectors

@@ -131,8 +131,8 @@ impl<C: StreamCipherSeekCore> StreamCipher for StreamCipherCoreWrapper<C> {
 impl<C: StreamCipherSeekCore> StreamCipherSeek for StreamCipherCoreWrapper<C> {
     fn try_seek<T: SeekNum>(&mut self, pos: T) -> Result<(), StreamCipherError> {
         match pos.to_position() {
-            Some(place) if place <= Self::limit() => {
-                self.move_to(place, &mut Steps::new());
+            Some(position) if position <= Self::limit() => {
+                self.move_to(position, &mut Steps::new());
                 Ok(())
             }
             _ => Err(StreamCipherError),
@@ -225,15 +225,15 @@ impl<C: StreamCipherSeekCore> StreamCipherCoreWrapper<C> {
     }
 
     // Moves to a position. It makes the block that the position lies in, and none at the front of a block.
-    fn move_to(&mut self, place: u128, steps: &mut Steps)
-        requires { place ≤ limit_of C.modulus }
+    fn move_to(&mut self, position: u128, steps: &mut Steps)
+        requires { position ≤ limit_of C.modulus }
         ensures fixed { self.new.fixed ≡ self.old.fixed }
-        ensures position { self.new.position ≡ place }
-        ensures steps { Grows (for_last_part C.one_cost (place % 64)) steps.old steps.new }
+        ensures position { self.new.position ≡ position }
+        ensures steps { Grows (for_last_part C.one_cost (position % 64)) steps.old steps.new }
     {
         let last = u128::from(C::Counter::last());
-        let used = (place % 64) as usize;
-        let block = place / 64;
+        let used = (position % 64) as usize;
+        let block = position / 64;
         // At the limit the core is past its last block.
         let counter = if block > last { 0 } else { block as u64 };
         self.core.set_block_pos(C::Counter::from_u64(counter));
@@ -241,6 +241,6 @@ impl<C: StreamCipherSeekCore> StreamCipherCoreWrapper<C> {
             self.core.write_block_counted(&mut self.buffer, steps);
         }
         self.left = ((64 - used) % 64) as u8;
-        self.past = place > 64 * last;
+        self.past = position > 64 * last;
     }
 }

@@ -2,7 +2,7 @@
 
 ghost use Rattle.std.specs.Prelude.{◌≡◌, ◌<◌, ℕ, ◌*◌, ⊤, [], ◌∷◌, slice_index};
 ghost use Rattle.chacha_base.specs.Lanes.{row, state_row};
-ghost use Rattle.chacha_base.specs.Shifts.{rows_turned};
+ghost use Rattle.chacha_base.specs.Diagonalized.{rows_turned};
 ghost use Rattle.chacha_base.specs.Vectors.{block_in_rows};
 
 use crate::backends::group::{BlockBuffer, Group, write_block};
@@ -10,9 +10,9 @@ use crate::backends::vector::{ByShifts, FourVectors, Vector, quarter_round, sums
 use crate::rounds::Steps;
 use std::alloc::AllocError;
 
-/// States in rows. So that each diagonal becomes a column, row `STAYS` stays, and the rows after it, in a circle, move
-/// to the left by 1, 2 and 3 places. Where row b (1) stays, which a quarter round needs first and writes last, the
-/// moves wait for nothing.
+/// States in rows. For a round of the diagonals the rows are diagonalized, so that each diagonal becomes a column: row
+/// `STAYS` stays, and the rows after it, in a circle, turn to the left by 1, 2 and 3 places. Where row b (1) stays, which
+/// a quarter round needs first and writes last, the turns wait for nothing.
 pub struct Rows<V, const STAYS: usize>(FourVectors<V>);
 
 impl<V: Copy, const STAYS: usize> Clone for Rows<V, STAYS> {
@@ -86,8 +86,8 @@ impl<V: Vector, const STAYS: usize> Group for Rows<V, STAYS> {
     #[inline(always)]
     fn diagonal_round(self, steps: &mut Steps) -> Rows<V, STAYS> {
         let left = 4 - STAYS % 4;
-        let moved = rows_turned(self.0, left, left + 1, left + 2, left + 3);
-        let mixed = quarter_round::<V, ByShifts>(moved, steps);
+        let diagonalized = rows_turned(self.0, left, left + 1, left + 2, left + 3);
+        let mixed = quarter_round::<V, ByShifts>(diagonalized, steps);
         let right = 4 + STAYS % 4;
         Rows(rows_turned(mixed, right, right - 1, right - 2, right - 3))
     }

@@ -24,9 +24,9 @@ pub trait SeekNum: Sealed + Copy {
         ensures below { IfSome result (λ p. p ≤ greatest) };
 
     /// A position as a number of this type; `Err` exactly where the type cannot represent it (this crate).
-    fn from_position(place: u128) -> Result<Self, OverflowError>
-        ensures accepted { IsOk result ↔ (place ≤ greatest) }
-        ensures value { IfOk result (λ number. position number ≡ Some place) };
+    fn from_position(pos: u128) -> Result<Self, OverflowError>
+        ensures accepted { IsOk result ↔ (pos ≤ greatest) }
+        ensures value { IfOk result (λ number. position number ≡ Some pos) };
 }
 
 impl Sealed for i32 {}
@@ -50,8 +50,8 @@ impl SeekNum for i32 {
         u128::try_from(self).ok()
     }
 
-    fn from_position(place: u128) -> Result<i32, OverflowError> {
-        i32::try_from(place).or(Err(OverflowError))
+    fn from_position(pos: u128) -> Result<i32, OverflowError> {
+        i32::try_from(pos).or(Err(OverflowError))
     }
 }
 
@@ -64,8 +64,8 @@ impl SeekNum for u32 {
         Some(u128::from(self))
     }
 
-    fn from_position(place: u128) -> Result<u32, OverflowError> {
-        u32::try_from(place).or(Err(OverflowError))
+    fn from_position(pos: u128) -> Result<u32, OverflowError> {
+        u32::try_from(pos).or(Err(OverflowError))
     }
 }
 
@@ -78,8 +78,8 @@ impl SeekNum for u64 {
         Some(u128::from(self))
     }
 
-    fn from_position(place: u128) -> Result<u64, OverflowError> {
-        u64::try_from(place).or(Err(OverflowError))
+    fn from_position(pos: u128) -> Result<u64, OverflowError> {
+        u64::try_from(pos).or(Err(OverflowError))
     }
 }
 
@@ -92,8 +92,8 @@ impl SeekNum for u128 {
         Some(self)
     }
 
-    fn from_position(place: u128) -> Result<u128, OverflowError> {
-        Ok(place)
+    fn from_position(pos: u128) -> Result<u128, OverflowError> {
+        Ok(pos)
     }
 }
 
@@ -106,7 +106,7 @@ impl SeekNum for usize {
         Some(self as u128)
     }
 
-    fn from_position(place: u128) -> Result<usize, OverflowError> {
-        usize::try_from(place).or(Err(OverflowError))
+    fn from_position(pos: u128) -> Result<usize, OverflowError> {
+        usize::try_from(pos).or(Err(OverflowError))
     }
 }

@@ -14,10 +14,10 @@ invariant_of-self g c =
     let counter = g.C.StreamCipherCore.counter in
     let modulus = g.C.Keystream.modulus in
     let last = c.from-last.result in
-    let place = c.args.place in
+    let position = c.args.position in
     let counters = g.met.C.StreamCipherSeekCore.counters in
     let size = sought-modulus modulus _ c.last.result last counters c.last.ensures c.from-last.ensures in
-    let which : StartsAt last (place / 64) c.if-block-last.counter = elim c.if-block-last.branch [
+    let which : StartsAt last (position / 64) c.if-block-last.counter = elim c.if-block-last.branch [
       | then-block-last w ↦ inl (w.if-block-last.true, w.counter-is)
       | else-block-last w ↦ inr (w.if-block-last.false, w.counter-is)
     ]
@@ -27,15 +27,15 @@ invariant_of-self g c =
     elim c.if-used-gt0.branch [
       | then-used-gt0 w ↦
           let made = w.write_block_counted in
-          subst (λ s. IsBuffered modulus (block (fixed s.core)) (nat_lt (64 * last) place) (counter s.core) s.buffer
-          ((64 - place % 64) % 64)) (sym w.self-inside-is)
-          (at-sought_part modulus last place _ size c.requires which (block (fixed made.new.self)) (counter set) _ _
+          subst (λ s. IsBuffered modulus (block (fixed s.core)) (nat_lt (64 * last) position) (counter s.core) s.buffer
+          ((64 - position % 64) % 64)) (sym w.self-inside-is)
+          (at-sought_part modulus last position _ size c.requires which (block (fixed made.new.self)) (counter set) _ _
           w.if-used-gt0.true here made.ensures.counter
           (made.ensures.block ∙ ap (λ f. block f (counter set)) (sym made.ensures.fixed))).buffered
       | else-used-gt0 w ↦
-          subst (λ s. IsBuffered modulus (block (fixed s.core)) (nat_lt (64 * last) place) (counter s.core) s.buffer
-          ((64 - place % 64) % 64)) (sym w.self-inside-is)
-          (at-sought_front modulus last place _ size c.requires which (block (fixed set)) (counter set)
+          subst (λ s. IsBuffered modulus (block (fixed s.core)) (nat_lt (64 * last) position) (counter s.core) s.buffer
+          ((64 - position % 64) % 64)) (sym w.self-inside-is)
+          (at-sought_front modulus last position _ size c.requires which (block (fixed set)) (counter set)
           c.self.inside.buffer w.if-used-gt0.false here).buffered
     ]
 
@@ -55,10 +55,10 @@ returns-clause-position g c =
     let counter = g.C.StreamCipherCore.counter in
     let modulus = g.C.Keystream.modulus in
     let last = c.from-last.result in
-    let place = c.args.place in
+    let position = c.args.position in
     let counters = g.met.C.StreamCipherSeekCore.counters in
     let size = sought-modulus modulus _ c.last.result last counters c.last.ensures c.from-last.ensures in
-    let which : StartsAt last (place / 64) c.if-block-last.counter = elim c.if-block-last.branch [
+    let which : StartsAt last (position / 64) c.if-block-last.counter = elim c.if-block-last.branch [
       | then-block-last w ↦ inl (w.if-block-last.true, w.counter-is)
       | else-block-last w ↦ inr (w.if-block-last.false, w.counter-is)
     ]
@@ -68,22 +68,22 @@ returns-clause-position g c =
     elim c.if-used-gt0.branch [
       | then-used-gt0 w ↦
           let made = w.write_block_counted in
-          ap (λ s. position_of (blocks_made modulus (nat_lt (64 * last) place) (counter s.core))
-          ((64 - place % 64) % 64)) w.self-inside-is
-          ∙ (at-sought_part modulus last place _ size c.requires which (block (fixed made.new.self)) (counter set) _ _
+          ap (λ s. position_of (blocks_made modulus (nat_lt (64 * last) position) (counter s.core))
+          ((64 - position % 64) % 64)) w.self-inside-is
+          ∙ (at-sought_part modulus last position _ size c.requires which (block (fixed made.new.self)) (counter set) _ _
           w.if-used-gt0.true here made.ensures.counter
           (made.ensures.block ∙ ap (λ f. block f (counter set)) (sym made.ensures.fixed))).place
       | else-used-gt0 w ↦
-          ap (λ s. position_of (blocks_made modulus (nat_lt (64 * last) place) (counter s.core))
-          ((64 - place % 64) % 64)) w.self-inside-is
-          ∙ (at-sought_front modulus last place _ size c.requires which (block (fixed set)) (counter set)
+          ap (λ s. position_of (blocks_made modulus (nat_lt (64 * last) position) (counter s.core))
+          ((64 - position % 64) % 64)) w.self-inside-is
+          ∙ (at-sought_front modulus last position _ size c.requires which (block (fixed set)) (counter set)
           c.self.inside.buffer w.if-used-gt0.false here).place
     ]
 
 pub returns-clause-steps : goal.returns-clause-steps
 returns-clause-steps g c =
     let one = g.C.StreamCipherCore.one_cost in
-    let used = c.args.place % 64 in
+    let used = c.args.position % 64 in
     elim c.if-used-gt0.branch [
       | then-used-gt0 w ↦
           subst (λ (s : Counts). Grows (for_last_part one used) c.args.steps.now s) (sym w.steps-is)

@@ -9,7 +9,7 @@ returns-in_default-clause-accepted g c = grind (arith, common_steps)
 
 pub returns-in-Some-clause-accepted : goal.returns-in-Some-clause-accepted
 returns-in-Some-clause-accepted g c =
-    let fits = subst (λ limit. c.in-Some.place ≤ limit) c.limit.ensures c.if-place-limit.true in
+    let fits = subst (λ limit. c.in-Some.position ≤ limit) c.limit.ensures c.if-position-limit.true in
     (λ e. subst (λ o. IsSomeAnd o (λ p. p ≤ limit_of g.C.Keystream.modulus)) c.in-Some.ensures.value fits, λ some. refl)
 
 pub returns-in-Some-clause-fixed : goal.returns-in-Some-clause-fixed
