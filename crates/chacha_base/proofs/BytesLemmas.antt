@@ -1,6 +1,7 @@
 -- Words as bytes and back, one word more at a time. The proofs of `write_bytes` and `read_words` cite these, and
 -- those of rows, of start states and of fills. Read `Bytes` first.
-use Rattle.std.proofs.Common.{◌≡◌, ℕ, zero, suc, ◌+◌, ◌*◌, ◌-◌, ◌/◌, ◌%◌, ◌^◌, ◌≤◌, ◌<◌, List, [], ◌∷◌, ◌++◌, length, take, slice_index, arith, refl, sym, ap, ap₂, ◌∙◌, append_assoc}
+use Rattle.std.proofs.Common.{◌≡◌, ℕ, zero, suc, ◌+◌, ◌*◌, ◌-◌, ◌/◌, ◌%◌, ◌^◌, ◌≤◌, ◌<◌, List, [], ◌∷◌, ◌++◌}
+use Rattle.std.proofs.Common.{length, take, slice_index, arith, refl, sym, ap, ap₂, ◌∙◌, append_assoc}
 use Rattle.std.proofs.lemmas.List.{take_more}
 use Rattle.std.proofs.lemmas.Slice.{take-put_mid}
 use borrow.Rule.Slice.PartMut.{put_mid}
@@ -10,7 +11,8 @@ use Rattle.chacha_base.specs.Bytes.{word_bytes, bytes, words}
 
 pub bytes-append : (xs ys : List ℕ) → bytes (xs ++ ys) ≡ bytes xs ++ bytes ys
 bytes-append [] ys = refl
-bytes-append (x ∷ xs) ys = ap (λ t. word_bytes x ++ t) (bytes-append xs ys) ∙ sym (append_assoc (word_bytes x) (bytes xs) (bytes ys))
+bytes-append (x ∷ xs) ys =
+    ap (λ t. word_bytes x ++ t) (bytes-append xs ys) ∙ sym (append_assoc (word_bytes x) (bytes xs) (bytes ys))
 
 -- after a write of word i behind the bytes of the words before it
 pub bytes-written : (xs out four : List ℕ) (i : ℕ) → i < length xs → 4 * i + 4 ≤ length out
@@ -28,15 +30,15 @@ bytes-written xs out four i inside room before made =
 pub word_is : (a b c d : ℕ) → from_le_bytes w32 (a ∷ b ∷ c ∷ d ∷ []) ≡ a + 256 * b + 256 ^ 2 * c + 256 ^ 3 * d
 word_is a b c d = omega arith
 
+-- word i of a list of bytes
+abbrev word_at : List ℕ → ℕ → ℕ
+word_at bs i =
+    from_le_bytes w32 (slice_index bs (4 * i) ∷ slice_index bs (4 * i + 1)
+    ∷ slice_index bs (4 * i + 2) ∷ slice_index bs (4 * i + 3) ∷ [])
+
 -- the words of one word's bytes more
 pub words-more : (i : ℕ) (bs : List ℕ) → 4 * i + 4 ≤ length bs
-    → words (take (4 * (i + 1)) bs)
-    ≡ words (take (4 * i) bs)
-    ++ from_le_bytes w32 (slice_index bs (4 * i) ∷ slice_index bs (4 * i + 1) ∷ slice_index bs (4 * i + 2) ∷ slice_index bs (4 * i + 3) ∷ []) ∷ []
-words-more i [] h = absurd (omega arith)
-words-more i (a ∷ []) h = absurd (omega arith)
-words-more i (a ∷ b ∷ []) h = absurd (omega arith)
-words-more i (a ∷ b ∷ c ∷ []) h = absurd (omega arith)
+    → words (take (4 * (i + 1)) bs) ≡ words (take (4 * i) bs) ++ word_at bs i ∷ []
 words-more zero (a ∷ b ∷ c ∷ d ∷ bs) h = ap (λ x. x ∷ []) (sym (word_is a b c d))
 words-more (suc i) (a ∷ b ∷ c ∷ d ∷ bs) h =
     let whole : 4 * (suc i + 1) ≡ suc (suc (suc (suc (4 * (i + 1))))) = omega arith in
@@ -44,17 +46,15 @@ words-more (suc i) (a ∷ b ∷ c ∷ d ∷ bs) h =
     let one : 4 * suc i + 1 ≡ suc (suc (suc (suc (4 * i + 1)))) = omega arith in
     let two : 4 * suc i + 2 ≡ suc (suc (suc (suc (4 * i + 2)))) = omega arith in
     let three : 4 * suc i + 3 ≡ suc (suc (suc (suc (4 * i + 3)))) = omega arith in
-    rw (whole, one, two, three, front) (ap (λ t. (a + 256 * b + 256 ^ 2 * c + 256 ^ 3 * d) ∷ t) (words-more i bs (omega arith)))
+    rw (whole, one, two, three, front)
+    (ap (λ t. (a + 256 * b + 256 ^ 2 * c + 256 ^ 3 * d) ∷ t) (words-more i bs (omega arith)))
+words-more i _ h = absurd (omega arith)
 
 -- four bytes a word
 pub length-words : (n : ℕ) (bs : List ℕ) → length bs ≡ 4 * n → length (words bs) ≡ n
 length-words zero [] h = refl
-length-words zero (a ∷ bs) h = absurd (omega arith)
-length-words (suc n) [] h = absurd (omega arith)
-length-words (suc n) (a ∷ []) h = absurd (omega arith)
-length-words (suc n) (a ∷ b ∷ []) h = absurd (omega arith)
-length-words (suc n) (a ∷ b ∷ c ∷ []) h = absurd (omega arith)
 length-words (suc n) (a ∷ b ∷ c ∷ d ∷ bs) h = ap suc (length-words n bs (omega arith))
+length-words _ _ h = absurd (omega arith)
 
 -- the bytes of a number that words make, word by word
 digits-word : (n x y : ℕ) → x < 2 ^ 32 → digits_l 256 (4 + n) (x + 2 ^ 32 * y) ≡ word_bytes x ++ digits_l 256 n y
@@ -67,8 +67,10 @@ digits-word n x y word =
     let rest : (x + 2 ^ 32 * y) / 256 / 256 / 256 / 256 ≡ y = omega arith in
     rw (more, b0, b1, b2, b3, rest) refl
 
-pub digits-bytes : (xs : List ℕ) → Each1 (λ x. x < 2 ^ 32) xs → digits_l 256 (4 * length xs) (number_l (2 ^ 32) xs) ≡ bytes xs
+pub digits-bytes : (xs : List ℕ) → Each1 (λ x. x < 2 ^ 32) xs
+    → digits_l 256 (4 * length xs) (number_l (2 ^ 32) xs) ≡ bytes xs
 digits-bytes [] words = refl
 digits-bytes (x ∷ xs) words =
     let more : 4 * length (x ∷ xs) ≡ 4 + 4 * length xs = omega arith in
-    rw more (digits-word (4 * length xs) x (number_l (2 ^ 32) xs) words.0 ∙ ap (λ t. word_bytes x ++ t) (digits-bytes xs words.1))
+    rw more (digits-word (4 * length xs) x (number_l (2 ^ 32) xs) words.0
+    ∙ ap (λ t. word_bytes x ++ t) (digits-bytes xs words.1))

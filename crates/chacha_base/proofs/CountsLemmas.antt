@@ -7,47 +7,37 @@ use Rattle.chacha_base.specs.Counts.{Counts, Bounds, Grows, for_call, for_single
 use Rattle.chacha_base.specs.Counts.{for_tail, tail_of_16, for_blocks, for_whole_blocks, for_bytes}
 use Rattle.chacha_base.specs.Buffered.{left_at}
 
--- nothing more
-pub grows-none : (a : Counts) → Grows (for_call 0 0 0) a a
-grows-none a = record {
-  par_from = omega arith;
-  par_to = omega arith;
-  other_from = omega arith;
-  other_to = omega arith;
-  rounds_from = omega arith;
-  rounds_to = omega arith;
+-- calls that grew exactly, and quarter rounds within bounds
+grows-calls : {z : Bounds} {a b : Counts} → b.par ≡ a.par + z.par → b.other ≡ a.other + z.other
+    → a.rounds + z.least ≤ b.rounds → b.rounds ≤ a.rounds + z.most → Grows z a b
+grows-calls par other least most = record {
+  par_from = omega (arith, par);
+  par_to = omega (arith, par);
+  other_from = omega (arith, other);
+  other_to = omega (arith, other);
+  rounds_from = least;
+  rounds_to = most;
 }
 
+-- nothing more
+pub grows-none : (a : Counts) → Grows (for_call 0 0 0) a a
+grows-none a = grows-calls (omega arith) (omega arith) (omega arith) (omega arith)
+
 -- one other call, and exactly so many quarter rounds
-pub grows-other : (n : ℕ) (a b : Counts) → b ≡ record a { other = a.other + 1; rounds = a.rounds + n }
-    → Grows (for_single n) a b
-grows-other n a b exact =
-    let par : b.par ≡ a.par = ap (λ s. s.par) exact in
-    let other : b.other ≡ a.other + 1 = ap (λ s. s.other) exact in
-    let rounds : b.rounds ≡ a.rounds + n = ap (λ s. s.rounds) exact in
-    record {
-      par_from = omega (arith, par);
-      par_to = omega (arith, par);
-      other_from = omega (arith, other);
-      other_to = omega (arith, other);
-      rounds_from = omega (arith, rounds);
-      rounds_to = omega (arith, rounds);
-    }
+pub grows-other : (n : ℕ) (a : Counts) {b : Counts}
+    → b ≡ record a { other = a.other + 1; rounds = a.rounds + n } → Grows (for_single n) a b
+grows-other n a exact =
+    let par = ap (λ (s : Counts). s.par) exact in
+    let rounds = ap (λ (s : Counts). s.rounds) exact in
+    grows-calls (omega (arith, par)) (ap (λ s. s.other) exact) (omega (arith, rounds)) (omega (arith, rounds))
 
 -- one parallel call, and exactly so many quarter rounds
-pub grows-par : (n : ℕ) (a b : Counts) → b ≡ record a { par = a.par + 1; rounds = a.rounds + n } → Grows (for_call 1 0 n) a b
-grows-par n a b exact =
-    let par : b.par ≡ a.par + 1 = ap (λ s. s.par) exact in
-    let other : b.other ≡ a.other = ap (λ s. s.other) exact in
-    let rounds : b.rounds ≡ a.rounds + n = ap (λ s. s.rounds) exact in
-    record {
-      par_from = omega (arith, par);
-      par_to = omega (arith, par);
-      other_from = omega (arith, other);
-      other_to = omega (arith, other);
-      rounds_from = omega (arith, rounds);
-      rounds_to = omega (arith, rounds);
-    }
+pub grows-par : (n : ℕ) (a : Counts) {b : Counts}
+    → b ≡ record a { par = a.par + 1; rounds = a.rounds + n } → Grows (for_call 1 0 n) a b
+grows-par n a exact =
+    let other = ap (λ (s : Counts). s.other) exact in
+    let rounds = ap (λ (s : Counts). s.rounds) exact in
+    grows-calls (ap (λ s. s.par) exact) (omega (arith, other)) (omega (arith, rounds)) (omega (arith, rounds))
 
 -- one other call for a last part, and none where there is none
 pub grows-last : (one n : ℕ) {a b : Counts} → 0 < n → Grows (for_single one) a b → Grows (for_last_part one n) a b
@@ -60,10 +50,12 @@ pub grows-no_last : (one n : ℕ) (a : Counts) → n ≤ 0 → Grows (for_last_p
 grows-no_last one n a none =
     let calls : 0 ≡ min 1 n = omega arith in
     let rounds : 0 ≡ 0 * one = omega arith in
-    subst (λ k. Grows (for_call 0 k (k * one)) a a) calls (subst (λ m. Grows (for_call 0 0 m) a a) rounds (grows-none a))
+    subst (λ k. Grows (for_call 0 k (k * one)) a a) calls
+    (subst (λ m. Grows (for_call 0 0 m) a a) rounds (grows-none a))
 
 -- one after another
-pub grows-then : {x y z : Bounds} {a b c : Counts} → Grows x a b → Grows y b c → x.par + y.par ≤ z.par → x.other + y.other ≤ z.other
+grows-then : {x y z : Bounds} {a b c : Counts} → Grows x a b → Grows y b c
+    → x.par + y.par ≤ z.par → x.other + y.other ≤ z.other
     → z.least ≤ x.least + y.least → x.most + y.most ≤ z.most → Grows z a c
 grows-then first then par other least most = record {
   par_from = omega (arith, first.par_from, then.par_from);
@@ -82,23 +74,23 @@ grows-group {k} {cost} groups group =
     grows-then groups group (omega arith) (omega arith) (omega (arith, sum)) (omega (arith, sum))
 
 -- groups, and then the rest
-pub grows-blocks : (w par one m : ℕ) {a b c : Counts} → Grows (for_call (m / w) 0 (m / w * par)) a b → Grows (for_tail one (m % w)) b c
-    → Grows (for_whole_blocks w par one m) a c
+pub grows-blocks : (w par one m : ℕ) {a b c : Counts} → Grows (for_call (m / w) 0 (m / w * par)) a b
+    → Grows (for_tail one (m % w)) b c → Grows (for_whole_blocks w par one m) a c
 grows-blocks w par one m groups tail =
     let least = add-mul (min 1 (m % w)) 0 one in
     let most = add-mul (m % w) 0 one in
     grows-then groups tail (omega arith) (omega arith) (omega (arith, least)) (omega (arith, most))
 
 -- k single blocks after the others
-grows-more : (w par one m k : ℕ) (a b c : Counts) → Grows (for_whole_blocks w par one m) a b
-    → Grows (for_call 0 k (k * one)) b c
-    → Grows (for_blocks w par one m k) a c
-grows-more w par one m k a b c first then =
+grows-more : (w par one m k : ℕ) {a b c : Counts} → Grows (for_whole_blocks w par one m) a b
+    → Grows (for_call 0 k (k * one)) b c → Grows (for_blocks w par one m k) a c
+grows-more w par one m k first then =
     let least = add-mul (min 1 (m % w)) k one in
     let most = add-mul (m % w) k one in
     let zero_least = add-mul (min 1 (m % w)) 0 one in
     let zero_most = add-mul (m % w) 0 one in
-    grows-then first then (omega arith) (omega arith) (omega (arith, least, zero_least)) (omega (arith, most, zero_most))
+    grows-then first then (omega arith) (omega arith)
+    (omega (arith, least, zero_least)) (omega (arith, most, zero_most))
 
 -- whole blocks and a last part
 pub grows-rest : (w par one n whole last : ℕ) (a b c : Counts) → whole ≡ n / 64 * 64 → last + n / 64 * 64 ≡ n
@@ -107,8 +99,9 @@ pub grows-rest : (w par one n whole last : ℕ) (a b c : Counts) → whole ≡ n
 grows-rest w par one n whole last a b c cut all first then =
     let blocks : whole / 64 ≡ n / 64 = omega arith in
     let part : last ≡ n % 64 = omega arith in
+    let all = grows-more w par one (whole / 64) (min 1 last) first then in
     subst (λ m. Grows (for_blocks w par one m (min 1 (n % 64))) a c) blocks
-    (subst (λ k. Grows (for_blocks w par one (whole / 64) (min 1 k)) a c) part (grows-more w par one (whole / 64) (min 1 last) a b c first then))
+    (subst (λ k. Grows (for_blocks w par one (whole / 64) (min 1 k)) a c) part all)
 
 -- the same after what was left of a block
 pub grows-bytes : (w par one p len begun rest : ℕ) {a b : Counts} → begun ≡ min len (left_at p) → rest + begun ≡ len
@@ -118,8 +111,8 @@ grows-bytes w par one p len begun rest {a} {b} cut all grows =
     subst (λ n. Grows (for_blocks w par one (n / 64) (min 1 (n % 64))) a b) after grows
 
 -- a tail of some blocks: one other call, and the quarter rounds of a single block
-pub grows-tail : (one k : ℕ) (a b c : Counts) → min 1 k ≡ 1 → b ≡ record a { other = a.other + 1 } → c ≡ record b { rounds = b.rounds + one }
-    → Grows (for_tail one k) a c
+pub grows-tail : (one k : ℕ) (a b c : Counts) → min 1 k ≡ 1
+    → b ≡ record a { other = a.other + 1 } → c ≡ record b { rounds = b.rounds + one } → Grows (for_tail one k) a c
 grows-tail one k a b c some call made =
     let par : c.par ≡ a.par = ap (λ s. s.par) made ∙ ap (λ s. s.par) call in
     let other : c.other ≡ a.other + 1 = ap (λ s. s.other) made ∙ ap (λ s. s.other) call in
@@ -136,7 +129,8 @@ grows-tail one k a b c some call made =
       rounds_to = omega (arith, rounds, most);
     }
 
-pub rounds-tail : (one n k : ℕ) (a b c : Counts) → min 1 k ≡ 1 → b ≡ record a { other = a.other + 1 } → c ≡ record b { rounds = b.rounds + one * n }
+pub rounds-tail : (one n k : ℕ) (a b c : Counts) → min 1 k ≡ 1
+    → b ≡ record a { other = a.other + 1 } → c ≡ record b { rounds = b.rounds + one * n }
     → c.rounds ≡ a.rounds + min 1 k * one * n
 rounds-tail one n k a b c some call made =
     let all : min 1 k * one ≡ one = rw some (omega arith) in
@@ -154,37 +148,41 @@ rounds-no_tail r one n k none =
     subst (λ k. r ≡ r + min 1 k * one * n) none same
 
 -- a tail where sixteen are the width, by its quarter rounds
-pub grows-of-16 : (one n k : ℕ) (a b : Counts) → Grows (for_tail one k) a b → b.rounds ≡ a.rounds + tail_of_16 k * n → Grows (for_tail (2 * n) k) a b
-grows-of-16 one n k a b grows rounds =
+pub grows-of-16 : (one n k : ℕ) {a b : Counts} → Grows (for_tail one k) a b
+    → b.rounds ≡ a.rounds + tail_of_16 k * n → Grows (for_tail (2 * n) k) a b
+grows-of-16 one n k grows rounds =
     let least : min 1 k * 2 ≤ tail_of_16 k = grind (arith, common_steps) in
     let most : tail_of_16 k ≤ k * 2 = grind (arith, common_steps) in
-    let least_rounds : min 1 k * (2 * n) ≤ tail_of_16 k * n = rw (← mul_assoc (min 1 k) 2 n) (mul-le-mul_right n least) in
-    let most_rounds : tail_of_16 k * n ≤ k * (2 * n) = rw (← mul_assoc k 2 n) (mul-le-mul_right n most) in
+    let fewest : min 1 k * (2 * n) ≤ tail_of_16 k * n = rw (← mul_assoc (min 1 k) 2 n) (mul-le-mul_right n least) in
+    let greatest : tail_of_16 k * n ≤ k * (2 * n) = rw (← mul_assoc k 2 n) (mul-le-mul_right n most) in
     record {
       par_from = grows.par_from;
       par_to = grows.par_to;
       other_from = grows.other_from;
       other_to = grows.other_to;
-      rounds_from = omega (arith, rounds, least_rounds);
-      rounds_to = omega (arith, rounds, most_rounds);
+      rounds_from = omega (arith, rounds, fewest);
+      rounds_to = omega (arith, rounds, greatest);
     }
 
+-- so many quarter rounds more
+abbrev plus_rounds : ℕ → Counts → Counts
+plus_rounds n s = record s { rounds = s.rounds + n }
+
 -- two rounds more, of so many quarter rounds each
-pub counted-double_round : (one n : ℕ) (a b c d : Counts) → b ≡ record a { rounds = a.rounds + 2 * one * n }
-    → c ≡ record b { rounds = b.rounds + one } → d ≡ record c { rounds = c.rounds + one } → d ≡ record a { rounds = a.rounds + 2 * one * (n + 1) }
-counted-double_round one n a b c d before first second =
+pub counted-double_round : (one n : ℕ) (a : Counts) {b c d : Counts} → b ≡ plus_rounds (2 * one * n) a
+    → c ≡ plus_rounds one b → d ≡ plus_rounds one c → d ≡ plus_rounds (2 * one * (n + 1)) a
+counted-double_round one n a before first second =
     let more : a.rounds + 2 * one * n + one + one ≡ a.rounds + 2 * one * (n + 1) = omega arith in
-    second
-    ∙ ap (λ (s : Counts). record s { rounds = s.rounds + one }) (first ∙ ap (λ (s : Counts). record s { rounds = s.rounds + one }) before)
-    ∙ ap (λ k. record a { rounds = k }) more
+    second ∙ ap (plus_rounds one) (first ∙ ap (plus_rounds one) before) ∙ ap (λ k. record a { rounds = k }) more
 
 -- four times so many quarter rounds
-pub counted-four : (n : ℕ) (a b c d e : Counts) → b ≡ record a { rounds = a.rounds + n } → c ≡ record b { rounds = b.rounds + n }
-    → d ≡ record c { rounds = c.rounds + n } → e ≡ record d { rounds = d.rounds + n } → e ≡ record a { rounds = a.rounds + 4 * n }
-counted-four n a b c d e first second third fourth =
+pub counted-four : (n : ℕ) (a : Counts) {b c d e : Counts} → b ≡ plus_rounds n a → c ≡ plus_rounds n b
+    → d ≡ plus_rounds n c → e ≡ plus_rounds n d → e ≡ plus_rounds (4 * n) a
+counted-four n a first second third fourth =
     let more : a.rounds + n + n + n + n ≡ a.rounds + 4 * n = omega arith in
-    let add = λ (s : Counts). record s { rounds = s.rounds + n } in
-    fourth ∙ ap add (third ∙ ap add (second ∙ ap add first)) ∙ ap (λ k. record a { rounds = k }) more
+    fourth
+    ∙ ap (plus_rounds n) (third ∙ ap (plus_rounds n) (second ∙ ap (plus_rounds n) first))
+    ∙ ap (λ k. record a { rounds = k }) more
 
 -- a tail by the narrowest group that holds it
 pub narrowest-4 : (n : ℕ) → n < 5 → min 1 n * 2 ≡ tail_of_16 n

@@ -1,47 +1,21 @@
 -- Bytes combined with a stream, and bytes of a stream. Cores, the byte stream and generators cite these; `chacha20`
 -- passes on what proofs of callers cite. Read `xor_stream` and `stream_part` of `Keystream` first.
-use Rattle.std.proofs.Common.{◌≡◌, ℕ, zero, suc, ◌+◌, ◌*◌, ◌/◌, ◌%◌, ◌<◌, ◌≤◌, List, take, drop, [], ◌∷◌, ◌++◌, length, slice_index, slice_index_or, bit_xor, replicate, arith, refl, sym, ap, ap₂, ◌∙◌, append_assoc, append-nil}
+use Rattle.std.proofs.Common.{◌≡◌, ℕ, zero, suc, ◌+◌, ◌*◌, ◌/◌, ◌%◌, ◌<◌, ◌≤◌, List, take, drop, [], ◌∷◌, ◌++◌, length}
+use Rattle.std.proofs.Common.{slice_index, slice_index_or, bit_xor, replicate, arith, refl, sym, ap, ap₂, ◌∙◌}
+use Rattle.std.proofs.Common.{append_assoc, append-nil}
 use Rattle.std.proofs.Math.Nat.{mod-add-mod, mod-mod}
 use Rattle.std.proofs.Math.Seq.{take-add}
 use Rattle.std.specs.Int.Bits.{xor_zero_l}
 use Rattle.std.specs.Prelude.{slice_get, Some}
-use Rattle.std.proofs.lemmas.List.{get_or-take, get_or-drop, length-take-le, length-replicate, take_at, take_all, drop_at, drop_all, drop-drop}
+use Rattle.std.proofs.lemmas.List.{get_or-take, get_or-drop, length-take-le, length-replicate}
+use Rattle.std.proofs.lemmas.List.{take_at, take_all, drop_at, drop_all, drop-drop}
 use borrow.Rule.Slice.PartMut.{put_mid}
 use Rattle.chacha_base.specs.Keystream.{keystream, xor_stream, stream_part}
 use Rattle.chacha_base.proofs.ListLemmas.{written_more}
 
--- bytes that are combined one by one
-pub xor_stream-is : (stream : ℕ → ℕ) (p : ℕ) (xs ys : List ℕ) → length ys ≡ length xs
-    → ((i : ℕ) → i < length xs → slice_index ys i ≡ bit_xor (slice_index xs i) (stream (p + i))) → ys ≡ xor_stream stream p xs
-xor_stream-is stream p [] [] h each = refl
-xor_stream-is stream p [] (y ∷ ys) h each = absurd (omega arith)
-xor_stream-is stream p (x ∷ xs) [] h each = absurd (omega arith)
-xor_stream-is stream p (x ∷ xs) (y ∷ ys) h each =
-    let here : p + 0 ≡ p = omega arith in
-    ap₂ ◌∷◌ (each 0 (omega arith) ∙ ap (λ q. bit_xor x (stream q)) here)
-    (xor_stream-is stream (p + 1) xs ys (omega arith)
-    (λ i less. let next : p + suc i ≡ p + 1 + i = omega arith in each (suc i) (omega arith) ∙ ap (λ q. bit_xor (slice_index xs i) (stream q)) next))
-
--- a part after another
-pub xor_stream-append : (stream : ℕ → ℕ) (p : ℕ) (xs ys : List ℕ)
-    → xor_stream stream p (xs ++ ys) ≡ xor_stream stream p xs ++ xor_stream stream (p + length xs) ys
-xor_stream-append stream p [] ys = let here : p + 0 ≡ p = omega arith in rw here refl
-xor_stream-append stream p (x ∷ xs) ys =
-    let next : p + 1 + length xs ≡ p + suc (length xs) = omega arith in
-    ap (λ t. bit_xor x (stream p) ∷ t) (xor_stream-append stream (p + 1) xs ys ∙ ap (λ q. xor_stream stream (p + 1) xs ++ xor_stream stream q ys) next)
-
--- two parts, one after another
-pub xor_stream-parts : (stream : ℕ → ℕ) (p q : ℕ) (all front rest new_front new_rest : List ℕ) → all ≡ front ++ rest → q ≡ p + length front
-    → new_front ≡ xor_stream stream p front → new_rest ≡ xor_stream stream q rest → new_front ++ new_rest ≡ xor_stream stream p all
-xor_stream-parts stream p q all front rest new_front new_rest parts place first then =
-    ap₂ ◌++◌ first (then ∙ ap (λ k. xor_stream stream k rest) place) ∙ sym (ap (xor_stream stream p) parts ∙ xor_stream-append stream p front rest)
-
-pub length-xor_stream : (stream : ℕ → ℕ) (p : ℕ) (xs : List ℕ) → length (xor_stream stream p xs) ≡ length xs
-length-xor_stream stream p [] = refl
-length-xor_stream stream p (x ∷ xs) = ap suc (length-xor_stream stream (p + 1) xs)
-
 -- two streams that agree on the bytes that are combined
-pub xor_stream-same : (f g : ℕ → ℕ) (p q : ℕ) (xs : List ℕ) → ((i : ℕ) → i < length xs → f (p + i) ≡ g (q + i)) → xor_stream f p xs ≡ xor_stream g q xs
+pub xor_stream-same : (f g : ℕ → ℕ) (p q : ℕ) (xs : List ℕ) → ((i : ℕ) → i < length xs → f (p + i) ≡ g (q + i))
+    → xor_stream f p xs ≡ xor_stream g q xs
 xor_stream-same f g p q [] same = refl
 xor_stream-same f g p q (x ∷ xs) same =
     let p0 : p ≡ p + 0 = omega arith in
@@ -52,94 +26,94 @@ xor_stream-same f g p q (x ∷ xs) same =
     let q1 : q + suc i ≡ q + 1 + i = omega arith in
     ap f p1 ∙ same (suc i) (omega arith) ∙ ap g q1))
 
--- a counter that has wrapped gives the same stream
-pub keystream-wrapped : (modulus : ℕ) (block : ℕ → List ℕ) (c p : ℕ) (xs : List ℕ) → p ≡ 64 * c
-    → xor_stream (keystream modulus block) (64 * (c % modulus)) xs ≡ xor_stream (keystream modulus block) p xs
-keystream-wrapped modulus block c p xs place =
-    xor_stream-same (keystream modulus block) (keystream modulus block) (64 * (c % modulus)) p xs (λ i less.
-    let k = c % modulus in
-    let near : (64 * k + i) / 64 ≡ k + i / 64 = omega arith in
-    let far : (p + i) / 64 ≡ c + i / 64 = omega arith in
-    let near_place : (64 * k + i) % 64 ≡ i % 64 = omega arith in
-    let far_place : (p + i) % 64 ≡ i % 64 = omega arith in
-    rw (near, far, near_place, far_place, mod-add-mod c modulus (i / 64)) refl)
+module _ (stream : ℕ → ℕ) where
+  -- bytes that are combined one by one
+  pub xor_stream-is : (p : ℕ) (xs ys : List ℕ) → length ys ≡ length xs
+      → ((i : ℕ) → i < length xs → slice_index ys i ≡ bit_xor (slice_index xs i) (stream (p + i)))
+      → ys ≡ xor_stream stream p xs
+  xor_stream-is p [] [] long each = refl
+  xor_stream-is p (x ∷ xs) (y ∷ ys) long each =
+      let here : p + 0 ≡ p = omega arith in
+      ap₂ ◌∷◌ (each 0 (omega arith) ∙ ap (λ q. bit_xor x (stream q)) here)
+      (xor_stream-is (p + 1) xs ys (omega arith) (λ i less.
+      let next : p + suc i ≡ p + 1 + i = omega arith in
+      each (suc i) (omega arith) ∙ ap (λ q. bit_xor (slice_index xs i) (stream q)) next))
+  xor_stream-is p _ _ long each = absurd (omega arith)
 
--- one more part of bytes that are combined part by part
-pub xor_stream-more : (stream : ℕ → ℕ) (p a k e : ℕ) (old now part : List ℕ) → e ≡ a + k → e ≤ length old → now ≡ xor_stream stream p (take a old) ++ drop a old
-    → part ≡ xor_stream stream (p + a) (take k (drop a now)) → put_mid a k now part ≡ xor_stream stream p (take e old) ++ drop e old
-xor_stream-more stream p a k e old now part ends inside before done =
-    let front : length (xor_stream stream p (take a old)) ≡ a = length-xor_stream stream p (take a old) ∙ length-take-le a old (omega arith) in
-    let kept : take a now ≡ xor_stream stream p (take a old) = ap (take a) before ∙ take_at (xor_stream stream p (take a old)) (drop a old) a front in
-    let rest : drop a now ≡ drop a old = ap (drop a) before ∙ drop_at (xor_stream stream p (take a old)) (drop a old) a front in
-    let made : part ≡ xor_stream stream (p + a) (take k (drop a old)) = done ∙ ap (λ t. xor_stream stream (p + a) (take k t)) rest in
-    let split : take e old ≡ take a old ++ take k (drop a old) = ap (λ n. take n old) ends ∙ take-add a k old in
-    let after : drop k (drop a now) ≡ drop e old = ap (drop k) rest ∙ drop-drop k a old ∙ sym (ap (λ n. drop n old) ends) in
-    rw (split, xor_stream-append stream p (take a old) (take k (drop a old)), length-take-le a old (omega arith), append_assoc)
-    (ap₂ ◌++◌ kept (ap₂ ◌++◌ made after))
+  -- a part after another
+  pub xor_stream-append : (p : ℕ) (xs ys : List ℕ)
+      → xor_stream stream p (xs ++ ys) ≡ xor_stream stream p xs ++ xor_stream stream (p + length xs) ys
+  xor_stream-append p [] ys = let here : p + 0 ≡ p = omega arith in rw here refl
+  xor_stream-append p (x ∷ xs) ys =
+      let next : p + 1 + length xs ≡ p + suc (length xs) = omega arith in
+      ap (λ t. bit_xor x (stream p) ∷ t) (xor_stream-append (p + 1) xs ys
+      ∙ ap (λ q. xor_stream stream (p + 1) xs ++ xor_stream stream q ys) next)
 
--- all of the bytes
-pub xor_stream-whole : (stream : ℕ → ℕ) (p n : ℕ) (xs : List ℕ) → length xs ≤ n → xor_stream stream p (take n xs) ++ drop n xs ≡ xor_stream stream p xs
-xor_stream-whole stream p n xs all = ap₂ (λ front rest. xor_stream stream p front ++ rest) (take_all n xs all) (drop_all n xs all) ∙ append-nil (xor_stream stream p xs)
+  -- two parts, one after another
+  pub xor_stream-parts : (p q : ℕ) (all front rest new_front new_rest : List ℕ)
+      → all ≡ front ++ rest → q ≡ p + length front
+      → new_front ≡ xor_stream stream p front → new_rest ≡ xor_stream stream q rest
+      → new_front ++ new_rest ≡ xor_stream stream p all
+  xor_stream-parts p q all front rest new_front new_rest parts place first then =
+      ap₂ ◌++◌ first (then ∙ ap (λ k. xor_stream stream k rest) place)
+      ∙ sym (ap (xor_stream stream p) parts ∙ xor_stream-append p front rest)
 
--- byte j of the block of a counter, which wraps
-pub keystream_byte : (modulus : ℕ) (block : ℕ → List ℕ) (c j : ℕ) → j < 64 → slice_index (block (c % modulus)) j ≡ keystream modulus block (64 * c + j)
-keystream_byte modulus block c j inside =
-    let which : (64 * c + j) / 64 ≡ c = omega arith in
-    let place : (64 * c + j) % 64 ≡ j = omega arith in
-    rw (which, place) refl
+  pub length-xor_stream : (p : ℕ) (xs : List ℕ) → length (xor_stream stream p xs) ≡ length xs
+  length-xor_stream p [] = refl
+  length-xor_stream p (x ∷ xs) = ap suc (length-xor_stream (p + 1) xs)
 
--- bytes combined with the block of a counter
-pub xor_stream-block : (modulus : ℕ) (block : ℕ → List ℕ) (c : ℕ) (key xs ys : List ℕ) → key ≡ block (c % modulus) → length xs ≤ 64 → length ys ≡ length xs
-    → ((j : ℕ) → j < length xs → slice_index ys j ≡ bit_xor (slice_index xs j) (slice_index key j)) → ys ≡ xor_stream (keystream modulus block) (64 * c) xs
-xor_stream-block modulus block c key xs ys made fits same each =
-    xor_stream-is (keystream modulus block) (64 * c) xs ys same (λ j less.
-    each j less ∙ ap (bit_xor (slice_index xs j)) (ap (λ b. slice_index b j) made ∙ keystream_byte modulus block c j (omega arith)))
+  -- one more part of bytes that are combined part by part
+  pub xor_stream-more : (p a k e : ℕ) (old now part : List ℕ) → e ≡ a + k → e ≤ length old
+      → now ≡ xor_stream stream p (take a old) ++ drop a old → part ≡ xor_stream stream (p + a) (take k (drop a now))
+      → put_mid a k now part ≡ xor_stream stream p (take e old) ++ drop e old
+  xor_stream-more p a k e old now part ends inside before done =
+      let made = xor_stream stream p (take a old) in
+      let size : length (take a old) ≡ a = length-take-le a old (omega arith) in
+      let front : length made ≡ a = length-xor_stream p (take a old) ∙ size in
+      let kept : take a now ≡ made = ap (take a) before ∙ take_at made (drop a old) a front in
+      let rest : drop a now ≡ drop a old = ap (drop a) before ∙ drop_at made (drop a old) a front in
+      let new = done ∙ ap (λ t. xor_stream stream (p + a) (take k t)) rest in
+      let split : take e old ≡ take a old ++ take k (drop a old) = ap (λ n. take n old) ends ∙ take-add a k old in
+      let after = ap (drop k) rest ∙ drop-drop k a old ∙ sym (ap (λ n. drop n old) ends) in
+      rw (split, xor_stream-append p (take a old) (take k (drop a old)), size, append_assoc)
+      (ap₂ ◌++◌ kept (ap₂ ◌++◌ new after))
 
--- counters that are the same when they wrap
-keystream-same : (modulus : ℕ) (block : ℕ → List ℕ) (c d i : ℕ) (xs : List ℕ) → c % modulus ≡ d % modulus
-    → xor_stream (keystream modulus block) (64 * (c + i)) xs ≡ xor_stream (keystream modulus block) (64 * (d + i)) xs
-keystream-same modulus block c d i xs same =
-    sym (keystream-wrapped modulus block (c + i) (64 * (c + i)) xs refl)
-    ∙ ap (λ k. xor_stream (keystream modulus block) (64 * k) xs) (sym (mod-add-mod c modulus i) ∙ ap (λ k. (k + i) % modulus) same ∙ mod-add-mod d modulus i)
-    ∙ keystream-wrapped modulus block (d + i) (64 * (d + i)) xs refl
+  -- all of the bytes
+  pub xor_stream-whole : (p n : ℕ) (xs : List ℕ) → length xs ≤ n
+      → xor_stream stream p (take n xs) ++ drop n xs ≡ xor_stream stream p xs
+  xor_stream-whole p n xs all =
+      ap₂ (λ front rest. xor_stream stream p front ++ rest) (take_all n xs all) (drop_all n xs all) ∙ append-nil _
 
--- k counters on from one that is `a` counters on
-pub counter-more : (modulus first c a k n e : ℕ) → c % modulus ≡ (first + a) % modulus → e ≡ (c + k) % modulus → a + k ≡ n → e ≡ (first + n) % modulus
-counter-more modulus first c a k n e same moved all =
-    let place : first + a + k ≡ first + n = omega arith in
-    moved ∙ sym (mod-add-mod c modulus k) ∙ ap (λ q. (q + k) % modulus) same ∙ mod-add-mod (first + a) modulus k ∙ ap (λ q. q % modulus) place
+  -- zeros combined with a stream are the stream
+  pub xor_stream-zeros : (p n : ℕ) → xor_stream stream p (replicate n 0) ≡ stream_part stream p n
+  xor_stream-zeros p zero = refl
+  xor_stream-zeros p (suc n) = ap₂ ◌∷◌ (xor_zero_l (stream p)) (xor_stream-zeros (p + 1) n)
 
-pub counter-wrapped : (modulus first c a k n e : ℕ) → c % modulus ≡ (first + a) % modulus → e ≡ (c + k) % modulus → a + k ≡ n
-    → e % modulus ≡ (first + n) % modulus
-counter-wrapped modulus first c a k n e same moved all =
-    ap (λ q. q % modulus) (counter-more modulus first c a k n e same moved all) ∙ mod-mod (first + n) modulus
+  pub length-stream_part : (p n : ℕ) → length (stream_part stream p n) ≡ n
+  length-stream_part p n =
+      ap length (sym (xor_stream-zeros p n)) ∙ length-xor_stream p (replicate n 0) ∙ length-replicate n 0
 
--- k blocks of bytes more that are combined, from block a on
-pub blocks-more : (modulus : ℕ) (block other : ℕ → List ℕ) (first c a k : ℕ) (old now part : List (List ℕ)) → other ≡ block
-    → c % modulus ≡ (first + a) % modulus → a ≤ length now → length part ≡ k
-    → ((i : ℕ) → i < a → slice_get now i ≡ Some (xor_stream (keystream modulus block) (64 * (first + i)) (slice_index_or old i [])))
-    → ((i : ℕ) → a ≤ i → slice_index_or now i [] ≡ slice_index_or old i [])
-    → ((i : ℕ) → i < k → slice_get part i ≡ Some (xor_stream (keystream modulus other) (64 * (c + i)) (slice_index_or (take k (drop a now)) i [])))
-    → (i : ℕ) → i < a + k → slice_get (put_mid a k now part) i ≡ Some (xor_stream (keystream modulus block) (64 * (first + i)) (slice_index_or old i []))
-blocks-more modulus block other first c a k old now part alike same room long before rest made =
-    written_more (λ i. xor_stream (keystream modulus block) (64 * (first + i)) (slice_index_or old i [])) a k now part room long before
-    (λ i less.
-    let place : first + a + i ≡ first + (a + i) = omega arith in
-    let behind : a ≤ a + i = omega arith in
-    made i less
-    ∙ ap Some (ap (xor_stream (keystream modulus other) (64 * (c + i))) (get_or-take k (drop a now) i [] less ∙ get_or-drop a now i [] ∙ rest (a + i) behind)
-    ∙ ap (λ b. xor_stream (keystream modulus b) (64 * (c + i)) (slice_index_or old (a + i) [])) alike
-    ∙ keystream-same modulus block c (first + a) i (slice_index_or old (a + i) []) same
-    ∙ ap (λ q. xor_stream (keystream modulus block) (64 * q) (slice_index_or old (a + i) [])) place))
+  -- a list whose elements are a stream's
+  pub streamed_is : (p n : ℕ) (xs : List ℕ) → length xs ≡ n
+      → ((i : ℕ) → i < n → slice_index xs i ≡ stream (p + i)) → xs ≡ stream_part stream p n
+  streamed_is p zero [] long each = refl
+  streamed_is p (suc n) (x ∷ xs) long each =
+      let here : p + 0 ≡ p = omega arith in
+      ap₂ ◌∷◌ (each 0 (omega arith) ∙ ap stream here)
+      (streamed_is (p + 1) n xs (omega arith) (λ i less.
+      let next : p + suc i ≡ p + 1 + i = omega arith in each (suc i) (omega arith) ∙ ap stream next))
+  streamed_is p _ _ long each = absurd (omega arith)
 
--- zeros combined with a stream are the stream
-pub xor_stream-zeros : (stream : ℕ → ℕ) (p n : ℕ) → xor_stream stream p (replicate n 0) ≡ stream_part stream p n
-xor_stream-zeros stream p zero = refl
-xor_stream-zeros stream p (suc n) = ap₂ ◌∷◌ (xor_zero_l (stream p)) (xor_stream-zeros stream (p + 1) n)
-
-pub length-stream_part : (stream : ℕ → ℕ) (p n : ℕ) → length (stream_part stream p n) ≡ n
-length-stream_part stream p n =
-    ap length (sym (xor_stream-zeros stream p n)) ∙ length-xor_stream stream p (replicate n 0) ∙ length-replicate n 0
+  -- m elements, and then n
+  pub stream_part-add : (p m n : ℕ)
+      → stream_part stream p (m + n) ≡ stream_part stream p m ++ stream_part stream (p + m) n
+  stream_part-add p zero n =
+      let none : 0 + n ≡ n = omega arith in let here : p + 0 ≡ p = omega arith in rw (none, here) refl
+  stream_part-add p (suc m) n =
+      let more : suc m + n ≡ suc (m + n) = omega arith in
+      let next : p + 1 + m ≡ p + suc m = omega arith in
+      rw more (ap (λ t. stream p ∷ t) (stream_part-add (p + 1) m n
+      ∙ ap (λ q. stream_part stream (p + 1) m ++ stream_part stream q n) next))
 
 -- two streams that agree where they are read
 pub stream_part-same : (f g : ℕ → ℕ) (p q n : ℕ) → ((i : ℕ) → i < n → f (p + i) ≡ g (q + i))
@@ -150,25 +124,79 @@ stream_part-same f g p q n same =
     ∙ xor_stream-same f g p q (replicate n 0) (λ i less. same i (omega (arith, less, size)))
     ∙ xor_stream-zeros g q n
 
--- a list whose elements are a stream's
-pub streamed_is : (stream : ℕ → ℕ) (p n : ℕ) (xs : List ℕ) → length xs ≡ n
-    → ((i : ℕ) → i < n → slice_index xs i ≡ stream (p + i)) → xs ≡ stream_part stream p n
-streamed_is stream p zero [] long each = refl
-streamed_is stream p zero (x ∷ xs) long each = absurd (omega arith)
-streamed_is stream p (suc n) [] long each = absurd (omega arith)
-streamed_is stream p (suc n) (x ∷ xs) long each =
-    let here : p + 0 ≡ p = omega arith in
-    ap₂ ◌∷◌ (each 0 (omega arith) ∙ ap stream here)
-    (streamed_is stream (p + 1) n xs (omega arith)
-    (λ i less. let next : p + suc i ≡ p + 1 + i = omega arith in each (suc i) (omega arith) ∙ ap stream next))
+module _ (modulus : ℕ) (block : ℕ → List ℕ) where
+  -- a counter that has wrapped gives the same stream
+  pub keystream-wrapped : (c p : ℕ) (xs : List ℕ) → p ≡ 64 * c
+      → xor_stream (keystream modulus block) (64 * (c % modulus)) xs ≡ xor_stream (keystream modulus block) p xs
+  keystream-wrapped c p xs place =
+      let stream = keystream modulus block in
+      let k = c % modulus in
+      xor_stream-same stream stream (64 * k) p xs (λ i less.
+      let near : (64 * k + i) / 64 ≡ k + i / 64 = omega arith in
+      let far : (p + i) / 64 ≡ c + i / 64 = omega arith in
+      let near_place : (64 * k + i) % 64 ≡ i % 64 = omega arith in
+      let far_place : (p + i) % 64 ≡ i % 64 = omega arith in
+      rw (near, far, near_place, far_place, mod-add-mod c modulus (i / 64)) refl)
 
--- m elements, and then n
-pub stream_part-add : (stream : ℕ → ℕ) (p m n : ℕ)
-    → stream_part stream p (m + n) ≡ stream_part stream p m ++ stream_part stream (p + m) n
-stream_part-add stream p zero n =
-    let none : 0 + n ≡ n = omega arith in let here : p + 0 ≡ p = omega arith in rw (none, here) refl
-stream_part-add stream p (suc m) n =
-    let more : suc m + n ≡ suc (m + n) = omega arith in
-    let next : p + 1 + m ≡ p + suc m = omega arith in
-    rw more (ap (λ t. stream p ∷ t) (stream_part-add stream (p + 1) m n
-    ∙ ap (λ q. stream_part stream (p + 1) m ++ stream_part stream q n) next))
+  -- byte j of the block of a counter, which wraps
+  pub keystream_byte : (c j : ℕ) → j < 64 → slice_index (block (c % modulus)) j ≡ keystream modulus block (64 * c + j)
+  keystream_byte c j inside =
+      let which : (64 * c + j) / 64 ≡ c = omega arith in
+      let place : (64 * c + j) % 64 ≡ j = omega arith in
+      rw (which, place) refl
+
+  -- bytes combined with the block of a counter
+  pub xor_stream-block : (c : ℕ) (key xs ys : List ℕ) → key ≡ block (c % modulus) → length xs ≤ 64
+      → length ys ≡ length xs
+      → ((j : ℕ) → j < length xs → slice_index ys j ≡ bit_xor (slice_index xs j) (slice_index key j))
+      → ys ≡ xor_stream (keystream modulus block) (64 * c) xs
+  xor_stream-block c key xs ys made fits same each =
+      xor_stream-is (keystream modulus block) (64 * c) xs ys same (λ j less.
+      each j less
+      ∙ ap (bit_xor (slice_index xs j)) (ap (λ b. slice_index b j) made ∙ keystream_byte c j (omega arith)))
+
+  -- counters that are the same when they wrap
+  keystream-same : (c d i : ℕ) (xs : List ℕ) → c % modulus ≡ d % modulus
+      → xor_stream (keystream modulus block) (64 * (c + i)) xs ≡ xor_stream (keystream modulus block) (64 * (d + i)) xs
+  keystream-same c d i xs same =
+      let stream = keystream modulus block in
+      sym (keystream-wrapped (c + i) (64 * (c + i)) xs refl)
+      ∙ ap (λ k. xor_stream stream (64 * k) xs)
+      (sym (mod-add-mod c modulus i) ∙ ap (λ k. (k + i) % modulus) same ∙ mod-add-mod d modulus i)
+      ∙ keystream-wrapped (d + i) (64 * (d + i)) xs refl
+
+-- k counters on from one that is `a` counters on
+module _ (modulus first c a k n e : ℕ) (same : c % modulus ≡ (first + a) % modulus) (moved : e ≡ (c + k) % modulus)
+    (all : a + k ≡ n) where
+  pub counter-more : e ≡ (first + n) % modulus
+  counter-more =
+      let place : first + a + k ≡ first + n = omega arith in
+      moved
+      ∙ sym (mod-add-mod c modulus k) ∙ ap (λ q. (q + k) % modulus) same ∙ mod-add-mod (first + a) modulus k
+      ∙ ap (λ q. q % modulus) place
+
+  pub counter-wrapped : e % modulus ≡ (first + n) % modulus
+  counter-wrapped = ap (λ q. q % modulus) counter-more ∙ mod-mod (first + n) modulus
+
+-- element i of a list of blocks, combined with the block of the i-th counter from c on
+abbrev pub combined : (modulus : ℕ) (block : ℕ → List ℕ) (c : ℕ) (blocks : List (List ℕ)) → ℕ → List ℕ
+combined modulus block c blocks i = xor_stream (keystream modulus block) (64 * (c + i)) (slice_index_or blocks i [])
+
+-- k blocks of bytes more that are combined, from block a on
+pub blocks-more : (modulus : ℕ) (block other : ℕ → List ℕ) (first c a k : ℕ) (old now part : List (List ℕ))
+    → other ≡ block → c % modulus ≡ (first + a) % modulus → a ≤ length now → length part ≡ k
+    → ((i : ℕ) → i < a → slice_get now i ≡ Some (combined modulus block first old i))
+    → ((i : ℕ) → a ≤ i → slice_index_or now i [] ≡ slice_index_or old i [])
+    → ((i : ℕ) → i < k → slice_get part i ≡ Some (combined modulus other c (take k (drop a now)) i))
+    → (i : ℕ) → i < a + k → slice_get (put_mid a k now part) i ≡ Some (combined modulus block first old i)
+blocks-more modulus block other first c a k old now part alike same room long before rest made =
+    written_more (combined modulus block first old) a k now part room long before (λ i less.
+    let place : first + a + i ≡ first + (a + i) = omega arith in
+    let behind : a ≤ a + i = omega arith in
+    let bytes = slice_index_or old (a + i) [] in
+    let kept = get_or-take k (drop a now) i [] less ∙ get_or-drop a now i [] ∙ rest (a + i) behind in
+    made i less
+    ∙ ap Some (ap (xor_stream (keystream modulus other) (64 * (c + i))) kept
+    ∙ ap (λ b. xor_stream (keystream modulus b) (64 * (c + i)) bytes) alike
+    ∙ keystream-same modulus block c (first + a) i bytes same
+    ∙ ap (λ q. xor_stream (keystream modulus block) (64 * q) bytes) place))

@@ -1,5 +1,5 @@
--- Published blocks of the layout from before RFC 8439 (tests of the Rust crate), so that a wrong place of the counter's words or of the
--- nonce in a definition does not check.
+-- Published blocks of the layout from before RFC 8439 (tests of the Rust crate), so that a wrong place of the counter's
+-- words or of the nonce in a definition does not check.
 use Rattle.std.proofs.Common.{◌≡◌, ℕ, ◌+◌, ◌-◌, ◌^◌, List, [], ◌∷◌, replicate, refl}
 use Rattle.chacha_base.specs.QuarterRound.{quarter}
 use Rattle.chacha_base.specs.Rounds.{columns, diagonals, rounds, add_states}

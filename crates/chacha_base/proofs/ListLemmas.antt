@@ -1,10 +1,14 @@
 -- Lists of known length, and elements that are written one after another. All other lemma files and the proofs of
 -- loops cite these.
-use Rattle.std.proofs.Common.{◌≡◌, inl, inr, Bool, true, false, ℕ, zero, suc, ◌+◌, ◌-◌, ◌*◌, ◌/◌, ◌<◌, ◌≤◌, List, [], ◌∷◌, ◌++◌, length, take, drop, slice_index_or, refl, sym, ap, ap₂, ◌∙◌, append_assoc, length-append, length-drop, arith, below_more}
+use Rattle.std.proofs.Common.{◌≡◌, inl, inr, Bool, ℕ, zero, suc, ◌+◌, ◌-◌, ◌*◌, ◌/◌, ◌<◌, ◌≤◌, List, [], ◌∷◌, ◌++◌}
+use Rattle.std.proofs.Common.{length, map, take, drop, slice_index, slice_index_or, refl, sym, ap, ap₂, subst, ◌∙◌}
+use Rattle.std.proofs.Common.{append_assoc, length-append, length-drop, arith, below_more}
 use Rattle.std.proofs.Math.ListN.{set}
+use Rattle.std.specs.List.{range_with_len}
 use Rattle.std.specs.Prelude.{slice_get, Some, nat_lt, if◌then◌else◌}
-use Rattle.std.proofs.lemmas.Bool.{cases_lt, ltb-true, ltb-false}
+use Rattle.std.proofs.lemmas.Bool.{cases_lt, lt-ltb, le-ltb}
 use Rattle.std.proofs.lemmas.List.{length-take-le, get_or-drop, take_at, drop_at, drop_all, drop-drop, append-nil}
+use Rattle.std.proofs.lemmas.List.FromFn.{fill_by_all}
 use Rattle.std.proofs.lemmas.Slice.{drop-put_mid}
 use borrow.Rule.Slice.PartMut.{put_mid}
 
@@ -15,12 +19,27 @@ Each (suc n) P = (x : ℕ) → Each n (λ xs. P (x ∷ xs))
 
 pub each : (n : ℕ) (P : List ℕ → Type 0) → Each n P → (xs : List ℕ) → length xs ≡ n → P xs
 each zero P p [] h = p
-each zero P p (x ∷ xs) h = absurd (omega arith)
-each (suc n) P p [] h = absurd (omega arith)
 each (suc n) P p (x ∷ xs) h = each n (λ ys. P (x ∷ ys)) (p x) xs (omega arith)
+each _ P p _ h = absurd (omega arith)
+
+-- the same, where n is a numeral: what holds of the n words in a row
+abbrev pub words_of : ℕ → List ℕ → List ℕ
+words_of n xs = map (slice_index xs) (range_with_len 0 n)
+
+pub by_words : (n : ℕ) (P : List ℕ → Type 0) (xs : List ℕ) → length xs ≡ n → P (words_of n xs) → P xs
+by_words n P xs long holds = subst P (sym (fill_by_all (slice_index xs) xs n 0 long (λ k less. refl))) holds
+
+-- what holds of each number below four
+pub below_four : (P : ℕ → Type 0) → P 0 → P 1 → P 2 → P 3 → (k : ℕ) → k < 4 → P k
+below_four P p q r s zero less = p
+below_four P p q r s (suc zero) less = q
+below_four P p q r s (suc (suc zero)) less = r
+below_four P p q r s (suc (suc (suc zero))) less = s
+below_four P p q r s _ less = absurd (omega arith)
 
 -- an element after a write to its place, and after a write to a place behind it
-pub slice_get-set_same : {X : Type 0} (xs : List X) (i : ℕ) (x : X) → i < length xs → slice_get (set xs i x) i ≡ Some x
+pub slice_get-set_same : {X : Type 0} (xs : List X) (i : ℕ) (x : X) → i < length xs
+    → slice_get (set xs i x) i ≡ Some x
 slice_get-set_same [] i x h = absurd (omega arith)
 slice_get-set_same (y ∷ ys) zero x h = refl
 slice_get-set_same (y ∷ ys) (suc i) x h = slice_get-set_same ys i x (omega arith)
@@ -45,11 +64,12 @@ slice_get-append [] ys i h = absurd (omega arith)
 slice_get-append (x ∷ xs) ys zero h = refl
 slice_get-append (x ∷ xs) ys (suc i) h = slice_get-append xs ys i (omega arith)
 
-slice_get-put_mid_below : {X : Type 0} (a k i : ℕ) (xs ys : List X) → i < a → a ≤ length xs → slice_get (put_mid a k xs ys) i ≡ slice_get xs i
-slice_get-put_mid_below zero k i xs ys h room = absurd (omega arith)
-slice_get-put_mid_below (suc a) k i [] ys h room = absurd (omega arith)
+slice_get-put_mid_below : {X : Type 0} (a k i : ℕ) (xs ys : List X) → i < a → a ≤ length xs
+    → slice_get (put_mid a k xs ys) i ≡ slice_get xs i
 slice_get-put_mid_below (suc a) k zero (x ∷ xs) ys h room = refl
-slice_get-put_mid_below (suc a) k (suc i) (x ∷ xs) ys h room = slice_get-put_mid_below a k i xs ys (omega arith) (omega arith)
+slice_get-put_mid_below (suc a) k (suc i) (x ∷ xs) ys h room =
+    slice_get-put_mid_below a k i xs ys (omega arith) (omega arith)
+slice_get-put_mid_below _ k i _ ys h room = absurd (omega arith)
 
 slice_get-put_mid_inside : {X : Type 0} (a k i : ℕ) (xs ys : List X) → i < length ys → a ≤ length xs
     → slice_get (put_mid a k xs ys) (a + i) ≡ slice_get ys i
@@ -59,8 +79,8 @@ slice_get-put_mid_inside (suc a) k i [] ys h room = absurd (omega arith)
 slice_get-put_mid_inside (suc a) k i (x ∷ xs) ys h room =
     let next : suc a + i ≡ suc (a + i) = omega arith in rw next (slice_get-put_mid_inside a k i xs ys h (omega arith))
 
-pub slice_index_or-put_mid_above : {X : Type 0} (a k i : ℕ) (xs ys : List X) (d : X) → a + k ≤ i → a ≤ length xs → length ys ≡ k
-    → slice_index_or (put_mid a k xs ys) i d ≡ slice_index_or xs i d
+pub slice_index_or-put_mid_above : {X : Type 0} (a k i : ℕ) (xs ys : List X) (d : X) → a + k ≤ i
+    → a ≤ length xs → length ys ≡ k → slice_index_or (put_mid a k xs ys) i d ≡ slice_index_or xs i d
 slice_index_or-put_mid_above a k i xs ys d h room same =
     let place : a + k + (i - (a + k)) ≡ i = omega arith in
     rw (← place)
@@ -86,91 +106,77 @@ written_more f a k xs ys room same before part i inside =
           rw (← place) (slice_get-put_mid_inside a k (i - a) xs ys here room ∙ part (i - a) less)
     ]
 
--- the same, four elements at a time, each made of another by f
-four_gotten : {X Y : Type 0} (f : Y → X) (p : ℕ → Y) (a : ℕ) (w x y z : Y) → w ≡ p a → x ≡ p (a + 1) → y ≡ p (a + 2) → z ≡ p (a + 3)
-    → (i : ℕ) → i < 4 → slice_get (f w ∷ f x ∷ f y ∷ f z ∷ []) i ≡ Some (f (p (a + i)))
-four_gotten f p a w x y z ew ex ey ez zero less =
-    let here : a + 0 ≡ a = omega arith in rw here (ap (λ v. Some (f v)) ew)
-four_gotten f p a w x y z ew ex ey ez (suc zero) less = ap (λ v. Some (f v)) ex
-four_gotten f p a w x y z ew ex ey ez (suc (suc zero)) less = ap (λ v. Some (f v)) ey
-four_gotten f p a w x y z ew ex ey ez (suc (suc (suc zero))) less = ap (λ v. Some (f v)) ez
-four_gotten f p a w x y z ew ex ey ez (suc (suc (suc (suc i)))) less = absurd (omega arith)
-
-pub four_more : {X Y : Type 0} (f : Y → X) (p : ℕ → Y) (a k : ℕ) (xs ys : List X) (w x y z : Y) → k ≡ 4 → a ≤ length xs
-    → ys ≡ f w ∷ f x ∷ f y ∷ f z ∷ [] → w ≡ p a → x ≡ p (a + 1) → y ≡ p (a + 2) → z ≡ p (a + 3)
-    → ((i : ℕ) → i < a → slice_get xs i ≡ Some (f (p i))) → (i : ℕ) → i < a + k → slice_get (put_mid a k xs ys) i ≡ Some (f (p i))
-four_more f p a k xs ys w x y z four room is ew ex ey ez before =
-    written_more (λ i. f (p i)) a k xs ys room (ap length is ∙ sym four) before
-    (λ i less. ap (λ l. slice_get l i) is ∙ four_gotten f p a w x y z ew ex ey ez i (omega (arith, less, four)))
+-- the same, four elements at a time
+pub four_more : {X : Type 0} (f : ℕ → X) (a k : ℕ) (xs ys : List X) → k ≡ 4 → a ≤ length xs
+    → ys ≡ f a ∷ f (a + 1) ∷ f (a + 2) ∷ f (a + 3) ∷ [] → ((i : ℕ) → i < a → slice_get xs i ≡ Some (f i))
+    → (i : ℕ) → i < a + k → slice_get (put_mid a k xs ys) i ≡ Some (f i)
+four_more f a k xs ys four room is before =
+    let here : a ≡ a + 0 = omega arith in
+    written_more f a k xs ys room (ap length is ∙ sym four) before (λ i less.
+    ap (λ l. slice_get l i) is
+    ∙ below_four (λ j. slice_get (f a ∷ f (a + 1) ∷ f (a + 2) ∷ f (a + 3) ∷ []) j ≡ Some (f (a + j)))
+    (ap (λ j. Some (f j)) here) refl refl refl i (omega (arith, less, four)))
 
 -- a list of which the front half is written, and then the back half
-half-written : {X Y : Type 0} (f : Y → X) (n i : ℕ) (xs ys zs : List X) (p q : ℕ → Y) (front : Bool) → length xs ≡ n → length ys ≡ n → length zs ≡ n
-    → ((j : ℕ) → j < n → slice_get ys j ≡ Some (f (p j))) → ((j : ℕ) → j < n → slice_get zs j ≡ Some (f (q j)))
-    → nat_lt i n ≡ front → i < n + n → slice_get (put_mid n n (ys ++ xs) zs) i ≡ Some (f (if front then p i else q (i - n)))
-half-written f n i xs ys zs p q true lx ly lz first second is less =
-    let here : i < n = ltb-true i n is in
-    slice_get-put_mid_below n n i (ys ++ xs) zs here (omega (arith, length-append ys xs))
-    ∙ slice_get-append ys xs i (omega arith)
-    ∙ first i here
-half-written f n i xs ys zs p q false lx ly lz first second is less =
-    let above : n ≤ i = ltb-false i n is in
-    let place : n + (i - n) ≡ i = omega arith in
-    ap (slice_get (put_mid n n (ys ++ xs) zs)) (sym place)
-    ∙ slice_get-put_mid_inside n n (i - n) (ys ++ xs) zs (omega arith) (omega (arith, length-append ys xs))
-    ∙ second (i - n) (omega arith)
-
 pub halves_written : {X Y : Type 0} (f : Y → X) (n : ℕ) (xs ys zs : List X) (p q : ℕ → Y) → length xs ≡ n + n
     → (let half = length xs / 2 in let now = ys ++ drop half xs in
     length ys ≡ length (take half xs) → length zs ≡ length (take (length now - half) (drop half now))
     → ((j : ℕ) → j < n → slice_get ys j ≡ Some (f (p j))) → ((j : ℕ) → j < n → slice_get zs j ≡ Some (f (q j)))
-    → (i : ℕ) → i < n + n → slice_get (put_mid half (length now - half) now zs) i ≡ Some (f (if nat_lt i n then p i else q (i - n))))
-halves_written f n xs ys zs p q long front back first second i less =
+    → (i : ℕ) → i < n + n
+    → slice_get (put_mid half (length now - half) now zs) i ≡ Some (f (if nat_lt i n then p i else q (i - n))))
+halves_written f n xs ys zs p q long front back first second i inside =
     let half = length xs / 2 in
     let rest = drop half xs in
     let now = ys ++ rest in
+    let either = λ (b : Bool) (j : ℕ). Some (f (if b then p j else q (j - n))) in
     let at : half ≡ n = omega arith in
-    let lr : length rest ≡ n = omega (arith, length-drop half xs) in
     let ly : length ys ≡ n = front ∙ length-take-le half xs (omega arith) ∙ at in
-    let count : length now - half ≡ n = omega (arith, length-append ys rest) in
-    let lz : length zs ≡ n = back ∙ length-take-le (length now - half) (drop half now) (omega (arith, length-drop half now)) ∙ count in
+    let all : length now ≡ n + n = omega (arith, length-append ys rest, length-drop half xs) in
+    let count : length now - half ≡ n = omega arith in
+    let lz : length zs ≡ n = back ∙ part_long half (length now - half) now (omega arith) ∙ count in
     ap₂ (λ a k. slice_get (put_mid a k now zs) i) at count
-    ∙ half-written f n i rest ys zs p q (nat_lt i n) lr ly lz first second refl less
+    ∙ written_more (λ j. f (if nat_lt j n then p j else q (j - n))) n n now zs (omega arith) lz
+    (λ j less.
+    slice_get-append ys rest j (omega arith) ∙ first j less ∙ ap (λ b. either b j) (sym (lt-ltb j n less)))
+    (λ j less.
+    let place : j ≡ n + j - n = omega arith in
+    second j less ∙ ap (λ k. Some (f (q k))) place ∙ ap (λ b. either b (n + j)) (sym (le-ltb (n + j) n (omega arith))))
+    i inside
 
 -- four lists in a row, piece by piece
-pub four_joined : {X : Type 0} {a b c d p q r s : List X} → a ≡ p → b ≡ q → c ≡ r → d ≡ s → a ++ b ++ c ++ d ≡ p ++ q ++ r ++ s
-four_joined {X} {a} {b} {c} {d} {p} {q} {r} {s} ea eb ec ed =
-    ap (λ x. x ++ b ++ c ++ d) ea ∙ ap (λ x. p ++ x ++ c ++ d) eb ∙ ap (λ x. p ++ q ++ x ++ d) ec ∙ ap (λ x. p ++ q ++ r ++ x) ed
+pub four_joined : {X : Type 0} {a b c d p q r s : List X} → a ≡ p → b ≡ q → c ≡ r → d ≡ s
+    → a ++ b ++ c ++ d ≡ p ++ q ++ r ++ s
+four_joined ea eb ec ed = ap₂ ◌++◌ (ap₂ ◌++◌ (ap₂ ◌++◌ ea eb) ec) ed
 
 -- four elements, one by one
-pub four_listed : {X : Type 0} {a b c d p q r s : X} → a ≡ p → b ≡ q → c ≡ r → d ≡ s → a ∷ b ∷ c ∷ d ∷ [] ≡ p ∷ q ∷ r ∷ s ∷ []
-four_listed {X} {a} {b} {c} {d} {p} {q} {r} {s} ea eb ec ed =
-    ap (λ x. x ∷ b ∷ c ∷ d ∷ []) ea ∙ ap (λ x. p ∷ x ∷ c ∷ d ∷ []) eb ∙ ap (λ x. p ∷ q ∷ x ∷ d ∷ []) ec ∙ ap (λ x. p ∷ q ∷ r ∷ x ∷ []) ed
+pub four_listed : {X : Type 0} {a b c d p q r s : X} → a ≡ p → b ≡ q → c ≡ r → d ≡ s
+    → a ∷ b ∷ c ∷ d ∷ [] ≡ p ∷ q ∷ r ∷ s ∷ []
+four_listed ea eb ec ed = ap₂ ◌∷◌ ea (ap₂ ◌∷◌ eb (ap₂ ◌∷◌ ec (ap (λ x. x ∷ []) ed)))
 
 -- a list of four elements, written place by place
 pub four_set : {X : Type 0} (xs : List X) {w x y z p q r s : X} → length xs ≡ 4 → w ≡ p → x ≡ q → y ≡ r → z ≡ s
     → set (set (set (set xs 0 w) 1 x) 2 y) 3 z ≡ p ∷ q ∷ r ∷ s ∷ []
-four_set [] long ew ex ey ez = absurd (omega arith)
-four_set (a ∷ []) long ew ex ey ez = absurd (omega arith)
-four_set (a ∷ b ∷ []) long ew ex ey ez = absurd (omega arith)
-four_set (a ∷ b ∷ c ∷ []) long ew ex ey ez = absurd (omega arith)
 four_set (a ∷ b ∷ c ∷ d ∷ []) long ew ex ey ez = four_listed ew ex ey ez
-four_set (a ∷ b ∷ c ∷ d ∷ e ∷ xs) long ew ex ey ez = absurd (omega arith)
+four_set _ long ew ex ey ez = absurd (omega arith)
 
 -- a write of k elements behind a part that is written
-put_mid-behind : {X : Type 0} (a k : ℕ) (p q ys : List X) → length p ≡ a → put_mid a k (p ++ q) ys ≡ (p ++ ys) ++ drop k q
+put_mid-behind : {X : Type 0} (a k : ℕ) (p q ys : List X) → length p ≡ a
+    → put_mid a k (p ++ q) ys ≡ (p ++ ys) ++ drop k q
 put_mid-behind a k p q ys h =
     ap₂ (λ u v. u ++ (ys ++ drop k v)) (take_at p q a h) (drop_at p q a h) ∙ sym (append_assoc p ys (drop k q))
 
 -- a list that is written in four parts of n elements
-pub four_written : {X : Type 0} (n : ℕ) (s a b c d : List X) → length s ≡ 4 * n → length a ≡ n → length b ≡ n → length c ≡ n
+pub four_written : {X : Type 0} (n : ℕ) (s a b c d : List X) → length s ≡ 4 * n
+    → length a ≡ n → length b ≡ n → length c ≡ n
     → put_mid (3 * n) n (put_mid (2 * n) n (put_mid n n (put_mid 0 n s a) b) c) d ≡ a ++ b ++ c ++ d
-four_written {X} n s a b c d long la lb lc =
+four_written n s a b c d long la lb lc =
     let r1 = drop n s in
     let r2 = drop n r1 in
     let r3 = drop n r2 in
     let ab : length (a ++ b) ≡ 2 * n = omega (arith, length-append a b) in
     let abc : length ((a ++ b) ++ c) ≡ 3 * n = omega (arith, length-append (a ++ b) c) in
-    let none : drop n r3 ≡ [] = drop-drop n n r2 ∙ drop-drop (n + n) n r1 ∙ drop-drop (n + (n + n)) n s ∙ drop_all _ s (omega arith) in
+    let none : drop n r3 ≡ [] =
+    drop-drop n n r2 ∙ drop-drop (n + n) n r1 ∙ drop-drop (n + (n + n)) n s ∙ drop_all _ s (omega arith) in
     ap (λ t. put_mid (3 * n) n (put_mid (2 * n) n t c) d) (put_mid-behind n n a r1 b la)
     ∙ ap (λ t. put_mid (3 * n) n t d) (put_mid-behind (2 * n) n (a ++ b) r2 c ab)
     ∙ put_mid-behind (3 * n) n ((a ++ b) ++ c) r3 d abc

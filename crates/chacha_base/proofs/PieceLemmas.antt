@@ -10,30 +10,38 @@ use Rattle.chacha_base.proofs.KeystreamLemmas.{xor_stream-append, stream_part-ad
 use Rattle.chacha_base.specs.Keystream.{xor_stream, stream_part}
 
 -- n bytes more of a stream, written behind those before them
-pub stream_part-written : (stream : ℕ → ℕ) (p done n k : ℕ) (buf piece : List ℕ) → done ≤ length buf → length piece ≡ n
+pub stream_part-written : (stream : ℕ → ℕ) (p done n k : ℕ) (buf piece : List ℕ)
+    → done ≤ length buf → length piece ≡ n
     → take done buf ≡ stream_part stream p done → piece ≡ stream_part stream (p + done) n
     → take (done + n) (put_mid done k buf piece) ≡ stream_part stream p (done + n)
 stream_part-written stream p done n k buf piece inside size before made =
-    take-put_mid done k buf piece (done + n) (omega arith) inside ∙ ap₂ ◌++◌ before made ∙ sym (stream_part-add stream p done n)
+    take-put_mid done k buf piece (done + n) (omega arith) inside
+    ∙ ap₂ ◌++◌ before made ∙ sym (stream_part-add stream p done n)
 
 -- n bytes more combined with a stream, written behind those before them
-pub xor_stream-written : (stream : ℕ → ℕ) (p done n k : ℕ) (input output piece : List ℕ) → done ≤ length input → done ≤ length output → length piece ≡ n
-    → take done output ≡ xor_stream stream p (take done input) → piece ≡ xor_stream stream (p + done) (take (done + n - done) (drop done input))
+pub xor_stream-written : (stream : ℕ → ℕ) (p done n k : ℕ) (input output piece : List ℕ)
+    → done ≤ length input → done ≤ length output → length piece ≡ n
+    → take done output ≡ xor_stream stream p (take done input)
+    → piece ≡ xor_stream stream (p + done) (take (done + n - done) (drop done input))
     → take (done + n) (put_mid done k output piece) ≡ xor_stream stream p (take (done + n) input)
 xor_stream-written stream p done n k input output piece inside room size before made =
-    let some : done + n - done ≡ n = omega arith in
+    let front = take done input in
+    let next = take n (drop done input) in
     take-put_mid done k output piece (done + n) (omega arith) room
-    ∙ ap₂ ◌++◌ before (made ∙ ap (λ m. xor_stream stream (p + done) (take m (drop done input))) some)
+    ∙ ap₂ ◌++◌ before (made ∙ ap (λ m. xor_stream stream (p + done) (take m (drop done input))) (part-length done n))
     ∙ sym (ap (xor_stream stream p) (take-add done n input)
-    ∙ xor_stream-append stream p (take done input) (take n (drop done input))
-    ∙ ap (λ m. xor_stream stream p (take done input) ++ xor_stream stream (p + m) (take n (drop done input))) (length-take-le done input inside))
+    ∙ xor_stream-append stream p front next
+    ∙ ap (λ m. xor_stream stream p front ++ xor_stream stream (p + m) next) (length-take-le done input inside))
 
 -- the next piece: it stays within the bytes, has its length, and fits where all bytes do
 pub piece-within : (most len done n : ℕ) → n ≡ min most (len - done) → done ≤ len → done + n ≤ len
 piece-within most len done n cut inside = omega arith
 
-pub piece-long : {X : Type 0} (done n : ℕ) (xs : List X) → done + n ≤ length xs → length (take (done + n - done) (drop done xs)) ≡ n
-piece-long done n xs inside = ap (λ m. length (take m (drop done xs))) (part-length done n) ∙ part_long done n xs inside
+pub piece-long : {X : Type 0} (done n : ℕ) (xs : List X) → done + n ≤ length xs
+    → length (take (done + n - done) (drop done xs)) ≡ n
+piece-long done n xs inside =
+    ap (λ m. length (take m (drop done xs))) (part-length done n) ∙ part_long done n xs inside
 
-pub piece-fits : (now p done n size len limit : ℕ) → now ≡ p + done → size ≡ n → done + n ≤ len → p + len ≤ limit → now + size ≤ limit
+pub piece-fits : (now p done n size len limit : ℕ) → now ≡ p + done → size ≡ n → done + n ≤ len → p + len ≤ limit
+    → now + size ≤ limit
 piece-fits now p done n size len limit place long inside fits = omega arith

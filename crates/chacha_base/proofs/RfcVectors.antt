@@ -1,5 +1,5 @@
 -- Examples of RFC 8439, so that a wrong constant, rotation, index or byte order in a definition does not check.
-use Rattle.std.proofs.Common.{◌≡◌, ℕ, ◌^◌, List, [], ◌∷◌, codes, replicate, refl}
+use Rattle.std.proofs.Common.{◌≡◌, ℕ, ◌^◌, List, [], ◌∷◌, ◌++◌, codes, replicate, refl}
 use Rattle.chacha_base.specs.QuarterRound.{quarter, quarter_round}
 use Rattle.chacha_base.specs.Rounds.{columns, diagonals, rounds, add_states, mix}
 use Rattle.chacha_base.specs.Layout.{ietf}
@@ -22,18 +22,22 @@ text_nonce = 0x00 ∷ 0x00 ∷ 0x00 ∷ 0x00 ∷ 0x00 ∷ 0x00 ∷ 0x00 ∷ 0x4a
 
 -- the text of RFC 8439, 2.4.2
 abbrev pub text : List ℕ
-text = codes "Ladies and Gentlemen of the class of '99: If I could offer you only one tip for the future, sunscreen would be it."
+text =
+    codes "Ladies and Gentlemen of the class of '99: If I could offer you "
+    ++ codes "only one tip for the future, sunscreen would be it."
 
 -- a quarter round (RFC 8439, 2.1.1)
-pub quarter_vector : quarter 0x11111111 0x01020304 0x9b8d6f43 0x01234567 ≡ (0xea2a92f4, 0xcb1cf8ce, 0x4581472e, 0x5881c4bb)
+pub quarter_vector : quarter 0x11111111 0x01020304 0x9b8d6f43 0x01234567
+    ≡ (0xea2a92f4, 0xcb1cf8ce, 0x4581472e, 0x5881c4bb)
 unfolding quarter
 quarter_vector = refl
 
 -- the quarter round of words 2, 7, 8 and 13 of a state (RFC 8439, 2.2.1)
 pub quarter_round_vector : quarter_round (
     0x879531e0 ∷ 0xc5ecf37d ∷ 0x516461b1 ∷ 0xc9a62f8a ∷ 0x44c20ef3 ∷ 0x3390af7f ∷ 0xd9fc690b ∷ 0x2a5f714c
-    ∷ 0x53372767 ∷ 0xb00a5631 ∷ 0x974c541a ∷ 0x359e9963 ∷ 0x5c971061 ∷ 0x3d631689 ∷ 0x2098d9d6 ∷ 0x91dbd320 ∷ []) 2 7 8 13 ≡
-    0x879531e0 ∷ 0xc5ecf37d ∷ 0xbdb886dc ∷ 0xc9a62f8a ∷ 0x44c20ef3 ∷ 0x3390af7f ∷ 0xd9fc690b ∷ 0xcfacafd2
+    ∷ 0x53372767 ∷ 0xb00a5631 ∷ 0x974c541a ∷ 0x359e9963 ∷ 0x5c971061 ∷ 0x3d631689 ∷ 0x2098d9d6 ∷ 0x91dbd320 ∷ []
+    ) 2 7 8 13
+    ≡ 0x879531e0 ∷ 0xc5ecf37d ∷ 0xbdb886dc ∷ 0xc9a62f8a ∷ 0x44c20ef3 ∷ 0x3390af7f ∷ 0xd9fc690b ∷ 0xcfacafd2
     ∷ 0xe46bea80 ∷ 0xb00a5631 ∷ 0x974c541a ∷ 0x359e9963 ∷ 0x5c971061 ∷ 0xccc07c79 ∷ 0x2098d9d6 ∷ 0x91dbd320 ∷ []
 unfolding quarter
 quarter_round_vector = refl

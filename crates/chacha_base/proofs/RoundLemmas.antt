@@ -3,49 +3,52 @@
 use Rattle.std.proofs.Common.{◌≡◌, ◌≢◌, ℕ, ◌<◌, List, length, slice_index, refl, ◌∙◌}
 use Rattle.std.proofs.Math.ListN.{set}
 use Rattle.std.proofs.lemmas.List.{length-set, get_or-set_same, get_or-set_other}
-use Rattle.chacha_base.proofs.ListLemmas.{each}
+use Rattle.chacha_base.proofs.ListLemmas.{by_words}
 use Rattle.chacha_base.proofs.RowLemmas.{column_of, column_of-same}
 use Rattle.chacha_base.specs.QuarterRound.{quarter_round}
 use Rattle.chacha_base.specs.Words.{add}
 use Rattle.chacha_base.specs.Rounds.{columns, diagonals, add_states}
 use Rattle.std.proofs.lemmas.List.FromFn.{fill_by_all}
 
-pub columns_are : (s : List ℕ) → length s ≡ 16
-    → quarter_round (quarter_round (quarter_round (quarter_round s 0 4 8 12) 1 5 9 13) 2 6 10 14) 3 7 11 15 ≡ columns s
+-- the columns one after another, and the diagonals
+abbrev columns_in_turn : List ℕ → List ℕ
+columns_in_turn s =
+    quarter_round (quarter_round (quarter_round (quarter_round s 0 4 8 12) 1 5 9 13) 2 6 10 14) 3 7 11 15
+
+abbrev diagonals_in_turn : List ℕ → List ℕ
+diagonals_in_turn s =
+    quarter_round (quarter_round (quarter_round (quarter_round s 0 5 10 15) 1 6 11 12) 2 7 8 13) 3 4 9 14
+
+pub columns_are : (s : List ℕ) → length s ≡ 16 → columns_in_turn s ≡ columns s
 unfolding columns
-columns_are =
-    each 16 (λ s. quarter_round (quarter_round (quarter_round (quarter_round s 0 4 8 12) 1 5 9 13) 2 6 10 14) 3 7 11 15 ≡ columns s)
-    (λ x0 x1 x2 x3 x4 x5 x6 x7 x8 x9 x10 x11 x12 x13 x14 x15. refl)
+columns_are s long = by_words 16 (λ t. columns_in_turn t ≡ columns t) s long refl
 
-pub diagonals_are : (s : List ℕ) → length s ≡ 16
-    → quarter_round (quarter_round (quarter_round (quarter_round s 0 5 10 15) 1 6 11 12) 2 7 8 13) 3 4 9 14 ≡ diagonals s
+pub diagonals_are : (s : List ℕ) → length s ≡ 16 → diagonals_in_turn s ≡ diagonals s
 unfolding diagonals
-diagonals_are =
-    each 16 (λ s. quarter_round (quarter_round (quarter_round (quarter_round s 0 5 10 15) 1 6 11 12) 2 7 8 13) 3 4 9 14 ≡ diagonals s)
-    (λ x0 x1 x2 x3 x4 x5 x6 x7 x8 x9 x10 x11 x12 x13 x14 x15. refl)
+diagonals_are s long = by_words 16 (λ t. diagonals_in_turn t ≡ diagonals t) s long refl
 
--- four words written at different places, and the words at other places
-pub words-written : (s : List ℕ) (a b c d w x y z : ℕ) → a < length s → b < length s → c < length s → d < length s
-    → a ≢ b → a ≢ c → a ≢ d → b ≢ c → b ≢ d → c ≢ d
-    → (let t = set (set (set (set s a w) b x) c y) d z in
-    column_of (slice_index t a) (slice_index t b) (slice_index t c) (slice_index t d) ≡ column_of w x y z)
-words-written s a b c d w x y z ia ib ic id ab ac ad bc bd cd =
-    let t = set s a w in
-    let u = set t b x in
-    let v = set u c y in
-    let lt : length t ≡ length s = length-set s a w in
-    let lu : length u ≡ length s = length-set t b x ∙ lt in
-    let lv : length v ≡ length s = length-set u c y ∙ lu in
+-- four words written at different places
+abbrev pub set_four : (s : List ℕ) (a b c d : ℕ) → ℕ × ℕ × ℕ × ℕ → List ℕ
+set_four s a b c d q = set (set (set (set s a q.0) b q.1) c q.2) d q.3
+
+pub words-written : (s : List ℕ) (a b c d : ℕ) (q : ℕ × ℕ × ℕ × ℕ) → length s ≡ 16
+    → (a < 16) × (b < 16) × (c < 16) × (d < 16) → (a ≢ b) × (a ≢ c) × (a ≢ d) × (b ≢ c) × (b ≢ d) × (c ≢ d)
+    → (let t = set_four s a b c d q in
+    column_of (slice_index t a) (slice_index t b) (slice_index t c) (slice_index t d) ≡ q)
+words-written s a b c d q long within apart =
+    let t = set s a q.0 in
+    let u = set t b q.1 in
+    let v = set u c q.2 in
+    let lt : length t ≡ 16 = length-set s a q.0 ∙ long in
+    let lu : length u ≡ 16 = length-set t b q.1 ∙ lt in
+    let lv : length v ≡ 16 = length-set u c q.2 ∙ lu in
     column_of-same
-    (get_or-set_other v d a z 0 ad ∙ get_or-set_other u c a y 0 ac ∙ get_or-set_other t b a x 0 ab ∙ get_or-set_same s a w 0 ia)
-    (get_or-set_other v d b z 0 bd ∙ get_or-set_other u c b y 0 bc ∙ get_or-set_same t b x 0 (rw lt ib))
-    (get_or-set_other v d c z 0 cd ∙ get_or-set_same u c y 0 (rw lu ic))
-    (get_or-set_same v d z 0 (rw lv id))
-
-pub words-elsewhere : (s : List ℕ) (a b c d w x y z i : ℕ) → i ≢ a → i ≢ b → i ≢ c → i ≢ d
-    → slice_index (set (set (set (set s a w) b x) c y) d z) i ≡ slice_index s i
-words-elsewhere s a b c d w x y z i na nb nc nd =
-    get_or-set_other _ d i z 0 nd ∙ get_or-set_other _ c i y 0 nc ∙ get_or-set_other _ b i x 0 nb ∙ get_or-set_other s a i w 0 na
+    (get_or-set_other v d a q.3 0 apart.2 ∙ get_or-set_other u c a q.2 0 apart.1
+    ∙ get_or-set_other t b a q.1 0 apart.0 ∙ get_or-set_same s a q.0 0 (rw long within.0))
+    (get_or-set_other v d b q.3 0 apart.4 ∙ get_or-set_other u c b q.2 0 apart.3
+    ∙ get_or-set_same t b q.1 0 (rw lt within.1))
+    (get_or-set_other v d c q.3 0 apart.5 ∙ get_or-set_same u c q.2 0 (rw lu within.2))
+    (get_or-set_same v d q.3 0 (rw lv within.3))
 
 -- a list of sixteen words that are sums, one by one
 pub add_states_are : (t x s : List ℕ) → length t ≡ 16

@@ -16,8 +16,8 @@ rotate_left_is x k word some most =
     let back : (32 - k) % 32 ≡ 32 - k = mod-eq_of_lt (omega arith) in
     let quotient : x * 2 ^ k / 2 ^ k ≡ x = mul-div_cancel x (pow_pos k) in
     let rest : x * 2 ^ k % 2 ^ k ≡ 0 = mul-mod_left x (2 ^ k) in
-    let split : x * 2 ^ k % 2 ^ (j + k) ≡ (x * 2 ^ k / 2 ^ k % 2 ^ j) * 2 ^ k + x * 2 ^ k % 2 ^ k = mod-pow-add (x * 2 ^ k) j k in
     let up : x * 2 ^ k % 2 ^ 32 ≡ x % 2 ^ j * 2 ^ k =
-    subst (λ n. x * 2 ^ k % 2 ^ n ≡ x % 2 ^ j * 2 ^ k) whole (split ∙ rw (quotient, rest) (omega arith)) in
+    subst (λ n. x * 2 ^ k % 2 ^ n ≡ x % 2 ^ j * 2 ^ k) whole
+    (mod-pow-add (x * 2 ^ k) j k ∙ rw (quotient, rest) (omega arith)) in
     let low : x / 2 ^ j < 2 ^ k = shr_below x k j (subst (λ n. x < 2 ^ n) (sym turned) word) in
     rw (by, back, up) (or_shifted (x % 2 ^ j) k (x / 2 ^ j) low)

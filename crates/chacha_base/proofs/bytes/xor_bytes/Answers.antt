@@ -1,15 +1,17 @@
-use Rattle.std.proofs.Common.{◌≢◌, slice_index, bit_xor, below_more, ap, ◌∙◌, arith}
+use Rattle.std.proofs.Common.{slice_index, bit_xor, below_more, ap, ◌∙◌, arith}
 use Rattle.std.proofs.lemmas.List.{get_or-set_same, get_or-set_other}
 use Rattle.chacha_base.proofs.bytes.xor_bytes.Goals as goal
 
--- the search finds it too, but not soon that a wrong body has none
+-- answered for speed
 pub loop-i-preserved : goal.loop-i-preserved
 loop-i-preserved c =
     let i = c.loop-i.i in
     let now = c.loop-i.output in
     let byte = bit_xor (slice_index now i) (slice_index c.args.other.now i) in
+    let before = c.loop-i.invariant in
     record {
-      done = below_more _ i (λ k less. let apart : k ≢ i = omega arith in get_or-set_other now i k byte 0 apart ∙ c.loop-i.invariant.done k less)
-          (get_or-set_same now i byte 0 (omega arith) ∙ ap (λ old. bit_xor old (slice_index c.args.other.now i)) (c.loop-i.invariant.rest i (omega arith)));
-      rest = λ k above. let apart : k ≢ i = omega arith in get_or-set_other now i k byte 0 apart ∙ c.loop-i.invariant.rest k (omega arith);
+      done = below_more _ i (λ k less. get_or-set_other now i k byte 0 (omega arith) ∙ before.done k less)
+          (get_or-set_same now i byte 0 (omega arith)
+          ∙ ap (λ old. bit_xor old (slice_index c.args.other.now i)) (before.rest i (omega arith)));
+      rest = λ k above. get_or-set_other now i k byte 0 (omega arith) ∙ before.rest k (omega arith);
     }

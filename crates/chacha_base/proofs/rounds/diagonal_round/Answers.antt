@@ -14,5 +14,5 @@ returns-clause-state c =
 
 pub returns-clause-steps : goal.returns-clause-steps
 returns-clause-steps c =
-    counted-four 1 c.args.steps.now c.quarter_round.new.steps c.quarter_round-2.new.steps c.quarter_round-3.new.steps c.quarter_round-4.new.steps
-    c.quarter_round.ensures.steps c.quarter_round-2.ensures.steps c.quarter_round-3.ensures.steps c.quarter_round-4.ensures.steps
+    counted-four 1 c.args.steps.now c.quarter_round.ensures.steps c.quarter_round-2.ensures.steps
+    c.quarter_round-3.ensures.steps c.quarter_round-4.ensures.steps

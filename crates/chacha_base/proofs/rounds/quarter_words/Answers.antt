@@ -2,7 +2,7 @@ use Rattle.std.proofs.Common.{refl}
 use Rattle.chacha_base.specs.QuarterRound.{quarter}
 use Rattle.chacha_base.proofs.rounds.quarter_words.Goals as goal
 
--- the search finds it too, but not soon that a wrong body has none
+-- answered for speed
 pub returns : goal.returns
 unfolding quarter
 returns c = rw (c.rotated-b2.ensures, c.rotated-d2.ensures, c.rotated-b1.ensures, c.rotated-d1.ensures) refl

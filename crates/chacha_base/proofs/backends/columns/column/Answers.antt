@@ -1,4 +1,4 @@
-use Rattle.std.proofs.Common.{◌≡◌, ◌≢◌, [], ◌<◌, ◌+◌, slice_index, slice_index_or, length, refl, ◌∙◌, arith, below_more}
+use Rattle.std.proofs.Common.{◌≡◌, [], ◌<◌, slice_index, slice_index_or, length, refl, ◌∙◌, arith, below_more}
 use Rattle.std.proofs.Math.ListN.{set}
 use Rattle.std.proofs.lemmas.List.{length-set, get_or-replicate, get_or-set_same, get_or-set_other}
 use Rattle.chacha_base.proofs.backends.columns.column.Goals as goal
@@ -14,24 +14,21 @@ each-preserved g c =
       done =
           below_more (λ h. slice_index (set c.each.words i word) h ≡ slice_index (slice_index_or last h []) c.args.k) i
           (λ h less.
-          let apart : h ≢ i = omega arith in get_or-set_other c.each.words i h word 0 apart ∙ c.each.invariant.done h less)
+          get_or-set_other c.each.words i h word 0 (omega arith) ∙ c.each.invariant.done h less)
           (get_or-set_same c.each.words i word 0 inside);
     }
 
 pub returns-clause-a : goal.returns-clause-a
-returns-clause-a g c j h = c.from_words.ensures j h ∙ get_or-replicate 16 j (slice_index c.args.state.now c.args.k) 0 (omega (arith, h, g.met.V.Vector.fours_at_most))
+returns-clause-a g c j h =
+    c.from_words.ensures j h ∙ get_or-replicate 16 j _ 0 (omega (arith, h, g.met.V.Vector.fours_at_most))
 
 pub returns-clause-b : goal.returns-clause-b
-returns-clause-b g c j h = c.from_words-2.ensures j h ∙ get_or-replicate 16 j (slice_index c.args.state.now (4 + c.args.k)) 0 (omega (arith, h, g.met.V.Vector.fours_at_most))
+returns-clause-b g c j h =
+    c.from_words-2.ensures j h ∙ get_or-replicate 16 j _ 0 (omega (arith, h, g.met.V.Vector.fours_at_most))
 
 pub returns-clause-c : goal.returns-clause-c
-returns-clause-c g c j h = c.from_words-3.ensures j h ∙ get_or-replicate 16 j (slice_index c.args.state.now (8 + c.args.k)) 0 (omega (arith, h, g.met.V.Vector.fours_at_most))
+returns-clause-c g c j h =
+    c.from_words-3.ensures j h ∙ get_or-replicate 16 j _ 0 (omega (arith, h, g.met.V.Vector.fours_at_most))
 
 pub returns-clause-d : goal.returns-clause-d
 returns-clause-d g c j h = c.from_words-4.ensures j h ∙ c.each.invariant.done j (omega (arith, h))
-
-pub each-init : goal.each-init
-each-init g c = record {
-  sixteen = refl;
-  done = λ h none. absurd (omega arith);
-}

@@ -2,6 +2,8 @@ use Rattle.std.proofs.Common.{◌∙◌, ap}
 use Rattle.chacha_base.proofs.ListLemmas.{four_joined}
 use Rattle.chacha_base.proofs.backends.group.write_block.Goals as goal
 
--- the search finds it too, but not soon that a wrong body has none
+-- answered for speed
 pub returns : goal.returns
-returns g c = c.write_rows.ensures ∙ ap g.B.BlockBuffer.of_words (four_joined c.four.ensures c.four-2.ensures c.four-3.ensures c.four-4.ensures)
+returns g c =
+    c.write_rows.ensures
+    ∙ ap g.B.BlockBuffer.of_words (four_joined c.four.ensures c.four-2.ensures c.four-3.ensures c.four-4.ensures)

@@ -5,7 +5,7 @@ use Rattle.std.proofs.lemmas.Simd.{put_chunk_whole, below_from_Fits}
 use Rattle.chacha_base.specs.Bytes.{bytes}
 use Rattle.chacha_base.specs.Lanes.{row}
 use Rattle.chacha_base.proofs.BytesLemmas.{digits-bytes}
-use Rattle.chacha_base.proofs.ListLemmas.{each}
+use Rattle.chacha_base.proofs.ListLemmas.{by_words}
 use Rattle.chacha_base.proofs.backends.group.write_row.Goals as goal
 
 pub returns : goal.returns
@@ -14,4 +14,4 @@ returns c =
     put_chunk_whole c.args.output.now (digits_l 256 16 (number_l (2 ^ 32) x)) (c.requires)
     ∙ ap (λ n. digits_l 256 (4 * n) (number_l (2 ^ 32) x)) (sym c.fits-words.0)
     ∙ digits-bytes x (below_from_Fits w32 x c.fits-words.1)
-    ∙ ap bytes (each 4 (λ x. x ≡ row (slice_index x) 0) (λ x0 x1 x2 x3. refl) x c.fits-words.0)
+    ∙ ap bytes (by_words 4 (λ x. x ≡ row (slice_index x) 0) x c.fits-words.0 refl)

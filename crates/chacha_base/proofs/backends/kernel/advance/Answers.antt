@@ -9,4 +9,6 @@ returns g c =
     let s = c.args.state.now in
     state_at-written layout _ s _ c.told-state c.set_block_pos.ensures.row
     ∙ ap (λ n. state_at layout n s)
-    (c.advanced_by.ensures ∙ ap₂ (λ v m. (v + c.args.blocks) % m) (c.get_block_pos-pos.ensures ∙ row_counter-state layout s c.told-state) g.met.V.Variant.counters)
+    (c.advanced_by.ensures
+    ∙ ap₂ (λ v m. (v + c.args.blocks) % m)
+    (c.get_block_pos-pos.ensures ∙ row_counter-state layout s c.told-state) g.met.V.Variant.counters)

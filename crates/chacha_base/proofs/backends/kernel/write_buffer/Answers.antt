@@ -11,24 +11,14 @@ four-preserved g c =
     let i = c.four.i in
     let four : i < 4 = omega arith in
     let here : 16 * i + 16 - 16 * i ≡ 16 = omega arith in
+    let made = c.copy_from_slice.ensures.after ∙ c.mixed_words-words.ensures.words i four in
     record {
       long = search (rules, overwrites);
-      done = rw here (λ k less. next_words-more g.R.Rounds.COUNT legacy s (state_after legacy i s) i c.four.buffer c.copy_from_slice.new.self refl
-          (c.copy_from_slice.ensures.after ∙ c.mixed_words-words.ensures.words i four) (omega (arith, c.four.invariant.long)) c.four.invariant.done k (omega arith));
+      done = rw here (λ k less. next_words-more g.R.Rounds.COUNT legacy s (state_after legacy i s) i c.four.buffer _
+          refl made (omega (arith, c.four.invariant.long)) c.four.invariant.done k (omega arith));
     }
 
 pub returns-clause-words : goal.returns-clause-words
 returns-clause-words g c =
-    next_words-are g.R.Rounds.COUNT legacy c.args.state.now c.four.buffer c.four.invariant.long (λ k less. c.four.invariant.done k (omega arith))
-
-pub four-init : goal.four-init
-four-init g c = record {
-  long = c.told-buffer;
-  done = λ k less. absurd (omega arith);
-}
-
-pub returns-clause-state : goal.returns-clause-state
-returns-clause-state g c = c.advance.ensures
-
-pub returns-clause-steps : goal.returns-clause-steps
-returns-clause-steps g c = c.mixed_words-words.ensures.steps
+    next_words-are g.R.Rounds.COUNT legacy c.args.state.now c.four.buffer c.four.invariant.long
+    (λ k less. c.four.invariant.done k (omega arith))

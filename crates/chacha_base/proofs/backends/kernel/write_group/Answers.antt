@@ -12,4 +12,6 @@ returns-clause-blocks g c i h =
 
 pub returns-clause-steps : goal.returns-clause-steps
 returns-clause-steps g c =
-    c.mixed_group.ensures.steps ∙ ap (λ (s : Counts). record s { rounds = s.rounds + 2 * g.G.Group.ROUND_STEPS * g.R.Rounds.COUNT }) c.add_par.ensures
+    c.mixed_group.ensures.steps
+    ∙ ap (λ (s : Counts). record s { rounds = s.rounds + 2 * g.G.Group.ROUND_STEPS * g.R.Rounds.COUNT })
+    c.add_par.ensures

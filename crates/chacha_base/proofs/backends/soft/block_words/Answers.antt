@@ -2,8 +2,9 @@ use Rattle.std.proofs.Common.{ap, ◌∙◌}
 use Rattle.chacha_base.specs.Rounds.{rounds, add_states}
 use Rattle.chacha_base.proofs.backends.soft.block_words.Goals as goal
 
--- the search finds it too, but not soon that a wrong body has none
+-- answered for speed
 pub returns-clause-words : goal.returns-clause-words
 returns-clause-words g c =
     let start = c.args.state.now in
-    c.add_words.ensures ∙ ap (λ s. add_states s start) (c.double_rounds.ensures.state ∙ ap (λ n. rounds n start) c.COUNT.ensures)
+    c.add_words.ensures
+    ∙ ap (λ s. add_states s start) (c.double_rounds.ensures.state ∙ ap (λ n. rounds n start) c.COUNT.ensures)

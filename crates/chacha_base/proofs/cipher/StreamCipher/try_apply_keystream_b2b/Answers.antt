@@ -7,9 +7,6 @@ use Rattle.chacha_base.proofs.CipherLemmas.{moved_on}
 use Rattle.chacha_base.proofs.PieceLemmas.{xor_stream-written, piece-within, piece-long, piece-fits}
 use Rattle.chacha_base.proofs.cipher.StreamCipher.try_apply_keystream_b2b.Goals as goal
 
-pub pieces-init : goal.pieces-init
-pieces-init g c = record { within = omega arith; fixed = refl; position = sym (add-zero _); bytes = refl }
-
 pub apply_keystream-requires : goal.apply_keystream-requires
 apply_keystream-requires g c =
     let len = length c.args.input.now in
@@ -55,27 +52,11 @@ returns-clause-bytes g c =
     ∙ ap (xor_stream stream (cipher.position old))
     (ap (λ n. take n c.args.input.now) input_done ∙ take-length c.args.input.now)
 
-pub returns-clause-fixed : goal.returns-clause-fixed
-returns-clause-fixed g c = c.pieces.invariant.fixed
-
-pub returns-clause-position : goal.returns-clause-position
-returns-clause-position g c = omega (arith, c.pieces.invariant.position)
-
 pub returns-then-input-output-clause-refused : goal.returns-then-input-output-clause-refused
 returns-then-input-output-clause-refused g c = (refl, refl)
 
-pub returns-in-Err-clause-accepted : goal.returns-in-Err-clause-accepted
-returns-in-Err-clause-accepted g c = (λ e. absurd (false≢true e), λ both. c.in-Err.ensures.accepted.1 both.1)
-
 pub returns-in-Err-clause-refused : goal.returns-in-Err-clause-refused
 returns-in-Err-clause-refused g c = (refl, refl)
-
-pub returns-then-input-output-clause-accepted : goal.returns-then-input-output-clause-accepted
-returns-then-input-output-clause-accepted g c =
-    (λ e. absurd (false≢true e), λ both. absurd (c.if-input-output.true both.0))
-
-pub returns-clause-accepted : goal.returns-clause-accepted
-returns-clause-accepted g c = (λ e. (c.if-input-output.false, c.in_default.ensures.accepted.0 e), λ both. refl)
 
 pub copy_from_slice-requires : goal.copy_from_slice-requires
 copy_from_slice-requires g c =

@@ -8,9 +8,6 @@ use Rattle.chacha_base.proofs.KeystreamLemmas.{xor_stream-zeros}
 use Rattle.chacha_base.proofs.PieceLemmas.{stream_part-written, piece-within, piece-long, piece-fits}
 use Rattle.chacha_base.proofs.cipher.StreamCipher.try_write_keystream.Goals as goal
 
-pub pieces-init : goal.pieces-init
-pieces-init g c = record { within = omega arith; fixed = refl; position = sym (add-zero _); bytes = refl }
-
 pub apply_keystream-requires : goal.apply_keystream-requires
 apply_keystream-requires g c =
     let position = g.Self.Keystream.position in
@@ -56,9 +53,3 @@ returns-clause-bytes g c =
     let same : length c.pieces.buf ≡ length c.args.buf.now = omega arith in
     let bytes = rw all at c.pieces.invariant.bytes in
     sym (take-length c.pieces.buf) ∙ bytes ∙ rw same refl
-
-pub returns-clause-fixed : goal.returns-clause-fixed
-returns-clause-fixed g c = c.pieces.invariant.fixed
-
-pub returns-clause-position : goal.returns-clause-position
-returns-clause-position g c = omega (arith, c.pieces.invariant.position)

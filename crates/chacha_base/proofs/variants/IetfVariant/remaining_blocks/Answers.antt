@@ -2,6 +2,6 @@ use Rattle.std.proofs.Common.{arith}
 use Rattle.std.proofs.lemmas.Grind.{common_steps}
 use Rattle.chacha_base.proofs.variants.IetfVariant.remaining_blocks.Goals as goal
 
--- the search finds it too, but not soon that a wrong body has none
+-- answered for speed
 pub returns : goal.returns
 returns c = grind (arith, common_steps)

@@ -17,8 +17,8 @@ unfolding rounds
 rounds-preserved g c =
     let n = c.rounds._round in
     record {
-      blocks = λ b h. rw (add-one n)
-          (c.diagonal_round-states.ensures.blocks b h ∙ ap diagonals (c.column_round.ensures.blocks b h ∙ ap columns (c.rounds.invariant.blocks b h)));
-      steps = counted-double_round g.Self.Group.ROUND_STEPS n c.args.steps.now c.rounds.steps c.column_round.new.steps c.diagonal_round-states.new.steps
+      blocks = λ b h. rw (add-one n) (c.diagonal_round-states.ensures.blocks b h
+          ∙ ap diagonals (c.column_round.ensures.blocks b h ∙ ap columns (c.rounds.invariant.blocks b h)));
+      steps = counted-double_round g.Self.Group.ROUND_STEPS n c.args.steps.now
           c.rounds.invariant.steps c.column_round.ensures.steps c.diagonal_round-states.ensures.steps;
     }

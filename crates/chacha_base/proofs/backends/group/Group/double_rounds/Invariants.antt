@@ -3,7 +3,10 @@ use Rattle.chacha_base.specs.Rounds.{rounds}
 use Rattle.chacha_base.proofs.backends.group.Group.double_rounds.Given as goal
 
 abbrev pub invariant-rounds : goal.invariant-rounds
-invariant-rounds g l = record {
-  blocks : (b : ℕ) → b < g.Self.Group.BLOCKS → g.Self.Group.words_of l.states b ≡ rounds l._round (g.Self.Group.words_of l.fn.self b);
-  steps : l.steps ≡ record l.initial.steps { rounds = l.initial.steps.rounds + 2 * g.Self.Group.ROUND_STEPS * l._round };
-}
+invariant-rounds g l =
+    let before = l.initial.steps in
+    record {
+      blocks : (b : ℕ) → b < g.Self.Group.BLOCKS
+          → g.Self.Group.words_of l.states b ≡ rounds l._round (g.Self.Group.words_of l.fn.self b);
+      steps : l.steps ≡ record before { rounds = before.rounds + 2 * g.Self.Group.ROUND_STEPS * l._round };
+    }

@@ -5,8 +5,9 @@ use Rattle.chacha_base.specs.Rounds.{add_states}
 use Rattle.chacha_base.proofs.RowLemmas.{either-same}
 use Rattle.chacha_base.proofs.backends.group.TwiceGroup.sums.Goals as goal
 
--- the search finds it too, but not soon that a wrong body has none
+-- answered for speed
 pub returns : goal.returns
 returns g c j h =
     let n = g.G.Group.BLOCKS in
-    either-same add_states (nat_lt j n) _ _ _ _ _ _ (λ front. c.sums.ensures j (ltb-true j n front)) (λ back. c.sums-2.ensures (j - n) (omega (arith, h, ltb-false j n back)))
+    either-same add_states (nat_lt j n) _ _ _ _ _ _ (λ front. c.sums.ensures j (ltb-true j n front))
+    (λ back. c.sums-2.ensures (j - n) (omega (arith, h, ltb-false j n back)))

@@ -2,7 +2,7 @@ use Rattle.std.proofs.Common.{arith, length}
 use Rattle.chacha_base.proofs.CountsLemmas.{narrowest-4, narrowest-8, narrowest-16}
 use Rattle.chacha_base.proofs.backends.lanes16.Lanes16StreamCipherBackend.gen_tail_blocks.Goals as goal
 
--- of three and four blocks; the search finds these too, but not soon that a wrong body has none
+-- answered for speed, of three and four blocks
 pub returns-in-3-clause-blocks : goal.returns-in-3-clause-blocks
 returns-in-3-clause-blocks g c = c.tail_by-in-3.ensures.blocks
 

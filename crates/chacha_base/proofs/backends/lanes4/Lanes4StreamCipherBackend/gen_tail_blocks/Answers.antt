@@ -1,6 +1,6 @@
 use Rattle.chacha_base.proofs.backends.lanes4.Lanes4StreamCipherBackend.gen_tail_blocks.Goals as goal
 
--- the search finds these too, but not soon that a wrong body has none
+-- answered for speed
 pub returns-clause-blocks : goal.returns-clause-blocks
 returns-clause-blocks g c = c.write_tail.ensures.blocks
 

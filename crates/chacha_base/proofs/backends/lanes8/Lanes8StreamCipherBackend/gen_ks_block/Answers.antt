@@ -2,7 +2,7 @@ use Rattle.std.proofs.Common.{◌*◌}
 use Rattle.chacha_base.proofs.CountsLemmas.{grows-other}
 use Rattle.chacha_base.proofs.backends.lanes8.Lanes8StreamCipherBackend.gen_ks_block.Goals as goal
 
--- the search finds these too, but not soon that a wrong body has none
+-- answered for speed
 pub returns-clause-block : goal.returns-clause-block
 returns-clause-block g c = c.write_one.ensures.block
 
@@ -10,4 +10,4 @@ pub returns-clause-state : goal.returns-clause-state
 returns-clause-state g c = c.write_one.ensures.state
 
 pub returns-clause-steps : goal.returns-clause-steps
-returns-clause-steps g c = grows-other (4 * g.R.Rounds.COUNT) c.args.steps.now c.write_one.new.steps c.write_one.ensures.steps
+returns-clause-steps g c = grows-other (4 * g.R.Rounds.COUNT) c.args.steps.now c.write_one.ensures.steps

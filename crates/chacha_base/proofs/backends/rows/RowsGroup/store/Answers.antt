@@ -6,14 +6,8 @@ use Rattle.chacha_base.proofs.backends.rows.RowsGroup.store.Goals as goal
 
 pub each-preserved : goal.each-preserved
 each-preserved g c =
-    one_more (λ h. g.B.BlockBuffer.of_words (block_in_rows g.V.Vector.lane c.args.self.0 h)) c.each.g c.each.buffers _ (omega arith)
-    c.write_block.ensures c.each.invariant
-
-pub each-init : goal.each-init
-each-init g c h none = absurd (omega arith)
-
-pub returns : goal.returns
-returns g c h less = c.each.invariant h (omega (arith, less))
+    one_more (λ h. g.B.BlockBuffer.of_words (block_in_rows g.V.Vector.lane c.args.self.0 h)) c.each.g c.each.buffers _
+    (omega arith) c.write_block.ensures c.each.invariant
 
 pub offset_bounds-buffers-g : goal.offset_bounds-buffers-g
 offset_bounds-buffers-g g c =

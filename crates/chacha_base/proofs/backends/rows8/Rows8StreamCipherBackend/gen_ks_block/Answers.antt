@@ -1,6 +1,6 @@
 use Rattle.chacha_base.proofs.backends.rows8.Rows8StreamCipherBackend.gen_ks_block.Goals as goal
 
--- the search finds these too, but not soon that a wrong body has none
+-- answered for speed
 pub returns-clause-block : goal.returns-clause-block
 returns-clause-block g c = c.write_one.ensures.block
 

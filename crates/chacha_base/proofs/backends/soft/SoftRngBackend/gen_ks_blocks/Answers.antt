@@ -1,5 +1,6 @@
 use Rattle.std.proofs.Common.{◌≡◌, ◌+◌, ◌*◌, ◌-◌, refl, sym, ap, ◌∙◌, arith, rules}
 use Rattle.std.proofs.lemmas.Slice.{overwrites}
+use Rattle.chacha_base.specs.Counts.{Counts}
 use Rattle.chacha_base.specs.Layout.{legacy}
 use Rattle.chacha_base.specs.State.{state_after}
 use Rattle.chacha_base.proofs.StateLemmas.{state_after-zero, state_after-state_after, next_words-more, next_words-are}
@@ -19,19 +20,24 @@ pub four-preserved : goal.four-preserved
 four-preserved g c =
     let n = g.R.Rounds.COUNT in
     let i = c.four.i in
+    let before = c.four.invariant in
     let here : 16 * i + 16 - 16 * i ≡ 16 = omega arith in
     let more : (i + 1) * (8 * n) ≡ i * (8 * n) + 8 * n = omega arith in
-    let rounds : c.block_words.new.steps.rounds ≡ c.four.steps.rounds + 8 * n = ap (λ s. s.rounds) c.block_words.ensures.steps in
+    let made = c.copy_from_slice.ensures.after ∙ c.block_words.ensures.words in
+    let steps = c.block_words.ensures.steps in
+    let rounds = ap (λ (s : Counts). s.rounds) steps in
     record {
       long = search (rules, overwrites);
-      done = rw here (λ k less. next_words-more n legacy c.args.state.now c.four.state i c.four.buffer c.copy_from_slice.new.self c.four.invariant.state
-          (c.copy_from_slice.ensures.after ∙ c.block_words.ensures.words) (omega (arith, c.four.invariant.long)) c.four.invariant.done k (omega arith));
-      state = c.advance.ensures ∙ ap (state_after legacy 1) c.four.invariant.state ∙ state_after-state_after legacy i 1 c.args.state.now c.told-state;
-      par = ap (λ s. s.par) c.block_words.ensures.steps ∙ c.four.invariant.par;
-      other = ap (λ s. s.other) c.block_words.ensures.steps ∙ c.four.invariant.other;
-      rounds = omega (arith, rounds, more, c.four.invariant.rounds);
+      done = rw here (λ k less. next_words-more n legacy c.args.state.now c.four.state i c.four.buffer _ before.state
+          made (omega (arith, before.long)) before.done k (omega arith));
+      state = c.advance.ensures ∙ ap (state_after legacy 1) before.state
+          ∙ state_after-state_after legacy i 1 c.args.state.now c.told-state;
+      par = ap (λ s. s.par) steps ∙ before.par;
+      other = ap (λ s. s.other) steps ∙ before.other;
+      rounds = omega (arith, rounds, more, before.rounds);
     }
 
 pub returns-clause-words : goal.returns-clause-words
 returns-clause-words g c =
-    next_words-are g.R.Rounds.COUNT legacy c.args.state.now c.four.buffer c.four.invariant.long (λ k less. c.four.invariant.done k (omega arith))
+    next_words-are g.R.Rounds.COUNT legacy c.args.state.now c.four.buffer c.four.invariant.long
+    (λ k less. c.four.invariant.done k (omega arith))

@@ -1,10 +1,5 @@
-use Rattle.std.proofs.Common.{zero, suc, arith, lit≤}
-use Rattle.chacha_base.proofs.LaneLemmas.{from_first}
+use Rattle.chacha_base.proofs.LaneLemmas.{turned-picked}
 use Rattle.chacha_base.proofs.backends.vector.U32x16Vector.turned_1.Goals as goal
 
 pub returns : goal.returns
-returns c zero h = from_first c.args.self c.args.self 16 1 2 3 0 c.fits-self.0 (lit≤ tt) (lit≤ tt) (lit≤ tt) (lit≤ tt)
-returns c (suc zero) h = from_first c.args.self c.args.self 16 5 6 7 4 c.fits-self.0 (lit≤ tt) (lit≤ tt) (lit≤ tt) (lit≤ tt)
-returns c (suc (suc zero)) h = from_first c.args.self c.args.self 16 9 10 11 8 c.fits-self.0 (lit≤ tt) (lit≤ tt) (lit≤ tt) (lit≤ tt)
-returns c (suc (suc (suc zero))) h = from_first c.args.self c.args.self 16 13 14 15 12 c.fits-self.0 (lit≤ tt) (lit≤ tt) (lit≤ tt) (lit≤ tt)
-returns c (suc (suc (suc (suc k)))) h = absurd (omega arith)
+returns c = turned-picked 1 4 c.args.self c.fits-self.0

@@ -1,7 +1,7 @@
 use Rattle.std.proofs.Common.{ap, ◌∙◌}
 use Rattle.chacha_base.proofs.rounds.steps.Steps.new.Goals as goal
 
--- the search finds it too, but not soon that a wrong count has none
+-- answered for speed
 pub returns : goal.returns
 returns c =
     ap (λ n. record { par = n; other = c.new-2.result; rounds = c.new-3.result }) c.new.ensures
