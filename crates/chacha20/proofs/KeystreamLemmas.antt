@@ -1,9 +1,12 @@
 -- Bytes combined with a stream, and bytes of a stream, for proofs about messages, words and cores.
-use Rattle.std.proofs.Common.{◌≡◌, ℕ, zero, suc, ◌+◌, ◌-◌, ◌≤◌, List, take, drop, [], ◌∷◌, bit_xor, replicate, arith, refl, sym, ap, ap₂, ◌∙◌}
+use Rattle.std.proofs.Common.{◌≡◌, ℕ, zero, suc, ◌+◌, ◌*◌, ◌-◌, ◌%◌, ◌≤◌, List, length, take, drop, [], ◌∷◌, bit_xor, replicate, arith, refl, sym, ap, ap₂, ◌∙◌}
 use Rattle.std.specs.Int.Bits.{xor_assoc, xor_self, xor_zero_r}
-use Rattle.std.proofs.lemmas.List.{take-replicate, drop-replicate}
-use Rattle.chacha_base.specs.Keystream.{xor_stream, stream_part}
-use Rattle.chacha_base.proofs.KeystreamLemmas.{xor_stream-zeros}
+use Rattle.std.proofs.lemmas.List.{take-replicate, drop-replicate, get_or-take, length-take-le}
+use Rattle.chacha_base.specs.Block.{block}
+use Rattle.chacha_base.specs.Keystream.{keystream, xor_stream, stream_part}
+use Rattle.chacha_base.specs.Layout.{Layout}
+use Rattle.chacha_base.specs.Rounds.{add_states}
+use Rattle.chacha_base.proofs.KeystreamLemmas.{xor_stream-zeros, streamed_is, keystream_byte}
 -- bytes combined one by one, as a core of your own combines them; one list after another; how many there are
 pub use Rattle.chacha_base.proofs.KeystreamLemmas.{xor_stream-is, xor_stream-append, length-xor_stream}
 -- with streams that agree; zeros
@@ -65,3 +68,16 @@ pub window-stream_part : (stream : ℕ → ℕ) (p m n k : ℕ) → m + n ≤ k
     → take n (drop m (stream_part stream p k)) ≡ stream_part stream (p + m) n
 window-stream_part stream p m n k inside =
     ap (take n) (drop-stream_part stream p m k) ∙ take-stream_part stream (p + m) n (k - m) (omega arith)
+
+-- how many bytes a block has
+pub length-block : (n : ℕ) (layout : Layout) (key nonce : List ℕ) (c : ℕ) → length (block n layout key nonce c) ≡ 64
+unfolding add_states
+length-block n layout key nonce c = refl
+
+-- the first n bytes of the block of a counter, which wraps
+pub stream_part-block : (modulus : ℕ) (block : ℕ → List ℕ) (c n : ℕ) → n ≤ 64 → length (block (c % modulus)) ≡ 64
+    → stream_part (keystream modulus block) (64 * c) n ≡ take n (block (c % modulus))
+stream_part-block modulus block c n inside long =
+    let bytes = block (c % modulus) in
+    sym (streamed_is (keystream modulus block) (64 * c) n (take n bytes) (length-take-le n bytes (omega (arith, inside, long)))
+    (λ i less. get_or-take n bytes i 0 less ∙ keystream_byte modulus block c i (omega arith)))

@@ -2,5 +2,8 @@
 //! public contracts of `chacha20`. Copy a file with its folder of proofs, and change it.
 #![tactic(auto)]
 
+pub mod message;
+pub mod one_time_key;
+pub mod pieces;
 #[cfg(test)]
 mod tests;

@@ -1,0 +1,6 @@
+use Rattle.examples.proofs.one_time_key.encrypt_from_block_1.Goals as goal
+
+pub returns-clause-bytes : goal.returns-clause-bytes
+returns-clause-bytes c =
+    let sought = c.seek.ensures in
+    rw (← c.new-cipher.ensures.blocks) (rw (sought.fixed, sought.position) at c.try_apply_keystream.ensures.bytes)

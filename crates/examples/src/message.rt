@@ -1,0 +1,104 @@
+//! A message under a key and a nonce, in one call: by ChaCha20, by any other cipher, and by one with rounds of your own.
+//!
+//! The lines between a function's head and its body are its contract. They are proved for every key, nonce and message
+//! before the program is built. In `encrypt`, `accepted` says that the call returns `Ok` exactly where the message has
+//! at most 274877906944 bytes (256 GiB). `bytes` says that on `Ok` each byte of the message is XORed with the byte at its
+//! place in the keystream, which is the blocks of the key and the nonce in order: `message.old` is the message before
+//! the call, `message.new` after it. `refused` says that on `Err` the message is as it was.
+//!
+//! Decryption is the same call. Never use a nonce twice under one key. Nothing here authenticates a message.
+
+ghost use Rattle.std.specs.Prelude.{◌≡◌, ◌≤◌, ◌^◌, ◌↔◌, length, IsOk, OnOk, OnErr};
+ghost use Rattle.chacha20.specs.Block.{block};
+ghost use Rattle.chacha20.specs.Keystream.{keystream, xor_stream};
+ghost use Rattle.chacha20.specs.Layout.{ietf, legacy};
+ghost use Rattle.chacha20.specs.Limit.{limit_of};
+ghost use Rattle.chacha20.specs.XChaCha.{subkey, subnonce};
+
+use chacha20::backends::Lanes16;
+use chacha20::cipher::{KeyIvInit, StreamCipher, StreamCipherError};
+use chacha20::variants::Ietf;
+use chacha20::{
+    ChaCha20, ChaCha20Legacy, ChaChaCore, Key, LegacyNonce, Nonce, Rounds, StreamCipherCoreWrapper,
+    XChaCha20, XNonce,
+};
+
+/// Encrypts a message by ChaCha20, as RFC 8439, section 2.4, does from block 0 on. Ten is the number of double rounds.
+/// `Err` exactly where the message is longer than the keystream; then it is as it was.
+pub fn encrypt(key: &Key, nonce: &Nonce, message: &mut [u8]) -> Result<(), StreamCipherError>
+    ensures accepted { IsOk result ↔ (length message.old ≤ 274877906944) }
+    ensures bytes { OnOk result (message.new
+        ≡ xor_stream (keystream (2 ^ 32) (block 10 ietf key.now nonce.now)) 0 message.old) }
+    ensures refused { OnErr result (message.new ≡ message.old) }
+{
+    ChaCha20::new(key, nonce).try_apply_keystream(message)
+}
+
+/// The same by any cipher `C` (this crate): `C.modulus` is the number of its blocks, `C.blocks_of` the blocks of a key
+/// and a nonce. A call at a named type has the contract in that type's own numbers, as the functions below.
+pub fn encrypt_by<C: KeyIvInit + StreamCipher + Drop>(
+    key: &C::Key,
+    nonce: &C::Iv,
+    message: &mut [u8],
+) -> Result<(), StreamCipherError>
+    ensures accepted { IsOk result ↔ (length message.old ≤ limit_of C.modulus) }
+    ensures bytes { OnOk result (message.new
+        ≡ xor_stream (keystream C.modulus (C.blocks_of key.now nonce.now)) 0 message.old) }
+    ensures refused { OnErr result (message.new ≡ message.old) }
+{
+    C::new(key, nonce).try_apply_keystream(message)
+}
+
+/// Encrypts a message by XChaCha20 (draft-irtf-cfrg-xchacha, section 2.3), whose nonces are long enough to be random. The
+/// keystream is that of ChaCha20 under the key and the nonce that are derived from these. `Err` as in `encrypt`.
+pub fn encrypt_xchacha(
+    key: &Key,
+    nonce: &XNonce,
+    message: &mut [u8],
+) -> Result<(), StreamCipherError>
+    ensures accepted { IsOk result ↔ (length message.old ≤ 274877906944) }
+    ensures bytes { OnOk result (message.new
+        ≡ xor_stream (keystream (2 ^ 32)
+        (block 10 ietf (subkey 10 key.now nonce.now) (subnonce nonce.now))) 0 message.old) }
+    ensures refused { OnErr result (message.new ≡ message.old) }
+{
+    encrypt_by::<XChaCha20>(key, nonce, message)
+}
+
+/// Encrypts a message by the cipher from before RFC 8439, with a nonce of 8 bytes and 2^64 blocks (this crate). No
+/// message is too long for it, so no call is refused.
+pub fn encrypt_legacy(
+    key: &Key,
+    nonce: &LegacyNonce,
+    message: &mut [u8],
+) -> Result<(), StreamCipherError>
+    ensures accepted { IsOk result }
+    ensures bytes { OnOk result (message.new
+        ≡ xor_stream (keystream (2 ^ 64) (block 10 legacy key.now nonce.now)) 0 message.old) }
+{
+    encrypt_by::<ChaCha20Legacy>(key, nonce, message)
+}
+
+/// Three double rounds, so six rounds (this crate). Contracts see the number that stands behind `ghost`; the code has the
+/// constant.
+#[derive(Clone, Copy)]
+pub struct R6;
+
+impl Rounds for R6 {
+    ghost COUNT = { 3 };
+
+    const COUNT: usize = 3;
+}
+
+/// ChaCha with six rounds (this crate).
+pub type ChaCha6 = StreamCipherCoreWrapper<ChaChaCore<R6, Ietf, Lanes16>>;
+
+/// Encrypts a message by `ChaCha6` (this crate). `Err` as in `encrypt`.
+pub fn encrypt_6(key: &Key, nonce: &Nonce, message: &mut [u8]) -> Result<(), StreamCipherError>
+    ensures accepted { IsOk result ↔ (length message.old ≤ 274877906944) }
+    ensures bytes { OnOk result (message.new
+        ≡ xor_stream (keystream (2 ^ 32) (block 3 ietf key.now nonce.now)) 0 message.old) }
+    ensures refused { OnErr result (message.new ≡ message.old) }
+{
+    encrypt_by::<ChaCha6>(key, nonce, message)
+}
