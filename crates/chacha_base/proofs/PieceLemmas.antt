@@ -1,9 +1,9 @@
 -- Bytes that are written or combined piece by piece. The loops of the byte stream cite these, and so may loops of
 -- callers, as that of `apply_in_pieces`. Read `KeystreamLemmas` first.
 use Rattle.std.proofs.Common.{◌≡◌, ℕ, min, ◌+◌, ◌-◌, ◌≤◌, List, ◌++◌, length, take, drop, arith, sym, ap, ap₂, ◌∙◌}
-use Rattle.std.proofs.Math.Seq.{take-add}
+use Rattle.std.proofs.Math.Seq.{take-add, drop-drop}
 use Rattle.std.proofs.lemmas.List.{length-take-le}
-use Rattle.std.proofs.lemmas.Slice.{take-put_mid}
+use Rattle.std.proofs.lemmas.Slice.{take-put_mid, drop-put_mid}
 use borrow.Rule.Slice.PartMut.{put_mid}
 use Rattle.chacha_base.proofs.ListLemmas.{part_long, part-length}
 use Rattle.chacha_base.proofs.KeystreamLemmas.{xor_stream-append, stream_part-add}
@@ -32,6 +32,13 @@ xor_stream-written stream p done n k input output piece inside room size before 
     ∙ sym (ap (xor_stream stream p) (take-add done n input)
     ∙ xor_stream-append stream p front next
     ∙ ap (λ m. xor_stream stream p front ++ xor_stream stream (p + m) next) (length-take-le done input inside))
+
+-- what lies behind a piece stays as it was when the piece is written
+pub rest-written : {X : Type 0} (done n k : ℕ) (whole buf piece : List X) → k ≤ n → done ≤ length buf → length piece ≡ k
+    → drop done buf ≡ drop done whole → drop (done + n) (put_mid done k buf piece) ≡ drop (done + n) whole
+rest-written done n k whole buf piece within inside size before =
+    drop-put_mid done k buf piece (done + n) (omega arith) inside size
+    ∙ sym (drop-drop n done buf) ∙ ap (drop n) before ∙ drop-drop n done whole
 
 -- the next piece: it stays within the bytes, has its length, and fits where all bytes do
 pub piece-within : (most len done n : ℕ) → n ≡ min most (len - done) → done ≤ len → done + n ≤ len

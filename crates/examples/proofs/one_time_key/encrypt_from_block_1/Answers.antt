@@ -1,5 +1,8 @@
 use Rattle.examples.proofs.one_time_key.encrypt_from_block_1.Goals as goal
 
+pub returns-clause-accepted : goal.returns-clause-accepted
+returns-clause-accepted c = rw c.seek.ensures.position at c.try_apply_keystream.ensures.accepted
+
 pub returns-clause-bytes : goal.returns-clause-bytes
 returns-clause-bytes c =
     let sought = c.seek.ensures in

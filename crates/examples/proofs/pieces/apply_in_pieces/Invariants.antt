@@ -9,7 +9,6 @@ invariant-pieces g l =
     let whole = l.initial.bytes in
     record {
       within : l.done ≤ length whole;
-      same : length l.bytes ≡ length whole;
       fixed : cipher.fixed l.cipher ≡ cipher.fixed old;
       position : cipher.position l.cipher ≡ cipher.position old + l.done;
       bytes : take l.done l.bytes

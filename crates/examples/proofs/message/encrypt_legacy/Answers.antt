@@ -1,0 +1,5 @@
+use Rattle.std.proofs.Common.{arith}
+use Rattle.examples.proofs.message.encrypt_legacy.Goals as goal
+
+pub returns-clause-accepted : goal.returns-clause-accepted
+returns-clause-accepted c = c.encrypt_by.ensures.accepted.1 (omega arith)

@@ -1,0 +1,5 @@
+use Rattle.std.proofs.Common.{refl}
+use Rattle.examples.proofs.pieces.try_apply_in_pieces.Goals as goal
+
+pub apply_in_pieces-requires-clause-fits : goal.apply_in_pieces-requires-clause-fits
+apply_in_pieces-requires-clause-fits g c = c.in_ok-check_remaining.ensures.accepted.0 refl
