@@ -1,12 +1,17 @@
-//! A message under a key and a nonce, in one call: by ChaCha20, by any other cipher, and by one with rounds of your own.
+//! A message under a key and a nonce, in one call: by ChaCha20, by any other cipher, or with a number of rounds of your
+//! own.
 //!
-//! The lines between a function's head and its body are its contract. They are proved for every key, nonce and message
-//! before the program is built. In `encrypt`, `accepted` says that the call returns `Ok` exactly where the message has
-//! at most 274877906944 bytes (256 GiB). `bytes` says that on `Ok` each byte of the message is XORed with the byte at its
-//! place in the keystream, which is the blocks of the key and the nonce in order: `message.old` is the message before
-//! the call, `message.new` after it. `refused` says that on `Err` the message is as it was.
+//! The lines between a function's head and its body are its contract. A program is built only after it is proved for
+//! every key, nonce and message. That of `encrypt` says:
 //!
-//! Decryption is the same call. Never use a nonce twice under one key. Nothing here authenticates a message.
+//! - `accepted`: the call returns `Ok` exactly where the message has at most 274877906944 bytes (256 GiB).
+//! - `bytes`: on `Ok` the message (`message.new`) equals (`≡`) what it was (`message.old`), each byte XORed with the byte
+//!   at its place in the keystream. The keystream is the blocks of the key and the nonce, in order.
+//! - `refused`: on `Err` the message is as it was.
+//!
+//! What the prover doesn't find by itself is in `proofs/message`: a line or two for a function.
+//!
+//! Decryption is the same call. Never use a nonce twice under one key. Nothing here authenticates a message: add a MAC.
 
 ghost use Rattle.std.specs.Prelude.{◌≡◌, ◌≤◌, ◌^◌, ◌↔◌, length, IsOk, OnOk, OnErr};
 ghost use Rattle.chacha20.specs.Block.{block};

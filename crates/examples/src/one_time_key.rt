@@ -1,15 +1,16 @@
-//! What an AEAD takes of the cipher (RFC 8439, sections 2.6 and 2.8): a key for one message's MAC, from block 0 of the
-//! keystream, and the message encrypted from block 1 on.
+//! What an AEAD takes of the cipher (RFC 8439, sections 2.6 and 2.8): from block 0 of the keystream a key for the MAC of
+//! one message, and from block 1 on the bytes that encrypt the message.
 //!
-//! The MAC isn't here. To encrypt, call `encrypt_from_block_1`, and then make the tag of the ciphertext by Poly1305
-//! under `one_time_key`. To decrypt, make that tag first, and compare it with the received one in constant time. Call
-//! `encrypt_from_block_1` only if they are equal: decryption is the same call. The additional data, the padding and the
-//! lengths that the tag covers are in RFC 8439, section 2.8. Never use a nonce twice under one key.
+//! The MAC isn't here. To encrypt, call `encrypt_from_block_1`, and then make the tag of the ciphertext with Poly1305
+//! under `one_time_key`. To decrypt, make that tag first, and compare it with the received one in constant time. Only if
+//! they are equal call `encrypt_from_block_1`, which also decrypts. RFC 8439, section 2.8, says what else the tag covers:
+//! additional data, padding and lengths. Never use a nonce twice under one key.
 //!
-//! The lines between a function's head and its body are its contract. They are proved for every key, nonce and message
-//! before the program is built. `block 10 ietf key.now nonce.now 0` is the 64 bytes of block 0: ten double rounds, and
-//! the counter at 0. `take 32` is its front. The next 32 bytes are never used, and the message begins at byte 64 of
-//! `keystream`, so that no byte of the stream serves twice.
+//! The lines between a function's head and its body are its contract. A program is built only after it is proved for
+//! every key, nonce and message. `block 10 ietf key.now nonce.now 0` is the 64 bytes of block 0, after ten double rounds,
+//! and `take 32` the first 32 of them. The message begins at position 64 of the keystream, so no byte of it serves twice.
+//! `accepted` says that `Ok` is returned exactly where the message ends within the keystream, and `refused` that on `Err`
+//! the message is as it was. What the prover doesn't find by itself is in `proofs/one_time_key`.
 
 ghost use Rattle.std.specs.Prelude.{◌≡◌, ◌≤◌, ◌+◌, ◌^◌, ◌↔◌, take, length, IsOk, OnOk, OnErr};
 ghost use Rattle.chacha20.specs.Block.{block};

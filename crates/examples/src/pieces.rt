@@ -1,14 +1,15 @@
-//! A message that is encrypted piece by piece: from its front on in pieces of one length, or in two buffers. The bytes
-//! are those of one call for all of it, wherever it is cut.
+//! A message that is encrypted piece by piece: in pieces of one length, or in two buffers. Wherever it is cut, its bytes
+//! become those that one call for all of it would make.
 //!
-//! The lines between a function's head and its body are its contract. What stands behind `requires` the caller proves
-//! before the call; what stands behind `ensures` holds after it. `apply_keystream` returns no `Result`, so it requires
-//! that its bytes end within the limit, which is the end of the keystream. A function that calls it either requires as
-//! much (`fits`), or asks the cipher first, as `try_apply_in_pieces` does. `C.position cipher.old` is the position of
-//! the cipher's next byte before the call, `C.fixed` all of the cipher but its position: its key and its nonce.
+//! The lines between a function's head and its body are its contract. The caller proves what is behind `requires` before
+//! the call; what is behind `ensures` holds after it. `apply_keystream` returns no `Result`, so it requires that the
+//! bytes end within the limit, the end of the keystream. A function that calls it requires the same (`fits`), or asks
+//! the cipher first, as `try_apply_in_pieces` does. `C.position cipher.old` is the position of the cipher's next byte
+//! before the call. `C.fixed` is all of the cipher but its position, which is its key and its nonce; its blocks, in
+//! order, are the keystream.
 //!
-//! Where a loop needs more than the prover finds by itself, that stands in `proofs/pieces/NAME`: in `Invariants.antt`
-//! what holds each time round, in `Answers.antt` why.
+//! What the prover doesn't find by itself is in `proofs/pieces`: for a loop, `Invariants.antt` says what holds before
+//! each turn, and `Answers.antt` why it still holds after it.
 
 ghost use Rattle.std.specs.Prelude.{◌≡◌, ◌≤◌, ◌<◌, ◌+◌, ◌↔◌, ◌++◌, length, IsOk, OnOk, OnErr};
 ghost use Rattle.chacha20.specs.Keystream.{keystream, xor_stream};
