@@ -79,5 +79,6 @@ pub stream_part-block : (modulus : ℕ) (block : ℕ → List ℕ) (c n : ℕ) �
     → stream_part (keystream modulus block) (64 * c) n ≡ take n (block (c % modulus))
 stream_part-block modulus block c n inside long =
     let bytes = block (c % modulus) in
-    sym (streamed_is (keystream modulus block) (64 * c) n (take n bytes) (length-take-le n bytes (omega (arith, inside, long)))
+    let size = length-take-le n bytes (omega (arith, inside, long)) in
+    sym (streamed_is (keystream modulus block) (64 * c) n (take n bytes) size
     (λ i less. get_or-take n bytes i 0 less ∙ keystream_byte modulus block c i (omega arith)))

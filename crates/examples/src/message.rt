@@ -5,8 +5,8 @@
 //! every key, nonce and message. That of `encrypt` says:
 //!
 //! - `accepted`: the call returns `Ok` exactly where the message has at most 274877906944 bytes (256 GiB).
-//! - `bytes`: on `Ok` the message (`message.new`) equals (`≡`) what it was (`message.old`), each byte XORed with the byte
-//!   at its place in the keystream. The keystream is the blocks of the key and the nonce, in order.
+//! - `bytes`: on `Ok` the message (`message.new`) equals (`≡`) what it was (`message.old`), each byte XORed with the
+//!   byte at its place in the keystream. The keystream is the blocks of the key and the nonce, in order.
 //! - `refused`: on `Err` the message is as it was.
 //!
 //! What the prover doesn't find by itself is in `proofs/message`: a line or two for a function.
@@ -54,8 +54,8 @@ pub fn encrypt_by<C: KeyIvInit + StreamCipher + Drop>(
     C::new(key, nonce).try_apply_keystream(message)
 }
 
-/// Encrypts a message by XChaCha20 (draft-irtf-cfrg-xchacha, section 2.3), whose nonces are long enough to be random. The
-/// keystream is that of ChaCha20 under the key and the nonce that are derived from these. `Err` as in `encrypt`.
+/// Encrypts a message by XChaCha20 (draft-irtf-cfrg-xchacha, section 2.3), whose nonces are long enough to be random.
+/// The keystream is that of ChaCha20 under the key and the nonce that are derived from these. `Err` as in `encrypt`.
 pub fn encrypt_xchacha(
     key: &Key,
     nonce: &XNonce,
@@ -84,8 +84,8 @@ pub fn encrypt_legacy(
     encrypt_by::<ChaCha20Legacy>(key, nonce, message)
 }
 
-/// Three double rounds, so six rounds (this crate). Contracts see the number that stands behind `ghost`; the code has the
-/// constant.
+/// Three double rounds, so six rounds (this crate). Contracts see the number that stands behind `ghost`; the code has
+/// the constant.
 #[derive(Clone, Copy)]
 pub struct R6;
 

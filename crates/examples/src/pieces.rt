@@ -1,12 +1,12 @@
-//! A message that is encrypted piece by piece: in pieces of one length, or in two buffers. Wherever it is cut, its bytes
-//! become those that one call for all of it would make.
+//! A message that is encrypted piece by piece: in pieces of one length, or in two buffers. Wherever it is cut, its
+//! bytes become those that one call for all of it would make.
 //!
-//! The lines between a function's head and its body are its contract. The caller proves what is behind `requires` before
-//! the call; what is behind `ensures` holds after it. `apply_keystream` returns no `Result`, so it requires that the
-//! bytes end within the limit, the end of the keystream. A function that calls it requires the same (`fits`), or asks
-//! the cipher first, as `try_apply_in_pieces` does. `C.position cipher.old` is the position of the cipher's next byte
-//! before the call. `C.fixed` is all of the cipher but its position, which is its key and its nonce; its blocks, in
-//! order, are the keystream.
+//! The lines between a function's head and its body are its contract. The caller proves what is behind `requires`
+//! before the call; what is behind `ensures` holds after it. `apply_keystream` returns no `Result`, so it requires that
+//! the bytes end within the limit, the end of the keystream. A function that calls it requires the same (`fits`), or
+//! asks the cipher first, as `try_apply_in_pieces` does. `C.position cipher.old` is the position of the cipher's next
+//! byte before the call. `C.fixed` is all of the cipher but its position, which is its key and its nonce; its blocks,
+//! in order, are the keystream.
 //!
 //! What the prover doesn't find by itself is in `proofs/pieces`: for a loop, `Invariants.antt` says what holds before
 //! each turn, and `Answers.antt` why it still holds after it.
@@ -17,8 +17,8 @@ ghost use Rattle.chacha20.specs.Limit.{limit_of};
 
 use chacha20::cipher::{StreamCipher, StreamCipherError};
 
-/// XORs bytes with the keystream in pieces of `size` bytes, of which the last may be shorter (this crate). The bytes and
-/// the cipher become those of one call for all bytes. The caller proves that these end within the limit.
+/// XORs bytes with the keystream in pieces of `size` bytes, of which the last may be shorter (this crate). The bytes
+/// and the cipher become those of one call for all bytes. The caller proves that these end within the limit.
 pub fn apply_in_pieces<C: StreamCipher>(cipher: &mut C, bytes: &mut [u8], size: usize)
     requires some { 0 < size }
     requires fits { C.position cipher.old + length bytes.old ≤ limit_of C.modulus }

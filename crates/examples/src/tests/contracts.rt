@@ -1,42 +1,19 @@
 //! What callers learn from public contracts alone.
 
-ghost use Rattle.std.specs.Prelude.{◌≡◌, ◌+◌, ◌≤◌, ◌<◌, ◌^◌, ◌↔◌, ℕ, ◌*◌, length, slice_get, IsOk, OnOk, OnErr};
-ghost use Rattle.chacha20.specs.Layout.{ietf, legacy};
-ghost use Rattle.chacha20.specs.Block.{block};
+ghost use Rattle.std.specs.Prelude.{◌≡◌, ◌+◌, ◌≤◌, ◌<◌, ℕ, ◌*◌, length, slice_get, IsOk, OnOk};
 ghost use Rattle.chacha20.specs.State.{fixed_words, state_counter};
-ghost use Rattle.chacha20.specs.Keystream.{keystream, xor_stream};
 ghost use Rattle.chacha20.specs.Limit.{limit_of};
-ghost use Rattle.chacha20.specs.XChaCha.{subkey, subnonce};
 ghost use Rattle.chacha20.specs.Counts.{Grows, for_bytes};
 
-use super::{COUNTING, FROM_1, FROM_80, NONCE, X_NONCE, readme};
 use chacha20::backends::{Lanes4, Lanes8, Lanes16, Rows8, Soft};
 use chacha20::cipher::{
     KeyIvInit, RngBackend, StreamCipher, StreamCipherBackend, StreamCipherCore, StreamCipherError,
     StreamCipherSeek,
 };
-use chacha20::variants::{Ietf, Legacy, Variant};
-use chacha20::{
-    ChaCha20Legacy, ChaChaCore, Key, LegacyNonce, R20, Rounds, Steps, StreamCipherCoreWrapper,
-    XChaCha20, XChaChaCore, XNonce,
-};
+use chacha20::variants::{Ietf, Variant};
+use chacha20::{ChaChaCore, R20, Rounds, Steps, StreamCipherCoreWrapper};
 
 type Ietf20<B> = StreamCipherCoreWrapper<ChaChaCore<R20, Ietf, B>>;
-
-// A message under a key and a nonce, by any cipher. The proof rewrites by the clauses of two public contracts and by
-// one law of ciphers, and knows nothing else.
-fn encrypt<C: KeyIvInit + StreamCipher + Drop>(
-    key: &C::Key,
-    nonce: &C::Iv,
-    message: &mut [u8],
-) -> Result<(), StreamCipherError>
-    ensures accepted { IsOk result ↔ (length message.old ≤ limit_of C.modulus) }
-    ensures bytes { OnOk result (message.new
-        ≡ xor_stream (keystream C.modulus (C.blocks_of key.now nonce.now)) 0 message.old) }
-    ensures refused { OnErr result (message.new ≡ message.old) }
-{
-    C::new(key, nonce).try_apply_keystream(message)
-}
 
 // A cipher that has sought back to its position is the one that was there, by a law of ciphers.
 fn apply_and_seek_back<C: StreamCipherSeek>(cipher: &mut C, position: u128, bytes: &mut [u8])
@@ -47,77 +24,6 @@ fn apply_and_seek_back<C: StreamCipherSeek>(cipher: &mut C, position: u128, byte
     cipher.apply_keystream(bytes);
     cipher.seek(position);
 }
-
-// A message under a key and a nonce. No message is too long for a new cipher.
-fn encrypt_legacy(
-    key: &Key,
-    nonce: &LegacyNonce,
-    message: &mut [u8],
-) -> Result<(), StreamCipherError>
-    ensures accepted { IsOk result }
-    ensures bytes { OnOk result (message.new
-        ≡ xor_stream (keystream (2 ^ 64) (block 10 legacy key.now nonce.now)) 0 message.old) }
-{
-    encrypt::<ChaCha20Legacy>(key, nonce, message)
-}
-
-// A message under a key and a nonce: the cipher is that of RFC 8439 under the key and the nonce that are derived.
-fn encrypt_xchacha(key: &Key, nonce: &XNonce, message: &mut [u8]) -> Result<(), StreamCipherError>
-    ensures accepted { IsOk result ↔ (length message.old ≤ 274877906944) }
-    ensures bytes { OnOk result (message.new
-        ≡ xor_stream (keystream (2 ^ 32)
-        (block 10 ietf (subkey 10 key.now nonce.now) (subnonce nonce.now))) 0 message.old) }
-    ensures refused { OnErr result (message.new ≡ message.old) }
-{
-    encrypt::<XChaCha20>(key, nonce, message)
-}
-
-#[test]
-fn encrypted(rt: HostRuntime) {
-    let mut ietf = [0; 178];
-    let mut legacy = [0; 256];
-    let mut x = [0; 368];
-    let accepted = [
-        readme::encrypt(&COUNTING, &NONCE, &mut ietf),
-        encrypt_legacy(&FROM_1, &LEGACY_NONCE, &mut legacy),
-        encrypt_xchacha(&FROM_80, &X_NONCE, &mut x),
-    ];
-    assert!(rt; accepted == [Ok(()); 3]);
-    assert!(rt; ietf[64..].starts_with(IETF_FROM_64));
-    assert!(rt; legacy.starts_with(LEGACY) && x[64..].starts_with(XCHACHA_FROM_64));
-    assert!(rt; apply_by_soft(&mut ietf, &mut legacy, &mut x) == [Ok(()); 3]);
-    assert!(rt; ietf == [0; 178] && legacy == [0; 256] && x == [0; 368]);
-}
-
-// The same over another backend. `vectors` compares all bytes of these three streams with the published ones.
-fn apply_by_soft(
-    ietf: &mut [u8],
-    legacy: &mut [u8],
-    x: &mut [u8],
-) -> [Result<(), StreamCipherError>; 3] {
-    [
-        encrypt::<Ietf20<Soft>>(&COUNTING, &NONCE, ietf),
-        encrypt::<StreamCipherCoreWrapper<ChaChaCore<R20, Legacy, Soft>>>(
-            &FROM_1,
-            &LEGACY_NONCE,
-            legacy,
-        ),
-        encrypt::<StreamCipherCoreWrapper<XChaChaCore<R20, Soft>>>(&FROM_80, &X_NONCE, x),
-    ]
-}
-
-static LEGACY_NONCE: LegacyNonce = [3, 1, 4, 1, 5, 9, 2, 6];
-
-// The front of the keystream of RFC 8439, section 2.4.2, from block 1 on.
-static IETF_FROM_64: &[u8; 16] =
-    b"\x22\x4f\x51\xf3\x40\x1b\xd9\xe1\x2f\xde\x27\x6f\xb8\x63\x1d\xed";
-
-// The front of a stream of the Rust crate's tests.
-static LEGACY: &[u8; 16] = b"\xde\xeb\x6b\x9d\x06\xdf\xf3\xe0\x91\xbf\x3a\xd4\xf4\xd4\x92\xb6";
-
-// The front of the keystream of draft-arciszewski-xchacha-03, section A.3.2, from block 1 on.
-static XCHACHA_FROM_64: &[u8; 16] =
-    b"\x29\x62\x4b\x4b\x1b\x14\x0a\xce\x53\x74\x0e\x40\x5b\x21\x68\x54";
 
 // Two backends: the same block, and the same state after it.
 fn same_block<R: Rounds, V: Variant, A: StreamCipherBackend<R, V>, B: StreamCipherBackend<R, V>>(

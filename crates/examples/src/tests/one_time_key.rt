@@ -1,6 +1,7 @@
 //! Published one-time keys, and a message.
 
-use super::message::{FROM_80, PLAINTEXT};
+use super::FROM_80;
+use super::message::PLAINTEXT;
 use crate::one_time_key::{encrypt_from_block_1, one_time_key};
 use chacha20::Nonce;
 

@@ -1,6 +1,7 @@
 //! A published message in pieces.
 
-use super::message::{CIPHERTEXT, COUNTING, NONCE, PLAINTEXT};
+use super::message::{CIPHERTEXT, PLAINTEXT};
+use super::{COUNTING, NONCE};
 use crate::pieces::{apply_in_pieces, apply_in_two, try_apply_in_pieces};
 use chacha20::ChaCha20;
 use chacha20::cipher::KeyIvInit;

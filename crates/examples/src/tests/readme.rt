@@ -1,24 +1,12 @@
 //! The examples of the README, as a user writes them.
 
-ghost use Rattle.std.specs.Prelude.{◌≡◌, ◌≤◌, ◌^◌, ◌↔◌, length, IsOk, OnOk, OnErr};
-ghost use Rattle.chacha20.specs.Block.{block};
-ghost use Rattle.chacha20.specs.Keystream.{keystream, xor_stream};
-ghost use Rattle.chacha20.specs.Layout.{ietf};
+ghost use Rattle.std.specs.Prelude.{◌≤◌, length};
 
+use crate::message::encrypt;
 use chacha20::cipher::{KeyIvInit, StreamCipher, StreamCipherError, StreamCipherSeek};
 use chacha20::{ChaCha20, ChaCha20Rng, Key, Nonce};
 
-// A message under a key and a nonce, as RFC 8439 has it.
-pub fn encrypt(key: &Key, nonce: &Nonce, message: &mut [u8]) -> Result<(), StreamCipherError>
-    ensures accepted { IsOk result ↔ (length message.old ≤ 274877906944) }
-    ensures bytes { OnOk result (message.new
-        ≡ xor_stream (keystream (2 ^ 32) (block 10 ietf key.now nonce.now)) 0 message.old) }
-    ensures refused { OnErr result (message.new ≡ message.old) }
-{
-    ChaCha20::new(key, nonce).try_apply_keystream(message)
-}
-
-// The same call for callers who prove that the message is not too long.
+// `encrypt` for callers who prove that the message is not too long.
 fn encrypt_short(key: &Key, nonce: &Nonce, message: &mut [u8])
     requires { length message.old ≤ 274877906944 }
 {

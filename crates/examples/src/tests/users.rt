@@ -1,4 +1,4 @@
-//! What users write over the contracts: rounds of their own, and code that is generic in a cipher or a backend.
+//! What users write over the contracts: code for a window, and code that is generic in a backend.
 
 ghost use Rattle.std.specs.Prelude.{◌≡◌, ◌↔◌, ◌≤◌, ◌+◌, ◌^◌, ℕ, List, ◌++◌, take, drop, length, IsOk, OnOk, OnErr};
 ghost use Rattle.chacha20.specs.Layout.{ietf};
@@ -6,44 +6,13 @@ ghost use Rattle.chacha20.specs.Block.{block};
 ghost use Rattle.chacha20.specs.Keystream.{keystream, xor_stream};
 ghost use Rattle.chacha20.specs.Generator.{next_u32, repeated};
 
-use super::readme::encrypt;
-use chacha20::backends::{Lanes8, Lanes16, Soft};
+use crate::message::encrypt;
+use chacha20::backends::{Lanes8, Soft};
 use chacha20::cipher::{
     KeyIvInit, RngBackend, StreamCipher, StreamCipherBackend, StreamCipherError, StreamCipherSeek,
 };
 use chacha20::variants::Ietf;
 use chacha20::{ChaCha20, ChaChaCore, ChaChaRng, Key, Nonce, R20, Rounds, StreamCipherCoreWrapper};
-
-// Three double rounds. Clauses see the number that stands behind `ghost`; the code has the constant.
-#[derive(Clone, Copy)]
-struct R6;
-
-impl Rounds for R6 {
-    ghost COUNT = { 3 };
-
-    const COUNT: usize = 3;
-}
-
-type ChaCha6 = StreamCipherCoreWrapper<ChaChaCore<R6, Ietf, Lanes16>>;
-
-// A message under a key and a nonce, with three double rounds.
-fn encrypt_6(key: &Key, nonce: &Nonce, message: &mut [u8]) -> Result<(), StreamCipherError>
-    ensures accepted { IsOk result ↔ (length message.old ≤ 274877906944) }
-    ensures bytes { OnOk result (message.new
-        ≡ xor_stream (keystream (2 ^ 32) (block 3 ietf key.now nonce.now)) 0 message.old) }
-    ensures refused { OnErr result (message.new ≡ message.old) }
-{
-    ChaCha6::new(key, nonce).try_apply_keystream(message)
-}
-
-#[test]
-fn own_rounds(rt: HostRuntime) {
-    let mut message = *b"attack at dawn";
-    let there = encrypt_6(&[1; 32], &[2; 12], &mut message).is_ok();
-    let encrypted = message;
-    let back = encrypt_6(&[1; 32], &[2; 12], &mut message).is_ok();
-    assert!(rt; there && back && encrypted != message && message == *b"attack at dawn");
-}
 
 // Decrypts a window of a ciphertext, by a seek to its start: it becomes the same window of every message whose
 // ciphertext has these bytes there.

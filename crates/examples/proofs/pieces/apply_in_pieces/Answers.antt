@@ -16,7 +16,8 @@ pieces-preserved g c =
     let n = c.min.result in
     let before = c.pieces.invariant in
     let inside : done + n ≤ length c.pieces.bytes = omega arith in
-    let taken : length (take (done + n - done) (drop done c.pieces.bytes)) ≡ n = piece-long done n c.pieces.bytes inside in
+    let taken : length (take (done + n - done) (drop done c.pieces.bytes)) ≡ n =
+    piece-long done n c.pieces.bytes inside in
     let size : length c.apply_keystream.new.buf ≡ n = c.apply_keystream.auto.buf ∙ taken in
     record {
       within = omega arith;

@@ -1,19 +1,9 @@
-use Rattle.std.proofs.Common.{◌≡◌, ℕ, ◌+◌, ◌-◌, ◌≤◌, List, length, take, drop, arith, ap, sym, ◌∙◌}
-use Rattle.std.proofs.Math.Seq.{drop-drop}
+use Rattle.std.proofs.Common.{◌≡◌, ◌+◌, ◌-◌, length, take, drop, arith, ◌∙◌}
 use Rattle.std.proofs.lemmas.Grind.{common_steps}
-use Rattle.std.proofs.lemmas.Slice.{drop-put_mid}
-use borrow.Rule.Slice.PartMut.{put_mid}
 use Rattle.chacha20.specs.Keystream.{keystream}
 use Rattle.chacha20.proofs.CipherLemmas.{moved_on}
-use Rattle.chacha20.proofs.PieceLemmas.{xor_stream-written}
+use Rattle.chacha20.proofs.PieceLemmas.{xor_stream-written, rest-written}
 use Rattle.vectors.proofs.rows.ciphers.apply_in_pieces.Goals as goal
-
--- what stands behind a piece stays when the piece is written
-rest-written : (done n k : ℕ) (whole bytes piece : List ℕ) → done + k ≤ done + n → done ≤ length bytes → length piece ≡ k
-    → drop done bytes ≡ drop done whole → drop (done + n) (put_mid done k bytes piece) ≡ drop (done + n) whole
-rest-written done n k whole bytes piece within inside size before =
-    drop-put_mid done k bytes piece (done + n) within inside size
-    ∙ sym (drop-drop n done bytes) ∙ ap (drop n) before ∙ drop-drop n done whole
 
 pub pieces-preserved : goal.pieces-preserved
 pieces-preserved g c =

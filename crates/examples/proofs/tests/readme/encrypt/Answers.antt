@@ -1,4 +1,0 @@
-use Rattle.examples.proofs.tests.readme.encrypt.Goals as goal
-
-pub returns-clause-bytes : goal.returns-clause-bytes
-returns-clause-bytes c = rw (← c.new.ensures.blocks, ← c.new.ensures.first) c.try_apply_keystream.ensures.bytes
