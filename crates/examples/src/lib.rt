@@ -5,5 +5,6 @@
 pub mod message;
 pub mod one_time_key;
 pub mod pieces;
+pub mod file;
 #[cfg(test)]
 mod tests;
