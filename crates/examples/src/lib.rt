@@ -6,5 +6,6 @@ pub mod message;
 pub mod one_time_key;
 pub mod pieces;
 pub mod file;
+pub mod records;
 #[cfg(test)]
 mod tests;

@@ -20,6 +20,6 @@ returns-clause-plaintext c plaintext same =
     let sought = c.in_ok-try_seek.ensures in
     let apply = c.try_apply_keystream_b2b in
     let bytes : OnOk apply.result (apply.new.output
-        ≡ xor_stream stream start (slice_range c.args.file.now start (start + length c.args.window.now))) =
+    ≡ xor_stream stream start (slice_range c.args.file.now start (start + length c.args.window.now))) =
     rw (← c.new-cipher.ensures.blocks) (rw (sought.fixed, sought.position) at apply.ensures.bytes) in
     rw decrypted at bytes

@@ -1,0 +1,104 @@
+//! A file of encrypted records, each of which can be overwritten.
+//!
+//! ChaCha20 XORs (exclusive or) a text with a keystream, which a key and a nonce determine. Were a record overwritten
+//! under the same nonce, then whoever has both ciphertexts would learn the XOR of both texts. So each write takes a nonce
+//! of its own, made of the record's number and of its version, which each write raises by one. The version is stored
+//! beside the bytes, and is no secret. The text between a function's head and its body is its contract, which is proved
+//! for all inputs: `ensures` is what holds at the return. The contracts say that no write takes a nonce that the file had
+//! before, that what was written is read, and that a write leaves all other records alone.
+//!
+//! Versions that are rolled back are outside this: to write to an older copy of a file takes nonces again. Whoever keeps
+//! copies of the file sees which records were written in between. Nothing is authenticated: whoever changes a bit of a
+//! record changes that bit of its text, and no read notices it.
+
+ghost use Rattle.std.specs.Prelude.{◌≡◌, ◌≢◌, ◌↔◌, ◌<◌, ◌≤◌, ◌+◌, ◌-◌, ◌^◌, ℕ, length, IsOk, OnOk, OnErr};
+ghost use Rattle.examples.specs.Records.{nonce_of, record_at, text_of};
+
+use chacha20::cipher::{KeyIvInit, StreamCipher, StreamCipherError};
+use chacha20::{ChaCha20, Key, Nonce};
+
+/// How many bytes a record has. Any length up to 274877906944 (256 GiB) will do (this crate).
+pub const LEN: usize = 64;
+
+/// An encrypted record, and how often it has been written. A new file has records of version 0 (this crate).
+#[derive(Clone, Copy)]
+pub struct Record {
+    pub version: u64,
+    pub bytes: [u8; LEN],
+}
+
+/// The nonce of a version of a record: the number in 4 bytes and the version in 8, the low byte first (this crate). No
+/// other number or version has it.
+pub fn nonce(number: u32, version: u64) -> Nonce
+    ensures value { result ≡ nonce_of number version }
+    ensures distinct { (n v : ℕ) → n < 2 ^ 32 → v < 2 ^ 64 → nonce_of n v ≡ result
+        → (n ≡ number) × (v ≡ version) }
+{
+    let mut nonce = [0; 12];
+    nonce[..4].copy_from_slice(&number.to_le_bytes());
+    nonce[4..].copy_from_slice(&version.to_le_bytes());
+    nonce
+}
+
+/// Writes a record: encrypts the text under the record's next version. `Err` exactly where the file has no record of
+/// this number, counted from 0, or the record's versions are used up, after 2^64 - 1 writes; then nothing changes (this
+/// crate).
+pub fn write(
+    key: &Key,
+    records: &mut [Record],
+    number: u32,
+    text: &[u8; LEN],
+) -> Result<(), StreamCipherError>
+    ensures accepted { IsOk result ↔ ((number < length records.old)
+        × ((record_at records.old number).version < 2 ^ 64 - 1)) }
+    ensures version { OnOk result ((record_at records.new number).version
+        ≡ (record_at records.old number).version + 1) }
+    ensures fresh { OnOk result ((n v : ℕ) → n < 2 ^ 32 → v < 2 ^ 64
+        → v ≤ (record_at records.old n).version
+        → nonce_of n v ≢ nonce_of number (record_at records.new number).version) }
+    ensures text { OnOk result
+        (text_of key.now number (record_at records.new number) ≡ text.now) }
+    ensures others { OnOk result
+        ((n : ℕ) → n ≢ number → record_at records.new n ≡ record_at records.old n) }
+    ensures refused { OnErr result (records.new ≡ records.old) }
+{
+    let place = number as usize;
+    if place >= records.len() || records[place].version == u64::MAX {
+        return Err(StreamCipherError);
+    }
+    let version = records[place].version + 1;
+    let mut bytes = *text;
+    ChaCha20::new(key, &nonce(number, version)).apply_keystream(&mut bytes);
+    records[place] = Record { version, bytes };
+    Ok(())
+}
+
+/// Reads the text of a record. `Err` exactly where the record has not been written, or the file has none of this number;
+/// then the text stays (this crate).
+pub fn read(
+    key: &Key,
+    records: &[Record],
+    number: u32,
+    text: &mut [u8; LEN],
+) -> Result<(), StreamCipherError>
+    ensures accepted { IsOk result ↔ (0 < (record_at records.now number).version) }
+    ensures text { OnOk result
+        (text.new ≡ text_of key.now number (record_at records.now number)) }
+    ensures refused { OnErr result (text.new ≡ text.old) }
+{
+    let place = number as usize;
+    if place >= records.len() || records[place].version == 0 {
+        return Err(StreamCipherError);
+    }
+    decrypt(key, number, &records[place], text);
+    Ok(())
+}
+
+// The text of a record of this number.
+fn decrypt(key: &Key, number: u32, record: &Record, text: &mut [u8; LEN])
+    ensures { text.new ≡ text_of key.now number «record».now }
+{
+    let mut bytes = record.bytes;
+    ChaCha20::new(key, &nonce(number, record.version)).apply_keystream(&mut bytes);
+    *text = bytes;
+}
