@@ -1,13 +1,13 @@
-//! An encrypted file of which any part is read, and records are written, without the rest.
+//! Reads any part of an encrypted file, and encrypts any record of one, without the rest.
 //!
 //! ChaCha20 XORs (exclusive or) byte i of a file with byte i of a keystream. So a part is decrypted by a seek to its
-//! place: no byte before it is computed. The text between a function's head and its body is its contract, which is
-//! proved for all inputs: `requires` is what callers must show, `ensures` what holds at the return. The contract of
-//! `read_at` says: of every plaintext whose ciphertext the file is, the bytes at that place are read.
+//! place, and no byte before it is computed. The text between a function's head and its body is its contract, which is
+//! proved for all inputs: `ensures` says what holds when the call returns. The contract of `read_at` says that, for
+//! every plaintext whose ciphertext the file is, it reads the bytes at that place of the plaintext.
 //!
-//! A keystream serves each place once. Whoever has two ciphertexts of one place learns the XOR of their texts; for
-//! records that are overwritten take `records`. Nothing here is authenticated: whoever changes a bit of the file changes
-//! that bit of the text, and no read notices it.
+//! Take a nonce of its own for each file, and write each place once: the XOR of two ciphertexts of one place is the XOR
+//! of their texts. For records that are overwritten see `records.rt`. Nothing is authenticated: where a bit of the file
+//! is changed, that bit of the plaintext changes, and no read notices it.
 
 ghost use Rattle.std.specs.Prelude.{◌≡◌, ◌↔◌, ◌≤◌, ◌+◌, ◌*◌, ◌^◌, ℕ, List, length, IsOk, OnOk, OnErr};
 ghost use Rattle.std.specs.List.{slice_range};
@@ -63,9 +63,9 @@ pub fn encrypt_record<S: StreamCipherSeek>(
     ensures refused { OnErr result ((bytes.new ≡ bytes.old) × (cipher.new ≡ cipher.old)) }
 {
     let len = bytes.len() as u128;
-    let start = u128::from(number) * len;
+    let front = u128::from(number) * len;
     // A seek to the record's end shows that all of it is below the limit.
-    cipher.try_seek(start + len)?;
-    cipher.try_seek(start)?;
+    cipher.try_seek(front + len)?;
+    cipher.try_seek(front)?;
     cipher.try_apply_keystream(bytes)
 }

@@ -1,15 +1,17 @@
 //! A file of encrypted records, each of which can be overwritten.
 //!
-//! ChaCha20 XORs (exclusive or) a text with a keystream, which a key and a nonce determine. Were a record overwritten
-//! under the same nonce, then whoever has both ciphertexts would learn the XOR of both texts. So each write takes a nonce
-//! of its own, made of the record's number and of its version, which each write raises by one. The version is stored
-//! beside the bytes, and is no secret. The text between a function's head and its body is its contract, which is proved
-//! for all inputs: `ensures` is what holds at the return. The contracts say that no write takes a nonce that the file had
-//! before, that what was written is read, and that a write leaves all other records alone.
+//! ChaCha20 XORs (exclusive or) a text with a keystream, which the key and the nonce determine. If a record were
+//! overwritten under the same nonce, the XOR of its two ciphertexts would be the XOR of its two texts. So each write
+//! takes a new nonce: the record's number, and its version, which every write raises by one. The version is stored next
+//! to the bytes, and isn't secret. The text between a function's head and its body is its contract, which is proved for
+//! all inputs: `ensures` says what holds when the call returns. The contracts say that a write takes a nonce that no
+//! record of the file has had, that a read gives what was written, and that a write leaves all other records as they
+//! are.
 //!
-//! Versions that are rolled back are outside this: to write to an older copy of a file takes nonces again. Whoever keeps
-//! copies of the file sees which records were written in between. Nothing is authenticated: whoever changes a bit of a
-//! record changes that bit of its text, and no read notices it.
+//! Take a new key for each file, since two files have the same nonces. The contracts do not cover a file whose versions
+//! are rolled back, as from a backup: the next write takes a nonce again. Nor do they cover an attacker who keeps a
+//! copy of the file: it shows which records are written later, and an older record that is put back is read. Nothing is
+//! authenticated: where a bit of a record is changed, that bit of its text changes, and no read notices it.
 
 ghost use Rattle.std.specs.Prelude.{◌≡◌, ◌≢◌, ◌↔◌, ◌<◌, ◌≤◌, ◌+◌, ◌-◌, ◌^◌, ℕ, length, IsOk, OnOk, OnErr};
 ghost use Rattle.examples.specs.Records.{nonce_of, record_at, text_of};
@@ -73,8 +75,8 @@ pub fn write(
     Ok(())
 }
 
-/// Reads the text of a record. `Err` exactly where the record has not been written, or the file has none of this number;
-/// then the text stays (this crate).
+/// Reads the text of a record. `Err` exactly where the record has not been written, or the file has none of this
+/// number; then the text stays (this crate).
 pub fn read(
     key: &Key,
     records: &[Record],
@@ -95,10 +97,10 @@ pub fn read(
 }
 
 // The text of a record of this number.
-fn decrypt(key: &Key, number: u32, record: &Record, text: &mut [u8; LEN])
-    ensures { text.new ≡ text_of key.now number «record».now }
+fn decrypt(key: &Key, number: u32, stored: &Record, text: &mut [u8; LEN])
+    ensures { text.new ≡ text_of key.now number stored.now }
 {
-    let mut bytes = record.bytes;
-    ChaCha20::new(key, &nonce(number, record.version)).apply_keystream(&mut bytes);
+    let mut bytes = stored.bytes;
+    ChaCha20::new(key, &nonce(number, stored.version)).apply_keystream(&mut bytes);
     *text = bytes;
 }

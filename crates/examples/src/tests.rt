@@ -4,6 +4,7 @@
 mod base;
 mod contracts;
 mod draws;
+mod file;
 mod generator_cores;
 mod generator_states;
 mod message;
@@ -11,6 +12,7 @@ mod names;
 mod one_time_key;
 mod pieces;
 mod readme;
+mod records;
 mod texts;
 mod users;
 mod xchacha;

@@ -12,7 +12,6 @@ mod generator_traits;
 mod generators;
 mod odd_cuts;
 mod positions;
-mod records;
 mod rfc8439;
 mod runs;
 mod streams;

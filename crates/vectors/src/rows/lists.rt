@@ -12,7 +12,7 @@ use chacha20::{
     run_cipher, run_rng,
 };
 
-/// At most 32 calls on a cipher, over at most 128 bytes of data.
+/// At most 32 calls on a cipher, over at most 400 bytes of data.
 pub struct CipherList {
     pub name: &'static str,
     pub input: &'static [u8],
@@ -128,8 +128,8 @@ pub fn answers_are<C: Listed>(
 }
 
 fn is_right<C: Listed>(cipher: &mut C, list: &CipherList) -> bool {
-    let mut buffer = [0; 128];
-    let len = list.data.len().min(128);
+    let mut buffer = [0; 400];
+    let len = list.data.len().min(400);
     let data = &mut buffer[..len];
     data.copy_from_slice(&list.data[..len]);
     answers_are(cipher, list.input, data, list.calls, list.answers) && data.ends_with(list.after)

@@ -9,7 +9,7 @@ use super::streams::{X_KEY, X_NONCE, XCHACHA_FROM_64, legacy_stream};
 use super::width3::Width3;
 use super::{
     all_right, backends, beside, core_calls, derived, ends, generator_runs, generator_traits,
-    generators, odd_cuts, positions, records, rfc8439, runs, streams, wraps,
+    generators, odd_cuts, positions, rfc8439, runs, streams, wraps,
 };
 use crate::rows::ciphers::{self, IETF_ROWS, LEGACY_ROWS, NONCE_4, NumberedLists, X_ROWS};
 use crate::rows::lists::{CipherList, Listed, wrong_list};
@@ -56,6 +56,7 @@ fn wrong_ietf<C: Fresh<Nonce>>() -> Verdict {
         wrong_rows::<Nonce, C>(&COUNTING, &NONCE_4, &IETF_ROWS),
         wrong_lists::<Nonce, C>(&[0x42; 32], &[0x24; 12], &runs::ROW_1),
         wrong_lists::<Nonce, C>(&COUNTING, &[0; 12], &ends::IETF_ENDS),
+        wrong_lists::<Nonce, C>(&COUNTING, &[0; 12], &runs::RECORDS),
         rfc8439::wrong_example::<C>(),
         odd_cuts::wrong_cuts::<Nonce, C>(&[7; 12]),
     ])
@@ -139,7 +140,6 @@ where
     first_failure(&[
         ends::wrong_ietf_types::<C>(),
         positions::wrong_positions::<C>(),
-        records::wrong_records::<C>(),
     ])
 }
 

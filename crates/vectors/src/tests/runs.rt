@@ -1,4 +1,4 @@
-//! A run on the cipher without rounds, and row 1 as lists of calls.
+//! A run on the cipher without rounds; row 1, and records of a file, as lists of calls.
 
 use super::direct::all_done;
 use crate::rows::lists::{CipherList, Listed, answers_are};
@@ -131,6 +131,49 @@ pub static ROW_1: [CipherList; 3] = [
         after: &CIPHERTEXT,
     },
 ];
+
+/// Four records of 100 bytes, in any order: together they undo one application of the whole. A record past the end is
+/// refused, which changes neither bytes nor position.
+pub static RECORDS: [CipherList; 1] = [CipherList {
+    name: "records, which are the whole; one past the end, which stays, and the position after it",
+    input: &[],
+    data: &[9; 400],
+    calls: &[
+        CipherCall::Apply { at: 0, len: 400 },
+        CipherCall::Seek(300),
+        CipherCall::Seek(200),
+        CipherCall::Apply { at: 200, len: 100 },
+        CipherCall::Seek(100),
+        CipherCall::Seek(0),
+        CipherCall::Apply { at: 0, len: 100 },
+        CipherCall::Seek(400),
+        CipherCall::Seek(300),
+        CipherCall::Apply { at: 300, len: 100 },
+        CipherCall::Seek(200),
+        CipherCall::Seek(100),
+        CipherCall::Apply { at: 100, len: 100 },
+        CipherCall::Seek(400 << 64),
+        CipherCall::Pos,
+    ],
+    answers: &[
+        CipherAnswer::Done,
+        CipherAnswer::Done,
+        CipherAnswer::Done,
+        CipherAnswer::Done,
+        CipherAnswer::Done,
+        CipherAnswer::Done,
+        CipherAnswer::Done,
+        CipherAnswer::Done,
+        CipherAnswer::Done,
+        CipherAnswer::Done,
+        CipherAnswer::Done,
+        CipherAnswer::Done,
+        CipherAnswer::Done,
+        CipherAnswer::Refused,
+        CipherAnswer::Position(200),
+    ],
+    after: &[9; 400],
+}];
 
 const PLAINTEXT: [u8; 16] = [0, 1, 2, 3, 4, 5, 6, 7, 8, 9, 10, 11, 12, 13, 14, 15];
 

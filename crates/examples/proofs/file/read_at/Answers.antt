@@ -1,4 +1,4 @@
-use Rattle.std.proofs.Common.{◌≡◌, ◌+◌, ◌^◌, ◌-◌, take, drop, length, ap, zero-add, arith, ◌∙◌}
+use Rattle.std.proofs.Common.{◌≡◌, ◌+◌, ◌^◌, ◌-◌, take, drop, length, ap, zero-add, ◌∙◌}
 use Rattle.std.specs.Prelude.{OnOk}
 use Rattle.std.specs.List.{slice_range}
 use Rattle.chacha20.specs.Block.{block}
@@ -7,19 +7,20 @@ use Rattle.chacha20.specs.Layout.{ietf}
 use Rattle.chacha20.proofs.KeystreamLemmas.{xor_stream-xor_stream, window-xor_stream}
 use Rattle.examples.proofs.file.read_at.Goals as goal
 
--- The window of a ciphertext is the ciphertext of that window, from its place on; a second XOR takes the first away.
+-- A window of a ciphertext is that window of the plaintext, XORed from its place on; a second XOR undoes the first.
 pub returns-clause-plaintext : goal.returns-clause-plaintext
 returns-clause-plaintext c plaintext same =
     let stream = keystream (2 ^ 32) (block 10 ietf c.args.key.now c.args.nonce.now) in
     let start = c.args.start in
-    let n = start + length c.args.window.now - start in
-    let part = slice_range plaintext start (start + length c.args.window.now) in
-    let encrypted : slice_range c.args.file.now start (start + length c.args.window.now) ≡ xor_stream stream start part =
-    ap (λ file. take n (drop start file)) same ∙ (rw zero-add at (window-xor_stream stream 0 start n plaintext)) in
+    let end = start + length c.args.window.now in
+    let part = slice_range plaintext start end in
+    let stored = slice_range c.args.file.now start end in
+    let encrypted : stored ≡ xor_stream stream start part =
+    ap (λ file. take (end - start) (drop start file)) same
+    ∙ (rw zero-add at (window-xor_stream stream 0 start (end - start) plaintext)) in
     let decrypted = ap (xor_stream stream start) encrypted ∙ xor_stream-xor_stream stream start part in
     let sought = c.in_ok-try_seek.ensures in
     let apply = c.try_apply_keystream_b2b in
-    let bytes : OnOk apply.result (apply.new.output
-    ≡ xor_stream stream start (slice_range c.args.file.now start (start + length c.args.window.now))) =
+    let bytes : OnOk apply.result (apply.new.output ≡ xor_stream stream start stored) =
     rw (← c.new-cipher.ensures.blocks) (rw (sought.fixed, sought.position) at apply.ensures.bytes) in
     rw decrypted at bytes
