@@ -7,5 +7,6 @@ pub mod one_time_key;
 pub mod pieces;
 pub mod file;
 pub mod records;
+pub mod frames;
 #[cfg(test)]
 mod tests;

@@ -5,6 +5,7 @@ mod base;
 mod contracts;
 mod draws;
 mod file;
+mod frames;
 mod generator_cores;
 mod generator_states;
 mod message;
