@@ -1,25 +1,40 @@
-//! Frames under one key: a sender numbers and encrypts them, and a receiver decrypts them in the same order.
+//! Frames under one key: a sender encrypts messages in order, and a receiver decrypts them in the same order.
+//!
+//! The nonce of a frame is its channel, which is four bytes, and then its number, which is eight bytes with the low byte
+//! first. Both sides count from 0, so a frame is as long as its message. No two frames have the same nonce if two rules
+//! are kept. Each direction has a channel of its own: two senders on one channel would use the same nonces. And a sender
+//! that stops goes on where it stopped: after `encrypt` store what `next` returns, then send the frame, and later call
+//! `resume`.
+//!
+//! Nothing here authenticates. Who can change a frame can change its message, and after a frame that is lost or comes
+//! twice the receiver has the wrong number. So send a MAC with each frame, made under a key of its own from the channel,
+//! the number and the encrypted bytes. The receiver makes it from its own `next`, and calls `decrypt` only if it is
+//! right.
+//!
+//! The lines `ensures` are facts about a call, each proved for every input before this file is compiled. There `x.old`
+//! and `x.new` are what `x` holds before and after the call, `x.now` is what a `&` argument holds, and `OnOk result`
+//! begins what is true if the call returns `Ok`. `specs/Frames.antt` defines the other words.
 
-ghost use Rattle.std.specs.Prelude.{◌≡◌, ◌<◌, ◌≤◌, ◌↔◌, ◌+◌, ◌^◌, ℕ, List, length, IsOk, IsErrOf, IfOk, OnOk, OnErr};
+ghost use Rattle.std.specs.Prelude.{◌≡◌, ◌<◌, ◌≤◌, ◌↔◌, ◌+◌, ◌^◌, ℕ, List, length, IsOk, IsErrOf, OnOk, OnErr};
 ghost use Rattle.examples.specs.Frames.{Endpoint, nonce_of, encrypted, after};
 
 use chacha20::cipher::{KeyIvInit, StreamCipher};
 use chacha20::{ChaCha20, Key, Nonce};
 use std::marker::Model;
 
-/// The name of one direction between two sides, which both know.
+/// What names a direction, so that the frames of two directions differ in their nonces (this crate).
 pub type Channel = [u8; 4];
 
-/// Why a frame is refused. Nothing has changed then.
+/// Why a call refused a frame. It has changed nothing (this crate).
 #[derive(Clone, Copy, Debug, PartialEq, Eq)]
 pub enum FrameError {
-    /// No number is left: take another key.
+    /// All numbers below 2^64 - 1 are used: take another key.
     NumbersUsedUp,
-    /// The frame has more than 274877906944 bytes (256 GiB), which is all that one nonce serves: cut it.
+    /// The frame has more than 274877906944 bytes (256 GiB), the most for one nonce: cut it into several.
     FrameTooLong,
 }
 
-/// Encrypts frames, each under the next number.
+/// Encrypts messages, each as the frame with the next number (this crate).
 #[derive(Drop)]
 pub struct Sender {
     key: Key,
@@ -36,14 +51,14 @@ impl Model for Sender {
 }
 
 impl Sender {
-    /// The sender of a key and a channel. Its first frame has number 0.
+    /// A sender whose first frame has number 0. No other sender may have this key and this channel.
     pub fn new(key: &Key, channel: &Channel) -> Self
         ensures { result ≡ record { key = key.now; channel = channel.now; next = 0 } }
     {
         Sender::resume(key, channel, 0)
     }
 
-    /// A sender whose first frame has this number. It must be what `next` returned, or greater.
+    /// A sender whose first frame has this number: what `next` returned, or more.
     pub fn resume(key: &Key, channel: &Channel, next: u64) -> Self
         ensures { result ≡ record { key = key.now; channel = channel.now; next = next } }
     {
@@ -61,22 +76,22 @@ impl Sender {
         self.next
     }
 
-    /// Encrypts the next frame in place.
-    pub fn encrypt(&mut self, frame: &mut [u8]) -> Result<(), FrameError>
+    /// Encrypts a message in place (RFC 8439, section 2.4, from block 0 on): it becomes the next frame. `Err` exactly
+    /// where the numbers are used up or the message is longer than 274877906944 bytes; then nothing changes.
+    pub fn encrypt(&mut self, message: &mut [u8]) -> Result<(), FrameError>
         ensures accepted { IsOk result
-            ↔ ((self.old.next + 1 < 2 ^ 64) × (length frame.old ≤ 274877906944)) }
+            ↔ ((self.old.next + 1 < 2 ^ 64) × (length message.old ≤ 274877906944)) }
         ensures used_up { IsErrOf result FrameError.NumbersUsedUp
             ↔ (self.old.next + 1 ≡ 2 ^ 64) }
-        ensures bytes { OnOk result (frame.new ≡ encrypted self.old frame.old) }
+        ensures frame { OnOk result (message.new ≡ encrypted self.old message.old) }
         ensures next { OnOk result (self.new ≡ after self.old) }
-        ensures refused { OnErr result ((frame.new ≡ frame.old) × (self.new ≡ self.old)) }
+        ensures refused { OnErr result ((message.new ≡ message.old) × (self.new ≡ self.old)) }
     {
-        self.next = apply(&self.key, &self.channel, self.next, frame)?;
-        Ok(())
+        apply(&self.key, &self.channel, &mut self.next, message)
     }
 }
 
-/// Decrypts the frames of a sender, in their order.
+/// Decrypts the frames of a sender, in their order (this crate).
 #[derive(Drop)]
 pub struct Receiver {
     key: Key,
@@ -93,7 +108,7 @@ impl Model for Receiver {
 }
 
 impl Receiver {
-    /// The receiver of a key and a channel. Its first frame has number 0.
+    /// A receiver whose first frame has number 0.
     pub fn new(key: &Key, channel: &Channel) -> Self
         ensures { result ≡ record { key = key.now; channel = channel.now; next = 0 } }
     {
@@ -118,7 +133,9 @@ impl Receiver {
         self.next
     }
 
-    /// Decrypts the next frame in place.
+    /// Decrypts the next frame in place: it becomes the message from which a sender with this key, channel and number
+    /// made it. `Err` exactly where the numbers are used up or the frame is longer than 274877906944 bytes; then
+    /// nothing changes.
     pub fn decrypt(&mut self, frame: &mut [u8]) -> Result<(), FrameError>
         ensures accepted { IsOk result
             ↔ ((self.old.next + 1 < 2 ^ 64) × (length frame.old ≤ 274877906944)) }
@@ -129,12 +146,11 @@ impl Receiver {
         ensures next { OnOk result (self.new ≡ after self.old) }
         ensures refused { OnErr result ((frame.new ≡ frame.old) × (self.new ≡ self.old)) }
     {
-        self.next = apply(&self.key, &self.channel, self.next, frame)?;
-        Ok(())
+        apply(&self.key, &self.channel, &mut self.next, frame)
     }
 }
 
-/// The nonce of a frame: no other channel and no other number has it.
+/// The nonce of a frame (this crate). No other channel and no other number below 2^64 has it.
 pub fn nonce_of(channel: &Channel, number: u64) -> Nonce
     ensures value { result ≡ nonce_of channel.now number }
     ensures distinct { (other : List ℕ) (i : ℕ) → length other ≡ 4 → i < 2 ^ 64
@@ -146,26 +162,25 @@ pub fn nonce_of(channel: &Channel, number: u64) -> Nonce
     nonce
 }
 
-// XORs a frame with the keystream of its number, and returns the next number.
-fn apply(
-    key: &Key,
-    channel: &Channel,
-    number: u64,
-    frame: &mut [u8],
-) -> Result<u64, FrameError>
+// XORs bytes with the keystream of the next number, and adds one to the number.
+fn apply(key: &Key, channel: &Channel, next: &mut u64, bytes: &mut [u8]) -> Result<(), FrameError>
     ensures accepted { IsOk result
-        ↔ ((number + 1 < 2 ^ 64) × (length frame.old ≤ 274877906944)) }
-    ensures used_up { IsErrOf result FrameError.NumbersUsedUp ↔ (number + 1 ≡ 2 ^ 64) }
-    ensures bytes { OnOk result (frame.new ≡ encrypted
-        (record { key = key.now; channel = channel.now; next = number }) frame.old) }
-    ensures next { IfOk result (λ next. next ≡ number + 1) }
-    ensures refused { OnErr result (frame.new ≡ frame.old) }
+        ↔ ((next.old + 1 < 2 ^ 64) × (length bytes.old ≤ 274877906944)) }
+    ensures used_up { IsErrOf result FrameError.NumbersUsedUp ↔ (next.old + 1 ≡ 2 ^ 64) }
+    ensures bytes { OnOk result (bytes.new ≡ encrypted
+        (record { key = key.now; channel = channel.now; next = next.old }) bytes.old) }
+    ensures next { OnOk result (next.new ≡ next.old + 1) }
+    ensures refused { OnErr result ((bytes.new ≡ bytes.old) × (next.new ≡ next.old)) }
 {
-    let Some(next) = number.checked_add(1) else {
+    let Some(after) = next.checked_add(1) else {
         return Err(FrameError::NumbersUsedUp);
     };
-    match ChaCha20::new(key, &nonce_of(channel, number)).try_apply_keystream(frame) {
-        Ok(()) => Ok(next),
+    let nonce = nonce_of(channel, *next);
+    match ChaCha20::new(key, &nonce).try_apply_keystream(bytes) {
+        Ok(()) => {
+            *next = after;
+            Ok(())
+        }
         Err(_) => Err(FrameError::FrameTooLong),
     }
 }

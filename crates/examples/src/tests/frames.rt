@@ -19,7 +19,8 @@ fn published(rt: HostRuntime) {
     assert!(rt; accepted && frame.ends_with(ENCRYPTED));
 }
 
-static MESSAGE: &[u8; 114] = b"Ladies and Gentlemen of the class of '99: If I could offer you only one tip for \
+static MESSAGE: &[u8; 114] =
+    b"Ladies and Gentlemen of the class of '99: If I could offer you only one tip for \
     the future, sunscreen would be it.";
 
 static ENCRYPTED: &[u8; 114] = b"\
