@@ -1,4 +1,4 @@
-use Rattle.std.proofs.Common.{◌≡◌, ◌∙◌, ℕ, ap}
+use Rattle.std.proofs.Common.{◌∙◌, ℕ, ap}
 use Rattle.std.proofs.lemmas.Result.{on_ok_weaker}
 use Rattle.chacha20.proofs.KeystreamLemmas.{xor_stream-xor_stream}
 use Rattle.examples.specs.Frames.{Endpoint, encrypted, after}

@@ -1,4 +1,4 @@
-use Rattle.std.proofs.Common.{◌≡◌, ◌∙◌, ℕ, ap}
+use Rattle.std.proofs.Common.{◌∙◌, ℕ, ap}
 use Rattle.std.proofs.lemmas.Result.{on_ok_weaker}
 use Rattle.examples.specs.Frames.{Endpoint, after}
 use Rattle.examples.proofs.frames.Sender.encrypt.Goals as goal
