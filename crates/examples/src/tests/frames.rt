@@ -1,5 +1,7 @@
 //! Frames: published values, runs of frames, and the end of the numbers.
 
+ghost use Rattle.std.specs.Prelude.{◌≡◌};
+
 use crate::frames::{FrameError, Receiver, Sender};
 use chacha20::Key;
 
@@ -44,23 +46,38 @@ fn channel_and_number(rt: HostRuntime) {
     assert!(rt; far == *b"\xc2\xc6\x4d\x37\x8c\xd5\x36\x37");
 }
 
-// Frames of several lengths, from one channel to its receiver; both then have the same number.
+// Encrypts each message and decrypts it again. Whatever the messages are, they come out as they went in, and both sides
+// have the same number.
+fn pass(
+    sender: &mut Sender,
+    receiver: &mut Receiver,
+    messages: &mut [[u8; 100]],
+) -> Result<(), FrameError>
+    requires { sender.old ≡ receiver.old }
+    ensures messages { messages.new ≡ messages.old }
+    ensures same { sender.new ≡ receiver.new }
+{
+    'each: for i in 0..messages.len() {
+        let message = &mut messages[i];
+        sender.encrypt(message)?;
+        receiver.decrypt(message)?;
+    }
+    Ok(())
+}
+
 #[test]
 fn in_order(rt: HostRuntime) {
     let mut sender = Sender::new(&[1; 32], &[2; 4]);
     let mut receiver = Receiver::new(&[1; 32], &[2; 4]);
-    let mut frames = [[7; 100]; 3];
-    let mut accepted = true;
-    for (frame, len) in frames.iter_mut().zip([100, 0, 65]) {
-        accepted &= sender.encrypt(&mut frame[..len]).is_ok();
-    }
-    let [first, second, third] = frames;
-    let sent = first != [7; 100] && second == [7; 100] && third[..] != first[..];
-    for (frame, len) in frames.iter_mut().zip([100, 0, 65]) {
-        accepted &= receiver.decrypt(&mut frame[..len]).is_ok();
-    }
-    assert!(rt; accepted && sent && frames == [[7; 100]; 3]);
-    assert!(rt; sender.next() == 3 && receiver.next() == 3);
+    let mut messages = [[7; 100]; 3];
+    let passed = pass(&mut sender, &mut receiver, &mut messages).is_ok();
+    let [mut first, mut second, _] = messages;
+    let sent = sender.encrypt(&mut first).is_ok() && sender.encrypt(&mut second[..65]).is_ok();
+    let hidden = first != second && second[..65] != first[..65];
+    let received = receiver.decrypt(&mut first).is_ok()
+        && receiver.decrypt(&mut second[..65]).is_ok();
+    assert!(rt; passed && sent && hidden && received && first == [7; 100] && second == first);
+    assert!(rt; sender.next() == 5 && receiver.next() == 5);
 }
 
 // The last number serves one frame, and then both sides refuse, and change nothing.
