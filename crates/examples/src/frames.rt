@@ -1,19 +1,19 @@
 //! Frames under one key: a sender encrypts messages in order, and a receiver decrypts them in the same order.
 //!
-//! The nonce of a frame is its channel, which is four bytes, and then its number, which is eight bytes with the low byte
-//! first. Both sides count from 0, so a frame is as long as its message. No two frames have the same nonce if two rules
-//! are kept. Each direction has a channel of its own: two senders on one channel would use the same nonces. And a sender
-//! that stops goes on where it stopped: after `encrypt` store what `next` returns, then send the frame, and later call
-//! `resume`.
+//! The nonce of a frame is its channel, four bytes, and then its number, eight bytes with the low byte first. Both
+//! sides count from 0, so no number is sent, and a frame is as long as its message. No two frames have the same nonce
+//! if you keep two rules. Give each direction its own channel: two senders on one channel would use the same nonces.
+//! And let a sender that was stopped go on where it was: after `encrypt` store what `next` returns, then send the
+//! frame, and later call `resume`.
 //!
-//! Nothing here authenticates. Who can change a frame can change its message, and after a frame that is lost or comes
-//! twice the receiver has the wrong number. So send a MAC with each frame, made under a key of its own from the channel,
-//! the number and the encrypted bytes. The receiver makes it from its own `next`, and calls `decrypt` only if it is
-//! right.
+//! Nothing here authenticates. Whoever can change a frame can change its message, and once a frame is lost or comes
+//! twice, the receiver's number is wrong. So send a MAC with each frame. Make it from the channel, the number and the
+//! encrypted bytes, under a key of its own. The receiver checks it with the number of its own `next`, and calls
+//! `decrypt` only if it is right.
 //!
-//! The lines `ensures` are facts about a call, each proved for every input before this file is compiled. There `x.old`
-//! and `x.new` are what `x` holds before and after the call, `x.now` is what a `&` argument holds, and `OnOk result`
-//! begins what is true if the call returns `Ok`. `specs/Frames.antt` defines the other words.
+//! The lines `ensures` say what a call does, and each is proved for every input before this file is compiled. There
+//! `x.old` and `x.new` are what `x` holds before and after the call, `x.now` is what a `&` argument holds, and
+//! `OnOk result (..)` says what is true if the call returns `Ok`. `specs/Frames.antt` defines the other words.
 
 ghost use Rattle.std.specs.Prelude.{◌≡◌, ◌<◌, ◌≤◌, ◌↔◌, ◌+◌, ◌^◌, ℕ, List, length, IsOk, IsErrOf, OnOk, OnErr};
 ghost use Rattle.examples.specs.Frames.{Endpoint, nonce_of, encrypted, after};

@@ -11,8 +11,11 @@ same_parts : (a b : List ℕ) (i j : ℕ) → length a ≡ 4 → length b ≡ 4 
     → nonce_of a i ≡ nonce_of b j → (a ≡ b) × (i ≡ j)
 same_parts a b i j a_long b_long i_fits j_fits same =
     let channels : a ≡ b = sym (take_at a _ 4 a_long) ∙ ap (take 4) same ∙ take_at b _ 4 b_long in
-    let bytes : to_le_bytes w64 i ≡ to_le_bytes w64 j = sym (drop_at a _ 4 a_long) ∙ ap (drop 4) same ∙ drop_at b _ 4 b_long in
-    (channels, sym (from_le_bytes-to_le_bytes_8 i i_fits) ∙ ap (from_le_bytes w64) bytes ∙ from_le_bytes-to_le_bytes_8 j j_fits)
+    let bytes : to_le_bytes w64 i ≡ to_le_bytes w64 j =
+    sym (drop_at a _ 4 a_long) ∙ ap (drop 4) same ∙ drop_at b _ 4 b_long in
+    let numbers : i ≡ j =
+    sym (from_le_bytes-to_le_bytes_8 i i_fits) ∙ ap (from_le_bytes w64) bytes ∙ from_le_bytes-to_le_bytes_8 j j_fits in
+    (channels, numbers)
 
 pub returns-clause-value : goal.returns-clause-value
 returns-clause-value c =
