@@ -96,7 +96,8 @@ impl Sender {
 pub struct Receiver {
     key: Key,
     channel: Channel,
-    next: u64,
+    // The number of the frame that it expects.
+    expected: u64,
 }
 
 impl Model for Receiver {
@@ -104,7 +105,7 @@ impl Model for Receiver {
 
     ghost Value = { Endpoint };
 
-    ghost view = { λ r. record { key = r.key; channel = r.channel; next = r.next } };
+    ghost view = { λ r. record { key = r.key; channel = r.channel; next = r.expected } };
 }
 
 impl Receiver {
@@ -122,7 +123,7 @@ impl Receiver {
         Receiver {
             key: *key,
             channel: *channel,
-            next,
+            expected: next,
         }
     }
 
@@ -130,7 +131,7 @@ impl Receiver {
     pub fn next(&self) -> u64
         ensures { result ≡ self.now.next }
     {
-        self.next
+        self.expected
     }
 
     /// Decrypts the next frame in place: it becomes the message from which a sender with this key, channel and number
@@ -146,7 +147,7 @@ impl Receiver {
         ensures next { OnOk result (self.new ≡ after self.old) }
         ensures refused { OnErr result ((frame.new ≡ frame.old) × (self.new ≡ self.old)) }
     {
-        apply(&self.key, &self.channel, &mut self.next, frame)
+        apply(&self.key, &self.channel, &mut self.expected, frame)
     }
 }
 
