@@ -30,6 +30,12 @@ words-same n g v w k same =
 pub at-same : (g : GeneratorState) (v w : ℕ) → v % positions ≡ w % positions → at_word_pos g v ≡ at_word_pos g w
 at-same g v w same = ap (λ p. record g { word_pos = p }) same
 
+-- k reads have k answers
+pub length-repeated : {A : Type 0} (read : GeneratorState → A × GeneratorState) (k : ℕ) (g : GeneratorState)
+    → length (repeated read k g).0 ≡ k
+length-repeated read zero g = refl
+length-repeated read (suc k) g = ap suc (length-repeated read k (read g).1)
+
 -- k reads and then m are k + m reads
 pub reads-add : {A : Type 0} (read : GeneratorState → A × GeneratorState) (k m : ℕ) (g : GeneratorState)
     → repeated read (k + m) g

@@ -8,5 +8,6 @@ pub mod pieces;
 pub mod file;
 pub mod records;
 pub mod frames;
+pub mod simulation;
 #[cfg(test)]
 mod tests;

@@ -14,6 +14,7 @@ mod one_time_key;
 mod pieces;
 mod readme;
 mod records;
+mod simulation;
 mod texts;
 mod users;
 mod xchacha;
