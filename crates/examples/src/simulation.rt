@@ -94,14 +94,18 @@ pub fn resume(stored: &mut SerializedRngState, dice: &mut [u8])
 }
 
 /// Rolls dice in two parts, and stores the run between them. Dice and generator are those of one unbroken run.
-pub fn rolls_in_two(rng: &mut ChaCha20Rng, first: &mut [u8], rest: &mut [u8])
+pub fn rolls_in_two<R: Rounds, B: RngBackend<R>>(
+    rng: &mut ChaChaRng<R, B>,
+    first: &mut [u8],
+    rest: &mut [u8],
+)
     ensures value { first.new ++ rest.new ≡ map (λ word. word * 6 / 2 ^ 64 + 1)
-        (repeated (next_u64 10) (length first.old + length rest.old) rng.old).0 }
+        (repeated (next_u64 R.COUNT) (length first.old + length rest.old) rng.old).0 }
     ensures moved { rng.new
-        ≡ (repeated (next_u64 10) (length first.old + length rest.old) rng.old).1 }
+        ≡ (repeated (next_u64 R.COUNT) (length first.old + length rest.old) rng.old).1 }
 {
-    let mut stored = rng.serialize_state();
-    resume(&mut stored, first);
-    resume(&mut stored, rest);
-    *rng = ChaCha20Rng::deserialize_state(&stored);
+    rolls(rng, first);
+    let stored = rng.serialize_state();
+    *rng = ChaChaRng::deserialize_state(&stored);
+    rolls(rng, rest);
 }

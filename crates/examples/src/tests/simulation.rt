@@ -53,15 +53,24 @@ fn workers(rt: HostRuntime) {
 }
 
 #[test]
-fn stored_and_resumed(rt: HostRuntime) {
-    let mut rng = ChaCha20Rng::from_seed([0; 32]);
-    let mut stored = rng.serialize_state();
+fn resumed(rt: HostRuntime) {
+    let mut stored = ChaCha20Rng::from_seed([0; 32]).serialize_state();
     let mut dice = [0; 8];
     resume(&mut stored, &mut dice[..3]);
     resume(&mut stored, &mut dice[3..]);
-    let mut first = [0; 3];
-    let mut rest = [0; 5];
-    rolls_in_two(&mut rng, &mut first, &mut rest);
-    assert!(rt; dice == DICE && DICE.starts_with(&first) && DICE.ends_with(&rest));
-    assert!(rt; stored == rng.serialize_state());
+    let rng = ChaCha20Rng::deserialize_state(&stored);
+    assert!(rt; dice == DICE && rng.get_word_pos() == 16);
+}
+
+#[test]
+fn rolled_in_two(rt: HostRuntime) {
+    let mut rng = ChaCha20Rng::from_seed([0; 32]);
+    let mut other = ChaChaRng::<R20, Soft>::from_seed([0; 32]);
+    let mut dice = [0; 70];
+    let mut first = [0; 33];
+    let mut rest = [0; 37];
+    rolls(&mut rng, &mut dice);
+    rolls_in_two(&mut other, &mut first, &mut rest);
+    assert!(rt; dice.starts_with(&DICE) && dice.starts_with(&first) && dice.ends_with(&rest));
+    assert!(rt; rng.serialize_state() == other.serialize_state());
 }
