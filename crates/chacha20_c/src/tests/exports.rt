@@ -1,7 +1,7 @@
-//! Each export once, beside published streams or beside another export.
+//! Each export once, compared with published streams or with another export.
 //!
-//! A proof of a call grows with the callee's contract, and that of a function with the square of its length. So exports
-//! are named in functions without a contract, and what the tests ask stands in short functions and in tables.
+//! The proof of a call grows with the callee's contract, and that of a function with the square of its length. So
+//! exports are called in functions without a contract, and the tests are short functions and tables.
 
 use super::{COUNTING, NONCE, X_NONCE, ZEROS};
 use crate::chacha::{
@@ -69,7 +69,7 @@ fn legacy_keystream(block_pos: u64, offset: u64, output: &mut [u8]) -> u32 {
     chacha20_legacy_write_keystream(&ZEROS, &[0; 8], block_pos, offset, output)
 }
 
-// A number of rounds, what stands in an output before the call, and the first bytes for a key and a nonce of zeros
+// A number of rounds, what an output holds before the call, and the first bytes for a key and a nonce of zeros
 // (draft-strombergson-chacha-test-vectors, TC1, keys of 256 bits). The nonce there is that of the legacy layout; at
 // block 0 the layouts agree.
 static STREAMS: [(u32, u8, [u8; 16]); 4] = [
@@ -224,7 +224,7 @@ static INPUT: [u8; 16] = *b"\x00\x00\x00\x09\x00\x00\x00\x4a\x00\x00\x00\x00\x31
 static SUBKEY: Key = *b"\x82\x41\x3b\x42\x27\xb2\x7b\xfe\xd3\x0e\x42\x50\x8a\x87\x7d\x73\
     \xa0\xf9\xe4\xd5\x8a\x74\xa8\x53\xc1\x2e\xc4\x13\x26\xd3\xec\xdc";
 
-// HChaCha20 (draft-irtf-cfrg-xchacha, section 2.2.1); fewer rounds beside the library's.
+// HChaCha20 (draft-irtf-cfrg-xchacha, section 2.2.1); fewer rounds compared with the library's.
 fn subkeys() -> bool {
     subkey(8, &X_FRONT) == derived(8)
         && subkey(12, &X_FRONT) == derived(12)

@@ -1,5 +1,5 @@
-//! Every public name by the crate's root, and by the module that it stands in; and what the named types stand for. Some
-//! names are only imported: that they are found is the test.
+//! Every public name by the crate's root and by its module, and which types the aliases name. Some names are only
+//! imported: that they are found is the test.
 
 use chacha20::rand_core::SeedableRng;
 use chacha20::{
@@ -14,7 +14,7 @@ use chacha20::{
     runs, variants,
 };
 
-// Names that stand in bounds.
+// Names of traits, in bounds.
 trait Core<T: StreamCipherCounter + SeekNum>: Keystream
     + StreamCipherCore
     + StreamCipherSeekCore<Counter = T>
@@ -125,8 +125,8 @@ static NONCE: Nonce = [0; 12];
 
 static LEGACY_NONCE: LegacyNonce = [0; 8];
 
-// What the names stand for. The bytes are those of draft-strombergson-chacha-test-vectors (TC1, keys of 256 bits), for
-// a key and a nonce of zeros. The nonce there is that of the legacy layout; at block 0 the layouts agree.
+// First bytes of each named type, of draft-strombergson-chacha-test-vectors (TC1, keys of 256 bits), for a key and a
+// nonce of zeros. The nonce there is that of the legacy layout; at block 0 the layouts agree.
 #[test]
 fn ciphers(rt: HostRuntime) {
     let found = [
@@ -152,7 +152,7 @@ fn x_ciphers(rt: HostRuntime) {
 
 type Cipher<K> = StreamCipherCoreWrapper<K>;
 
-// What each name stands for, its backend included: another type would not be accepted here.
+// The type that each alias names, its backend included: another type would not be accepted here.
 fn ciphers_in_full(
     named: (
         ChaCha8,

@@ -1,4 +1,5 @@
-//! HChaCha without rounds, and XChaCha ciphers beside those that they are made of, whose bytes `vectors` compares.
+//! HChaCha without rounds, and XChaCha ciphers compared with those that they are made of. `vectors` compares their bytes
+//! with published ones.
 
 ghost use Rattle.std.specs.Prelude.{◌≡◌};
 ghost use Rattle.chacha20.specs.XChaCha.{subnonce};

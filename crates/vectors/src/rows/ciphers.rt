@@ -276,7 +276,7 @@ fn first_ciphertext<C: KeyIvInit<Key = Key, Iv = Nonce> + StreamCipher + Drop>()
     data
 }
 
-// There and back, and there again in pieces of 3.
+// Encrypted, decrypted, and encrypted again in pieces of 3.
 fn row_1<C: KeyIvInit<Key = Key, Iv = Nonce> + StreamCipherSeek + Drop>() -> Verdict
     requires { 2 ^ 32 ≤ limit_of C.modulus }
 {

@@ -1,4 +1,4 @@
-//! Wide backends beside the plain one.
+//! Wide backends compared with the plain one.
 
 ghost use Rattle.std.specs.Prelude.{◌≤◌};
 
@@ -99,7 +99,7 @@ fn two_words<R: Rounds, B: RngBackend<R>>() -> ([[u32; 64]; 2], [[u32; 16]; 2]) 
     (words, states)
 }
 
-// What goes wrong in cores beside those over the plain backend, in either layout: the number of blocks.
+// Where cores differ from those over the plain backend, in either layout: the number of blocks.
 fn wrong_cores<R: Rounds, B>() -> Verdict
 where
     B: StreamCipherBackend<R, Ietf> + StreamCipherBackend<R, Legacy> + RngBackend<R>,
@@ -135,7 +135,7 @@ where
     ])
 }
 
-/// What goes wrong in a backend beside the plain one, with no rounds and with 20.
+/// Where a backend differs from the plain one, with no rounds and with 20.
 pub fn wrong_beside_soft<B>() -> Verdict
 where
     B: StreamCipherBackend<R0, Ietf>

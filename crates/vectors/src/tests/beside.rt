@@ -1,4 +1,4 @@
-//! Ciphers and generators beside those over another backend.
+//! Ciphers and generators compared with those over another backend.
 
 ghost use Rattle.std.specs.Prelude.{◌≤◌};
 
@@ -51,7 +51,7 @@ pub fn wrong_beside<N, A: Fresh<N>, B: Fresh<N>>(nonce: &N) -> Verdict {
     )
 }
 
-// Whether two generators fill so many bytes alike, and then give the same words.
+// Whether two generators fill so many bytes with the same values, and then give the same words.
 fn same_fill<A, B>(count: usize) -> bool
 where
     A: SeedableRng<Seed = Seed> + Rng + Drop,

@@ -121,7 +121,7 @@ where
     )
 }
 
-/// What is wrong with blocks 4 to 7 of a core, beside those of another one.
+/// What is wrong with blocks 4 to 7 of a core, compared with those of another one.
 pub fn wrong_beside<N, A, B>(nonce: &N) -> Verdict
 where
     A: KeyIvInit<Key = Key, Iv = N> + StreamCipherCore + Drop,

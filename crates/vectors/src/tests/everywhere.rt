@@ -101,7 +101,7 @@ fn wrong_zero<C: Fresh<Nonce>>() -> Verdict {
     ])
 }
 
-// A core, and the cipher over it, beside another one.
+// A core, and the cipher over it, compared with another one.
 fn wrong_beside_core<N, T, K, P>(nonce: &N) -> Verdict
 where
     T: StreamCipherCounter,
@@ -179,7 +179,7 @@ fn wrong_derived<R: Rounds, B: StreamCipherBackend<R, Ietf>>() -> Verdict {
     derived::wrong_stream::<R, Cipher<XChaChaCore<R, B>>, Cipher<ChaChaCore<R, Ietf, B>>>()
 }
 
-// Beside ciphers over the plain backend, which hand out the blocks of the RFC one by one.
+// Compared with ciphers over the plain backend, which hand out the blocks of the RFC one by one.
 fn with_20_rounds<B>() -> Verdict
 where
     B: StreamCipherBackend<R20, Ietf> + StreamCipherBackend<R20, Legacy>,

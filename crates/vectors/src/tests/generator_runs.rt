@@ -37,7 +37,7 @@ pub fn wrong_run<B: RngBackend<R0>>() -> Verdict {
     )
 }
 
-// One after another on a generator of a zero seed. What the run leaves, a list after it sets anew. The state is that of
+// One after another on a generator of a zero seed. Each list sets what the one before it has left. The state is that of
 // position 2^68 - 16.
 static LISTS: [RngList; 6] = [
     RngList {

@@ -10,7 +10,7 @@ use chacha20::{CipherAnswer, CipherCall, StreamCipherCoreWrapper};
 // The limit: 64 bytes for each counter of 32 bits.
 const LIMIT: u128 = 64 * 0x1_0000_0000;
 
-// The core's `new` stands at block 5, and a cipher over it begins at block 0.
+// A new core is at block 5, and a cipher over it begins at block 0.
 #[test]
 fn toy_calls(rt: HostRuntime) {
     assert!(rt; Toy::new(&7, &()).get_block_pos() == 5);
