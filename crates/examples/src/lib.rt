@@ -2,12 +2,12 @@
 //! public contracts of `chacha20`. Copy a file with its folder of proofs, and change it.
 #![tactic(auto)]
 
+pub mod file;
+pub mod frames;
 pub mod message;
 pub mod one_time_key;
 pub mod pieces;
-pub mod file;
 pub mod records;
-pub mod frames;
 pub mod simulation;
 #[cfg(test)]
 mod tests;

@@ -1,10 +1,23 @@
-//! The examples of the README, as a user writes them.
+//! The code of README and of the guide that no example has.
 
 ghost use Rattle.std.specs.Prelude.{◌≤◌, length};
 
 use crate::message::encrypt;
+use chacha20::backends::Lanes4;
 use chacha20::cipher::{KeyIvInit, StreamCipher, StreamCipherError, StreamCipherSeek};
-use chacha20::{ChaCha20, ChaCha20Rng, Key, Nonce};
+use chacha20::variants::Ietf;
+use chacha20::{ChaCha20, ChaCha20Rng, ChaChaCore, Key, Nonce, R20, StreamCipherCoreWrapper};
+
+// A message, encrypted by a new cipher.
+fn encrypted(key: &Key, nonce: &Nonce) -> Result<[u8; 14], StreamCipherError> {
+    let mut message = *b"attack at dawn";
+    let mut cipher = ChaCha20::new(key, nonce);
+    cipher.try_apply_keystream(&mut message)?;
+    Ok(message)
+}
+
+// `ChaCha20` over another backend.
+type ChaCha20Lanes4 = StreamCipherCoreWrapper<ChaChaCore<R20, Ietf, Lanes4>>;
 
 // `encrypt` for callers who prove that the message is not too long.
 fn encrypt_short(key: &Key, nonce: &Nonce, message: &mut [u8])
@@ -30,6 +43,15 @@ fn with_contracts(rt: HostRuntime) {
     apply_next(&mut ChaCha20::new(&[0x42; 32], &[0x24; 12]), &mut message);
     assert!(rt; accepted && encrypted == ENCRYPTED);
     assert!(rt; decrypted == *b"attack at dawn" && message == ENCRYPTED);
+}
+
+#[test]
+fn first_lines(rt: HostRuntime) {
+    let mut message = *b"attack at dawn";
+    let mut cipher = ChaCha20Lanes4::new(&[0x42; 32], &[0x24; 12]);
+    let accepted = cipher.try_apply_keystream(&mut message).is_ok();
+    assert!(rt; encrypted(&[0x42; 32], &[0x24; 12]) == Ok(ENCRYPTED));
+    assert!(rt; accepted && message == ENCRYPTED);
 }
 
 // What `openssl enc -chacha20` makes of the message.
