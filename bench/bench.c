@@ -2,7 +2,7 @@
 
    bench check [BYTES [SEED]]   compares the library with what is found on the machine; the last line says how many
                                 bytes, and how many of them differ
-   bench time [TURNS]           times it beside the same */
+   bench time [TURNS]           times the library and the others */
 
 #include <stdio.h>
 #include <stdlib.h>

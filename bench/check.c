@@ -299,7 +299,7 @@ static void random_state(struct run *run, uint8_t state[CHACHA_RNG_STATE_BYTES])
     }
 }
 
-/* Words of a buffer beside those of the exports from the same state, over refills, wraps and restored states. */
+/* Words of a buffer compared with those of the exports from the same state, over refills, wraps and restored states. */
 static void one_buffer(struct run *run) {
     static struct chacha_rng_buffer buffer;
     const struct library *library = any_build(run);
@@ -422,7 +422,7 @@ static uint8_t *at_edge(const struct pages *pages, int at_end, size_t len) {
     return at_end ? pages->end - len : pages->begin;
 }
 
-/* What stands beside a buffer on its pages has to stay. */
+/* The bytes around a buffer on its pages must stay the same. */
 static void fill_pages(const struct pages *pages) {
     memset(pages->begin, 0xa5, (size_t)(pages->end - pages->begin));
 }

@@ -1,6 +1,6 @@
 /* SPDX-License-Identifier: Apache-2.0 OR MIT */
 
-/* The functions of one build of the library, so that builds for several processor levels stand in one program. */
+/* The functions of one build of the library, so that one program can have builds for several processor levels. */
 
 #ifndef LIBRARY_H
 #define LIBRARY_H

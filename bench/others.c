@@ -27,7 +27,7 @@ static void store_le(uint8_t *bytes, uint64_t number, int count) {
     for (int i = 0; i < count; i++) bytes[i] = (uint8_t)(number >> (8 * i));
 }
 
-/* OpenSSL: the counter stands in front of the nonce, in 16 bytes together, and the carry goes on past 32 bits. */
+/* OpenSSL: the counter is in front of the nonce, in 16 bytes together, and the carry goes on past 32 bits. */
 
 static void *(*evp_new)(void);
 static void *(*evp_chacha20)(void);

@@ -69,7 +69,7 @@ static size_t depth(uint8_t paint) {
     return (size_t)(begin - (stack + at));
 }
 
-/* Whether eight bytes of the key stand below the frame that made the call. */
+/* Whether eight bytes of the key are below the frame that made the call. */
 static int holds_key(void) {
     for (const uint8_t *at = stack; at + 8 <= begin; at++) {
         for (int i = 0; i + 8 <= 32; i += 4) {

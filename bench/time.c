@@ -136,7 +136,7 @@ static void print_head(const char *first, const char *const *rest, int count) {
     putchar('\n');
 }
 
-/* The library at each level beside the others: nanoseconds a call, and the library's time divided by the other's. */
+/* The library at each level and the others: nanoseconds a call, and the library's time divided by the other's. */
 static void time_calls(const struct machine *machine, uint8_t *data, int turns) {
     struct contestant all[MOST_CONTESTANTS];
     const char *names[MOST_CONTESTANTS];

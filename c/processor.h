@@ -39,7 +39,7 @@ enum {
 
 static inline int has_all(uint32_t found, uint32_t wanted) { return (found & wanted) == wanted; }
 
-/* The System V ABI for x86-64 lists what each level has beside what the one below has. */
+/* The System V ABI for x86-64 lists what each level adds to the one below. */
 static inline int has_x86_64_v2(const struct processor *it) {
     return has_all(it->leaf_1_ecx, SSE3 | SSSE3 | CMPXCHG16B | SSE41 | SSE42 | POPCNT) &&
            has_all(it->leaf_80000001_ecx, LAHF);

@@ -27,8 +27,8 @@ use std::simd::prelude::*;
 const CONSTANTS: [u32; 4] = [0x6170_7865, 0x3320_646e, 0x7962_2d32, 0x6b20_6574];
 
 /// The core of a ChaCha cipher: sixteen words of 32 bits (RFC 8439, section 2.3). Clauses see it as the list of its
-/// words. `R` is the number of double rounds, `V` the layout, which says where the counter stands, and `B` the backend
-/// that makes the blocks.
+/// words. `R` is the number of double rounds, `V` the layout, which says where the counter is, and `B` the backend that
+/// makes the blocks.
 ///
 /// In the layout of RFC 8439 `new` makes a core from a key and a nonce for any number of rounds. In the older layout it
 /// does so only for `R20`, as in the Rust crate; for another number of rounds `from_seed` makes a core, with a nonce

@@ -1,5 +1,5 @@
-//! What the names of ciphers and generators stand for: facts that hold by computation. A named type with a wrong number
-//! of rounds, layout, size or text would break one of them.
+//! Facts on the named ciphers and generators, which hold by computation. A named type with a wrong number of rounds,
+//! layout, size or text would break one of them.
 
 ghost use Rattle.std.specs.Prelude.{◌≡◌, length, Some, codes};
 ghost use Rattle.rand_core.specs.Steps.{stream_of};

@@ -221,7 +221,7 @@ impl<R: Rounds, B: RngBackend<R>> ChaChaRng<R, B> {
         rng
     }
 
-    // Takes the next two words one after the other, where they need not stand in one buffer.
+    // Takes the next two words one after the other. They may be in two buffers.
     #[inline(never)]
     fn next_u64_across(&mut self) -> u64
         ensures value { (result, self.new) ≡ next_u64 R.COUNT self.old }
@@ -261,7 +261,7 @@ fn joined(low: u32, high: u32) -> u64
     (u64::from(high) << 32) | u64::from(low)
 }
 
-// Makes words where none are left in the buffer. Only the test stands in the reads that call it.
+// Fills the buffer where no words are left in it. In the reads only this test is inlined.
 #[inline(always)]
 fn refill<R: Rounds, B: RngBackend<R>>(
     core: &mut ChaChaCore<R, Legacy, B>,

@@ -96,8 +96,8 @@ pub trait KeyIvInit: Keystream {
 
     ghost blocks_of: { Self.Key → Self.Iv → ℕ → List ℕ };
 
-    /// The core or cipher of a key and a nonce. A cipher is at position 0: no byte is taken yet. A core may stand at any
-    /// block, since a cipher over it begins at block 0 by itself. Nothing is refused.
+    /// The core or cipher of a key and a nonce. A cipher is at position 0: no byte is taken yet. A core may be at any
+    /// block, since a cipher sets the counter of its core to 0. Nothing is refused.
     fn new(key: &Self::Key, iv: &Self::Iv) -> Self
         ensures value { result ≡ init key.now iv.now }
         ensures blocks { Self.block_at (Self.fixed result) ≡ blocks_of key.now iv.now }
@@ -107,9 +107,9 @@ pub trait KeyIvInit: Keystream {
 /// Makes the blocks of a state one after another (RFC 8439, section 2.3), 64 bytes each. The functions have no
 /// receiver, so that a backend is a marker.
 ///
-/// A call makes the block of the state's counter, or that one and those of the counters after it, in order. It moves the
-/// counter past them and keeps the other words of the state. Counters wrap, at 2^32 or 2^64 as the variant says. Nothing
-/// is refused. Anyone may implement it; a backend that counts nothing has both constants 0.
+/// A call makes the block of the state's counter, or that one and those of the counters after it, in order. It moves
+/// the counter past them and keeps the other words of the state. Counters wrap, at 2^32 or 2^64 as the variant says.
+/// Nothing is refused. Anyone may implement it; a backend that counts nothing has both constants 0.
 pub trait StreamCipherBackend<R: Rounds, V: Variant>: ParBlocksSizeUser {
     ghost PAR_STEPS: { ℕ };
 

@@ -1,6 +1,6 @@
 //! What holds for any stream cipher over blocks of 64 bytes, and the ChaCha block function.
 //!
-//! The crate `chacha20` stands on this one, and exports what its users need.
+//! The crate `chacha20` is built on this one, and exports what its users need.
 #![tactic(auto)]
 
 pub mod backends;

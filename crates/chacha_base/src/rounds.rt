@@ -11,8 +11,8 @@ pub use steps::Steps;
 
 /// How many double rounds a cipher makes (RFC 8439, section 2.3). A double round is a round of the columns and one of
 /// the diagonals, so `COUNT` is half the number in a cipher's name. Anyone may implement it, for any `usize`, 0
-/// included. The number stands there twice, as in `ghost COUNT = { 3 };` for clauses and `const COUNT: usize = 3;` for
-/// the code.
+/// included. The number is stated twice, as in `ghost COUNT = { 3 };` for clauses and `const COUNT: usize = 3;` for the
+/// code.
 pub trait Rounds: Copy {
     ghost COUNT: { ℕ };
 
@@ -50,7 +50,7 @@ impl Rounds for R20 {
     const COUNT: usize = 10;
 }
 
-// The numbers of double rounds that the names stand for: facts that hold by computation.
+// The numbers of double rounds of the named types: facts that hold by computation.
 fn named_counts()
     ensures r8 { ⟦<R8 as Rounds>⟧.COUNT ≡ 4 }
     ensures r12 { ⟦<R12 as Rounds>⟧.COUNT ≡ 6 }

@@ -1,4 +1,4 @@
-//! The layouts of a state's last row: where the counter stands, and how many counters there are.
+//! The layouts of a state's last row: where the counter is, and how many counters there are.
 
 ghost use Rattle.std.specs.Prelude.{◌≡◌, ◌≤◌, ◌<◌, ◌+◌, ◌-◌, ◌*◌, ◌%◌, ◌^◌, ◌⊎◌, ℕ, length, Some};
 ghost use Rattle.chacha_base.specs.Layout.{Layout, ietf, legacy, modulus, counter_len, row_counter, row_at};

@@ -109,7 +109,7 @@ pub fn run_rng<R: Rounds, B: RngBackend<R>>(
     ensures run { (answers.new, rng.new, «data».new)
         ≡ rng_run R.COUNT rng.old «data».old calls.now }
 
-    // An equal generator answers alike, whatever its buffer holds.
+    // An equal generator gives the same answers, whatever its buffer holds.
     ensures equality { (other : GeneratorState) → IsTrue (same_generator rng.old other)
         → (answers.new, rng.new, «data».new) ≡ rng_run R.COUNT other «data».old calls.now }
 {
