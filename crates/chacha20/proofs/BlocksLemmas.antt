@@ -12,14 +12,16 @@ use Rattle.chacha_base.proofs.KeystreamLemmas.{xor_stream-same, xor_stream-more,
 use Rattle.chacha20.specs.Blocks.{byte_of, xored_at, state_stream, applied}
 
 -- byte j of block i
-pub byte_of_block : (blocks : List (List ℕ)) (p i j : ℕ) → p ≡ 64 * i → j < 64 → slice_index (slice_index_or blocks i []) j ≡ byte_of blocks (p + j)
+pub byte_of_block : (blocks : List (List ℕ)) (p i j : ℕ) → p ≡ 64 * i → j < 64
+    → slice_index (slice_index_or blocks i []) j ≡ byte_of blocks (p + j)
 byte_of_block blocks p i j place inside =
     let which : (p + j) / 64 ≡ i = omega arith in
     let part : (p + j) % 64 ≡ j = omega arith in
     rw (which, part) refl
 
 -- blocks of a stream from a counter on
-xor_stream-blocks : (modulus : ℕ) (block : ℕ → List ℕ) (c : ℕ) (blocks : List (List ℕ)) (xs : List ℕ) → length xs ≡ 64 * length blocks
+xor_stream-blocks : (modulus : ℕ) (block : ℕ → List ℕ) (c : ℕ) (blocks : List (List ℕ)) (xs : List ℕ)
+    → length xs ≡ 64 * length blocks
     → ((i : ℕ) → i < length blocks → slice_get blocks i ≡ Some (block ((c + i) % modulus)))
     → xor_stream (byte_of blocks) 0 xs ≡ xor_stream (keystream modulus block) (64 * c) xs
 xor_stream-blocks modulus block c blocks xs whole made =
@@ -27,11 +29,14 @@ xor_stream-blocks modulus block c blocks xs whole made =
     let which : (64 * c + i) / 64 ≡ c + i / 64 = omega arith in
     let part : (64 * c + i) % 64 ≡ i % 64 = omega arith in
     let here : 0 + i ≡ i = omega arith in
-    rw (which, part, here) (ap (λ b. slice_index b (i % 64)) (get_or_from_slice_get blocks (i / 64) _ [] (made (i / 64) (omega arith)))))
+    rw (which, part, here)
+    (ap (λ b. slice_index b (i % 64)) (get_or_from_slice_get blocks (i / 64) _ [] (made (i / 64) (omega arith)))))
 
 -- bytes of which i blocks are done, and then k more, by the next blocks of the state that is i blocks on
-pub applied-more : (n : ℕ) (layout : Layout) (s : List ℕ) (i : ℕ) (blocks : List (List ℕ)) (old : List ℕ) {t : List ℕ} {k e : ℕ} {now after : List ℕ}
-    → length s ≡ 16 → t ≡ state_after layout i s → i + k ≡ e → 64 * e ≤ length old → length now ≡ length old → length blocks ≡ k
+pub applied-more : (n : ℕ) (layout : Layout) (s : List ℕ) (i : ℕ) (blocks : List (List ℕ)) (old : List ℕ) {t : List ℕ}
+    {k e : ℕ} {now after : List ℕ}
+    → length s ≡ 16 → t ≡ state_after layout i s → i + k ≡ e → 64 * e ≤ length old → length now ≡ length old
+    → length blocks ≡ k
     → now ≡ applied n layout s (take (64 * i) old) ++ drop (64 * i) old
     → after ≡ xored_at i blocks now → AreNextBlocks n layout t k blocks
     → after ≡ applied n layout s (take (64 * e) old) ++ drop (64 * e) old
@@ -42,7 +47,10 @@ applied-more n layout s i blocks old {t} {k} {e} {now} {after} h moved all room 
     let xs = take l (drop (64 * i) now) in
     let whole = length-take-le l (drop (64 * i) now) (omega (arith, length-drop (64 * i) now)) in
     xored
-    ∙ xor_stream-more (state_stream n layout s) (64 * c) (64 * i) l (64 * e) old now (xor_stream (byte_of blocks) 0 xs) (omega arith) room before
-    (xor_stream-blocks m (state_block n layout (fixed_words layout t)) (state_counter layout t) blocks xs whole (λ j less. made j (omega arith))
-    ∙ ap₂ (λ f d. xor_stream (keystream m (state_block n layout f)) (64 * d) xs) (fixed_words-state_after layout i s t h moved) (state_counter-state_after layout i s t h moved)
+    ∙ xor_stream-more (state_stream n layout s) (64 * c) (64 * i) l (64 * e) old now (xor_stream (byte_of blocks) 0 xs)
+    (omega arith) room before
+    (xor_stream-blocks m (state_block n layout (fixed_words layout t)) (state_counter layout t) blocks xs whole
+    (λ j less. made j (omega arith))
+    ∙ ap₂ (λ f d. xor_stream (keystream m (state_block n layout f)) (64 * d) xs)
+    (fixed_words-state_after layout i s t h moved) (state_counter-state_after layout i s t h moved)
     ∙ keystream-wrapped m (state_block n layout (fixed_words layout s)) (c + i) (64 * c + 64 * i) xs (omega arith))

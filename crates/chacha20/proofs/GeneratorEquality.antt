@@ -9,7 +9,8 @@ use Rattle.chacha20.specs.Generator.{GeneratorState, same_generator}
 use Rattle.chacha20.proofs.GeneratorLemmas.{generator_is}
 
 -- they are equal exactly where each of their fields is
-same-Decides : (a b : GeneratorState) → Decides (same_generator a b) ((a.word_pos ≡ b.word_pos) × ((a.stream ≡ b.stream) × (a.seed ≡ b.seed)))
+same-Decides : (a b : GeneratorState)
+    → Decides (same_generator a b) ((a.word_pos ≡ b.word_pos) × ((a.stream ≡ b.stream) × (a.seed ≡ b.seed)))
 same-Decides a b =
     Decides-and _ _ (Decides-eqb a.word_pos b.word_pos)
     (Decides-and _ _ (Decides-eqb a.stream b.stream) (pointwise_decides Decides-eqb a.seed b.seed))

@@ -1,7 +1,7 @@
 -- The seed and the stream, read back from the words of a state, and the generator that they make with its counter.
 -- The proofs of construction and of `set_stream`, and the other lemma files on generators, cite these. Read `Unread`
 -- first.
-use Rattle.std.proofs.Common.{◌≡◌, ℕ, zero, suc, ◌+◌, ◌*◌, ◌-◌, ◌/◌, ◌%◌, ◌^◌, ◌<◌, List, [], ◌∷◌, ◌++◌, length, take, slice_index, arith, refl, sym, ap, ap₂, subst, ◌∙◌}
+use Rattle.std.proofs.Common.{◌≡◌, ℕ, zero, suc, ◌+◌, ◌*◌, ◌-◌, ◌/◌, ◌%◌, ◌^◌, ◌<◌, List, [], ◌∷◌, ◌++◌, length, take, replicate, slice_index, arith, refl, sym, ap, ap₂, subst, ◌∙◌}
 use Rattle.std.proofs.lemmas.List.{take_at, drop_at, length-append, length-take-le}
 use Rattle.std.proofs.lemmas.Nat.{and_mask, or_shifted, from_le_bytes-to_le_bytes_4}
 use Rattle.std.specs.Int.{w64, to_le_bytes, from_le_bytes}
@@ -9,7 +9,8 @@ use Rattle.std.specs.Prelude.{bit_and, bit_or, slice_set}
 use Rattle.chacha_base.specs.Bytes.{word_bytes, bytes, words}
 use Rattle.chacha_base.specs.Block.{constants, start}
 use Rattle.chacha_base.specs.Layout.{legacy}
-use Rattle.chacha_base.specs.State.{state_counter, fixed_words}
+use Rattle.chacha_base.specs.State.{state_counter, state_at, fixed_words}
+use Rattle.chacha_base.proofs.StateLemmas.{length-state_at, fixed_words-start}
 use Rattle.chacha_base.proofs.BytesLemmas.{length-words}
 use Rattle.chacha_base.proofs.ListLemmas.{each}
 use Rattle.chacha20.specs.Generator.{GeneratorState}
@@ -55,11 +56,14 @@ bytes-words (suc n) (a ∷ b ∷ c ∷ d ∷ bs) long fits =
 -- the two words of the 8 bytes of a number, and the number of two words
 words-to_le_bytes : (x : ℕ) → x < 2 ^ 64 → words (to_le_bytes w64 x) ≡ x % 2 ^ 32 ∷ x / 2 ^ 32 ∷ []
 words-to_le_bytes x fits =
-    let low : x % 256 + 256 * (x / 256 % 256) + 256 ^ 2 * (x / 256 ^ 2 % 256) + 256 ^ 3 * (x / 256 ^ 3 % 256) ≡ x % 2 ^ 32 = omega arith in
-    let high : x / 256 ^ 4 % 256 + 256 * (x / 256 ^ 5 % 256) + 256 ^ 2 * (x / 256 ^ 6 % 256) + 256 ^ 3 * (x / 256 ^ 7 % 256) ≡ x / 2 ^ 32 = omega arith in
+    let low : x % 256 + 256 * (x / 256 % 256) + 256 ^ 2 * (x / 256 ^ 2 % 256) + 256 ^ 3 * (x / 256 ^ 3 % 256)
+    ≡ x % 2 ^ 32 = omega arith in
+    let high : x / 256 ^ 4 % 256 + 256 * (x / 256 ^ 5 % 256) + 256 ^ 2 * (x / 256 ^ 6 % 256)
+    + 256 ^ 3 * (x / 256 ^ 7 % 256) ≡ x / 2 ^ 32 = omega arith in
     ap₂ (λ l h. l ∷ h ∷ []) low high
 
-from_le_bytes-bytes : (low high : ℕ) → low < 2 ^ 32 → high < 2 ^ 32 → from_le_bytes w64 (bytes (low ∷ high ∷ [])) ≡ low + 2 ^ 32 * high
+from_le_bytes-bytes : (low high : ℕ) → low < 2 ^ 32 → high < 2 ^ 32
+    → from_le_bytes w64 (bytes (low ∷ high ∷ [])) ≡ low + 2 ^ 32 * high
 from_le_bytes-bytes low high low_fits high_fits =
     omega (arith, from_le_bytes-to_le_bytes_4 low low_fits, from_le_bytes-to_le_bytes_4 high high_fits)
 
@@ -67,55 +71,67 @@ from_le_bytes-bytes low high low_fits high_fits =
 pub nonce_written : (s : List ℕ) (x : ℕ) → length s ≡ 16 → x < 2 ^ 64
     → slice_set (slice_set s 14 (bit_and x (2 ^ 32 - 1))) 15 (x / 2 ^ 32) ≡ take 14 s ++ words (to_le_bytes w64 x)
 nonce_written s x long fits =
-    each 16 (λ t. slice_set (slice_set t 14 (bit_and x (2 ^ 32 - 1))) 15 (x / 2 ^ 32) ≡ take 14 t ++ (bit_and x (2 ^ 32 - 1) ∷ x / 2 ^ 32 ∷ []))
+    each 16 (λ t. slice_set (slice_set t 14 (bit_and x (2 ^ 32 - 1))) 15 (x / 2 ^ 32)
+    ≡ take 14 t ++ (bit_and x (2 ^ 32 - 1) ∷ x / 2 ^ 32 ∷ []))
     (λ x0 x1 x2 x3 x4 x5 x6 x7 x8 x9 x10 x11 x12 x13 x14 x15. refl) s long
     ∙ ap (λ ws. take 14 s ++ ws) (ap (λ l. l ∷ x / 2 ^ 32 ∷ []) (and_mask x 32) ∙ sym (words-to_le_bytes x fits))
 
 -- the last two words, read as a number
-pub stream_read : (s : List ℕ) (low high : ℕ) → length s ≡ 16 → low ≡ slice_index s 14 → high ≡ slice_index s 15 → low < 2 ^ 32 → high < 2 ^ 32
+pub stream_read : (s : List ℕ) (low high : ℕ) → length s ≡ 16 → low ≡ slice_index s 14 → high ≡ slice_index s 15
+    → low < 2 ^ 32 → high < 2 ^ 32
     → bit_or (high * 2 ^ 32 % 2 ^ 64) low ≡ stream_in (fixed_words legacy s)
 stream_read s low high long low_is high_is low_fits high_fits =
     let whole : high * 2 ^ 32 % 2 ^ 64 ≡ high * 2 ^ 32 = omega arith in
-    let joined : bit_or (high * 2 ^ 32 % 2 ^ 64) low ≡ low + 2 ^ 32 * high = ap (λ t. bit_or t low) whole ∙ or_shifted high 32 low low_fits ∙ omega arith in
+    let joined : bit_or (high * 2 ^ 32 % 2 ^ 64) low ≡ low + 2 ^ 32 * high =
+    ap (λ t. bit_or t low) whole ∙ or_shifted high 32 low low_fits ∙ omega arith in
     joined
     ∙ sym (from_le_bytes-bytes low high low_fits high_fits)
     ∙ ap₂ (λ l h. from_le_bytes w64 (bytes (l ∷ h ∷ []))) low_is high_is
-    ∙ each 16 (λ t. from_le_bytes w64 (bytes (slice_index t 14 ∷ slice_index t 15 ∷ [])) ≡ stream_in (fixed_words legacy t))
+    ∙ each 16 (λ t. from_le_bytes w64 (bytes (slice_index t 14 ∷ slice_index t 15 ∷ []))
+    ≡ stream_in (fixed_words legacy t))
     (λ x0 x1 x2 x3 x4 x5 x6 x7 x8 x9 x10 x11 x12 x13 x14 x15. refl) s long
 
 -- the seed and the stream of the fixed words of a start state
-seed_in-start : (seed nonce : List ℕ) → length seed ≡ 32 → Bytes seed → seed_in (constants ++ words seed ++ words nonce) ≡ seed
+seed_in-start : (seed nonce : List ℕ) → length seed ≡ 32 → Bytes seed
+    → seed_in (constants ++ words seed ++ words nonce) ≡ seed
 seed_in-start seed nonce long fits =
     ap bytes (take_at (words seed) (words nonce) 8 (length-words 8 seed long)) ∙ bytes-words 8 seed long fits
 
-stream_in-start : (seed : List ℕ) (x : ℕ) → length seed ≡ 32 → x < 2 ^ 64 → stream_in (constants ++ words seed ++ words (to_le_bytes w64 x)) ≡ x
+stream_in-start : (seed : List ℕ) (x : ℕ) → length seed ≡ 32 → x < 2 ^ 64
+    → stream_in (constants ++ words seed ++ words (to_le_bytes w64 x)) ≡ x
 stream_in-start seed x long fits =
-    ap (λ ws. from_le_bytes w64 (bytes ws)) (drop_at (words seed) (words (to_le_bytes w64 x)) 8 (length-words 8 seed long) ∙ words-to_le_bytes x fits)
+    ap (λ ws. from_le_bytes w64 (bytes ws))
+    (drop_at (words seed) (words (to_le_bytes w64 x)) 8 (length-words 8 seed long) ∙ words-to_le_bytes x fits)
     ∙ from_le_bytes-bytes (x % 2 ^ 32) (x / 2 ^ 32) (omega arith) (omega arith)
     ∙ omega arith
 
 pub length-seed_in : (core : List ℕ) → length core ≡ 16 → length (seed_in (fixed_words legacy core)) ≡ 32
-length-seed_in = each 16 (λ s. length (seed_in (fixed_words legacy s)) ≡ 32) (λ x0 x1 x2 x3 x4 x5 x6 x7 x8 x9 x10 x11 x12 x13 x14 x15. refl)
+length-seed_in =
+    each 16 (λ s. length (seed_in (fixed_words legacy s)) ≡ 32)
+    (λ x0 x1 x2 x3 x4 x5 x6 x7 x8 x9 x10 x11 x12 x13 x14 x15. refl)
 
 -- the fixed words with another nonce
-pub fixed_words-renonced : (core next : List ℕ) (stream : ℕ) → length core ≡ 16 → IsStart (fixed_words legacy core)
+fixed_words-renonced : (core next : List ℕ) (stream : ℕ) → length core ≡ 16 → IsStart (fixed_words legacy core)
     → next ≡ take 14 core ++ words (to_le_bytes w64 stream)
     → fixed_words legacy next ≡ constants ++ words (seed_in (fixed_words legacy core)) ++ words (to_le_bytes w64 stream)
 fixed_words-renonced core next stream long own moved =
     let nonce = words (to_le_bytes w64 stream) in
     let front = constants ++ words (seed_in (fixed_words legacy core)) in
-    let twelve : length front ≡ 12 = omega (arith, length-words 8 (seed_in (fixed_words legacy core)) (length-seed_in core long)) in
+    let twelve : length front ≡ 12 =
+    omega (arith, length-words 8 (seed_in (fixed_words legacy core)) (length-seed_in core long)) in
     ap (fixed_words legacy) moved
     ∙ each 16 (λ s. fixed_words legacy (take 14 s ++ nonce) ≡ take 12 (fixed_words legacy s) ++ nonce)
     (λ x0 x1 x2 x3 x4 x5 x6 x7 x8 x9 x10 x11 x12 x13 x14 x15. refl) core long
     ∙ ap (λ f. take 12 f ++ nonce) own
     ∙ ap (λ f. f ++ nonce) (take_at front _ 12 twelve)
 
-pub length-renonced : (core next : List ℕ) (stream : ℕ) → length core ≡ 16 → next ≡ take 14 core ++ words (to_le_bytes w64 stream) → length next ≡ 16
+length-renonced : (core next : List ℕ) (stream : ℕ) → length core ≡ 16
+    → next ≡ take 14 core ++ words (to_le_bytes w64 stream) → length next ≡ 16
 length-renonced core next stream long moved =
     ap length moved ∙ simp length-append (omega (arith, length-take-le 14 core (omega arith)))
 
-pub length-start : (seed nonce : List ℕ) (c : ℕ) → length (words seed) ≡ 8 → length (words nonce) ≡ 2 → length (start legacy seed nonce c) ≡ 16
+length-start : (seed nonce : List ℕ) (c : ℕ) → length (words seed) ≡ 8 → length (words nonce) ≡ 2
+    → length (start legacy seed nonce c) ≡ 16
 length-start seed nonce c eight two = simp length-append (omega arith)
 
 -- generators with the same parts are one
@@ -123,7 +139,8 @@ pub generator_is : (g h : GeneratorState) → g.seed ≡ h.seed → g.stream ≡
 generator_is g h seeds streams positions = λ i. record { seed = seeds i; stream = streams i; word_pos = positions i }
 
 -- a core at whose buffer no word is left
-pub unread-none : (n : ℕ) (core buffer : List ℕ) → length core ≡ 16 → IsStart (fixed_words legacy core) → IsUnread n core buffer 64
+pub unread-none : (n : ℕ) (core buffer : List ℕ) → length core ≡ 16 → IsStart (fixed_words legacy core)
+    → IsUnread n core buffer 64
 unread-none n core buffer long own = record {
   sixteen = long;
   start = own;
@@ -132,23 +149,56 @@ unread-none n core buffer long own = record {
 }
 
 -- the core with another counter: the same seed and stream
-pub generator_of-recounted : (core next : List ℕ) (used c : ℕ) (g : GeneratorState) → fixed_words legacy next ≡ fixed_words legacy core
-    → state_counter legacy next ≡ c → c < 2 ^ 64 → generator_of core used ≡ g → generator_of next 64 ≡ record g { word_pos = 16 * c }
-generator_of-recounted core next used c g fixed counter less same =
-    generator_is _ _ (ap seed_in fixed ∙ ap (λ (h : GeneratorState). h.seed) same) (ap stream_in fixed ∙ ap (λ (h : GeneratorState). h.stream) same)
-    (omega (arith, counter))
+pub generator_of-recounted : {c : ℕ} {g : GeneratorState} (core next : List ℕ) (used : ℕ)
+    → fixed_words legacy next ≡ fixed_words legacy core → state_counter legacy next ≡ c → c < 2 ^ 64
+    → generator_of core used ≡ g → generator_of next 64 ≡ record g { word_pos = 16 * c }
+generator_of-recounted core next used fixed counter less same =
+    generator_is _ _ (ap seed_in fixed ∙ ap (λ (h : GeneratorState). h.seed) same)
+    (ap stream_in fixed ∙ ap (λ (h : GeneratorState). h.stream) same) (omega (arith, counter))
 
--- the core of a seed and a stream, at its start
-pub unread-start : (n : ℕ) (core buffer seed : List ℕ) (stream : ℕ) → length core ≡ 16 → length seed ≡ 32 → Bytes seed → stream < 2 ^ 64
-    → fixed_words legacy core ≡ constants ++ words seed ++ words (to_le_bytes w64 stream) → IsUnread n core buffer 64
-unread-start n core buffer seed stream long long_seed fits below same =
-    unread-none n core buffer long
-    (subst IsStart (sym same)
-    (sym (ap₂ (λ k t. constants ++ words k ++ words (to_le_bytes w64 t)) (seed_in-start seed (to_le_bytes w64 stream) long_seed fits) (stream_in-start seed stream long_seed below))))
+-- the fixed words of a core are those of a start state, of this seed and stream
+pub record Starts (core seed : List ℕ) (stream : ℕ) : Type 0 where
+  pub sixteen : length core ≡ 16
+  pub long : length seed ≡ 32
+  pub fits : Bytes seed
+  pub below : stream < 2 ^ 64
+  pub fixed : fixed_words legacy core ≡ constants ++ words seed ++ words (to_le_bytes w64 stream)
 
-pub generator_of-start : (core seed : List ℕ) (stream : ℕ) → length seed ≡ 32 → Bytes seed → stream < 2 ^ 64
-    → fixed_words legacy core ≡ constants ++ words seed ++ words (to_le_bytes w64 stream) → state_counter legacy core ≡ 0
+-- a new core, and one whose stream is set
+pub starts-new : {core seed : List ℕ} → length seed ≡ 32 → Bytes seed → core ≡ start legacy seed (replicate 8 0) 0
+    → Starts core seed 0
+starts-new {seed = seed} long fits same =
+    let eight = length-words 8 seed long in
+    record {
+      sixteen = ap length same ∙ length-start seed (replicate 8 0) 0 eight refl;
+      long = long;
+      fits = fits;
+      below = omega arith;
+      fixed = ap (fixed_words legacy) same ∙ fixed_words-start legacy seed (replicate 8 0) 0 eight;
+    }
+
+pub starts-renonced : {n used stream : ℕ} {core buffer next renonced : List ℕ} → IsUnread n core buffer used
+    → renonced ≡ take 14 core ++ words (to_le_bytes w64 stream) → stream < 2 ^ 64 → next ≡ state_at legacy 0 renonced
+    → fixed_words legacy next ≡ fixed_words legacy renonced → Starts next (seed_in (fixed_words legacy core)) stream
+starts-renonced {stream = stream} {core = core} {renonced = renonced} held written below moved fixed = record {
+  sixteen = ap length moved ∙ length-state_at legacy 0 _ (length-renonced core _ stream held.sixteen written);
+  long = length-seed_in core held.sixteen;
+  fits = bytes-below _;
+  below = below;
+  fixed = fixed ∙ fixed_words-renonced core renonced stream held.sixteen held.start written;
+}
+
+-- no word of its buffer is left, and its generator is at the start of the stream
+pub unread-start : {core seed : List ℕ} {stream : ℕ} (n : ℕ) (buffer : List ℕ) → Starts core seed stream
+    → IsUnread n core buffer 64
+unread-start {core} {seed} {stream} n buffer is =
+    let seeds = seed_in-start seed (to_le_bytes w64 stream) is.long is.fits in
+    let streams = stream_in-start seed stream is.long is.below in
+    let own = ap₂ (λ k t. constants ++ words k ++ words (to_le_bytes w64 t)) seeds streams in
+    unread-none n core buffer is.sixteen (subst IsStart (sym is.fixed) (sym own))
+
+pub generator_of-start : {core seed : List ℕ} {stream : ℕ} → Starts core seed stream → state_counter legacy core ≡ 0
     → generator_of core 64 ≡ record { seed = seed; stream = stream; word_pos = 0 }
-generator_of-start core seed stream long fits below same counter =
-    generator_is _ _ (ap seed_in same ∙ seed_in-start seed (to_le_bytes w64 stream) long fits) (ap stream_in same ∙ stream_in-start seed stream long below)
-    (omega (arith, counter))
+generator_of-start {seed = seed} {stream = stream} is counter =
+    generator_is _ _ (ap seed_in is.fixed ∙ seed_in-start seed (to_le_bytes w64 stream) is.long is.fits)
+    (ap stream_in is.fixed ∙ stream_in-start seed stream is.long is.below) (omega (arith, counter))

@@ -23,58 +23,67 @@ use Rattle.chacha20.specs.Generator.{GeneratorState, positions, at_word_pos, wor
 use Rattle.chacha20.specs.Unread.{seed_in, stream_in, IsStart, generator_of, IsUnread}
 
 -- j words more are used
-pub generator_of-taken : (core : List ℕ) (i j e : ℕ) → e ≡ i + j → generator_of core e ≡ at_word_pos (generator_of core i) ((generator_of core i).word_pos + j)
+pub generator_of-taken : (core : List ℕ) (i j e : ℕ) → e ≡ i + j
+    → generator_of core e ≡ at_word_pos (generator_of core i) ((generator_of core i).word_pos + j)
 generator_of-taken core i j e all =
     let g = generator_of core i in
     let p : (generator_of core e).word_pos ≡ (g.word_pos + j) % positions = omega (arith, all) in
     ap (λ w. record g { word_pos = w }) p
 
-pub taken : (n : ℕ) (core buffer : List ℕ) (i j e : ℕ) → IsUnread n core buffer i → e ≡ i + j → e ≤ 64 → IsUnread n core buffer e
-taken n core buffer i j e held all room = record {
+pub taken : {n : ℕ} {core buffer : List ℕ} {i : ℕ} → IsUnread n core buffer i → (j e : ℕ) → e ≡ i + j → e ≤ 64
+    → IsUnread n core buffer e
+taken {n} {core} {buffer} {i} held j e all room = record {
   sixteen = held.sixteen;
   start = held.start;
   within = room;
   next = λ k less.
       let place : e + k ≡ i + (j + k) = omega (arith, all) in
-      let here : ((generator_of core i).word_pos + (j + k)) % positions ≡ ((generator_of core e).word_pos + k) % positions = omega (arith, all) in
+      let here : ((generator_of core i).word_pos + (j + k)) % positions
+      ≡ ((generator_of core e).word_pos + k) % positions = omega (arith, all) in
       rw place (held.next (j + k) (omega (arith, all))) ∙ word-same n (generator_of core i) _ _ here;
 }
 
 -- the first of the unread words
-pub first_unread : (n : ℕ) (core buffer : List ℕ) (i : ℕ) → IsUnread n core buffer i → i < 64
+pub first_unread : {n : ℕ} {core buffer : List ℕ} {i : ℕ} → IsUnread n core buffer i → i < 64
     → slice_index buffer i ≡ word n (generator_of core i) (generator_of core i).word_pos
-first_unread n core buffer i held less =
+first_unread {n} {core} {buffer} {i} held less =
+    let g = generator_of core i in
     let here : i + 0 ≡ i = omega arith in
-    let place : (generator_of core i).word_pos + 0 ≡ (generator_of core i).word_pos = omega arith in
-    ap (slice_index buffer) (sym here) ∙ held.next 0 (omega arith) ∙ ap (word n (generator_of core i)) place
+    let place : g.word_pos + 0 ≡ g.word_pos = omega arith in
+    ap (slice_index buffer) (sym here) ∙ held.next 0 (omega arith) ∙ ap (word n g) place
 
 -- the first two of them
-pub two_unread : (n : ℕ) (core buffer : List ℕ) (i : ℕ) → IsUnread n core buffer i → i + 1 < 64
-    → (slice_index buffer i + 2 ^ 32 * slice_index buffer (i + 1), generator_of core (i + 2)) ≡ next_u64 n (generator_of core i)
-two_unread n core buffer i held room =
+pub two_unread : {n : ℕ} {core buffer : List ℕ} {i : ℕ} → IsUnread n core buffer i → i + 1 < 64
+    → (slice_index buffer i + 2 ^ 32 * slice_index buffer (i + 1), generator_of core (i + 2))
+    ≡ next_u64 n (generator_of core i)
+two_unread {core = core} {i = i} held room =
     ap₂ (λ x h. (x, h))
-    (ap₂ (λ x y. x + 2 ^ 32 * y) (first_unread n core buffer i held (omega (arith, room))) (held.next 1 room))
+    (ap₂ (λ x y. x + 2 ^ 32 * y) (first_unread held (omega (arith, room))) (held.next 1 room))
     (generator_of-taken core i 2 _ refl)
 
 -- the next k words
-next_unread : (n : ℕ) (core buffer : List ℕ) (i k : ℕ) → IsUnread n core buffer i → i + k ≤ 64 → length buffer ≡ 64
+next_unread : {n : ℕ} {core buffer : List ℕ} {i : ℕ} → IsUnread n core buffer i → (k : ℕ) → i + k ≤ 64
+    → length buffer ≡ 64
     → take k (drop i buffer) ≡ stream_part (word n (generator_of core i)) (generator_of core i).word_pos k
-next_unread n core buffer i k held room size =
+next_unread {n} {core} {buffer} {i} held k room size =
+    let g = generator_of core i in
     let part = take k (drop i buffer) in
     let long : length part ≡ k = length-take-le k (drop i buffer) (omega (arith, length-drop i buffer)) in
-    streamed_is (word n (generator_of core i)) (generator_of core i).word_pos k part long
+    streamed_is (word n g) g.word_pos k part long
     (λ j less. get_or-take k (drop i buffer) j 0 less ∙ get_or-drop i buffer j 0 ∙ held.next j (omega arith))
 
 -- the core has made the words of the buffer, and none is used
 pub refilled : (n : ℕ) (core next made : List ℕ) → length core ≡ 16 → IsStart (fixed_words legacy core)
     → next ≡ state_after legacy 4 core → made ≡ next_words n legacy core → IsUnread n next made 0
 refilled n core next made long own moved words =
-    let fixed : fixed_words legacy next ≡ fixed_words legacy core = fixed_words-state_after legacy 4 core next long moved in
+    let fixed : fixed_words legacy next ≡ fixed_words legacy core =
+    fixed_words-state_after legacy 4 core next long moved in
     let counter = state_counter-state_after legacy 4 core next long moved in
     let g = generator_of next 0 in
     let again : (c : ℕ) → state_at legacy c core ≡ start legacy g.seed (to_le_bytes w64 g.stream) c =
     λ c. ap (λ f. state_of legacy f c) own
-    ∙ state_of-start legacy (seed_in (fixed_words legacy core)) (to_le_bytes w64 (stream_in (fixed_words legacy core))) c (length-words 8 _ (length-seed_in core long))
+    ∙ state_of-start legacy (seed_in (fixed_words legacy core))
+    (to_le_bytes w64 (stream_in (fixed_words legacy core))) c (length-words 8 _ (length-seed_in core long))
     ∙ ap (λ f. start legacy (seed_in f) (to_le_bytes w64 (stream_in f)) c) (sym fixed) in
     record {
       sixteen = ap length moved ∙ length-state_at legacy (counter_after legacy core 4) core long;
@@ -91,18 +100,22 @@ refilled n core next made long own moved words =
           ∙ ap (λ s. slice_index (mix n s) (w % 16)) (again (w % positions / 16));
     }
 
-pub generator_of-refilled : (core next : List ℕ) → length core ≡ 16 → next ≡ state_after legacy 4 core → generator_of next 0 ≡ generator_of core 64
+pub generator_of-refilled : (core next : List ℕ) → length core ≡ 16 → next ≡ state_after legacy 4 core
+    → generator_of next 0 ≡ generator_of core 64
 generator_of-refilled core next long moved =
     let fixed = fixed_words-state_after legacy 4 core next long moved in
-    generator_is _ _ (ap seed_in fixed) (ap stream_in fixed) (omega (arith, state_counter-state_after legacy 4 core next long moved))
+    generator_is _ _ (ap seed_in fixed) (ap stream_in fixed)
+    (omega (arith, state_counter-state_after legacy 4 core next long moved))
 
 -- two words as the halves of a number, and read one after the other
-pub halves_joined : (low high : ℕ) → low < 2 ^ 32 → high < 2 ^ 32 → bit_or (high * 2 ^ 32 % 2 ^ 64) low ≡ low + 2 ^ 32 * high
-halves_joined low high low_fits high_fits = or_after_shift high (2 ^ 32) (2 ^ 64) low refl low_fits (omega arith) ∙ omega arith
+pub halves_joined : (low high : ℕ) → low < 2 ^ 32 → high < 2 ^ 32
+    → bit_or (high * 2 ^ 32 % 2 ^ 64) low ≡ low + 2 ^ 32 * high
+halves_joined low high low_fits high_fits =
+    or_after_shift high (2 ^ 32) (2 ^ 64) low refl low_fits (omega arith) ∙ omega arith
 
-pub two_reads : (n : ℕ) (g h i : GeneratorState) (low high : ℕ) → (low, h) ≡ next_u32 n g → (high, i) ≡ next_u32 n h
-    → (low + 2 ^ 32 * high, i) ≡ next_u64 n g
-two_reads n g h i low high first then =
+pub two_reads : {h i : GeneratorState} {low high : ℕ} (n : ℕ) (g : GeneratorState) → (low, h) ≡ next_u32 n g
+    → (high, i) ≡ next_u32 n h → (low + 2 ^ 32 * high, i) ≡ next_u64 n g
+two_reads {h} {i} {low} {high} n g first then =
     let w = g.word_pos in
     let moved : h ≡ at_word_pos g (w + 1) = ap (λ (p : ℕ × GeneratorState). p.1) first in
     let second : (high, i) ≡ next_u32 n (at_word_pos g (w + 1)) = then ∙ ap (next_u32 n) moved in
@@ -114,47 +127,62 @@ two_reads n g h i low high first then =
     (ap (λ (p : ℕ × GeneratorState). p.1) second ∙ at-same g _ _ after)
 
 -- k words more are written, behind those before them
-pub words-written : (n : ℕ) (rng : GeneratorState) (core buffer : List ℕ) (i k done : ℕ) (dst part : List ℕ) → IsUnread n core buffer i → i + k ≤ 64 → length buffer ≡ 64
+pub words-written : {n : ℕ} {core buffer : List ℕ} {i : ℕ} {part : List ℕ} → IsUnread n core buffer i
+    → (rng : GeneratorState) (k done : ℕ) (dst : List ℕ) → i + k ≤ 64 → length buffer ≡ 64
     → generator_of core i ≡ at_word_pos rng (rng.word_pos + done) → 4 * (done + k) ≤ length dst
-    → take (4 * done) dst ≡ bytes (stream_part (word n rng) rng.word_pos done) → part ≡ bytes (take k (drop i buffer))
-    → take (4 * (done + k)) (put_mid (4 * done) (4 * (done + k) - 4 * done) dst part) ≡ bytes (stream_part (word n rng) rng.word_pos (done + k))
-words-written n rng core buffer i k done dst part held room long moved fits before made =
+    → take (4 * done) dst ≡ bytes (stream_part (word n rng) rng.word_pos done)
+    → part ≡ bytes (take k (drop i buffer))
+    → take (4 * (done + k)) (put_mid (4 * done) (4 * (done + k) - 4 * done) dst part)
+    ≡ bytes (stream_part (word n rng) rng.word_pos (done + k))
+words-written {n} {core} {buffer} {i} {part} held rng k done dst room long moved fits before made =
     let w = rng.word_pos in
+    let stream = word n rng in
     let wrapped : (w + done) % positions % positions ≡ (w + done) % positions = omega arith in
-    let next : take k (drop i buffer) ≡ stream_part (word n rng) (w + done) k =
-    next_unread n core buffer i k held room long
+    let next : take k (drop i buffer) ≡ stream_part stream (w + done) k =
+    next_unread held k room long
     ∙ ap (λ (h : GeneratorState). stream_part (word n h) h.word_pos k) moved
     ∙ words-same n rng _ _ k wrapped in
     let size : length part ≡ 4 * k =
-    ap length made ∙ length-bytes (take k (drop i buffer)) ∙ ap (λ x. 4 * x) (ap length next ∙ length-stream_part (word n rng) (w + done) k) in
-    take-put_mid (4 * done) (4 * (done + k) - 4 * done) dst part (4 * (done + k)) (omega (arith, size)) (omega (arith, fits))
+    ap length made
+    ∙ length-bytes (take k (drop i buffer))
+    ∙ ap (λ x. 4 * x) (ap length next ∙ length-stream_part stream (w + done) k) in
+    take-put_mid (4 * done) (4 * (done + k) - 4 * done) dst part (4 * (done + k)) (omega (arith, size))
+    (omega (arith, fits))
     ∙ ap₂ ◌++◌ before (made ∙ ap bytes next)
-    ∙ sym (ap bytes (stream_part-add (word n rng) w done k) ∙ bytes-append (stream_part (word n rng) w done) (stream_part (word n rng) (w + done) k))
+    ∙ sym (ap bytes (stream_part-add stream w done k)
+    ∙ bytes-append (stream_part stream w done) (stream_part stream (w + done) k))
 
 -- a fill that ends with a word's last byte
-pub filled-whole : (n : ℕ) (g h : GeneratorState) (q len : ℕ) (dst : List ℕ) → len ≡ 4 * q → dst ≡ bytes (stream_part (word n g) g.word_pos q) → h ≡ at_word_pos g (g.word_pos + q)
+pub filled-whole : {h : GeneratorState} {len : ℕ} {dst : List ℕ} (n : ℕ) (g : GeneratorState) (q : ℕ) → len ≡ 4 * q
+    → dst ≡ bytes (stream_part (word n g) g.word_pos q) → h ≡ at_word_pos g (g.word_pos + q)
     → (dst, h) ≡ fill n g len
-filled-whole n g h q len dst size made moved =
+filled-whole n g q size made moved =
     ap₂ (λ x y. (x, y)) made moved ∙ sym (fill-words n q g) ∙ ap (fill n g) (sym size)
 
 -- a fill that ends with the front of a word
-pub filled-over : (n : ℕ) (g h i : GeneratorState) (q r len x : ℕ) (front last : List ℕ) → len ≡ 4 * q + r → 0 < r → r < 4
-    → front ≡ bytes (stream_part (word n g) g.word_pos q) → h ≡ at_word_pos g (g.word_pos + q) → (x, i) ≡ next_u32 n h → last ≡ take r (word_bytes x)
+pub filled-over : {h i : GeneratorState} {len x : ℕ} {front last : List ℕ} (n : ℕ) (g : GeneratorState) (q r : ℕ)
+    → len ≡ 4 * q + r → 0 < r → r < 4 → front ≡ bytes (stream_part (word n g) g.word_pos q)
+    → h ≡ at_word_pos g (g.word_pos + q) → (x, i) ≡ next_u32 n h → last ≡ take r (word_bytes x)
     → (front ++ last, i) ≡ fill n g len
-filled-over n g h i q r len x front last size some part made moved read cut =
+filled-over {len = len} {x = x} n g q r size some part made moved read cut =
     let w = g.word_pos in
+    let front = stream_part (word n g) w q in
     let words : (len + 3) / 4 ≡ q + 1 = omega (arith, size, some, part) in
-    let here : (x, i) ≡ next_u32 n (at_word_pos g (w + q)) = read ∙ ap (next_u32 n) moved in
+    let here = read ∙ ap (next_u32 n) moved in
     let wrapped : (w + q) % positions % positions ≡ (w + q) % positions = omega arith in
     let after : ((w + q) % positions + 1) % positions ≡ (w + (q + 1)) % positions = omega arith in
-    let word_is : x ≡ word n g (w + q) = ap (λ (p : ℕ × GeneratorState). p.0) here ∙ word-same n g _ _ wrapped in
-    let all : bytes (stream_part (word n g) w (q + 1)) ≡ bytes (stream_part (word n g) w q) ++ word_bytes x =
-    ap bytes (stream_part-add (word n g) w q 1) ∙ bytes-append (stream_part (word n g) w q) (word n g (w + q) ∷ []) ∙ ap (λ v. bytes (stream_part (word n g) w q) ++ word_bytes v) (sym word_is) in
-    let long : len ≡ length (bytes (stream_part (word n g) w q)) + r = omega (arith, size, length-bytes (stream_part (word n g) w q), length-stream_part (word n g) w q) in
-    let filled : ℕ → List ℕ × GeneratorState = λ k. (take len (bytes (stream_part (word n g) w k)), at_word_pos g (w + k)) in
+    let word_is : x ≡ word n g (w + q) =
+    ap (λ (p : ℕ × GeneratorState). p.0) here ∙ word-same n g _ _ wrapped in
+    let all : bytes (stream_part (word n g) w (q + 1)) ≡ bytes front ++ word_bytes x =
+    ap bytes (stream_part-add (word n g) w q 1)
+    ∙ bytes-append front (word n g (w + q) ∷ [])
+    ∙ ap (λ v. bytes front ++ word_bytes v) (sym word_is) in
+    let long : len ≡ length (bytes front) + r =
+    omega (arith, size, length-bytes front, length-stream_part (word n g) w q) in
+    let filled : ℕ → List ℕ × GeneratorState =
+    λ k. (take len (bytes (stream_part (word n g) w k)), at_word_pos g (w + k)) in
     ◌∙◌ {b = filled (q + 1)}
     (ap₂ (λ y z. (y, z))
-    (ap₂ ◌++◌ made cut
-    ∙ sym (ap₂ take long all ∙ take-append-add (bytes (stream_part (word n g) w q)) (word_bytes x) r))
+    (ap₂ ◌++◌ made cut ∙ sym (ap₂ take long all ∙ take-append-add (bytes front) (word_bytes x) r))
     (ap (λ (p : ℕ × GeneratorState). p.1) here ∙ at-same g _ _ after))
     (ap filled (sym words))

@@ -22,10 +22,12 @@ keyed key = put_mid 4 8 (constants ++ replicate 12 0) key
 pub written : (key row : List ℕ) → length key ≡ 8 → length row ≡ 4
     → put_mid 12 4 (keyed key) (put_chunk 0 (take 4 (drop 12 (keyed key))) (chunk 0 4 row)) ≡ constants ++ key ++ row
 written key row eight four =
-    each 8 (λ k. put_mid 12 4 (keyed k) (put_chunk 0 (take 4 (drop 12 (keyed k))) (chunk 0 4 row)) ≡ constants ++ k ++ row)
+    each 8 (λ k. put_mid 12 4 (keyed k) (put_chunk 0 (take 4 (drop 12 (keyed k))) (chunk 0 4 row))
+    ≡ constants ++ k ++ row)
     (λ x0 x1 x2 x3 x4 x5 x6 x7.
     let k = x0 ∷ x1 ∷ x2 ∷ x3 ∷ x4 ∷ x5 ∷ x6 ∷ x7 ∷ [] in
-    each 4 (λ r. put_mid 12 4 (keyed k) (put_chunk 0 (take 4 (drop 12 (keyed k))) (chunk 0 4 r)) ≡ constants ++ k ++ r) (λ y0 y1 y2 y3. refl) row four) key eight
+    each 4 (λ r. put_mid 12 4 (keyed k) (put_chunk 0 (take 4 (drop 12 (keyed k))) (chunk 0 4 r)) ≡ constants ++ k ++ r)
+    (λ y0 y1 y2 y3. refl) row four) key eight
 
 -- four zeros with their last three words written, or their last two
 pub row_written : (nonce : List ℕ) → length nonce ≡ 3 → put_mid 1 3 (replicate 4 0) nonce ≡ 0 ∷ nonce
@@ -44,6 +46,8 @@ blocks-of-start n layout key nonce s long same =
     ∙ ap (λ t. bytes (mix n t)) (state_of-start layout key nonce c eight ∙ sym (start-wrapped layout key nonce c)))
 
 -- and its counter
-pub first-of-start : (layout : Layout) (key nonce s : List ℕ) → length key ≡ 32 → s ≡ start layout key nonce 0 → 64 * state_counter layout s ≡ 0
+pub first-of-start : (layout : Layout) (key nonce s : List ℕ) → length key ≡ 32 → s ≡ start layout key nonce 0
+    → 64 * state_counter layout s ≡ 0
 first-of-start layout key nonce s long same =
-    ap (λ t. 64 * state_counter layout t) same ∙ ap (λ c. 64 * c) (state_counter-start layout key nonce 0 (length-words 8 key long) ∙ zero-mod (modulus layout))
+    ap (λ t. 64 * state_counter layout t) same
+    ∙ ap (λ c. 64 * c) (state_counter-start layout key nonce 0 (length-words 8 key long) ∙ zero-mod (modulus layout))

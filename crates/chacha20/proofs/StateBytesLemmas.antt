@@ -15,10 +15,12 @@ use Rattle.chacha20.specs.StateBytes.{state_bytes, of_state_bytes}
 use Rattle.chacha20.proofs.GeneratorLemmas.{Bytes, generator_is}
 
 -- 49 zeros with two parts written, and with all four
-two_written : (seed stream : List ℕ) → length seed ≡ 32 → put_mid 32 8 (seed ++ replicate 17 0) stream ≡ seed ++ (stream ++ replicate 9 0)
+two_written : (seed stream : List ℕ) → length seed ≡ 32
+    → put_mid 32 8 (seed ++ replicate 17 0) stream ≡ seed ++ (stream ++ replicate 9 0)
 two_written seed stream long = put_mid-at 32 8 seed (replicate 17 0) stream long
 
-pub two_written_length : (seed stream : List ℕ) → length seed ≡ 32 → length stream ≡ 8 → length (put_mid 32 8 (seed ++ replicate 17 0) stream) ≡ 49
+pub two_written_length : (seed stream : List ℕ) → length seed ≡ 32 → length stream ≡ 8
+    → length (put_mid 32 8 (seed ++ replicate 17 0) stream) ≡ 49
 two_written_length seed stream long eight =
     ap length (two_written seed stream long) ∙ simp length-append (omega arith)
 
@@ -33,12 +35,15 @@ length-free-behind seed stream long eight =
     length-take-le 8 (drop 40 s) (omega (arith, length-drop 40 s, two_written_length seed stream long eight))
 
 state_written : (seed stream low : List ℕ) (top : ℕ) → length seed ≡ 32 → length stream ≡ 8 → length low ≡ 8
-    → set (put_mid 40 8 (put_mid 32 8 (seed ++ replicate 17 0) stream) low) 48 top ≡ seed ++ (stream ++ (low ++ top ∷ []))
+    → set (put_mid 40 8 (put_mid 32 8 (seed ++ replicate 17 0) stream) low) 48 top
+    ≡ seed ++ (stream ++ (low ++ top ∷ []))
 state_written seed stream low top long eight eight' =
     let front : length (seed ++ stream) ≡ 40 = omega (arith, length-append seed stream) in
     let all : length ((seed ++ stream) ++ low) ≡ 48 = omega (arith, length-append (seed ++ stream) low) in
-    ap (λ s. set (put_mid 40 8 s low) 48 top) (two_written seed stream long ∙ sym (append_assoc seed stream (replicate 9 0)))
-    ∙ ap (λ s. set s 48 top) (put_mid-at 40 8 (seed ++ stream) (replicate 9 0) low front ∙ sym (append_assoc (seed ++ stream) low (0 ∷ [])))
+    ap (λ s. set (put_mid 40 8 s low) 48 top)
+    (two_written seed stream long ∙ sym (append_assoc seed stream (replicate 9 0)))
+    ∙ ap (λ s. set s 48 top)
+    (put_mid-at 40 8 (seed ++ stream) (replicate 9 0) low front ∙ sym (append_assoc (seed ++ stream) low (0 ∷ [])))
     ∙ set_at ((seed ++ stream) ++ low) 0 [] top 48 all
     ∙ append_assoc (seed ++ stream) low (top ∷ [])
     ∙ append_assoc seed stream (low ++ top ∷ [])
@@ -54,41 +59,50 @@ state_is g seed stream low s l w long seed_is stream_is s_is low_is l_is w_is =
     ∙ ap (λ v. g.seed ++ (to_le_bytes w64 g.stream ++ (to_le_bytes w64 (v % 2 ^ 64) ++ v / 2 ^ 64 ∷ []))) w_is
 
 -- out and in again
-pub of_state_bytes-state_bytes : (g : GeneratorState) → length g.seed ≡ 32 → g.stream < 2 ^ 64 → g.word_pos < positions → of_state_bytes (state_bytes g) ≡ g
+pub of_state_bytes-state_bytes : (g : GeneratorState) → length g.seed ≡ 32 → g.stream < 2 ^ 64 → g.word_pos < positions
+    → of_state_bytes (state_bytes g) ≡ g
 of_state_bytes-state_bytes g long below less =
     let w = g.word_pos in
     let all = state_bytes g in
     let rest = to_le_bytes w64 g.stream ++ (to_le_bytes w64 (w % 2 ^ 64) ++ w / 2 ^ 64 ∷ []) in
     let behind : drop 32 all ≡ rest = drop_at g.seed rest 32 long in
-    let low : take 8 (drop 40 all) ≡ to_le_bytes w64 (w % 2 ^ 64) = ap (take 8) (sym (drop-drop 8 32 all) ∙ ap (drop 8) behind) in
+    let low : take 8 (drop 40 all) ≡ to_le_bytes w64 (w % 2 ^ 64) =
+    ap (take 8) (sym (drop-drop 8 32 all) ∙ ap (drop 8) behind) in
     let top : slice_index all 48 ≡ w / 2 ^ 64 = sym (get_or-drop 32 all 16 0) ∙ ap (λ r. slice_index r 16) behind in
     let read : from_le_bytes w64 (take 8 (drop 40 all)) ≡ w % 2 ^ 64 =
     ap (from_le_bytes w64) low ∙ from_le_bytes-to_le_bytes_8 (w % 2 ^ 64) (omega arith) in
     generator_is _ g (take_at g.seed rest 32 long)
-    (ap (λ r. from_le_bytes w64 (take 8 r)) behind ∙ from_le_bytes-to_le_bytes_8 g.stream below) (omega (arith, read, top))
+    (ap (λ r. from_le_bytes w64 (take 8 r)) behind ∙ from_le_bytes-to_le_bytes_8 g.stream below)
+    (omega (arith, read, top))
 
 -- the bytes of a part, and the number of 8
 Bytes-part : (front len : ℕ) (bs : List ℕ) → Bytes bs → Bytes (take len (drop front bs))
 Bytes-part front len bs fits i =
     elim (cases_lt i len) [
-      | inl inside ↦ let here = fits (front + i) in rw (get_or-take len (drop front bs) i 0 inside, get_or-drop front bs i 0) here
-      | inr outside ↦ rw (get_or_past (take len (drop front bs)) i 0 (omega (arith, length-take len (drop front bs)))) (omega arith)
+      | inl inside ↦ let here = fits (front + i) in rw
+          (get_or-take len (drop front bs) i 0 inside, get_or-drop front bs i 0) here
+      | inr outside ↦ rw (get_or_past (take len (drop front bs)) i 0 (omega (arith, length-take len (drop front bs))))
+          (omega arith)
     ]
 
 from_le_bytes-below : (bs : List ℕ) → Bytes bs → from_le_bytes w64 bs < 2 ^ 64
 from_le_bytes-below bs fits = omega (arith, fits 0, fits 1, fits 2, fits 3, fits 4, fits 5, fits 6, fits 7)
 
 -- the generator that is put to what is read of 49 bytes
-pub read_back : (bs seed : List ℕ) (stream low top : ℕ) → low < 2 ^ 64 → top < 256 → seed ≡ take 32 bs → stream ≡ from_le_bytes w64 (take 8 (drop 32 bs))
+pub read_back : (bs seed : List ℕ) (stream low top : ℕ) → low < 2 ^ 64 → top < 256 → seed ≡ take 32 bs
+    → stream ≡ from_le_bytes w64 (take 8 (drop 32 bs))
     → low ≡ from_le_bytes w64 (take 8 (drop 40 bs)) → top ≡ slice_index bs 48
-    → at_word_pos (record { seed = seed; stream = stream; word_pos = 0 }) (bit_or (top * 2 ^ 64 % 2 ^ 128) low) ≡ of_state_bytes bs
+    → at_word_pos (record { seed = seed; stream = stream; word_pos = 0 }) (bit_or (top * 2 ^ 64 % 2 ^ 128) low)
+    ≡ of_state_bytes bs
 read_back bs seed stream low top less small seed_is stream_is low_is top_is =
     let whole : top * 2 ^ 64 % 2 ^ 128 ≡ top * 2 ^ 64 = omega arith in
-    let joined : bit_or (top * 2 ^ 64 % 2 ^ 128) low ≡ low + 2 ^ 64 * top = ap (λ t. bit_or t low) whole ∙ or_shifted top 64 low less ∙ omega arith in
+    let joined : bit_or (top * 2 ^ 64 % 2 ^ 128) low ≡ low + 2 ^ 64 * top =
+    ap (λ t. bit_or t low) whole ∙ or_shifted top 64 low less ∙ omega arith in
     generator_is _ _ seed_is stream_is (ap (λ w. w % positions) (joined ∙ ap₂ (λ l t. l + 2 ^ 64 * t) low_is top_is))
 
 -- in and out again
-pub state_bytes-of_state_bytes : (bs : List ℕ) → length bs ≡ 49 → Bytes bs → state_bytes (of_state_bytes bs) ≡ take 48 bs ++ (slice_index bs 48 % 16 ∷ [])
+pub state_bytes-of_state_bytes : (bs : List ℕ) → length bs ≡ 49 → Bytes bs
+    → state_bytes (of_state_bytes bs) ≡ take 48 bs ++ (slice_index bs 48 % 16 ∷ [])
 state_bytes-of_state_bytes bs long fits =
     let stream = take 8 (drop 32 bs) in
     let low = take 8 (drop 40 bs) in
@@ -98,8 +112,10 @@ state_bytes-of_state_bytes bs long fits =
     let below : w % 2 ^ 64 ≡ from_le_bytes w64 low = omega arith in
     let above : w / 2 ^ 64 ≡ top % 16 = omega arith in
     ap₂ (λ s l. take 32 bs ++ (s ++ (l ++ w / 2 ^ 64 ∷ [])))
-    (le_bytes_8 stream (from_le_bytes w64 stream) (length-take-le 8 (drop 32 bs) (omega (arith, length-drop 32 bs))) (Bytes-part 32 8 bs fits) refl)
-    (le_bytes_8 low (w % 2 ^ 64) (length-take-le 8 (drop 40 bs) (omega (arith, length-drop 40 bs))) (Bytes-part 40 8 bs fits) below)
+    (le_bytes_8 stream (from_le_bytes w64 stream) (length-take-le 8 (drop 32 bs) (omega (arith, length-drop 32 bs)))
+    (Bytes-part 32 8 bs fits) refl)
+    (le_bytes_8 low (w % 2 ^ 64) (length-take-le 8 (drop 40 bs) (omega (arith, length-drop 40 bs)))
+    (Bytes-part 40 8 bs fits) below)
     ∙ ap (λ t. take 32 bs ++ (stream ++ (low ++ t ∷ []))) above
     ∙ sym (ap (λ f. f ++ top % 16 ∷ []) (take-add 40 8 bs ∙ ap (λ f. f ++ low) (take-add 32 8 bs))
     ∙ append_assoc (take 32 bs ++ stream) low (top % 16 ∷ [])

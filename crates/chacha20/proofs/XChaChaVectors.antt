@@ -1,5 +1,5 @@
--- Examples of draft-irtf-cfrg-xchacha, and of the draft before it (draft-arciszewski-xchacha-03), so that a wrong row, order
--- or place of a byte in a definition does not check.
+-- Examples of draft-irtf-cfrg-xchacha, and of the draft before it (draft-arciszewski-xchacha-03), so that a wrong row,
+-- order or place of a byte in a definition does not check.
 use Rattle.std.proofs.Common.{◌≡◌, ℕ, List, [], ◌∷◌, take, refl}
 use Rattle.chacha_base.specs.QuarterRound.{quarter}
 use Rattle.chacha_base.specs.Rounds.{columns, diagonals, rounds, add_states}

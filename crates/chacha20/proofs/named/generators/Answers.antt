@@ -1,7 +1,7 @@
 use Rattle.std.proofs.Common.{refl}
 use Rattle.chacha20.proofs.named.generators.Goals as goal
 
--- the search finds these too, but not soon that a wrong name has none
+-- answered for speed
 pub returns : goal.returns
 returns c = record {
   chacha8_rng = refl;

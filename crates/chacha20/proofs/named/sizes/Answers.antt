@@ -1,6 +1,6 @@
 use Rattle.chacha20.proofs.named.sizes.Goals as goal
 
--- the search finds these too, but not soon that a wrong size has none
+-- answered for speed
 pub returns : goal.returns
 returns c = record {
   key = c.told-key;

@@ -5,8 +5,10 @@ use Rattle.chacha20.proofs.rng.refill.Goals as goal
 
 pub returns-then-index-eq64-clause-unread : goal.returns-then-index-eq64-clause-unread
 returns-then-index-eq64-clause-unread g c =
-    refilled g.R.Rounds.COUNT _ _ _ c.requires.sixteen c.requires.start c.generate.ensures.moved c.generate.ensures.output
+    refilled g.R.Rounds.COUNT _ _ _ c.requires.sixteen c.requires.start c.generate.ensures.moved
+    c.generate.ensures.output
 
 pub returns-then-index-eq64-clause-same : goal.returns-then-index-eq64-clause-same
 returns-then-index-eq64-clause-same g c =
-    generator_of-refilled c.args.core.now _ c.requires.sixteen c.generate.ensures.moved ∙ ap (generator_of c.args.core.now) (sym c.if-index-eq64.true)
+    generator_of-refilled c.args.core.now _ c.requires.sixteen c.generate.ensures.moved
+    ∙ ap (generator_of c.args.core.now) (sym c.if-index-eq64.true)

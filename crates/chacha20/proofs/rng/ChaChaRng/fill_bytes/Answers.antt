@@ -28,13 +28,17 @@ part_long : (len r : ℕ) (word : List ℕ) → r + len / 4 * 4 ≡ len → leng
 part_long len r word rest four = sym (length-take-le r word (part_inside len r word rest four))
 
 pub slice_bounds-word-end : goal.slice_bounds-word-end
-slice_bounds-word-end g c = part_inside _ _ c.to_le_bytes-word.result c.split_at_mut-words.ensures.back_len (ap length c.to_le_bytes-word.ensures)
+slice_bounds-word-end g c =
+    part_inside _ _ c.to_le_bytes-word.result c.split_at_mut-words.ensures.back_len
+    (ap length c.to_le_bytes-word.ensures)
 
 pub slice_bounds-copy_from_slice-end : goal.slice_bounds-copy_from_slice-end
-slice_bounds-copy_from_slice-end g c = part_long _ _ c.to_le_bytes-word.result c.split_at_mut-words.ensures.back_len (ap length c.to_le_bytes-word.ensures)
+slice_bounds-copy_from_slice-end g c =
+    part_long _ _ c.to_le_bytes-word.result c.split_at_mut-words.ensures.back_len (ap length c.to_le_bytes-word.ensures)
 
 pub copy_from_slice-requires : goal.copy_from_slice-requires
-copy_from_slice-requires g c = part_long _ _ c.to_le_bytes-word.result c.split_at_mut-words.ensures.back_len (ap length c.to_le_bytes-word.ensures)
+copy_from_slice-requires g c =
+    part_long _ _ c.to_le_bytes-word.result c.split_at_mut-words.ensures.back_len (ap length c.to_le_bytes-word.ensures)
 
 pub both_followed-dst : goal.both_followed-dst
 both_followed-dst g c = (refl, refl)
@@ -47,8 +51,7 @@ returns-then-not-is_empty-clause-value g c =
     let q = length c.split_at_mut-words.result.0.now / 4 in
     let last = c.split_at_mut-words.result.1.now in
     let some = some_left (length last) _ c.is_empty.ensures c.if-not-is_empty.true in
-    filled-over g.R.Rounds.COUNT c.args.self.now c.fill_words.new.self c.next_u32.new.self q (length last) (length c.args.dst.now) c.next_u32.result c.fill_words.new.dst
-    c.copy_from_slice.new.self
+    filled-over g.R.Rounds.COUNT c.args.self.now q (length last)
     (all_parts _ _ _ c.split_at_mut-words.ensures.front_len c.split_at_mut-words.ensures.back_len) some
     (part_short _ _ c.split_at_mut-words.ensures.back_len)
     c.fill_words.ensures.dst c.fill_words.ensures.moved c.next_u32.ensures.value
@@ -61,6 +64,6 @@ returns-else-not-is_empty-clause-value g c =
     let none = none_left (length last) _ c.is_empty.ensures c.if-not-is_empty.false in
     let all : c.fill_words.new.dst ++ last ≡ c.fill_words.new.dst =
     ap (λ l. c.fill_words.new.dst ++ l) (nil_from_length last none) ∙ append-nil c.fill_words.new.dst in
-    filled-whole g.R.Rounds.COUNT c.args.self.now _ q (length c.args.dst.now) _
-    (all_whole _ _ _ c.split_at_mut-words.ensures.front_len c.split_at_mut-words.ensures.back_len none) (all ∙ c.fill_words.ensures.dst)
-    c.fill_words.ensures.moved
+    filled-whole g.R.Rounds.COUNT c.args.self.now q
+    (all_whole _ _ _ c.split_at_mut-words.ensures.front_len c.split_at_mut-words.ensures.back_len none)
+    (all ∙ c.fill_words.ensures.dst) c.fill_words.ensures.moved

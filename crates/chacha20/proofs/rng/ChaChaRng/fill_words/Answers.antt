@@ -17,7 +17,8 @@ part_long a k i dst buffer room unread =
     ∙ bytes
     ∙ ap (λ n. 4 * n) (sym (length-take-le _ (drop i buffer) (omega (arith, length-drop i buffer)) ∙ words))
 
-smaller : (n m a k i : ℕ) → m ≡ n → 4 * a < m → n % 4 ≡ 0 → k ≡ min (m / 4 - a) (64 - i) → i < 64 → n - 4 * (a + k) < n - 4 * a
+smaller : (n m a k i : ℕ) → m ≡ n → 4 * a < m → n % 4 ≡ 0 → k ≡ min (m / 4 - a) (64 - i) → i < 64
+    → n - 4 * (a + k) < n - 4 * a
 smaller n m a k i same less whole count some = omega arith
 
 pub words-init : goal.words-init
@@ -25,14 +26,14 @@ words-init g c = record {
   unread = c.self.invariant;
   long = c.self.told;
   moved =
-      generator_of-taken c.self.inside.core c.self.inside.index 0 _ (omega arith) ∙ ap (λ (h : GeneratorState). at_word_pos h (h.word_pos + 0)) c.self.view_is;
+      generator_of-taken c.self.inside.core c.self.inside.index 0 _ (omega arith)
+      ∙ ap (λ (h : GeneratorState). at_word_pos h (h.word_pos + 0)) c.self.view_is;
   within = omega arith;
   dst = refl;
 }
 
 pub words-preserved : goal.words-preserved
 words-preserved g c =
-    let n = g.R.Rounds.COUNT in
     let rng = c.args.self.now in
     let kept = c.words.invariant in
     let i = c.refill.new.index in
@@ -41,14 +42,14 @@ words-preserved g c =
     let whole : i + k - i ≡ k = omega arith in
     let moved : _ ≡ at_word_pos rng (rng.word_pos + c.words.done) = c.refill.ensures.same ∙ kept.moved in
     record {
-      unread = taken n _ _ i k _ c.refill.ensures.unread refl room;
+      unread = taken c.refill.ensures.unread k _ refl room;
       long = c.refill.ensures.long;
       moved =
           generator_of-taken c.refill.new.core i k _ refl
           ∙ ap (λ (h : GeneratorState). at_word_pos h (h.word_pos + k)) moved
           ∙ at-same rng _ _ (omega arith);
       within = omega arith;
-      dst = words-written n rng c.refill.new.core c.refill.new.buffer i k c.words.done c.words.dst _ c.refill.ensures.unread room c.refill.ensures.long moved
+      dst = words-written c.refill.ensures.unread rng k c.words.done c.words.dst room c.refill.ensures.long moved
           (omega arith) kept.dst (c.write_bytes.ensures ∙ ap (λ j. bytes (mid_of i j c.refill.new.buffer)) whole);
     }
 
@@ -66,9 +67,10 @@ returns-clause-moved g c =
 
 pub write_bytes-requires : goal.write_bytes-requires
 write_bytes-requires g c =
-    part_long c.words.done c.min-count.result c.refill.new.index c.words.dst c.refill.new.buffer (omega arith) (omega arith)
+    part_long c.words.done c.min-count.result c.refill.new.index c.words.dst c.refill.new.buffer (omega arith)
+    (omega arith)
 
 pub words-smaller : goal.words-smaller
 words-smaller g c =
-    smaller (length c.args.dst.now) (length c.words.dst) c.words.done c.min-count.result c.refill.new.index c.words.auto.dst c.words-test.true c.requires c.min-count.ensures
-    c.refill.ensures.some
+    smaller (length c.args.dst.now) (length c.words.dst) c.words.done c.min-count.result c.refill.new.index
+    c.words.auto.dst c.words-test.true c.requires c.min-count.ensures c.refill.ensures.some

@@ -1,25 +1,22 @@
-use Rattle.std.proofs.Common.{rules, ◌≡◌, length, replicate, refl, ap, arith, ◌∙◌}
+use Rattle.std.proofs.Common.{rules, ◌≡◌, length, replicate, ap, ◌∙◌}
 use Rattle.chacha_base.specs.Layout.{legacy}
-use Rattle.chacha_base.specs.State.{state_counter, fixed_words}
+use Rattle.chacha_base.specs.State.{state_counter}
 use Rattle.chacha_base.proofs.BytesLemmas.{length-words}
-use Rattle.chacha_base.proofs.StateLemmas.{fixed_words-start, state_counter-start}
-use Rattle.chacha20.proofs.GeneratorLemmas.{Bytes, length-start, unread-start, generator_of-start}
+use Rattle.chacha_base.proofs.StateLemmas.{state_counter-start}
+use Rattle.chacha20.proofs.GeneratorLemmas.{Bytes, starts-new, unread-start, generator_of-start}
 use Rattle.chacha20.proofs.rng.ChaChaRng.from_seed.Goals as goal
 
 pub invariant_of-result : goal.invariant_of-result
 invariant_of-result g c =
-    let seed = c.args.seed in
-    let long : length seed ≡ 32 = search rules in
-    let fits : Bytes seed = λ i. search rules in
-    let eight = length-words 8 seed long in
-    unread-start g.R.Rounds.COUNT _ _ seed 0 (ap length c.from_seed.ensures ∙ length-start seed (replicate 8 0) 0 eight refl) long fits (omega arith)
-    (ap (fixed_words legacy) c.from_seed.ensures ∙ fixed_words-start legacy seed (replicate 8 0) 0 eight)
+    let long : length c.args.seed ≡ 32 = search rules in
+    let fits : Bytes c.args.seed = λ i. search rules in
+    unread-start g.R.Rounds.COUNT _ (starts-new long fits c.from_seed.ensures)
 
 pub returns : goal.returns
 returns g c =
     let seed = c.args.seed in
     let long : length seed ≡ 32 = search rules in
-    let eight = length-words 8 seed long in
-    generator_of-start _ seed 0 long (λ i. search rules) (omega arith)
-    (ap (fixed_words legacy) c.from_seed.ensures ∙ fixed_words-start legacy seed (replicate 8 0) 0 eight)
-    (ap (state_counter legacy) c.from_seed.ensures ∙ state_counter-start legacy seed (replicate 8 0) 0 eight)
+    let fits : Bytes seed = λ i. search rules in
+    generator_of-start (starts-new long fits c.from_seed.ensures)
+    (ap (state_counter legacy) c.from_seed.ensures
+    ∙ state_counter-start legacy seed (replicate 8 0) 0 (length-words 8 seed long))

@@ -9,7 +9,9 @@ returns-clause-value g c =
     let counter = state_counter legacy c.self.inside.core in
     let first : c.from.result ≡ (counter + (2 ^ 64 - 4)) % 2 ^ 64 =
     c.from.ensures ∙ ap (λ n. (n + (2 ^ 64 - 4)) % 2 ^ 64) c.get_block_pos-first.ensures.value in
-    let moved : (16 * c.from.result + c.self.inside.index) % 2 ^ 68 ≡ (16 * counter + (2 ^ 68 - 64) + c.self.inside.index) % 2 ^ 68 = omega (arith, first) in
+    let moved : (16 * c.from.result + c.self.inside.index) % 2 ^ 68
+    ≡ (16 * counter + (2 ^ 68 - 64) + c.self.inside.index) % 2 ^ 68 =
+    omega (arith, first) in
     moved ∙ ap (λ (v : GeneratorState). v.word_pos) c.self.view_is
 
 pub returns-clause-below : goal.returns-clause-below

@@ -5,4 +5,4 @@ use Rattle.chacha20.proofs.rng.ChaChaRng.next_u64_across.Goals as goal
 pub returns-clause-value : goal.returns-clause-value
 returns-clause-value g c =
     ap (λ (x : ℕ). (x, c.next_u32-high.new.self)) c.joined.ensures
-    ∙ two_reads g.R.Rounds.COUNT c.args.self.now _ _ c.next_u32-low.result c.next_u32-high.result c.next_u32-low.ensures.value c.next_u32-high.ensures.value
+    ∙ two_reads g.R.Rounds.COUNT c.args.self.now c.next_u32-low.ensures.value c.next_u32-high.ensures.value

@@ -10,25 +10,28 @@ use Rattle.chacha20.proofs.rng.ChaChaRng.set_word_pos.Goals as goal
 
 -- the words from the front of a buffer on, of which so many are used
 from_front : (n e : ℕ) (core buffer : List ℕ) → IsUnread n core buffer 0 → e ≤ 64 → IsUnread n core buffer e
-from_front n e core buffer held room = taken n core buffer 0 e e held (omega arith) room
+from_front n e core buffer held room = taken held e e (omega arith) room
 
 pub invariant_of-self : goal.invariant_of-self
 invariant_of-self g c =
     let n = g.R.Rounds.COUNT in
-    let sixteen = ap length c.set_block_pos.ensures.state ∙ length-state_at legacy _ c.self.inside.core c.self.invariant.sixteen in
-    from_front n _ _ _
-    (refilled n c.set_block_pos.new.self _ _ sixteen (subst IsStart (sym c.set_block_pos.ensures.fixed) c.self.invariant.start) c.generate.ensures.moved
+    let sixteen =
+    ap length c.set_block_pos.ensures.state ∙ length-state_at legacy _ c.self.inside.core c.self.invariant.sixteen in
+    let start = subst IsStart (sym c.set_block_pos.ensures.fixed) c.self.invariant.start in
+    from_front n _ _ _ (refilled n c.set_block_pos.new.self _ _ sixteen start c.generate.ensures.moved
     c.generate.ensures.output) (omega arith)
 
 pub returns-clause-value : goal.returns-clause-value
 returns-clause-value g c =
     let position = c.args.word_pos % positions in
-    let sixteen = ap length c.set_block_pos.ensures.state ∙ length-state_at legacy (position / 16) c.self.inside.core c.self.invariant.sixteen in
+    let sixteen =
+    ap length c.set_block_pos.ensures.state
+    ∙ length-state_at legacy (position / 16) c.self.inside.core c.self.invariant.sixteen in
     generator_of-taken c.generate.new.self 0 (position % 16) _ (omega arith)
     ∙ ap (λ (h : GeneratorState). at_word_pos h (h.word_pos + position % 16))
     (generator_of-refilled c.set_block_pos.new.self _ sixteen c.generate.ensures.moved
-    ∙ generator_of-recounted c.self.inside.core _ c.self.inside.index (position / 16) _ c.set_block_pos.ensures.fixed c.set_block_pos.ensures.counter (omega arith)
-    c.self.view_is)
+    ∙ generator_of-recounted c.self.inside.core _ c.self.inside.index c.set_block_pos.ensures.fixed
+    c.set_block_pos.ensures.counter (omega arith) c.self.view_is)
     ∙ at-same c.args.self.now _ _ (omega arith)
 
 pub returns-clause-position : goal.returns-clause-position

@@ -4,4 +4,7 @@ use Rattle.chacha20.specs.Generator.{reads}
 use Rattle.chacha20.proofs.rng.ChaChaRngRng.fill_bytes.Goals as goal
 
 pub returns : goal.returns
-returns g c = meets_fill_bytes (reads g.R.Rounds.COUNT) (length c.args.dst.now) c.args.self.now c.fill_bytes.new.self c.fill_bytes.new.dst c.fill_bytes.ensures.value
+returns g c =
+    let call = c.fill_bytes in
+    meets_fill_bytes (reads g.R.Rounds.COUNT) (length c.args.dst.now) c.args.self.now call.new.self call.new.dst
+    call.ensures.value

@@ -10,7 +10,8 @@ pub returns : goal.returns
 returns g c =
     let n = g.R.Rounds.COUNT in
     let key = c.hchacha-subkey.ensures ∙ ap (hchacha n c.args.key.now) c.copy_from_slice.ensures.after in
-    let nonce = subnonce_written c.args.iv.now c.copy_from_slice-2.new.self c.told-iv c.copy_from_slice-2.ensures.after in
+    let nonce =
+    subnonce_written c.args.iv.now c.copy_from_slice-2.new.self c.told-iv c.copy_from_slice-2.ensures.after in
     let long : length (subkey n c.args.key.now c.args.iv.now) ≡ 32 = omega (arith, ap length key) in
     let value = c.new.ensures.value ∙ ap₂ (λ (k iv : List ℕ). start ietf k iv 0) key nonce in
     record {
