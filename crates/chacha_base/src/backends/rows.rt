@@ -10,9 +10,9 @@ use crate::backends::vector::{ByShifts, FourVectors, Vector, quarter_round, sums
 use crate::rounds::Steps;
 use std::alloc::AllocError;
 
-/// States in rows. For a round of the diagonals the rows are diagonalized, so that each diagonal becomes a column: row
-/// `STAYS` stays, and the rows after it, in a circle, turn to the left by 1, 2 and 3 places. Where row b (1) stays, which
-/// a quarter round needs first and writes last, the turns wait for nothing.
+/// States in rows. A round of the diagonals diagonalizes the rows, so that each diagonal becomes a column: row `STAYS`
+/// stays, and the rows after it, in a circle, turn to the left by 1, 2 and 3 places. Where row b (1) stays, which a
+/// quarter round needs first and writes last, the turns wait for nothing.
 pub struct Rows<V, const STAYS: usize>(FourVectors<V>);
 
 impl<V: Copy, const STAYS: usize> Clone for Rows<V, STAYS> {

@@ -12,7 +12,8 @@ returns-clause-data g c =
     let block = state_block g.R.Rounds.COUNT layout (fixed_words layout s) in
     let counter = state_counter layout s in
     let here : counter + 0 ≡ counter = omega arith in
-    xor_stream-block (modulus layout) block counter _ _ _ (c.gen_ks_block.ensures.block ∙ ap (λ k. block (k % modulus layout)) here)
+    xor_stream-block (modulus layout) block counter _ _ _
+    (c.gen_ks_block.ensures.block ∙ ap (λ k. block (k % modulus layout)) here)
     (omega arith) c.xor_bytes.auto.output c.xor_bytes.ensures
 
 pub returns-clause-state : goal.returns-clause-state

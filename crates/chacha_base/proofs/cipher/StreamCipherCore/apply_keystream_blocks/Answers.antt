@@ -22,9 +22,11 @@ groups-preserved g c =
       fixed = made.ensures.fixed ∙ kept.fixed;
       counter = counter-wrapped modulus first _ a k _ _ kept.counter (rw long at made.ensures.counter) all;
       done = λ i less.
-          blocks-more modulus (block (g.Self.Keystream.fixed c.args.self.now)) _ first _ a k c.args.blocks.now now made.new.blocks
-          (ap block kept.fixed) kept.counter before same kept.done kept.rest (rw long at made.ensures.blocks) i (omega arith);
-      rest = λ i above. slice_index_or-put_mid_above a k i now _ [] (omega arith) before same ∙ kept.rest i (omega arith);
+          blocks-more modulus (block (g.Self.Keystream.fixed c.args.self.now)) _ first _ a k c.args.blocks.now now
+          made.new.blocks (ap block kept.fixed) kept.counter before same kept.done kept.rest
+          (rw long at made.ensures.blocks) i (omega arith);
+      rest = λ i above. slice_index_or-put_mid_above a k i now _ [] (omega arith) before same
+          ∙ kept.rest i (omega arith);
     }
 
 pub returns : goal.returns
@@ -42,8 +44,9 @@ returns g c =
     let long = part_long a k now (omega arith) in
     record {
       blocks = λ i less.
-          blocks-more modulus (block (g.Self.Keystream.fixed c.args.self.now)) _ first _ a k c.args.blocks.now now made.new.blocks
-          (ap block kept.fixed) kept.counter before (made.auto.blocks ∙ long) kept.done kept.rest (rw long at made.ensures.blocks) i (omega arith);
+          blocks-more modulus (block (g.Self.Keystream.fixed c.args.self.now)) _ first _ a k c.args.blocks.now now
+          made.new.blocks (ap block kept.fixed) kept.counter before (made.auto.blocks ∙ long) kept.done kept.rest
+          (rw long at made.ensures.blocks) i (omega arith);
       fixed = made.ensures.fixed ∙ kept.fixed;
       counter = counter-more modulus first _ a k _ _ kept.counter (rw long at made.ensures.counter) all;
     }

@@ -70,7 +70,8 @@ returns-clause-position g c =
           let made = w.write_block_counted in
           ap (λ s. position_of (blocks_made modulus (nat_lt (64 * last) position) (counter s.core))
           ((64 - position % 64) % 64)) w.self-inside-is
-          ∙ (at-sought_part modulus last position _ size c.requires which (block (fixed made.new.self)) (counter set) _ _
+          ∙ (at-sought_part modulus last position _ size c.requires which (block (fixed made.new.self))
+          (counter set) _ _
           w.if-used-gt0.true here made.ensures.counter
           (made.ensures.block ∙ ap (λ f. block f (counter set)) (sym made.ensures.fixed))).place
       | else-used-gt0 w ↦

@@ -9,5 +9,7 @@ use Rattle.chacha_base.proofs.backends.vector.U32x16ColumnVector.xor_rotated_8.G
 
 pub returns : goal.returns
 returns c =
-    xor_moved-is-rotl 16 c.args.self c.args.other c.fits-self.0 c.fits-other.0 (below_from_Fits w32 _ c.fits-self.1) (below_from_Fits w32 _ c.fits-other.1)
-    (each 16 (λ xs. pick_l 0 (bytes xs) (last_first_places 16 0) ≡ last_first xs) (λ x0 x1 x2 x3 x4 x5 x6 x7 x8 x9 x10 x11 x12 x13 x14 x15. refl))
+    xor_moved-is-rotl 16 c.args.self c.args.other c.fits-self.0 c.fits-other.0
+    (below_from_Fits w32 _ c.fits-self.1) (below_from_Fits w32 _ c.fits-other.1)
+    (each 16 (λ xs. pick_l 0 (bytes xs) (last_first_places 16 0) ≡ last_first xs)
+    (λ x0 x1 x2 x3 x4 x5 x6 x7 x8 x9 x10 x11 x12 x13 x14 x15. refl))

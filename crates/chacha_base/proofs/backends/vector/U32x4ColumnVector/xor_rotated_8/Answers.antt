@@ -9,5 +9,6 @@ use Rattle.chacha_base.proofs.backends.vector.U32x4ColumnVector.xor_rotated_8.Go
 
 pub returns : goal.returns
 returns c =
-    xor_moved-is-rotl 4 c.args.self c.args.other c.fits-self.0 c.fits-other.0 (below_from_Fits w32 _ c.fits-self.1) (below_from_Fits w32 _ c.fits-other.1)
+    xor_moved-is-rotl 4 c.args.self c.args.other c.fits-self.0 c.fits-other.0
+    (below_from_Fits w32 _ c.fits-self.1) (below_from_Fits w32 _ c.fits-other.1)
     (each 4 (λ xs. pick_l 0 (bytes xs) (last_first_places 4 0) ≡ last_first xs) (λ x0 x1 x2 x3. refl))
