@@ -116,7 +116,8 @@ turned_by s =
     rows_turned j (j - 1) (j - 2) (j - 3) (columns (rows_turned i (i + 1) (i + 2) (i + 3) s)) ≡ diagonals s)
     refl refl refl refl
 
-pub columns-diagonalized : (stays : ℕ) (s : List ℕ) → undiagonalized stays (columns (diagonalized stays s)) ≡ diagonals s
+pub columns-diagonalized : (stays : ℕ) (s : List ℕ) → undiagonalized stays (columns (diagonalized stays s))
+    ≡ diagonals s
 columns-diagonalized stays s = turned_by s (stays % 4) (omega arith)
 
 -- a state with the last row of one of the next states is that state

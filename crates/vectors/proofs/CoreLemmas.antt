@@ -26,7 +26,8 @@ counts M N block first low high after end found rows r modulus long last first_i
     let small : (2 ^ 32 - 1) % M ≡ 2 ^ 32 - 1 = mod-eq_of_lt (omega (arith, modulus)) in
     let row = ap (λ n. drop 48 (block n)) small in
     let two = pointwise_decides (pointwise_decides Decides-eqb) rows _ in
-    let same = Decides-and _ _ (Decides-and _ _ (pointwise_decides Decides-eqb found _) two) (Decides-eqb after end) in (
+    let same = Decides-and _ _ (Decides-and _ _ (pointwise_decides Decides-eqb found _) two)
+    (Decides-eqb after end) in (
       λ right.
           let parts = same.0 (sym is ∙ right) in
           let both = sym rows_is ∙ parts.0.1 in

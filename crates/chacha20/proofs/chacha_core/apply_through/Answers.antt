@@ -72,15 +72,18 @@ returns g c =
     let i = m - m % w in
     let made = c.gen_tail_blocks in
     let one : 1 ≤ w = omega (arith, c.PAR_BLOCKS-width.ensures, g.B.ParBlocksSizeUser.par_blocks_at_least) in
-    let room : w ≡ length c.groups.room = omega (arith, c.groups.auto.room, c.requires.room, c.PAR_BLOCKS-width.ensures) in
+    let room : w ≡ length c.groups.room =
+    omega (arith, c.groups.auto.room, c.requires.room, c.PAR_BLOCKS-width.ensures) in
     let rest = length-take-le (m % w) c.groups.room (omega (arith, room, mod-lt m one)) in
     let all : c.groups.group ≡ m / w = omega (arith, c.groups-test.false, c.groups.auto.group-end) in
     let done = rest_begins w c.groups.group m all in
     record {
       «data» = applied-more n layout s i made.new.blocks old c.told-state (rw done at c.groups.invariant.state)
-          (rest_ends w m) (whole_inside (length old)) c.groups.auto.data (made.auto.blocks ∙ rest) (rw done at c.groups.invariant.data)
+          (rest_ends w m) (whole_inside (length old)) c.groups.auto.data (made.auto.blocks
+          ∙ rest) (rw done at c.groups.invariant.data)
           c.xor_blocks-2.ensures (λ j less. made.ensures.blocks j (rw rest less))
-          ∙ xor_stream-whole (state_stream n layout s) (64 * state_counter layout s) (64 * m) old (whole_all (length old) c.requires.whole);
+          ∙ xor_stream-whole (state_stream n layout s) (64 * state_counter layout s) (64 * m) old
+          (whole_all (length old) c.requires.whole);
       state = state_after-more layout s c.groups.state _ i _ m c.told-state (rw done at c.groups.invariant.state)
           (rw rest at made.ensures.state) (rest_ends w m);
       steps = rw (← c.PAR_BLOCKS-width.ensures)

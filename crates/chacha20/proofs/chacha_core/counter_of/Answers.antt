@@ -10,4 +10,5 @@ returns-clause-below g c = state_counter-below g.V.Variant.layout c.args.state.n
 pub returns-clause-value : goal.returns-clause-value
 returns-clause-value g c =
     let row = drop 12 c.args.state.now in
-    c.get_block_pos.ensures ∙ ap (row_counter g.V.Variant.layout) (take_all 4 row (omega (arith, length-drop 12 c.args.state.now)))
+    c.get_block_pos.ensures ∙ ap (row_counter g.V.Variant.layout)
+    (take_all 4 row (omega (arith, length-drop 12 c.args.state.now)))

@@ -11,4 +11,5 @@ returns c =
 
 pub read_words-requires : goal.read_words-requires
 read_words-requires c =
-    c.told-key ∙ sym (ap (λ front. 4 * length (take 8 (drop 4 (front ++ replicate 12 0)))) c.copy_from_slice.ensures.after)
+    c.told-key ∙ sym
+    (ap (λ front. 4 * length (take 8 (drop 4 (front ++ replicate 12 0)))) c.copy_from_slice.ensures.after)

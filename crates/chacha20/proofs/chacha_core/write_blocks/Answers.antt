@@ -22,9 +22,11 @@ groups-preserved g c =
     let size : a + length (take k (drop a now)) ≡ a + c.PAR_BLOCKS-width.result = omega (arith, long) in
     record {
       within = omega arith;
-      state = state_after-more layout c.args.state.now c.groups.state c.gen_par_ks_blocks.new.state a _ _ c.told-state kept.state c.gen_par_ks_blocks.ensures.state size;
+      state = state_after-more layout c.args.state.now c.groups.state c.gen_par_ks_blocks.new.state a _ _ c.told-state
+      kept.state c.gen_par_ks_blocks.ensures.state size;
       done = λ i less.
-          next_blocks-more g.R.Rounds.COUNT layout c.args.state.now c.groups.state a k now c.gen_par_ks_blocks.new.blocks c.told-state kept.state kept.within (omega (arith, long)) kept.done
+          next_blocks-more g.R.Rounds.COUNT layout c.args.state.now c.groups.state a k now
+          c.gen_par_ks_blocks.new.blocks c.told-state kept.state kept.within (omega (arith, long)) kept.done
           (λ j inside. c.gen_par_ks_blocks.ensures.blocks j (rw long inside)) i (rw all less);
     }
 
@@ -37,7 +39,10 @@ returns g c =
     let long = part_long a (length now - a) now (omega arith) in
     record {
       blocks = λ i less.
-          next_blocks-more g.R.Rounds.COUNT layout c.args.state.now c.groups.state a (length now - a) now c.gen_tail_blocks.new.blocks c.told-state kept.state kept.within
-          (omega (arith, long)) kept.done (λ j inside. c.gen_tail_blocks.ensures.blocks j (rw long inside)) i (omega arith);
-      state = state_after-more layout c.args.state.now c.groups.state c.gen_tail_blocks.new.state a _ _ c.told-state kept.state c.gen_tail_blocks.ensures.state (omega (arith, long));
+          next_blocks-more g.R.Rounds.COUNT layout c.args.state.now c.groups.state a
+          (length now - a) now c.gen_tail_blocks.new.blocks c.told-state kept.state kept.within
+          (omega (arith, long)) kept.done (λ j inside. c.gen_tail_blocks.ensures.blocks j (rw long inside)) i
+          (omega arith);
+      state = state_after-more layout c.args.state.now c.groups.state c.gen_tail_blocks.new.state a _ _ c.told-state
+      kept.state c.gen_tail_blocks.ensures.state (omega (arith, long));
     }

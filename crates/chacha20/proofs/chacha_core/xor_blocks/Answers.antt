@@ -10,11 +10,14 @@ use Rattle.chacha20.proofs.chacha_core.xor_blocks.Goals as goal
 part_wide : (first n : ℕ) → 64 * (first + n) - 64 * first ≡ 64 * n
 part_wide first n = omega arith
 
-part_long : (first n : ℕ) (xs : List ℕ) → 64 * (first + n) ≤ length xs → length (take (64 * (first + n) - 64 * first) (drop (64 * first) xs)) ≡ 64 * n
-part_long first n xs inside = length-take-le _ (drop (64 * first) xs) (omega (arith, length-drop (64 * first) xs)) ∙ part_wide first n
+part_long : (first n : ℕ) (xs : List ℕ) → 64 * (first + n) ≤ length xs
+    → length (take (64 * (first + n) - 64 * first) (drop (64 * first) xs)) ≡ 64 * n
+part_long first n xs inside =
+    length-take-le _ (drop (64 * first) xs) (omega (arith, length-drop (64 * first) xs)) ∙ part_wide first n
 
 -- the part that is handed back after all its blocks
-put_back : (first i : ℕ) (blocks : List (List ℕ)) (xs now : List ℕ) → 64 * (first + length blocks) ≤ length xs → length blocks ≤ i
+put_back : (first i : ℕ) (blocks : List (List ℕ)) (xs now : List ℕ) → 64 * (first + length blocks) ≤ length xs
+    → length blocks ≤ i
     → (let part = take (64 * (first + length blocks) - 64 * first) (drop (64 * first) xs) in
     now ≡ xor_stream (byte_of blocks) 0 (take (64 * i) part) ++ drop (64 * i) part)
     → put_mid (64 * first) (64 * (first + length blocks) - 64 * first) xs now ≡ xored_at first blocks xs
@@ -32,10 +35,13 @@ loop-i-preserved c =
     let stream = byte_of c.args.blocks.now in
     let n = length c.args.blocks.now in
     let long = part_long c.args.first n c.args.data.now c.requires in
-    xor_stream-more stream 0 (64 * i) (64 * i + 64 - 64 * i) (64 * (i + 1)) _ c.loop-i.part c.xor_bytes.new.output (omega arith) (omega (arith, long)) c.loop-i.invariant
+    xor_stream-more stream 0 (64 * i) (64 * i + 64 - 64 * i) (64 * (i + 1)) _ c.loop-i.part c.xor_bytes.new.output
+    (omega arith) (omega (arith, long)) c.loop-i.invariant
     (xor_stream-is stream (0 + 64 * i) _ _ (omega arith) (λ j less.
-    c.xor_bytes.ensures j less ∙ ap (bit_xor _) (byte_of_block c.args.blocks.now (0 + 64 * i) i j (omega arith) (omega arith))))
+    c.xor_bytes.ensures j less
+    ∙ ap (bit_xor _) (byte_of_block c.args.blocks.now (0 + 64 * i) i j (omega arith) (omega arith))))
 
 pub returns : goal.returns
 returns c =
-    put_back c.args.first c.loop-i.i c.args.blocks.now c.args.data.now c.loop-i.part c.requires c.loop-i-test.false c.loop-i.invariant
+    put_back c.args.first c.loop-i.i c.args.blocks.now c.args.data.now c.loop-i.part c.requires c.loop-i-test.false
+    c.loop-i.invariant

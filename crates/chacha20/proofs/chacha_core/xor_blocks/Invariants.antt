@@ -4,4 +4,5 @@ use Rattle.chacha20.specs.Blocks.{byte_of}
 use Rattle.chacha20.proofs.chacha_core.xor_blocks.Given as goal
 
 abbrev pub invariant-loop-i : goal.invariant-loop-i
-invariant-loop-i l = l.part ≡ xor_stream (byte_of l.blocks) 0 (take (64 * l.i) l.initial.part) ++ drop (64 * l.i) l.initial.part
+invariant-loop-i l =
+    l.part ≡ xor_stream (byte_of l.blocks) 0 (take (64 * l.i) l.initial.part) ++ drop (64 * l.i) l.initial.part

@@ -11,16 +11,20 @@ returns-clause-value c =
     let position = c.args.word_pos % 2 ^ 68 in
     let g : GeneratorState = record { seed = c.args.seed.now; stream = c.args.stream; word_pos = position } in
     ap of_state_bytes
-    (state_is g _ _ _ _ (bit_and position c.from.result) position c.copy_from_slice.ensures.len c.copy_from_slice.ensures.after
+    (state_is g _ _ _ _
+    (bit_and position c.from.result) position c.copy_from_slice.ensures.len c.copy_from_slice.ensures.after
     (c.copy_from_slice-2.ensures.after ∙ c.to_le_bytes.ensures) refl
-    (c.copy_from_slice-3.ensures.after ∙ c.to_le_bytes-low.ensures) (ap (bit_and position) c.from.ensures ∙ and_mask position 64) refl)
+    (c.copy_from_slice-3.ensures.after ∙ c.to_le_bytes-low.ensures) (ap (bit_and position) c.from.ensures
+    ∙ and_mask position 64) refl)
     ∙ of_state_bytes-state_bytes g c.told-seed (omega arith) (omega arith)
 
 pub returns-clause-stored : goal.returns-clause-stored
 returns-clause-stored c =
     let position = c.args.word_pos % 2 ^ 68 in
     let g : GeneratorState = record { seed = c.args.seed.now; stream = c.args.stream; word_pos = position } in
-    state_is g _ _ _ _ (bit_and position c.from.result) position c.copy_from_slice.ensures.len c.copy_from_slice.ensures.after
+    state_is g _ _ _ _
+    (bit_and position c.from.result) position c.copy_from_slice.ensures.len c.copy_from_slice.ensures.after
     (c.copy_from_slice-2.ensures.after ∙ c.to_le_bytes.ensures) refl
-    (c.copy_from_slice-3.ensures.after ∙ c.to_le_bytes-low.ensures) (ap (bit_and position) c.from.ensures ∙ and_mask position 64) refl
+    (c.copy_from_slice-3.ensures.after ∙ c.to_le_bytes-low.ensures) (ap (bit_and position) c.from.ensures
+    ∙ and_mask position 64) refl
     ∙ ap state_bytes (sym (returns-clause-value c))

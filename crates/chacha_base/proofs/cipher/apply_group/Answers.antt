@@ -19,13 +19,16 @@ loop-i-preserved g c =
     let same = c.loop-i.invariant.rest i (omega arith) in
     let long : length (slice_index_or now i []) ≡ 64 = ap length same ∙ c.told-blocks i (omega arith) in
     record {
-      done = one_more (λ k. xor_stream (keystream modulus block) (64 * (g.C.StreamCipherCore.counter core + k)) (slice_index_or c.args.blocks.now k []))
+      done = one_more (λ k. xor_stream (keystream modulus block) (64 * (g.C.StreamCipherCore.counter core + k))
+      (slice_index_or c.args.blocks.now k []))
           i now c.xor_bytes.new.output inside
-          (xor_stream-block modulus block counter _ (slice_index_or now i []) _ (get_or_from_slice_get _ i _ [] (c.write_keystream_blocks.ensures.blocks i (omega arith)))
+          (xor_stream-block modulus block counter _ (slice_index_or now i []) _
+          (get_or_from_slice_get _ i _ [] (c.write_keystream_blocks.ensures.blocks i (omega arith)))
           (omega arith) (omega arith) c.xor_bytes.ensures
           ∙ ap (xor_stream (keystream modulus block) (64 * counter)) same)
           c.loop-i.invariant.done;
-      rest = λ k above. let apart : k ≢ i = omega arith in get_or-set_other now i k c.xor_bytes.new.output [] apart ∙ c.loop-i.invariant.rest k (omega arith);
+      rest = λ k above. let apart : k ≢ i = omega arith in get_or-set_other now i k c.xor_bytes.new.output [] apart
+      ∙ c.loop-i.invariant.rest k (omega arith);
     }
 
 pub returns-clause-blocks : goal.returns-clause-blocks
@@ -33,4 +36,5 @@ returns-clause-blocks g c i below = c.loop-i.invariant.done i (omega arith)
 
 pub returns-clause-counter : goal.returns-clause-counter
 returns-clause-counter g c =
-    c.write_keystream_blocks.ensures.counter ∙ ap (λ n. (g.C.StreamCipherCore.counter c.args.core.now + n) % g.C.Keystream.modulus) c.requires
+    c.write_keystream_blocks.ensures.counter
+    ∙ ap (λ n. (g.C.StreamCipherCore.counter c.args.core.now + n) % g.C.Keystream.modulus) c.requires

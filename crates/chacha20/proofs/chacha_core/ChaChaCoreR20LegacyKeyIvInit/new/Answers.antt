@@ -11,11 +11,13 @@ returns-clause-value g c =
     let key = words c.args.key.now in
     let nonce : c.read_words.new.output ≡ words c.args.iv.now = c.read_words.ensures in
     c.start_state.ensures
-    ∙ ap (λ r. constants ++ key ++ r) (legacy_row_written _ (ap length nonce ∙ length-words 2 _ c.told-iv) ∙ ap (λ n. 0 ∷ 0 ∷ n) nonce)
+    ∙ ap (λ r. constants ++ key ++ r) (legacy_row_written _ (ap length nonce ∙ length-words 2 _ c.told-iv)
+    ∙ ap (λ n. 0 ∷ 0 ∷ n) nonce)
     ∙ sym (append_assoc (constants ++ key) (0 ∷ 0 ∷ []) (words c.args.iv.now))
 
 pub returns-clause-blocks : goal.returns-clause-blocks
-returns-clause-blocks g c = blocks-of-start 10 legacy c.args.key.now c.args.iv.now _ c.told-key (returns-clause-value g c)
+returns-clause-blocks g c =
+    blocks-of-start 10 legacy c.args.key.now c.args.iv.now _ c.told-key (returns-clause-value g c)
 
 pub returns-clause-first : goal.returns-clause-first
 returns-clause-first g c = first-of-start legacy c.args.key.now c.args.iv.now _ c.told-key (returns-clause-value g c)

@@ -19,7 +19,8 @@ each-preserved g c =
     ∙ last_row-state_at layout _ s _ c.told-state c.set_block_pos.ensures.row
     ∙ ap (λ n. drop 12 (state_at layout n s))
     (c.advanced_by.ensures
-    ∙ ap₂ (λ v m. (v + i) % m) (c.get_block_pos-first.ensures ∙ row_counter-state layout s c.told-state) g.met.V.Variant.counters))
+    ∙ ap₂ (λ v m. (v + i) % m) (c.get_block_pos-first.ensures
+    ∙ row_counter-state layout s c.told-state) g.met.V.Variant.counters))
 
 pub returns : goal.returns
 returns g c h less = c.each.invariant h (omega (arith, less))

@@ -10,7 +10,8 @@ use Rattle.chacha_base.proofs.backends.kernel.write_tail.Goals as goal
 
 pub each-preserved : goal.each-preserved
 each-preserved g c =
-    one_more (λ h. bytes (slice_index_or c.mixed_words-words.result h [])) c.each.g c.each.blocks _ (omega arith) c.write_bytes.ensures c.each.invariant
+    one_more (λ h. bytes (slice_index_or c.mixed_words-words.result h [])) c.each.g c.each.blocks _
+    (omega arith) c.write_bytes.ensures c.each.invariant
 
 pub returns-after-each-clause-blocks : goal.returns-after-each-clause-blocks
 returns-after-each-clause-blocks g c i h =
@@ -21,14 +22,16 @@ returns-after-each-clause-blocks g c i h =
 pub returns-after-each-clause-steps : goal.returns-after-each-clause-steps
 returns-after-each-clause-steps g c =
     let some : min 1 (length c.args.blocks.now) ≡ 1 = grind (arith, common_steps) in
-    grows-tail (2 * g.G.Group.ROUND_STEPS * g.R.Rounds.COUNT) (length c.args.blocks.now) c.args.steps.now c.add_other.new.self c.mixed_words-words.new.steps some
+    grows-tail (2 * g.G.Group.ROUND_STEPS * g.R.Rounds.COUNT)
+    (length c.args.blocks.now) c.args.steps.now c.add_other.new.self c.mixed_words-words.new.steps some
     c.add_other.ensures c.mixed_words-words.ensures.steps
 
 pub returns-else-not-is_empty-clause-state : goal.returns-else-not-is_empty-clause-state
 returns-else-not-is_empty-clause-state g c =
     let s = c.args.state.now in
     let none : 0 ≡ length c.args.blocks.now = grind (arith, common_steps) in
-    sym (state_after-zero g.V.Variant.layout s c.told-state c.fits-state) ∙ ap (λ k. state_after g.V.Variant.layout k s) none
+    sym (state_after-zero g.V.Variant.layout s c.told-state c.fits-state)
+    ∙ ap (λ k. state_after g.V.Variant.layout k s) none
 
 pub returns-after-each-clause-state : goal.returns-after-each-clause-state
 returns-after-each-clause-state g c =
@@ -38,7 +41,8 @@ returns-after-each-clause-state g c =
 pub returns-after-each-clause-rounds : goal.returns-after-each-clause-rounds
 returns-after-each-clause-rounds g c =
     let some : min 1 (length c.args.blocks.now) ≡ 1 = grind (arith, common_steps) in
-    rounds-tail (2 * g.G.Group.ROUND_STEPS) g.R.Rounds.COUNT (length c.args.blocks.now) c.args.steps.now c.add_other.new.self c.mixed_words-words.new.steps some
+    rounds-tail (2 * g.G.Group.ROUND_STEPS) g.R.Rounds.COUNT
+    (length c.args.blocks.now) c.args.steps.now c.add_other.new.self c.mixed_words-words.new.steps some
     c.add_other.ensures c.mixed_words-words.ensures.steps
 
 pub returns-else-not-is_empty-clause-steps : goal.returns-else-not-is_empty-clause-steps

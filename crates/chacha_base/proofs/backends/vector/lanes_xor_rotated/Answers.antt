@@ -12,5 +12,6 @@ overflow_shr-result g c = shifts_fit_splat 32 _ g.row.N _ (omega arith)
 
 pub returns : goal.returns
 returns g c =
-    xor_shifted-is-rotl g.row.N c.args.by c.requires.some c.requires.most c.args.one c.args.other c.fits-one.0 c.fits-other.0
+    xor_shifted-is-rotl g.row.N c.args.by c.requires.some c.requires.most c.args.one c.args.other c.fits-one.0
+    c.fits-other.0
     (below_from_Fits w32 _ c.fits-one.1) (below_from_Fits w32 _ c.fits-other.1)

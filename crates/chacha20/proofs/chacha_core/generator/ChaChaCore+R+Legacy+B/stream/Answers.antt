@@ -7,5 +7,6 @@ use Rattle.chacha20.proofs.chacha_core.generator.ChaChaCore+R+Legacy+B.stream.Go
 
 pub returns : goal.returns
 returns g c =
-    stream_read c.self.inside.state c.from-2.result c.from.result c.self.told c.from-2.ensures c.from.ensures (omega arith) (omega arith)
+    stream_read c.self.inside.state c.from-2.result c.from.result c.self.told c.from-2.ensures c.from.ensures
+    (omega arith) (omega arith)
     ∙ ap (λ s. stream_in (fixed_words legacy s)) c.self.view_is

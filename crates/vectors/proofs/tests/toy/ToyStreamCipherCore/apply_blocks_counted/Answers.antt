@@ -13,10 +13,12 @@ stream_byte seed counter i =
     let which : (64 * counter + i) / 64 ≡ counter + i / 64 = omega arith in
     let place : (64 * counter + i) % 64 ≡ i % 64 = omega arith in
     rw (which, place)
-    (get_or-map-range_with_len (λ j. (seed + 100 * ((counter + i / 64) % 2 ^ 32) + j) % 256) 0 64 (i % 64) (i % 64) 0 (omega arith) (omega arith))
+    (get_or-map-range_with_len (λ j. (seed + 100 * ((counter + i / 64) % 2 ^ 32) + j) % 256) 0 64 (i % 64) (i % 64) 0
+    (omega arith) (omega arith))
 
 pub returns-clause-data : goal.returns-clause-data
 returns-clause-data c =
     let toy = c.args.self.now in
     xor_stream-is _ _ c.args.data.now c.loop-i.data c.loop-i.auto.data (λ i h.
-    c.loop-i.invariant.done i (omega arith) ∙ ap (bit_xor (slice_index c.args.data.now i)) (sym (stream_byte toy.seed toy.counter i)))
+    c.loop-i.invariant.done i (omega arith) ∙ ap (bit_xor (slice_index c.args.data.now i))
+    (sym (stream_byte toy.seed toy.counter i)))
