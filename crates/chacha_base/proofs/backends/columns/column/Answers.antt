@@ -1,4 +1,4 @@
-use Rattle.std.proofs.Common.{◌≡◌, [], ◌<◌, slice_index, slice_index_or, length, refl, ◌∙◌, arith, below_more}
+use Rattle.std.proofs.Common.{◌≡◌, [], ◌<◌, slice_index, slice_index_or, length, ◌∙◌, arith, below_more}
 use Rattle.std.proofs.Math.ListN.{set}
 use Rattle.std.proofs.lemmas.List.{length-set, get_or-replicate, get_or-set_same, get_or-set_other}
 use Rattle.chacha_base.proofs.backends.columns.column.Goals as goal

@@ -1,6 +1,5 @@
-use Rattle.std.proofs.Common.{◌≡◌, ◌+◌, ◌≤◌, length, take, add-zero, arith, refl, sym, ap, ap₂, subst, ◌∙◌}
+use Rattle.std.proofs.Common.{◌≡◌, ◌+◌, ◌≤◌, length, take, arith, refl, sym, ap, ap₂, subst, ◌∙◌}
 use Rattle.std.proofs.Math.Seq.{take-length}
-use Rattle.std.proofs.lemmas.Bool.{false≢true}
 use Rattle.chacha_base.specs.Keystream.{keystream, xor_stream}
 use Rattle.chacha_base.specs.Limit.{limit_of}
 use Rattle.chacha_base.proofs.CipherLemmas.{moved_on}

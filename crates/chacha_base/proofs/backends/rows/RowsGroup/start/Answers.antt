@@ -1,4 +1,4 @@
-use Rattle.std.proofs.Common.{◌≡◌, [], slice_index, slice_index_or, refl, ◌∙◌, arith, below_more}
+use Rattle.std.proofs.Common.{◌≡◌, [], slice_index, slice_index_or, ◌∙◌, arith, below_more}
 use Rattle.chacha_base.specs.Lanes.{row}
 use Rattle.chacha_base.proofs.ListLemmas.{four_joined}
 use Rattle.chacha_base.proofs.RowLemmas.{row-same}
