@@ -20,7 +20,7 @@ use chacha20::cipher::{KeyIvInit, StreamCipher, StreamCipherError};
 use chacha20::{ChaCha20, Key, Nonce};
 
 /// How many bytes a record has. Any length up to 274877906944 (256 GiB) will do (this crate).
-pub const LEN: usize = 64;
+pub const LEN: usize = 32;
 
 /// An encrypted record, and how often it has been written. A new file has records of version 0 (this crate).
 #[derive(Clone, Copy)]

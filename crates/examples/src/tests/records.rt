@@ -9,7 +9,9 @@ fn published_nonce(rt: HostRuntime) {
 }
 
 // RFC 8439, appendix A.1, number 5: the front of the block of a key of zeros and a nonce whose last byte is 2.
-static BLOCK: &[u8; 16] = b"\xc2\xc6\x4d\x37\x8c\xd5\x36\x37\x4a\xe2\x04\xb9\xef\x93\x3f\xcd";
+static BLOCK: &[u8; LEN] = b"\
+    \xc2\xc6\x4d\x37\x8c\xd5\x36\x37\x4a\xe2\x04\xb9\xef\x93\x3f\xcd\
+    \x1a\x8b\x22\x88\xb3\xdf\xa4\x96\x72\xab\x76\x5b\x54\xee\x27\xc7";
 
 // Zeros that are written as version 2 * 2^56 of record 0, and read.
 #[test]
@@ -24,9 +26,7 @@ fn published_bytes(rt: HostRuntime) {
     let record = records[0];
     let bytes = record.bytes;
     assert!(rt;
-        done && record.version == 0x0200_0000_0000_0000
-            && bytes.starts_with(BLOCK)
-            && text == [0; LEN]
+        done && record.version == 0x0200_0000_0000_0000 && bytes == *BLOCK && text == [0; LEN]
     );
 }
 
