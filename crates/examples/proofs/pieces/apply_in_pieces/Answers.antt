@@ -39,3 +39,6 @@ returns-clause-bytes g c =
     sym (ap (λ n. take n c.pieces.bytes) output_done ∙ take-length c.pieces.bytes)
     ∙ c.pieces.invariant.bytes
     ∙ ap (xor_stream stream (cipher.position old)) (ap (λ n. take n whole) input_done ∙ take-length whole)
+
+pub returns-clause-position : goal.returns-clause-position
+returns-clause-position g c = omega (arith, c.pieces.invariant.position)
