@@ -13,3 +13,6 @@ returns-in-Ok-clause-used_up c = search rules
 
 pub returns-in-Ok-clause-next : goal.returns-in-Ok-clause-next
 returns-in-Ok-clause-next c = search rules
+
+pub returns-clause-used_up : goal.returns-clause-used_up
+returns-clause-used_up c = search rules
