@@ -1,8 +1,8 @@
 //! A published ciphertext that is read in parts, and records over each backend of the library.
 
-use super::readme::encrypt;
 use super::{COUNTING, NONCE};
 use crate::file::{encrypt_record, read_at};
+use crate::message::encrypt;
 use chacha20::backends::{Lanes4, Lanes8, Lanes16, Rows8, Soft};
 use chacha20::cipher::{KeyIvInit, StreamCipherError, StreamCipherSeek};
 use chacha20::variants::Ietf;
