@@ -1,12 +1,12 @@
 //! A state of sixteen words, and the engine that hands out its blocks.
 
-ghost use Rattle.std.specs.Prelude.{◌≡◌, ◌≤◌, ◌<◌, ℕ, ◌+◌, ◌*◌, ◌/◌, ◌%◌, List, ◌++◌, length, replicate, Some};
+ghost use Rattle.std.specs.Prelude.{◌≡◌, ◌≤◌, ◌<◌, ℕ, ◌+◌, ◌*◌, ◌/◌, ◌%◌, List, ◌++◌, length, replicate, min, Some};
 ghost use Rattle.chacha_base.specs.Layout.{ietf, legacy, modulus};
 ghost use Rattle.chacha_base.specs.Block.{constants, start, block};
 ghost use Rattle.chacha_base.specs.Bytes.{words};
 ghost use Rattle.chacha_base.specs.State.{state_counter, fixed_words, state_at, state_block, state_after, AreNextBlocks};
 ghost use Rattle.chacha_base.specs.Keystream.{xor_stream};
-ghost use Rattle.chacha_base.specs.Counts.{Grows, for_whole_blocks};
+ghost use Rattle.chacha_base.specs.Counts.{Grows, for_call, for_tail, for_whole_blocks};
 ghost use Rattle.chacha20.specs.Blocks.{xored_at, applied};
 ghost use Rattle.chacha20.specs.Text.{core_text};
 
@@ -239,7 +239,23 @@ fn xor_blocks(data: &mut [u8], first: usize, blocks: &[[u8; 64]])
     }
 }
 
-// XORs bytes with whole blocks, which are made in `room`: as many at once as a parallel call makes, and then the rest.
+// Writes the blocks of a tail. A plain call in a function of its own, which is not marked to be inlined: so the compiler
+// first simplifies the tail itself, and then a tail of one block is small enough to stand where it is called.
+fn write_tail<R: Rounds, V: Variant, B: StreamCipherBackend<R, V>>(
+    state: &mut [u32; 16],
+    blocks: &mut [[u8; 64]],
+    steps: &mut Steps,
+)
+    requires { length blocks.old < B.PAR_BLOCKS }
+    ensures blocks { AreNextBlocks R.COUNT V.layout state.old (length blocks.old) blocks.new }
+    ensures state { state.new ≡ state_after V.layout (length blocks.old) state.old }
+    ensures steps { Grows
+        (for_tail (B.ONE_STEPS * R.COUNT) (length blocks.old)) steps.old steps.new }
+{
+    B::gen_tail_blocks(state, blocks, steps);
+}
+
+// XORs bytes with whole blocks, which are made in `room`: in groups as a parallel call makes them, and then the rest.
 #[inline(always)]
 fn apply_through<R: Rounds, V: Variant, B: StreamCipherBackend<R, V>>(
     state: &mut [u32; 16],
@@ -248,7 +264,7 @@ fn apply_through<R: Rounds, V: Variant, B: StreamCipherBackend<R, V>>(
     steps: &mut Steps,
 )
     requires whole { length «data».old % 64 ≡ 0 }
-    requires room { length room.old ≡ B.PAR_BLOCKS }
+    requires room { min B.PAR_BLOCKS (length «data».old / 64) ≤ length room.old }
     ensures data { «data».new ≡ applied R.COUNT V.layout state.old «data».old }
     ensures state { state.new ≡ state_after V.layout (length «data».old / 64) state.old }
     ensures steps { Grows
@@ -258,36 +274,17 @@ fn apply_through<R: Rounds, V: Variant, B: StreamCipherBackend<R, V>>(
     let width = B::PAR_BLOCKS;
     let count = data.len() / 64;
     'groups: for group in 0..count / width {
-        B::gen_par_ks_blocks(state, room, steps);
-        xor_blocks(data, width * group, room);
+        let made = &mut room[..width];
+        B::gen_par_ks_blocks(state, made, steps);
+        xor_blocks(data, width * group, made);
     }
     let rest = count % width;
     let made = &mut room[..rest];
-    B::gen_tail_blocks(state, made, steps);
+    write_tail::<R, V, B>(state, made, steps);
     xor_blocks(data, count - rest, made);
 }
 
-// XORs one block of bytes with the next block, where a parallel call makes more than one.
-#[inline(always)]
-fn apply_one<R: Rounds, V: Variant, B: StreamCipherBackend<R, V>>(
-    state: &mut [u32; 16],
-    data: &mut [u8],
-    steps: &mut Steps,
-)
-    requires several { 1 < B.PAR_BLOCKS }
-    requires one { length «data».old ≡ 64 }
-    ensures data { «data».new ≡ applied R.COUNT V.layout state.old «data».old }
-    ensures state { state.new ≡ state_after V.layout 1 state.old }
-    ensures steps { Grows
-        (for_whole_blocks B.PAR_BLOCKS (B.PAR_STEPS * R.COUNT) (B.ONE_STEPS * R.COUNT) 1)
-        steps.old steps.new }
-{
-    let mut block = [0; 64];
-    B::gen_ks_block(state, &mut block, steps);
-    xor_bytes(data, &block);
-}
-
-// XORs bytes with whole blocks. The room for them is as wide as the backend needs, and a single block needs none.
+// XORs bytes with whole blocks. The room for them is as wide as the backend needs, and a single block has its own.
 #[inline(always)]
 fn apply_blocks<R: Rounds, V: Variant, B: StreamCipherBackend<R, V>>(
     state: &mut [u32; 16],
@@ -301,15 +298,12 @@ fn apply_blocks<R: Rounds, V: Variant, B: StreamCipherBackend<R, V>>(
         (for_whole_blocks B.PAR_BLOCKS (B.PAR_STEPS * R.COUNT) (B.ONE_STEPS * R.COUNT)
         (length «data».old / 64)) steps.old steps.new }
 {
-    let width = B::PAR_BLOCKS;
-    if width == 1 {
+    if B::PAR_BLOCKS == 1 || data.len() == 64 {
         apply_through::<R, V, B>(state, &mut [[0; 64]; 1], data, steps);
-    } else if data.len() == 64 {
-        apply_one::<R, V, B>(state, data, steps);
-    } else if width <= 4 {
-        apply_through::<R, V, B>(state, &mut [[0; 64]; 4][..width], data, steps);
+    } else if B::PAR_BLOCKS <= 4 {
+        apply_through::<R, V, B>(state, &mut [[0; 64]; 4], data, steps);
     } else {
-        apply_through::<R, V, B>(state, &mut [[0; 64]; 16][..width], data, steps);
+        apply_through::<R, V, B>(state, &mut [[0; 64]; 16], data, steps);
     }
 }
 
