@@ -241,7 +241,7 @@ fn xor_blocks(data: &mut [u8], first: usize, blocks: &[[u8; 64]])
 
 // Writes the blocks of a tail. A plain call in a function of its own, which is not marked to be inlined: so the compiler
 // first simplifies the tail itself, and then a tail of one block is small enough to stand where it is called.
-fn write_tail<R: Rounds, V: Variant, B: StreamCipherBackend<R, V>>(
+fn gen_tail_apart<R: Rounds, V: Variant, B: StreamCipherBackend<R, V>>(
     state: &mut [u32; 16],
     blocks: &mut [[u8; 64]],
     steps: &mut Steps,
@@ -280,7 +280,7 @@ fn apply_through<R: Rounds, V: Variant, B: StreamCipherBackend<R, V>>(
     }
     let rest = count % width;
     let made = &mut room[..rest];
-    write_tail::<R, V, B>(state, made, steps);
+    gen_tail_apart::<R, V, B>(state, made, steps);
     xor_blocks(data, count - rest, made);
 }
 

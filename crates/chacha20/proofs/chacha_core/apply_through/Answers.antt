@@ -112,8 +112,8 @@ slice_bounds-made-end-3 g c =
     let fits = room_kept w _ (n / 64) _ _ c.PAR_BLOCKS-width.ensures c.groups.auto.room c.requires.room in
     sym (rest_fits w _ (n / 64) c.groups.room c.PAR_BLOCKS-width.ensures g.B.ParBlocksSizeUser.par_blocks_at_least fits)
 
-pub write_tail-requires : goal.write_tail-requires
-write_tail-requires g c =
+pub gen_tail_apart-requires : goal.gen_tail_apart-requires
+gen_tail_apart-requires g c =
     let w = c.PAR_BLOCKS-width.result in
     let n = length c.args.data.now in
     let fits = room_kept w _ (n / 64) _ _ c.PAR_BLOCKS-width.ensures c.groups.auto.room c.requires.room in
@@ -126,7 +126,7 @@ xor_blocks-requires-2 g c =
     let n = length c.args.data.now in
     let fits = room_kept w _ (n / 64) _ _ c.PAR_BLOCKS-width.ensures c.groups.auto.room c.requires.room in
     let made = rest_fits w _ (n / 64) c.groups.room c.PAR_BLOCKS-width.ensures g.B.ParBlocksSizeUser.par_blocks_at_least fits in
-    rest_inside w n _ _ c.groups.auto.data (c.write_tail.auto.blocks ∙ made)
+    rest_inside w n _ _ c.groups.auto.data (c.gen_tail_apart.auto.blocks ∙ made)
 
 pub returns : goal.returns
 returns g c =
@@ -142,9 +142,9 @@ returns g c =
     let all : c.groups.group ≡ m / w = omega (arith, c.groups-test.false, c.groups.auto.group-end) in
     let done = rest_begins w c.groups.group m all in
     record {
-      «data» = applied-more n layout s i c.write_tail.new.blocks old c.told-state (rw done at c.groups.invariant.state) (rest_ends w m) (whole_inside (length old)) c.groups.auto.data
-          (c.write_tail.auto.blocks ∙ made) (rw done at c.groups.invariant.data) c.xor_blocks-2.ensures (λ j less. c.write_tail.ensures.blocks j (rw made less))
+      «data» = applied-more n layout s i c.gen_tail_apart.new.blocks old c.told-state (rw done at c.groups.invariant.state) (rest_ends w m) (whole_inside (length old)) c.groups.auto.data
+          (c.gen_tail_apart.auto.blocks ∙ made) (rw done at c.groups.invariant.data) c.xor_blocks-2.ensures (λ j less. c.gen_tail_apart.ensures.blocks j (rw made less))
           ∙ xor_stream-whole (state_stream n layout s) (64 * state_counter layout s) (64 * m) old (whole_all (length old) c.requires.whole);
-      state = state_after-more layout s c.groups.state _ i _ m c.told-state (rw done at c.groups.invariant.state) (rw made at c.write_tail.ensures.state) (rest_ends w m);
-      steps = rw (← c.PAR_BLOCKS-width.ensures) (grows-blocks w _ _ m (rw all at c.groups.invariant.steps) (rw made at c.write_tail.ensures.steps));
+      state = state_after-more layout s c.groups.state _ i _ m c.told-state (rw done at c.groups.invariant.state) (rw made at c.gen_tail_apart.ensures.state) (rest_ends w m);
+      steps = rw (← c.PAR_BLOCKS-width.ensures) (grows-blocks w _ _ m (rw all at c.groups.invariant.steps) (rw made at c.gen_tail_apart.ensures.steps));
     }

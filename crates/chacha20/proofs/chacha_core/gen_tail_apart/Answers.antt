@@ -1,4 +1,4 @@
-use Rattle.chacha20.proofs.chacha_core.write_tail.Goals as goal
+use Rattle.chacha20.proofs.chacha_core.gen_tail_apart.Goals as goal
 
 pub returns-clause-blocks : goal.returns-clause-blocks
 returns-clause-blocks g c = c.gen_tail_blocks.ensures.blocks
