@@ -1,8 +1,8 @@
 //! A message under a key and a nonce, in one call: by ChaCha20, by any other cipher, or with a number of rounds of your
 //! own.
 //!
-//! The lines between a function's head and its body are its contract. A program is built only after it is proved for
-//! every key, nonce and message. That of `encrypt` says:
+//! The lines between a function's head and its body are its contract. A program is built only after its contracts
+//! are proved for every key, nonce and message. That of `encrypt` says:
 //!
 //! - `accepted`: the call returns `Ok` exactly where the message has at most 274877906944 bytes (256 GiB).
 //! - `bytes`: on `Ok` the message (`message.new`) equals (`≡`) what it was (`message.old`), each byte XORed with the
@@ -40,7 +40,7 @@ pub fn encrypt(key: &Key, nonce: &Nonce, message: &mut [u8]) -> Result<(), Strea
 }
 
 /// The same by any cipher `C` (this crate): `C.modulus` is the number of its blocks, `C.blocks_of` the blocks of a key
-/// and a nonce. A call at a named type has the contract in that type's own numbers, as the functions below.
+/// and a nonce. For a named type the prover puts in that type's own numbers, as in the functions below.
 pub fn encrypt_by<C: KeyIvInit + StreamCipher + Drop>(
     key: &C::Key,
     nonce: &C::Iv,

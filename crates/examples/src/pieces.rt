@@ -1,5 +1,5 @@
-//! A message that is encrypted piece by piece: in pieces of one length, or in two buffers. Wherever it is cut, its
-//! bytes become those that one call for all of it would make.
+//! A message that is encrypted piece by piece: in pieces of one length, or in two buffers. Wherever the message is cut,
+//! its bytes become what one call for all of them would make.
 //!
 //! The lines between a function's head and its body are its contract. The caller proves what is behind `requires`
 //! before the call; what is behind `ensures` holds after it. `apply_keystream` returns no `Result`, so it requires that
@@ -36,7 +36,7 @@ pub fn apply_in_pieces<C: StreamCipher>(cipher: &mut C, bytes: &mut [u8], size: 
 }
 
 /// The same for callers who don't know whether the bytes end within the limit (this crate). `Err` exactly where they
-/// don't; then nothing changes, also no piece that would fit.
+/// don't; then nothing changes, not even a piece that would fit.
 pub fn try_apply_in_pieces<C: StreamCipher>(
     cipher: &mut C,
     bytes: &mut [u8],

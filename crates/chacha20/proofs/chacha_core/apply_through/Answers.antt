@@ -24,7 +24,8 @@ group_after : (w k : ℕ) → w * k + w ≡ w * (k + 1)
 group_after w k = omega (arith, mul-add w k 1)
 
 group_inside : (w k n l b : ℕ) → k < n / 64 / w → l ≡ n → b ≡ w → 64 * (w * k + b) ≤ l
-group_inside w k n l b less kept size = omega (arith, column_fits w k w (n / 64 / w) less (omega arith), mul-div-le (n / 64) w)
+group_inside w k n l b less kept size =
+    omega (arith, column_fits w k w (n / 64 / w) less (omega arith), mul-div-le (n / 64) w)
 
 group_end : (w k n : ℕ) → k < n / 64 / w → 64 * (w * (k + 1)) ≤ n
 group_end w k n less = omega (arith, group_after w k, group_inside w k n n w less refl refl)
@@ -36,7 +37,8 @@ rest_begins w k m all = rw all (omega (arith, div-add-mod m w))
 rest_ends : (w m : ℕ) → m - m % w + m % w ≡ m
 rest_ends w m = omega (arith, mod-le m w)
 
-rest_fits : (w b m : ℕ) (room : List (List ℕ)) → w ≡ b → 1 ≤ b → min w m ≤ length room → length (take (m % w) room) ≡ m % w
+rest_fits : (w b m : ℕ) (room : List (List ℕ)) → w ≡ b → 1 ≤ b → min w m ≤ length room
+    → length (take (m % w) room) ≡ m % w
 rest_fits w b m room same some fits =
     let one : 1 ≤ w = omega arith in
     length-take-le (m % w) room (omega (arith, mod-lt m one, mod-le m w))
@@ -99,9 +101,12 @@ groups-preserved g c =
     let made = group_fits w k (length old / 64) c.groups.room c.groups-test.true fits in
     let next = group_after w k in
     record {
-      «data» = applied-more g.R.Rounds.COUNT layout s i c.gen_par_ks_blocks.new.blocks old c.told-state c.groups.invariant.state next (group_end w k (length old) c.groups-test.true) c.groups.auto.data
-          (c.gen_par_ks_blocks.auto.blocks ∙ made) c.groups.invariant.data c.xor_blocks.ensures (λ j less. c.gen_par_ks_blocks.ensures.blocks j (rw made less));
-      state = state_after-more layout s c.groups.state _ i _ _ c.told-state c.groups.invariant.state (rw made at c.gen_par_ks_blocks.ensures.state) next;
+      «data» = applied-more g.R.Rounds.COUNT layout s i c.gen_par_ks_blocks.new.blocks old c.told-state
+      c.groups.invariant.state next (group_end w k (length old) c.groups-test.true) c.groups.auto.data
+          (c.gen_par_ks_blocks.auto.blocks ∙ made) c.groups.invariant.data c.xor_blocks.ensures
+          (λ j less. c.gen_par_ks_blocks.ensures.blocks j (rw made less));
+      state = state_after-more layout s c.groups.state _ i _ _ c.told-state c.groups.invariant.state
+      (rw made at c.gen_par_ks_blocks.ensures.state) next;
       steps = grows-group c.groups.invariant.steps c.gen_par_ks_blocks.ensures.steps;
     }
 
@@ -125,7 +130,8 @@ xor_blocks-requires-2 g c =
     let w = c.PAR_BLOCKS-width.result in
     let n = length c.args.data.now in
     let fits = room_kept w _ (n / 64) _ _ c.PAR_BLOCKS-width.ensures c.groups.auto.room c.requires.room in
-    let made = rest_fits w _ (n / 64) c.groups.room c.PAR_BLOCKS-width.ensures g.B.ParBlocksSizeUser.par_blocks_at_least fits in
+    let made = rest_fits w _
+    (n / 64) c.groups.room c.PAR_BLOCKS-width.ensures g.B.ParBlocksSizeUser.par_blocks_at_least fits in
     rest_inside w n _ _ c.groups.auto.data (c.gen_tail_apart.auto.blocks ∙ made)
 
 pub returns : goal.returns
@@ -138,13 +144,19 @@ returns g c =
     let m = length old / 64 in
     let i = m - m % w in
     let fits = room_kept w _ m _ _ c.PAR_BLOCKS-width.ensures c.groups.auto.room c.requires.room in
-    let made = rest_fits w _ m c.groups.room c.PAR_BLOCKS-width.ensures g.B.ParBlocksSizeUser.par_blocks_at_least fits in
+    let made = rest_fits w _ m c.groups.room c.PAR_BLOCKS-width.ensures g.B.ParBlocksSizeUser.par_blocks_at_least fits
+    in
     let all : c.groups.group ≡ m / w = omega (arith, c.groups-test.false, c.groups.auto.group-end) in
     let done = rest_begins w c.groups.group m all in
     record {
-      «data» = applied-more n layout s i c.gen_tail_apart.new.blocks old c.told-state (rw done at c.groups.invariant.state) (rest_ends w m) (whole_inside (length old)) c.groups.auto.data
-          (c.gen_tail_apart.auto.blocks ∙ made) (rw done at c.groups.invariant.data) c.xor_blocks-2.ensures (λ j less. c.gen_tail_apart.ensures.blocks j (rw made less))
-          ∙ xor_stream-whole (state_stream n layout s) (64 * state_counter layout s) (64 * m) old (whole_all (length old) c.requires.whole);
-      state = state_after-more layout s c.groups.state _ i _ m c.told-state (rw done at c.groups.invariant.state) (rw made at c.gen_tail_apart.ensures.state) (rest_ends w m);
-      steps = rw (← c.PAR_BLOCKS-width.ensures) (grows-blocks w _ _ m (rw all at c.groups.invariant.steps) (rw made at c.gen_tail_apart.ensures.steps));
+      «data» = applied-more n layout s i c.gen_tail_apart.new.blocks old c.told-state
+      (rw done at c.groups.invariant.state) (rest_ends w m) (whole_inside (length old)) c.groups.auto.data
+          (c.gen_tail_apart.auto.blocks ∙ made) (rw done at c.groups.invariant.data) c.xor_blocks-2.ensures
+          (λ j less. c.gen_tail_apart.ensures.blocks j (rw made less))
+          ∙ xor_stream-whole (state_stream n layout s) (64 * state_counter layout s) (64 * m) old
+          (whole_all (length old) c.requires.whole);
+      state = state_after-more layout s c.groups.state _ i _ m c.told-state (rw done at c.groups.invariant.state)
+      (rw made at c.gen_tail_apart.ensures.state) (rest_ends w m);
+      steps = rw (← c.PAR_BLOCKS-width.ensures) (grows-blocks w _ _ m (rw all at c.groups.invariant.steps)
+      (rw made at c.gen_tail_apart.ensures.steps));
     }

@@ -11,6 +11,7 @@ returns-clause-value c =
 
 pub returns-clause-apart : goal.returns-clause-apart
 returns-clause-apart c other below same =
-    let stream : c.set_stream.new.self.stream ≡ c.args.number = ap (λ (g : GeneratorState). g.stream) c.set_stream.ensures in
+    let stream : c.set_stream.new.self.stream ≡ c.args.number =
+    ap (λ (g : GeneratorState). g.stream) c.set_stream.ensures in
     sym (from_le_bytes-to_le_bytes_8 other below) ∙ ap (from_le_bytes w64) same
     ∙ from_le_bytes-to_le_bytes_8 c.set_stream.new.self.stream (omega arith) ∙ stream
