@@ -102,11 +102,11 @@ groups-preserved g c =
     let next = group_after w k in
     record {
       «data» = applied-more g.R.Rounds.COUNT layout s i c.gen_par_ks_blocks.new.blocks old c.told-state
-      c.groups.invariant.state next (group_end w k (length old) c.groups-test.true) c.groups.auto.data
+          c.groups.invariant.state next (group_end w k (length old) c.groups-test.true) c.groups.auto.data
           (c.gen_par_ks_blocks.auto.blocks ∙ made) c.groups.invariant.data c.xor_blocks.ensures
           (λ j less. c.gen_par_ks_blocks.ensures.blocks j (rw made less));
       state = state_after-more layout s c.groups.state _ i _ _ c.told-state c.groups.invariant.state
-      (rw made at c.gen_par_ks_blocks.ensures.state) next;
+          (rw made at c.gen_par_ks_blocks.ensures.state) next;
       steps = grows-group c.groups.invariant.steps c.gen_par_ks_blocks.ensures.steps;
     }
 
@@ -150,13 +150,13 @@ returns g c =
     let done = rest_begins w c.groups.group m all in
     record {
       «data» = applied-more n layout s i c.gen_tail_apart.new.blocks old c.told-state
-      (rw done at c.groups.invariant.state) (rest_ends w m) (whole_inside (length old)) c.groups.auto.data
+          (rw done at c.groups.invariant.state) (rest_ends w m) (whole_inside (length old)) c.groups.auto.data
           (c.gen_tail_apart.auto.blocks ∙ made) (rw done at c.groups.invariant.data) c.xor_blocks-2.ensures
           (λ j less. c.gen_tail_apart.ensures.blocks j (rw made less))
           ∙ xor_stream-whole (state_stream n layout s) (64 * state_counter layout s) (64 * m) old
           (whole_all (length old) c.requires.whole);
       state = state_after-more layout s c.groups.state _ i _ m c.told-state (rw done at c.groups.invariant.state)
-      (rw made at c.gen_tail_apart.ensures.state) (rest_ends w m);
+          (rw made at c.gen_tail_apart.ensures.state) (rest_ends w m);
       steps = rw (← c.PAR_BLOCKS-width.ensures) (grows-blocks w _ _ m (rw all at c.groups.invariant.steps)
-      (rw made at c.gen_tail_apart.ensures.steps));
+          (rw made at c.gen_tail_apart.ensures.steps));
     }

@@ -13,5 +13,5 @@ invariant-groups g l =
       «data» : l.«data» ≡ applied g.R.Rounds.COUNT layout s (take (64 * i) l.fn.«data») ++ drop (64 * i) l.fn.«data»;
       state : l.state ≡ state_after layout i s;
       steps : Grows
-      (for_call l.group 0 (l.group * (g.B.StreamCipherBackend.PAR_STEPS * g.R.Rounds.COUNT))) l.fn.steps l.steps;
+          (for_call l.group 0 (l.group * (g.B.StreamCipherBackend.PAR_STEPS * g.R.Rounds.COUNT))) l.fn.steps l.steps;
     }

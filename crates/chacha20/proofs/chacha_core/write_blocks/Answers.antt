@@ -23,7 +23,7 @@ groups-preserved g c =
     record {
       within = omega arith;
       state = state_after-more layout c.args.state.now c.groups.state c.gen_par_ks_blocks.new.state a _ _ c.told-state
-      kept.state c.gen_par_ks_blocks.ensures.state size;
+          kept.state c.gen_par_ks_blocks.ensures.state size;
       done = λ i less.
           next_blocks-more g.R.Rounds.COUNT layout c.args.state.now c.groups.state a k now
           c.gen_par_ks_blocks.new.blocks c.told-state kept.state kept.within (omega (arith, long)) kept.done
@@ -44,5 +44,5 @@ returns g c =
           (omega (arith, long)) kept.done (λ j inside. c.gen_tail_blocks.ensures.blocks j (rw long inside)) i
           (omega arith);
       state = state_after-more layout c.args.state.now c.groups.state c.gen_tail_blocks.new.state a _ _ c.told-state
-      kept.state c.gen_tail_blocks.ensures.state (omega (arith, long));
+          kept.state c.gen_tail_blocks.ensures.state (omega (arith, long));
     }

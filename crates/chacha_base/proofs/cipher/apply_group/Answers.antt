@@ -20,7 +20,7 @@ loop-i-preserved g c =
     let long : length (slice_index_or now i []) ≡ 64 = ap length same ∙ c.told-blocks i (omega arith) in
     record {
       done = one_more (λ k. xor_stream (keystream modulus block) (64 * (g.C.StreamCipherCore.counter core + k))
-      (slice_index_or c.args.blocks.now k []))
+          (slice_index_or c.args.blocks.now k []))
           i now c.xor_bytes.new.output inside
           (xor_stream-block modulus block counter _ (slice_index_or now i []) _
           (get_or_from_slice_get _ i _ [] (c.write_keystream_blocks.ensures.blocks i (omega arith)))
@@ -28,7 +28,7 @@ loop-i-preserved g c =
           ∙ ap (xor_stream (keystream modulus block) (64 * counter)) same)
           c.loop-i.invariant.done;
       rest = λ k above. let apart : k ≢ i = omega arith in get_or-set_other now i k c.xor_bytes.new.output [] apart
-      ∙ c.loop-i.invariant.rest k (omega arith);
+          ∙ c.loop-i.invariant.rest k (omega arith);
     }
 
 pub returns-clause-blocks : goal.returns-clause-blocks

@@ -1,6 +1,6 @@
 use Rattle.std.proofs.Common.{◌≡◌, ◌<◌, ◌^◌, ℕ, ◌++◌, take, drop, replicate, sym, ap, ap₂, ◌∙◌}
 use Rattle.std.proofs.lemmas.Nat.{from_le_bytes-to_le_bytes_4, from_le_bytes-to_le_bytes_8}
-use Rattle.std.specs.Int.{from_le_bytes, to_le_bytes, w32, w64}
+use Rattle.std.specs.Int.{from_le_bytes, w32, w64}
 use borrow.Rule.Slice.PartMut.{put_mid}
 use Rattle.examples.specs.Records.{nonce_of}
 use Rattle.examples.proofs.records.nonce.Goals as goal

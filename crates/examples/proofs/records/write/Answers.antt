@@ -1,4 +1,4 @@
-use Rattle.std.proofs.Common.{◌≡◌, ◌<◌, ◌+◌, ◌^◌, ℕ, length, sym, ap, ◌∙◌, arith, get_or-set_same, get_or-set_other}
+use Rattle.std.proofs.Common.{◌≡◌, ◌<◌, ◌+◌, ◌^◌, sym, ap, ◌∙◌, arith, get_or-set_same, get_or-set_other}
 use Rattle.chacha20.specs.Block.{block}
 use Rattle.chacha20.specs.Keystream.{keystream, xor_stream}
 use Rattle.chacha20.specs.Layout.{ietf}

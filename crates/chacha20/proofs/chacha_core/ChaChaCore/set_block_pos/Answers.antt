@@ -10,7 +10,7 @@ returns g c =
     let pos = g.V.Counter.StreamCipherCounter.value c.args.pos in
     record {
       state = state_at-written layout pos _ _ c.self.told c.set_block_pos.ensures.row
-      ∙ ap (state_at layout pos) c.self.view_is;
+          ∙ ap (state_at layout pos) c.self.view_is;
       fixed = ap (fixed_words layout) (state_at-written layout pos _ _ c.self.told c.set_block_pos.ensures.row)
           ∙ fixed_words-state_at layout pos _ c.self.told
           ∙ ap (fixed_words layout) c.self.view_is;

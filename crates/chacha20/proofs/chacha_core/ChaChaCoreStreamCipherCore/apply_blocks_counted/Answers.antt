@@ -9,9 +9,9 @@ pub returns : goal.returns
 returns g c =
     record {
       «data» = c.apply_blocks.ensures.data
-      ∙ ap (λ s. applied g.R.Rounds.COUNT g.V.Variant.layout s c.args.data.now) c.self.view_is;
+          ∙ ap (λ s. applied g.R.Rounds.COUNT g.V.Variant.layout s c.args.data.now) c.self.view_is;
       fixed = fixed_words-state_after g.V.Variant.layout _ _ _ c.self.told c.apply_blocks.ensures.state
-      ∙ ap (fixed_words g.V.Variant.layout) c.self.view_is;
+          ∙ ap (fixed_words g.V.Variant.layout) c.self.view_is;
       counter = let layout = g.V.Variant.layout in
           state_counter-state_after layout _ _ _ c.self.told c.apply_blocks.ensures.state
           ∙ ap (λ s. (state_counter layout s + length c.args.data.now / 64) % modulus layout) c.self.view_is;

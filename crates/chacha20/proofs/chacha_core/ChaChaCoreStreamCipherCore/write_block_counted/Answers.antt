@@ -13,7 +13,7 @@ returns g c =
           ∙ ap (λ s. state_block g.R.Rounds.COUNT layout (fixed_words layout s)
           (state_counter layout s)) c.self.view_is;
       fixed = fixed_words-state_after g.V.Variant.layout 1 _ _ c.self.told c.gen_ks_block.ensures.state
-      ∙ ap (fixed_words g.V.Variant.layout) c.self.view_is;
+          ∙ ap (fixed_words g.V.Variant.layout) c.self.view_is;
       counter = state_counter-state_after layout 1 _ _ c.self.told c.gen_ks_block.ensures.state
           ∙ ap (λ s. (state_counter layout s + 1) % modulus layout) c.self.view_is;
       steps = c.gen_ks_block.ensures.steps;

@@ -12,7 +12,7 @@ invariant-groups g l =
       fixed : g.Self.Keystream.fixed l.self ≡ g.Self.Keystream.fixed l.fn.self;
       counter : g.Self.StreamCipherCore.counter l.self % modulus ≡ (first + l.done) % modulus;
       done : (i : ℕ) → i < l.done → slice_get l.blocks i ≡ Some
-      (xor_stream (keystream modulus (g.Self.Keystream.block_at (g.Self.Keystream.fixed l.fn.self)))
+          (xor_stream (keystream modulus (g.Self.Keystream.block_at (g.Self.Keystream.fixed l.fn.self)))
           (64 * (first + i)) (slice_index_or l.fn.blocks i []));
       rest : (i : ℕ) → l.done ≤ i → slice_index_or l.blocks i [] ≡ slice_index_or l.fn.blocks i [];
     }

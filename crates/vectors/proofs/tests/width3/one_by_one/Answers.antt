@@ -15,8 +15,8 @@ each-preserved g c =
     let kept = c.each.invariant in
     record {
       blocks = next_block-more g.R.Rounds.COUNT layout s c.each.state c.each.i c.each.blocks c.gen_ks_block.new.block
-      c.told-state kept.state
+          c.told-state kept.state
           (omega arith) c.gen_ks_block.ensures.block kept.blocks;
       state = state_after-more layout s c.each.state c.gen_ks_block.new.state c.each.i 1 _ c.told-state kept.state
-      c.gen_ks_block.ensures.state refl;
+          c.gen_ks_block.ensures.state refl;
     }
