@@ -2,6 +2,7 @@
 pub mod KeystreamLemmas
 pub mod PartLemmas
 pub mod RepeatedLemmas
+pub mod ResultLemmas
 pub use Rattle.chacha_base.proofs.PieceLemmas
 pub use Rattle.chacha_base.proofs.CipherLemmas
 pub use Rattle.chacha_base.proofs.BackendLaws

@@ -1,6 +1,6 @@
 //! The code of README and of the guide that no example has.
 
-ghost use Rattle.std.specs.Prelude.{◌≤◌, length};
+ghost use Rattle.std.specs.Prelude.{◌≡◌, ◌≤◌, length};
 
 use crate::message::encrypt;
 use chacha20::backends::Lanes4;
@@ -24,6 +24,18 @@ fn encrypt_short(key: &Key, nonce: &Nonce, message: &mut [u8])
     requires { length message.old ≤ 274877906944 }
 {
     ChaCha20::new(key, nonce).apply_keystream(message);
+}
+
+// Encrypts a message and decrypts it again. Whether it is accepted or not, it is as before.
+fn encrypt_and_decrypt(
+    key: &Key,
+    nonce: &Nonce,
+    message: &mut [u8],
+) -> Result<(), StreamCipherError>
+    ensures { message.new ≡ message.old }
+{
+    encrypt(key, nonce, message)?;
+    encrypt(key, nonce, message)
 }
 
 // XORs the next bytes, where as many are left.
@@ -51,7 +63,8 @@ fn first_lines(rt: HostRuntime) {
     let mut cipher = ChaCha20Lanes4::new(&[0x42; 32], &[0x24; 12]);
     let accepted = cipher.try_apply_keystream(&mut message).is_ok();
     assert!(rt; encrypted(&[0x42; 32], &[0x24; 12]) == Ok(ENCRYPTED));
-    assert!(rt; accepted && message == ENCRYPTED);
+    let same = encrypt_and_decrypt(&[1; 32], &[2; 12], &mut message).is_ok();
+    assert!(rt; accepted && same && message == ENCRYPTED);
 }
 
 // What `openssl enc -chacha20` makes of the message.
