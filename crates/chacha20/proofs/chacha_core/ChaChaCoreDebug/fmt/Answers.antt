@@ -1,7 +1,7 @@
 use Rattle.std.proofs.Common.{◌∙◌}
 use Rattle.chacha20.proofs.chacha_core.ChaChaCoreDebug.fmt.Goals as goal
 
--- the search finds it too, but not soon that a wrong text has none
+-- answered for speed
 pub returns : goal.returns
 returns g c = record {
   writes = λ plain ok. rw (
