@@ -1,7 +1,7 @@
 use Rattle.std.proofs.Common.{inl, inr, arith}
 use Rattle.chacha20.proofs.chacha_core.apply_blocks.Goals as goal
 
--- answered for speed
+-- the search finds these too, but not soon that a wrong body has none
 pub returns-then-data-eq64 : goal.returns-then-data-eq64
 returns-then-data-eq64 g c = c.apply_through.ensures
 

@@ -1,7 +1,7 @@
 use Rattle.std.proofs.Common.{◌∙◌}
 use Rattle.chacha20.proofs.chacha_core.ChaChaCoreDebug.fmt.Goals as goal
 
--- answered for speed
+-- the search finds it too, but not soon that a wrong text has none
 pub returns : goal.returns
 returns g c = record {
   writes = λ plain ok. rw (

@@ -3,7 +3,7 @@ use Rattle.chacha_base.specs.Cipher.{Cipher}
 use Rattle.chacha_base.specs.Buffered.{position_of}
 use Rattle.chacha_base.proofs.wrapper.StreamCipherCoreWrapperKeyIvInit.new.Goals as goal
 
--- answered for speed
+-- the search finds these too, but not soon that a wrong body has none
 pub returns-clause-value : goal.returns-clause-value
 returns-clause-value g c =
     ap₂ (λ f n. let cipher : Cipher = record { fixed = f; position = position_of n 0 } in cipher)
