@@ -21,28 +21,23 @@ use std::marker::Model;
 /// the one with the greatest counter (RFC 8439, section 2.3).
 #[derive(Drop)]
 pub struct StreamCipherCoreWrapper<C: StreamCipherSeekCore> {
+    // Its counter is that of the first block that begins at the position or after it, or 0 again where there is none.
     core: C,
-    // How many bytes are left of the block that the position is in. While there are any, the buffer holds that block,
-    // which is the last one that the core made.
+    // If the position is inside a block, that block.
     buffer: [u8; 64],
-    left: u8,
-    // Whether the core is past the block with the greatest counter: its own counter is then 0 again.
-    past: bool,
+    position: u128,
 }
 
 impl<C: StreamCipherSeekCore> Model for StreamCipherCoreWrapper<C> {
     ghost use Rattle.chacha_base.specs.Cipher.{Cipher};
-    ghost use Rattle.chacha_base.specs.Buffered.{IsBuffered, blocks_made, position_of};
+    ghost use Rattle.chacha_base.specs.Buffered.{IsBuffered};
 
     ghost Value = { Cipher };
 
-    ghost view = { λ w. record {
-      fixed = C.fixed w.core;
-      position = position_of (blocks_made C.modulus w.past (C.counter w.core)) w.left;
-    } };
+    ghost view = { λ w. record { fixed = C.fixed w.core; position = w.position } };
 
-    ghost invariant = { λ w. IsBuffered C.modulus (C.block_at (C.fixed w.core)) w.past
-        (C.counter w.core) w.buffer w.left };
+    ghost invariant = { λ w. IsBuffered C.modulus (C.block_at (C.fixed w.core))
+        (C.counter w.core) w.buffer w.position };
 }
 
 impl<C: StreamCipherSeekCore> Keystream for StreamCipherCoreWrapper<C> {
@@ -84,8 +79,7 @@ impl<C: StreamCipherSeekCore + KeyIvInit> KeyIvInit for StreamCipherCoreWrapper<
         StreamCipherCoreWrapper {
             core,
             buffer: [0; 64],
-            left: 0,
-            past: false,
+            position: 0,
         }
     }
 }
@@ -101,7 +95,7 @@ impl<C: StreamCipherSeekCore> StreamCipher for StreamCipherCoreWrapper<C> {
         record { fixed = fixed i; position = position i } };
 
     fn check_remaining(&self, len: usize) -> Result<(), StreamCipherError> {
-        let remaining = Self::limit() - self.position();
+        let remaining = Self::limit() - self.position;
         if len as u128 <= remaining {
             Ok(())
         } else {
@@ -140,7 +134,7 @@ impl<C: StreamCipherSeekCore> StreamCipherSeek for StreamCipherCoreWrapper<C> {
     }
 
     fn try_current_pos<T: SeekNum>(&self) -> Result<T, OverflowError> {
-        T::from_position(self.position())
+        T::from_position(self.position)
     }
 }
 
@@ -152,28 +146,15 @@ impl<C: StreamCipherSeekCore> StreamCipherCoreWrapper<C> {
         64 * (u128::from(C::Counter::last()) + 1)
     }
 
-    // The position, at most the greatest one.
-    fn position(&self) -> u128
-        ensures value { result ≡ self.now.position }
-        ensures within { result ≤ limit_of C.modulus }
-    {
-        // Where the block that the core made last ends.
-        let end = if self.past {
-            Self::limit()
-        } else {
-            64 * u128::from(self.core.get_block_pos().to_u64())
-        };
-        end - self.left as u128
-    }
-
-    // How many of so many bytes are left of the block that the position lies in.
+    // How many of so many bytes are left of the block that the position is in.
     fn begun(&self, len: usize) -> usize
         ensures { result ≡ min len (left_at self.now.position) }
     {
-        len.min(self.left as usize)
+        let left = (64 - self.position % 64) % 64;
+        len.min(left as usize)
     }
 
-    // XORs bytes with what is left of the block that the position lies in.
+    // XORs bytes with what is left of the block that the position is in.
     fn apply_begun(&mut self, bytes: &mut [u8])
         requires { length bytes.old ≤ left_at self.old.position }
         ensures bytes { bytes.new ≡ xor_stream
@@ -181,9 +162,9 @@ impl<C: StreamCipherSeekCore> StreamCipherCoreWrapper<C> {
         ensures fixed { self.new.fixed ≡ self.old.fixed }
         ensures position { self.new.position ≡ self.old.position + length bytes.old }
     {
-        let from = 64 - self.left as usize;
+        let from = (self.position % 64) as usize;
         xor_bytes(bytes, &self.buffer[from..from + bytes.len()]);
-        self.left -= bytes.len() as u8;
+        self.position += bytes.len() as u128;
     }
 
     // XORs whole blocks of bytes, from the front of a block on.
@@ -201,7 +182,7 @@ impl<C: StreamCipherSeekCore> StreamCipherCoreWrapper<C> {
     {
         if !blocks.is_empty() {
             self.core.apply_blocks_counted(blocks, steps);
-            self.past = self.core.get_block_pos().to_u64() == 0;
+            self.position += blocks.len() as u128;
         }
     }
 
@@ -219,28 +200,24 @@ impl<C: StreamCipherSeekCore> StreamCipherCoreWrapper<C> {
         if !bytes.is_empty() {
             self.core.write_block_counted(&mut self.buffer, steps);
             xor_bytes(bytes, &self.buffer[..bytes.len()]);
-            self.left = (64 - bytes.len()) as u8;
-            self.past = self.core.get_block_pos().to_u64() == 0;
+            self.position += bytes.len() as u128;
         }
     }
 
-    // Moves to a position. It makes the block that the position lies in, and none at the front of a block.
+    // Moves to a position. It makes the block that the position is in, and none at the front of a block.
     fn move_to(&mut self, position: u128, steps: &mut Steps)
         requires { position ≤ limit_of C.modulus }
         ensures fixed { self.new.fixed ≡ self.old.fixed }
         ensures position { self.new.position ≡ position }
         ensures steps { Grows (for_last_part C.one_cost (position % 64)) steps.old steps.new }
     {
-        let last = u128::from(C::Counter::last());
-        let used = (position % 64) as usize;
-        let block = position / 64;
-        // At the limit the core is past its last block.
-        let counter = if block > last { 0 } else { block as u64 };
-        self.core.set_block_pos(C::Counter::from_u64(counter));
-        if used > 0 {
+        // At the limit that is 0: a core is then past its last block.
+        let counter = position / 64 % (Self::limit() / 64);
+        self.core
+            .set_block_pos(C::Counter::from_u64(counter as u64));
+        if position % 64 > 0 {
             self.core.write_block_counted(&mut self.buffer, steps);
         }
-        self.left = ((64 - used) % 64) as u8;
-        self.past = position > 64 * last;
+        self.position = position;
     }
 }
