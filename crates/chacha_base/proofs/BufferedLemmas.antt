@@ -1,12 +1,9 @@
 -- A core and the block in its buffer, as a byte stream keeps them: at which position they are, and at which after more
 -- bytes or a seek. The proofs of the byte stream alone cite these. Read `IsBuffered` first.
-use Rattle.std.proofs.Common.{◌≡◌, ◌+◌, ◌-◌, ◌*◌, ◌/◌, ◌%◌, ◌^◌, ◌<◌, ◌≤◌, ◌⊎◌, ◌∙◌, ℕ, zero, suc, min, inl, inr}
-use Rattle.std.proofs.Common.{Bool, false, nat_eq, Fits, List, length, take, drop, slice_index}
-use Rattle.std.proofs.Common.{bit_xor, arith, sym, ap}
+use Rattle.std.proofs.Common.{◌≡◌, ◌+◌, ◌-◌, ◌*◌, ◌/◌, ◌%◌, ◌^◌, ◌<◌, ◌≤◌, ◌⊎◌, ◌∙◌, ℕ, zero, suc, min, inl, inr, Bool, false, nat_eq, Fits, List, length, take, drop, slice_index, bit_xor, arith, sym, ap, get_or-take, get_or-drop, mod-eq_of_lt}
 use Rattle.std.specs.Int.{w128}
 use Rattle.std.proofs.lemmas.Bool.{false≢true}
-use Rattle.std.proofs.lemmas.List.{get_or-take, get_or-drop}
-use Rattle.std.proofs.Math.Nat.{mod-add-mod, mod-eq_of_lt}
+use Rattle.std.proofs.Math.Nat.{mod-add-mod}
 use Rattle.chacha_base.specs.Keystream.{keystream, xor_stream}
 use Rattle.chacha_base.specs.Limit.{limit_of}
 use Rattle.chacha_base.specs.Buffered.{IsBuffered, left_at}

@@ -1,7 +1,6 @@
 -- A cipher that has moved, and moves on. The loops over pieces of the byte stream cite these, and so may proofs of
 -- callers over any cipher.
-use Rattle.std.proofs.Common.{◌≡◌, ℕ, ◌+◌, arith}
-use Rattle.std.specs.Prelude.{Result, Ok, Err, OnErr}
+use Rattle.std.proofs.Common.{◌≡◌, ℕ, ◌+◌, arith, Result, Ok, Err, OnErr}
 
 -- a position that has moved, and moves on by a piece of n bytes
 pub moved_on : (now new p done n size : ℕ) → now ≡ p + done → size ≡ n → new ≡ now + size → new ≡ p + (done + n)

@@ -1,10 +1,8 @@
 -- Counts of one call after another. The proofs of rounds, of the kernel, of the engine and of the byte stream cite
 -- these. Read `Grows` of `Counts` first, and then the bounds below it.
-use Rattle.std.proofs.Common.{◌≡◌, ℕ, ◌+◌, ◌-◌, ◌*◌, ◌/◌, ◌%◌, ◌<◌, ◌≤◌, min, refl, ap, ◌∙◌, arith, subst}
+use Rattle.std.proofs.Common.{◌≡◌, ℕ, ◌+◌, ◌-◌, ◌*◌, ◌/◌, ◌%◌, ◌<◌, ◌≤◌, min, refl, ap, ◌∙◌, arith, subst, add-mul, mul_assoc, mul-le-mul_right}
 use Rattle.std.proofs.lemmas.Grind.{common_steps}
-use Rattle.std.proofs.Math.Nat.{add-mul, mul_assoc, mul-le-mul_right}
-use Rattle.chacha_base.specs.Counts.{Counts, Bounds, Grows, for_call, for_single, for_group, for_last_part}
-use Rattle.chacha_base.specs.Counts.{for_tail, tail_of_16, for_blocks, for_whole_blocks, for_bytes}
+use Rattle.chacha_base.specs.Counts.{Counts, Bounds, Grows, for_call, for_single, for_group, for_last_part, for_tail, tail_of_16, for_blocks, for_whole_blocks, for_bytes}
 use Rattle.chacha_base.specs.Buffered.{left_at}
 
 -- calls that grew exactly, and quarter rounds within bounds

@@ -1,13 +1,9 @@
 -- Lists of known length, and elements that are written one after another. All other lemma files and the proofs of
 -- loops cite these.
-use Rattle.std.proofs.Common.{◌≡◌, inl, inr, Bool, ℕ, zero, suc, ◌+◌, ◌-◌, ◌*◌, ◌/◌, ◌<◌, ◌≤◌, List, [], ◌∷◌, ◌++◌}
-use Rattle.std.proofs.Common.{length, map, take, drop, slice_index, slice_index_or, refl, sym, ap, ap₂, subst, ◌∙◌}
-use Rattle.std.proofs.Common.{append_assoc, length-append, length-drop, arith, below_more}
-use Rattle.std.proofs.Math.ListN.{set}
+use Rattle.std.proofs.Common.{◌≡◌, inl, inr, Bool, ℕ, zero, suc, ◌+◌, ◌-◌, ◌*◌, ◌/◌, ◌<◌, ◌≤◌, List, [], ◌∷◌, ◌++◌, length, map, take, drop, slice_index, slice_index_or, refl, sym, ap, ap₂, subst, ◌∙◌, append_assoc, length-append, length-drop, arith, below_more, set, slice_get, Some, nat_lt, if◌then◌else◌, lt-ltb, le-ltb, length-take-le, get_or-drop, take_at, drop_at, drop-drop, append-nil}
 use Rattle.std.specs.List.{range_with_len}
-use Rattle.std.specs.Prelude.{slice_get, Some, nat_lt, if◌then◌else◌}
-use Rattle.std.proofs.lemmas.Bool.{cases_lt, lt-ltb, le-ltb}
-use Rattle.std.proofs.lemmas.List.{length-take-le, get_or-drop, take_at, drop_at, drop_all, drop-drop, append-nil}
+use Rattle.std.proofs.lemmas.Bool.{cases_lt}
+use Rattle.std.proofs.lemmas.List.{drop_all}
 use Rattle.std.proofs.lemmas.List.FromFn.{fill_by_all}
 use Rattle.std.proofs.lemmas.Slice.{drop-put_mid}
 use borrow.Rule.Slice.PartMut.{put_mid}

@@ -1,8 +1,6 @@
 -- Bytes that are written or combined piece by piece. The loops of the byte stream cite these, and so may loops of
 -- callers, as that of `apply_in_pieces`. Read `KeystreamLemmas` first.
-use Rattle.std.proofs.Common.{◌≡◌, ℕ, min, ◌+◌, ◌-◌, ◌≤◌, List, ◌++◌, length, take, drop, arith, sym, ap, ap₂, ◌∙◌}
-use Rattle.std.proofs.Math.Seq.{take-add, drop-drop}
-use Rattle.std.proofs.lemmas.List.{length-take-le}
+use Rattle.std.proofs.Common.{◌≡◌, ℕ, min, ◌+◌, ◌-◌, ◌≤◌, List, ◌++◌, length, take, drop, arith, sym, ap, ap₂, ◌∙◌, take-add, drop-drop, length-take-le}
 use Rattle.std.proofs.lemmas.Slice.{take-put_mid, drop-put_mid}
 use borrow.Rule.Slice.PartMut.{put_mid}
 use Rattle.chacha_base.proofs.ListLemmas.{part_long, part-length}

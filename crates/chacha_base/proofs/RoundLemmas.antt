@@ -1,8 +1,6 @@
 -- The rounds on states of sixteen words, and that they are four quarter rounds one after another. The proofs of
 -- `rounds` and of `Soft` cite these. Read `Rounds` first.
-use Rattle.std.proofs.Common.{◌≡◌, ◌≢◌, ℕ, ◌<◌, List, length, slice_index, refl, ◌∙◌}
-use Rattle.std.proofs.Math.ListN.{set}
-use Rattle.std.proofs.lemmas.List.{length-set, get_or-set_same, get_or-set_other}
+use Rattle.std.proofs.Common.{◌≡◌, ◌≢◌, ℕ, ◌<◌, List, length, slice_index, refl, ◌∙◌, set, length-set, get_or-set_same, get_or-set_other}
 use Rattle.chacha_base.proofs.ListLemmas.{by_words}
 use Rattle.chacha_base.proofs.RowLemmas.{column_of, column_of-same}
 use Rattle.chacha_base.specs.QuarterRound.{quarter_round}

@@ -1,10 +1,6 @@
 -- Blocks in the rows of vectors: set, moved, summed and stored. The proofs of `rows`, `group` and the kernel cite
 -- these. Read `Lanes` and `Vectors` first.
-use Rattle.std.proofs.Common.{◌≡◌, ℕ, ◌<◌, ◌≤◌, ◌≢◌, ◌+◌, ◌-◌, ◌*◌, ◌%◌, Bool, true, false, List, [], ◌∷◌, ◌++◌, length}
-use Rattle.std.proofs.Common.{drop, slice_index, refl, ap₂, ◌∙◌, arith}
-use Rattle.std.proofs.Math.ListN.{set}
-use Rattle.std.proofs.lemmas.List.{length-set, get_or-set_same, get_or-set_other}
-use Rattle.std.specs.Prelude.{if◌then◌else◌}
+use Rattle.std.proofs.Common.{◌≡◌, ℕ, ◌<◌, ◌≤◌, ◌≢◌, ◌+◌, ◌-◌, ◌*◌, ◌%◌, Bool, true, false, List, [], ◌∷◌, ◌++◌, length, drop, slice_index, refl, ap₂, ◌∙◌, arith, set, length-set, get_or-set_same, get_or-set_other, if◌then◌else◌}
 use Rattle.chacha_base.specs.declared.backends.vector.FourVectors.{FourVectors}
 use Rattle.chacha_base.specs.Layout.{Layout, row_at}
 use Rattle.chacha_base.specs.Lanes.{row, state_row, with_last_row}

@@ -1,22 +1,17 @@
 -- States of sixteen words: the counter, the words that stay, and the blocks from a state on. The proofs of the
 -- kernel, of cores and of generators cite these; proofs of your own backend find them in `BackendLaws`. Read `State`
 -- first.
-use Rattle.std.proofs.Common.{◌≡◌, ℕ, ◌+◌, ◌*◌, ◌/◌, ◌%◌, ◌^◌, ◌<◌, ◌≤◌, List, ◌++◌, length, take, drop, slice_index}
-use Rattle.std.proofs.Common.{arith, refl, ap, ap₂, ◌∙◌}
-use Rattle.std.proofs.Math.ListN.{set}
-use Rattle.std.proofs.Math.Nat.{mod-add-mod, mod-eq_of_lt, mod-mod}
-use Rattle.std.proofs.lemmas.List.{take_at, drop_at}
+use Rattle.std.proofs.Common.{◌≡◌, ℕ, ◌+◌, ◌*◌, ◌/◌, ◌%◌, ◌^◌, ◌<◌, ◌≤◌, List, ◌++◌, length, take, drop, slice_index, arith, refl, ap, ap₂, ◌∙◌, set, mod-eq_of_lt, take_at, drop_at, slice_get, Some}
+use Rattle.std.proofs.Math.Nat.{mod-add-mod, mod-mod}
 use Rattle.std.proofs.lemmas.List.FromFn.{length-map-range_with_len, get_or-map-range_with_len, fill_by_all}
 use Rattle.std.proofs.lemmas.Option.{slice_get-get_or, get_or_from_slice_get}
-use Rattle.std.specs.Prelude.{slice_get, Some}
 use borrow.Rule.Slice.PartMut.{put_mid}
 use Rattle.chacha_base.specs.Layout.{row_counter, Layout, ietf, legacy, modulus, counter_words, row_at}
 use Rattle.chacha_base.specs.Bytes.{bytes, words}
 use Rattle.chacha_base.specs.Block.{constants, start}
 use Rattle.chacha_base.specs.Rounds.{rounds, add_states, mix}
 use Rattle.chacha_base.specs.Words.{add}
-use Rattle.chacha_base.specs.State.{state_counter, fixed_words, state_of, state_at, counter_after, state_after}
-use Rattle.chacha_base.specs.State.{state_block, next_block, AreNextBlocks, next_word, next_words}
+use Rattle.chacha_base.specs.State.{state_counter, fixed_words, state_of, state_at, counter_after, state_after, state_block, next_block, AreNextBlocks, next_word, next_words}
 use Rattle.chacha_base.proofs.ListLemmas.{words_of, by_words, one_more, written_more}
 
 -- each word is below 2 ^ 32

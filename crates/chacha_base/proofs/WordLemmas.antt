@@ -1,9 +1,9 @@
 -- Rotations of words, by the operations of the language. The proof of `rotated`, and `LaneLemmas`, cite these. Read
 -- `Words` first.
-use Rattle.std.proofs.Common.{◌≡◌, ℕ, ◌+◌, ◌-◌, ◌*◌, ◌/◌, ◌%◌, ◌^◌, ◌<◌, arith, sym, subst, ◌∙◌}
-use Rattle.std.proofs.lemmas.Nat.{mod-pow-add, or_shifted, pow_pos, shr_below}
-use Rattle.std.proofs.Math.Nat.{mul-div_cancel, mul-mod_left, mod-eq_of_lt}
-use Rattle.std.specs.Int.{w32, rotate_left}
+use Rattle.std.proofs.Common.{◌≡◌, ℕ, ◌+◌, ◌-◌, ◌*◌, ◌/◌, ◌%◌, ◌^◌, ◌<◌, arith, sym, subst, ◌∙◌, pow_pos, mul-div_cancel, mod-eq_of_lt, w32}
+use Rattle.std.proofs.lemmas.Nat.{mod-pow-add, or_shifted, shr_below}
+use Rattle.std.proofs.Math.Nat.{mul-mod_left}
+use Rattle.std.specs.Int.{rotate_left}
 use Rattle.chacha_base.specs.Words.{rotl}
 
 -- a rotation by shifts and an or is one by products and quotients

@@ -1,5 +1,4 @@
-use Rattle.std.proofs.Common.{slice_index, bit_xor, below_more, ap, ◌∙◌, arith}
-use Rattle.std.proofs.lemmas.List.{get_or-set_same, get_or-set_other}
+use Rattle.std.proofs.Common.{slice_index, bit_xor, below_more, ap, ◌∙◌, arith, get_or-set_same, get_or-set_other}
 use Rattle.chacha_base.proofs.bytes.xor_bytes.Goals as goal
 
 -- answered for speed

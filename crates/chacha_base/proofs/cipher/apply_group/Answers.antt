@@ -1,7 +1,5 @@
-use Rattle.std.proofs.Common.{◌≡◌, ◌≢◌, ◌<◌, ◌+◌, ◌%◌, [], length, ap, ◌∙◌, arith, ◌*◌}
-use Rattle.std.specs.Prelude.{slice_index_or}
+use Rattle.std.proofs.Common.{◌≡◌, ◌≢◌, ◌<◌, ◌+◌, ◌%◌, [], length, ap, ◌∙◌, arith, ◌*◌, slice_index_or, get_or-set_other}
 use Rattle.chacha_base.specs.Keystream.{keystream, xor_stream}
-use Rattle.std.proofs.lemmas.List.{get_or-set_other}
 use Rattle.std.proofs.lemmas.Option.{get_or_from_slice_get}
 use Rattle.chacha_base.proofs.ListLemmas.{one_more}
 use Rattle.chacha_base.proofs.KeystreamLemmas.{xor_stream-block}

@@ -1,6 +1,5 @@
-use Rattle.std.proofs.Common.{◌≡◌, [], ◌<◌, slice_index, slice_index_or, length, ◌∙◌, arith, below_more}
-use Rattle.std.proofs.Math.ListN.{set}
-use Rattle.std.proofs.lemmas.List.{length-set, get_or-replicate, get_or-set_same, get_or-set_other}
+use Rattle.std.proofs.Common.{◌≡◌, [], ◌<◌, slice_index, slice_index_or, length, ◌∙◌, arith, below_more, set, length-set, get_or-set_same, get_or-set_other}
+use Rattle.std.proofs.lemmas.List.{get_or-replicate}
 use Rattle.chacha_base.proofs.backends.columns.column.Goals as goal
 
 pub each-preserved : goal.each-preserved

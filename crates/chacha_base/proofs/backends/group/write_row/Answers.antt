@@ -1,5 +1,4 @@
-use Rattle.std.proofs.Common.{◌≡◌, ◌*◌, ◌^◌, refl, sym, ap, ◌∙◌, slice_index}
-use Rattle.std.specs.Int.{w32}
+use Rattle.std.proofs.Common.{◌≡◌, ◌*◌, ◌^◌, refl, sym, ap, ◌∙◌, slice_index, w32}
 use Rattle.std.specs.Simd.Lanes.{number_l, digits_l}
 use Rattle.std.proofs.lemmas.Simd.{put_chunk_whole, below_from_Fits}
 use Rattle.chacha_base.specs.Bytes.{bytes}

@@ -1,5 +1,4 @@
-use Rattle.std.proofs.Common.{◌+◌, ◌*◌, ◌<◌, ◌∙◌, ap, arith}
-use Rattle.std.specs.Prelude.{Some}
+use Rattle.std.proofs.Common.{◌+◌, ◌*◌, ◌<◌, ◌∙◌, ap, arith, Some}
 use Rattle.chacha_base.specs.Bytes.{bytes}
 use Rattle.chacha_base.specs.Counts.{Counts}
 use Rattle.chacha_base.proofs.backends.kernel.write_group.Goals as goal

@@ -1,5 +1,4 @@
-use Rattle.std.proofs.Common.{◌≡◌, ◌%◌, ◌+◌, [], ◌∙◌, ap, ap₂, drop, slice_index_or, slice_set, below_more, arith}
-use Rattle.std.proofs.lemmas.List.{get_or-set_same, get_or-set_other}
+use Rattle.std.proofs.Common.{◌≡◌, ◌%◌, ◌+◌, [], ◌∙◌, ap, ap₂, drop, slice_index_or, slice_set, below_more, arith, get_or-set_same, get_or-set_other}
 use Rattle.chacha_base.specs.State.{state_at, state_after}
 use Rattle.chacha_base.proofs.RowLemmas.{last_row-state_at}
 use Rattle.chacha_base.proofs.StateLemmas.{row_counter-state}

@@ -1,6 +1,5 @@
-use Rattle.std.proofs.Common.{◌≡◌, ◌*◌, ◌<◌, [], min, length, slice_index_or, sym, ap, ◌∙◌, arith}
+use Rattle.std.proofs.Common.{◌≡◌, ◌*◌, ◌<◌, [], min, length, slice_index_or, sym, ap, ◌∙◌, arith, Some}
 use Rattle.std.proofs.lemmas.Grind.{common_steps}
-use Rattle.std.specs.Prelude.{Some}
 use Rattle.chacha_base.specs.Bytes.{bytes}
 use Rattle.chacha_base.specs.State.{state_after}
 use Rattle.chacha_base.proofs.CountsLemmas.{grows-tail, rounds-tail, grows-no_tail, rounds-no_tail}

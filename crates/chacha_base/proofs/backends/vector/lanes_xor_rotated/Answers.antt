@@ -1,5 +1,4 @@
-use Rattle.std.proofs.Common.{arith}
-use Rattle.std.specs.Int.{w32}
+use Rattle.std.proofs.Common.{arith, w32}
 use Rattle.std.proofs.lemmas.Simd.{shifts_fit_splat, below_from_Fits}
 use Rattle.chacha_base.proofs.LaneLemmas.{xor_shifted-is-rotl}
 use Rattle.chacha_base.proofs.backends.vector.lanes_xor_rotated.Goals as goal

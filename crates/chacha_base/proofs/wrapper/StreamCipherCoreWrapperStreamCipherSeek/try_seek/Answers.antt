@@ -1,5 +1,4 @@
-use Rattle.std.proofs.Common.{◌≡◌, ◌≤◌, subst, refl, arith}
-use Rattle.std.specs.Prelude.{IsSomeAnd, IfSome}
+use Rattle.std.proofs.Common.{◌≡◌, ◌≤◌, subst, refl, arith, IsSomeAnd, IfSome}
 use Rattle.std.proofs.lemmas.Grind.{common_steps}
 use Rattle.chacha_base.specs.Limit.{limit_of}
 use Rattle.chacha_base.proofs.wrapper.StreamCipherCoreWrapperStreamCipherSeek.try_seek.Goals as goal

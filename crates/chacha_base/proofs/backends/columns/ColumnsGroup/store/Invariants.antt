@@ -1,5 +1,4 @@
-use Rattle.std.proofs.Common.{◌≡◌, ℕ, ◌*◌, ◌<◌}
-use Rattle.std.specs.Prelude.{slice_get, Some}
+use Rattle.std.proofs.Common.{◌≡◌, ℕ, ◌*◌, ◌<◌, slice_get, Some}
 use Rattle.chacha_base.specs.ColumnVectors.{block_in_columns}
 use Rattle.chacha_base.proofs.backends.columns.ColumnsGroup.store.Given as goal
 

@@ -1,6 +1,4 @@
-use Rattle.std.proofs.Common.{◌-◌, arith}
-use Rattle.std.specs.Prelude.{nat_lt}
-use Rattle.std.proofs.lemmas.Bool.{ltb-true, ltb-false}
+use Rattle.std.proofs.Common.{◌-◌, arith, nat_lt, ltb-true, ltb-false}
 use Rattle.chacha_base.specs.Rounds.{add_states}
 use Rattle.chacha_base.proofs.RowLemmas.{either-same}
 use Rattle.chacha_base.proofs.backends.group.TwiceGroup.sums.Goals as goal

@@ -1,5 +1,4 @@
-use Rattle.std.proofs.Common.{◌≡◌, ℕ, ◌<◌}
-use Rattle.std.specs.Prelude.{slice_get, Some}
+use Rattle.std.proofs.Common.{◌≡◌, ℕ, ◌<◌, slice_get, Some}
 use Rattle.chacha_base.specs.Vectors.{block_in_rows}
 use Rattle.chacha_base.proofs.backends.rows.RowsGroup.store.Given as goal
 

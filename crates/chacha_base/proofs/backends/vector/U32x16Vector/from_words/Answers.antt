@@ -1,5 +1,4 @@
-use Rattle.std.proofs.Common.{slice_index, ap, arith}
-use Rattle.std.proofs.lemmas.List.{take_all}
+use Rattle.std.proofs.Common.{slice_index, ap, arith, take_all}
 use Rattle.chacha_base.proofs.backends.vector.U32x16Vector.from_words.Goals as goal
 
 pub returns : goal.returns
