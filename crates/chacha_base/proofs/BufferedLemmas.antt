@@ -1,7 +1,6 @@
 -- A core and the block in its buffer, as a byte stream keeps them: at which position they are, and at which after more
 -- bytes or a seek. The proofs of the byte stream alone cite these. Read `IsBuffered` first.
-use Rattle.std.proofs.Common.{◌≡◌, ◌+◌, ◌-◌, ◌*◌, ◌/◌, ◌%◌, ◌^◌, ◌<◌, ◌≤◌, ◌⊎◌, ◌∙◌, ℕ, zero, suc, min, inl, inr, Bool, false, nat_eq, Fits, List, length, take, drop, slice_index, bit_xor, arith, sym, ap, get_or-take, get_or-drop, mod-eq_of_lt}
-use Rattle.std.specs.Int.{w128}
+use Rattle.std.proofs.Common.{◌≡◌, ◌+◌, ◌-◌, ◌*◌, ◌/◌, ◌%◌, ◌<◌, ◌≤◌, ◌∙◌, ℕ, zero, suc, Bool, false, nat_eq, List, length, take, drop, slice_index, bit_xor, arith, sym, ap, get_or-take, get_or-drop, mod-eq_of_lt}
 use Rattle.std.proofs.lemmas.Bool.{false≢true}
 use Rattle.std.proofs.Math.Nat.{mod-add-mod}
 use Rattle.chacha_base.specs.Keystream.{keystream, xor_stream}
@@ -9,50 +8,10 @@ use Rattle.chacha_base.specs.Limit.{limit_of}
 use Rattle.chacha_base.specs.Buffered.{IsBuffered, left_at}
 use Rattle.chacha_base.proofs.KeystreamLemmas.{xor_stream-is, xor_stream-block, keystream_byte}
 
--- a message of n bytes from position p on, cut in three: `front` bytes of the begun block, `whole` bytes of whole
--- blocks, and `last` bytes of one more
-pub record IsCut (p n front whole last : ℕ) : Type 0 where
-  pub begun : front ≤ left_at p
-  pub blocks : whole % 64 ≡ 0
-  pub part : last < 64
-  pub whole_front : 0 < whole → (p + front) % 64 ≡ 0
-  pub last_front : 0 < last → (p + front + whole) % 64 ≡ 0
-  pub all : front + whole + last ≡ n
-
-pub cut-is : {p n begun front rest whole last : ℕ} → begun ≡ min n (left_at p) → front ≡ begun → rest + begun ≡ n
-    → whole ≡ rest / 64 * 64 → last + rest / 64 * 64 ≡ rest → IsCut p n front whole last
-cut-is cut front_is rest_is whole_is last_is = record {
-  begun = omega (arith, cut, front_is);
-  blocks = omega (arith, whole_is);
-  part = omega (arith, last_is);
-  whole_front = λ some. omega (arith, cut, front_is, rest_is, whole_is, some);
-  last_front = λ some. omega (arith, cut, front_is, rest_is, whole_is, last_is, some);
-  all = omega (arith, front_is, rest_is, whole_is, last_is);
-}
-
-pub begun-within : (n begun left : ℕ) → begun ≡ min n left → begun ≤ n
-begun-within n begun left cut = omega arith
-
-pub whole-within : (n : ℕ) → n / 64 * 64 ≤ n
-whole-within n = omega arith
-
-pub whole-fits : (p q n front whole last limit : ℕ) → q ≡ p + front → front + whole + last ≡ n
-    → p + n ≤ limit → q + whole ≤ limit
-whole-fits p q n front whole last limit place all fits = omega arith
-
-pub last-fits : (p q r n front whole last limit : ℕ) → q ≡ p + front → r ≡ q + whole → front + whole + last ≡ n
-    → p + n ≤ limit → r + last ≤ limit
-last-fits p q r n front whole last limit place next all fits = omega arith
-
 -- what `is_empty` says
 pub some-not_empty : (n : ℕ) (empty : Bool) → empty ≡ nat_eq n 0 → empty ≡ false → 0 < n
 some-not_empty zero empty is not = absurd (false≢true (sym not ∙ is))
 some-not_empty (suc n) empty is not = omega arith
-
--- positions fit in 128 bits
-pub position-fits : (modulus m p : ℕ) → modulus ≡ m → (m ≡ 2 ^ 32) ⊎ (m ≡ 2 ^ 64) → p ≤ limit_of modulus → Fits w128 p
-position-fits modulus m p same (inl small) within = omega arith
-position-fits modulus m p same (inr large) within = omega arith
 
 -- how many blocks there are up to the limit
 pub limit-blocks : (modulus limit : ℕ) → limit ≡ limit_of modulus → limit / 64 ≡ modulus
@@ -145,12 +104,6 @@ module _ {modulus : ℕ} {block : ℕ → List ℕ} {counter : ℕ} {buffer : Li
             let here : stored / 64 ≡ (stored + m) / 64 = omega arith in
             at.held (omega arith) ∙ ap block here;
       }
-
-  pub begun-end : (n m : ℕ) → n ≤ left_at p → m ≡ n → stored + m ≤ limit_of modulus
-  begun-end n m fits size = (at-begun n m fits size).within
-
-  pub begun-room : (n : ℕ) → n ≤ left_at p → length buffer ≡ 64 → stored % 64 + n ≤ length buffer
-  begun-room n fits whole = omega arith
 
   -- bytes combined with what is left of that block
   pub xor_stream-begun : (xs ys : List ℕ) → length xs ≤ left_at p → length ys ≡ length xs

@@ -1,6 +1,6 @@
 -- Counts of one call after another. The proofs of rounds, of the kernel, of the engine and of the byte stream cite
 -- these. Read `Grows` of `Counts` first, and then the bounds below it.
-use Rattle.std.proofs.Common.{◌≡◌, ℕ, ◌+◌, ◌-◌, ◌*◌, ◌/◌, ◌%◌, ◌<◌, ◌≤◌, min, refl, ap, ◌∙◌, arith, subst, add-mul, mul_assoc, mul-le-mul_right}
+use Rattle.std.proofs.Common.{◌≡◌, ℕ, ◌+◌, ◌-◌, ◌*◌, ◌/◌, ◌%◌, ◌<◌, ◌≤◌, min, ap, ◌∙◌, arith, subst, add-mul, mul_assoc, mul-le-mul_right}
 use Rattle.std.proofs.lemmas.Grind.{common_steps}
 use Rattle.chacha_base.specs.Counts.{Counts, Bounds, Grows, for_call, for_single, for_group, for_last_part, for_tail, tail_of_16, for_blocks, for_whole_blocks, for_bytes}
 use Rattle.chacha_base.specs.Buffered.{left_at}
@@ -127,24 +127,6 @@ grows-tail one k a b c some call made =
       rounds_to = omega (arith, rounds, most);
     }
 
-pub rounds-tail : (one n k : ℕ) (a b c : Counts) → min 1 k ≡ 1
-    → b ≡ record a { other = a.other + 1 } → c ≡ record b { rounds = b.rounds + one * n }
-    → c.rounds ≡ a.rounds + min 1 k * one * n
-rounds-tail one n k a b c some call made =
-    let all : min 1 k * one ≡ one = rw some (omega arith) in
-    ap (λ s. s.rounds) made ∙ ap (λ s. s.rounds + one * n) call ∙ rw all refl
-
--- a tail of none
-pub grows-no_tail : (one k : ℕ) (a : Counts) → 0 ≡ k → Grows (for_tail one k) a a
-grows-no_tail one k a none =
-    let rounds : 0 * one ≡ 0 = omega arith in
-    subst (λ k. Grows (for_tail one k) a a) none (rw rounds (grows-none a))
-
-pub rounds-no_tail : (r one n k : ℕ) → 0 ≡ k → r ≡ r + min 1 k * one * n
-rounds-no_tail r one n k none =
-    let same : r ≡ r + min 1 0 * one * n = omega arith in
-    subst (λ k. r ≡ r + min 1 k * one * n) none same
-
 -- a tail where sixteen are the width, by its quarter rounds
 pub grows-of-16 : (one n k : ℕ) {a b : Counts} → Grows (for_tail one k) a b
     → b.rounds ≡ a.rounds + tail_of_16 k * n → Grows (for_tail (2 * n) k) a b
@@ -172,22 +154,3 @@ pub counted-double_round : (one n : ℕ) (a : Counts) {b c d : Counts} → b ≡
 counted-double_round one n a before first second =
     let more : a.rounds + 2 * one * n + one + one ≡ a.rounds + 2 * one * (n + 1) = omega arith in
     second ∙ ap (plus_rounds one) (first ∙ ap (plus_rounds one) before) ∙ ap (λ k. record a { rounds = k }) more
-
--- four times so many quarter rounds
-pub counted-four : (n : ℕ) (a : Counts) {b c d e : Counts} → b ≡ plus_rounds n a → c ≡ plus_rounds n b
-    → d ≡ plus_rounds n c → e ≡ plus_rounds n d → e ≡ plus_rounds (4 * n) a
-counted-four n a first second third fourth =
-    let more : a.rounds + n + n + n + n ≡ a.rounds + 4 * n = omega arith in
-    fourth
-    ∙ ap (plus_rounds n) (third ∙ ap (plus_rounds n) (second ∙ ap (plus_rounds n) first))
-    ∙ ap (λ k. record a { rounds = k }) more
-
--- a tail by the narrowest group that holds it
-pub narrowest-4 : (n : ℕ) → n < 5 → min 1 n * 2 ≡ tail_of_16 n
-narrowest-4 n h = grind (arith, common_steps)
-
-pub narrowest-8 : (n : ℕ) → 4 < n → n < 9 → min 1 n * 4 ≡ tail_of_16 n
-narrowest-8 n g h = grind (arith, common_steps)
-
-pub narrowest-16 : (n : ℕ) → 8 < n → min 1 n * 8 ≡ tail_of_16 n
-narrowest-16 n h = grind (arith, common_steps)

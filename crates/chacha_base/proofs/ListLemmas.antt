@@ -149,12 +149,6 @@ pub four_listed : {X : Type 0} {a b c d p q r s : X} → a ≡ p → b ≡ q →
     → a ∷ b ∷ c ∷ d ∷ [] ≡ p ∷ q ∷ r ∷ s ∷ []
 four_listed ea eb ec ed = ap₂ ◌∷◌ ea (ap₂ ◌∷◌ eb (ap₂ ◌∷◌ ec (ap (λ x. x ∷ []) ed)))
 
--- a list of four elements, written place by place
-pub four_set : {X : Type 0} (xs : List X) {w x y z p q r s : X} → length xs ≡ 4 → w ≡ p → x ≡ q → y ≡ r → z ≡ s
-    → set (set (set (set xs 0 w) 1 x) 2 y) 3 z ≡ p ∷ q ∷ r ∷ s ∷ []
-four_set (a ∷ b ∷ c ∷ d ∷ []) long ew ex ey ez = four_listed ew ex ey ez
-four_set _ long ew ex ey ez = absurd (omega arith)
-
 -- a write of k elements behind a part that is written
 put_mid-behind : {X : Type 0} (a k : ℕ) (p q ys : List X) → length p ≡ a
     → put_mid a k (p ++ q) ys ≡ (p ++ ys) ++ drop k q

@@ -1,4 +1,4 @@
-use Rattle.std.proofs.Common.{◌≡◌, ◌≢◌, ◌<◌, ◌+◌, ◌%◌, [], length, ap, ◌∙◌, arith, ◌*◌, slice_index_or, get_or-set_other}
+use Rattle.std.proofs.Common.{◌≡◌, ◌≢◌, ◌<◌, ◌+◌, [], length, ap, ◌∙◌, arith, ◌*◌, slice_index_or, get_or-set_other}
 use Rattle.chacha_base.specs.Keystream.{keystream, xor_stream}
 use Rattle.std.proofs.lemmas.Option.{get_or_from_slice_get}
 use Rattle.chacha_base.proofs.ListLemmas.{one_more}
@@ -28,11 +28,3 @@ loop-i-preserved g c =
       rest = λ k above. let apart : k ≢ i = omega arith in get_or-set_other now i k c.xor_bytes.new.output [] apart
           ∙ c.loop-i.invariant.rest k (omega arith);
     }
-
-pub returns-clause-blocks : goal.returns-clause-blocks
-returns-clause-blocks g c i below = c.loop-i.invariant.done i (omega arith)
-
-pub returns-clause-counter : goal.returns-clause-counter
-returns-clause-counter g c =
-    c.write_keystream_blocks.ensures.counter
-    ∙ ap (λ n. (g.C.StreamCipherCore.counter c.args.core.now + n) % g.C.Keystream.modulus) c.requires

@@ -1,6 +1,5 @@
 use Rattle.std.proofs.Common.{◌∙◌, ap}
 use Rattle.chacha_base.specs.QuarterRound.{quarter_round}
-use Rattle.chacha_base.proofs.CountsLemmas.{counted-four}
 use Rattle.chacha_base.proofs.RoundLemmas.{diagonals_are}
 use Rattle.chacha_base.proofs.rounds.diagonal_round.Goals as goal
 
@@ -11,8 +10,3 @@ returns-clause-state c =
     ∙ ap (λ s. quarter_round s 2 7 8 13) (c.quarter_round-2.ensures.state
     ∙ ap (λ s. quarter_round s 1 6 11 12) c.quarter_round.ensures.state))
     ∙ diagonals_are c.args.state.now c.told-state
-
-pub returns-clause-steps : goal.returns-clause-steps
-returns-clause-steps c =
-    counted-four 1 c.args.steps.now c.quarter_round.ensures.steps c.quarter_round-2.ensures.steps
-    c.quarter_round-3.ensures.steps c.quarter_round-4.ensures.steps

@@ -1,5 +1,4 @@
 use Rattle.std.proofs.Common.{◌≡◌, [], ◌<◌, slice_index, slice_index_or, length, ◌∙◌, arith, below_more, set, length-set, get_or-set_same, get_or-set_other}
-use Rattle.std.proofs.lemmas.List.{get_or-replicate}
 use Rattle.chacha_base.proofs.backends.columns.column.Goals as goal
 
 pub each-preserved : goal.each-preserved
@@ -16,18 +15,3 @@ each-preserved g c =
           get_or-set_other c.each.words i h word 0 (omega arith) ∙ c.each.invariant.done h less)
           (get_or-set_same c.each.words i word 0 inside);
     }
-
-pub returns-clause-a : goal.returns-clause-a
-returns-clause-a g c j h =
-    c.from_words.ensures j h ∙ get_or-replicate 16 j _ 0 (omega (arith, h, g.met.V.Vector.fours_at_most))
-
-pub returns-clause-b : goal.returns-clause-b
-returns-clause-b g c j h =
-    c.from_words-2.ensures j h ∙ get_or-replicate 16 j _ 0 (omega (arith, h, g.met.V.Vector.fours_at_most))
-
-pub returns-clause-c : goal.returns-clause-c
-returns-clause-c g c j h =
-    c.from_words-3.ensures j h ∙ get_or-replicate 16 j _ 0 (omega (arith, h, g.met.V.Vector.fours_at_most))
-
-pub returns-clause-d : goal.returns-clause-d
-returns-clause-d g c j h = c.from_words-4.ensures j h ∙ c.each.invariant.done j (omega (arith, h))

@@ -4,9 +4,6 @@ use Rattle.chacha_base.proofs.RowLemmas.{last_row-state_at}
 use Rattle.chacha_base.proofs.StateLemmas.{row_counter-state}
 use Rattle.chacha_base.proofs.backends.kernel.write_last_rows.Goals as goal
 
-pub each-init : goal.each-init
-each-init g c h none = absurd (omega arith)
-
 pub each-preserved : goal.each-preserved
 each-preserved g c =
     let i = c.each.g in
@@ -20,6 +17,3 @@ each-preserved g c =
     (c.advanced_by.ensures
     ∙ ap₂ (λ v m. (v + i) % m) (c.get_block_pos-first.ensures
     ∙ row_counter-state layout s c.told-state) g.met.V.Variant.counters))
-
-pub returns : goal.returns
-returns g c h less = c.each.invariant h (omega (arith, less))

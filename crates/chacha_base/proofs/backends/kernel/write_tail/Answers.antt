@@ -1,8 +1,8 @@
-use Rattle.std.proofs.Common.{◌≡◌, ◌*◌, ◌<◌, [], min, length, slice_index_or, sym, ap, ◌∙◌, arith, Some}
+use Rattle.std.proofs.Common.{◌≡◌, ◌*◌, [], min, length, slice_index_or, sym, ap, ◌∙◌, arith}
 use Rattle.std.proofs.lemmas.Grind.{common_steps}
 use Rattle.chacha_base.specs.Bytes.{bytes}
 use Rattle.chacha_base.specs.State.{state_after}
-use Rattle.chacha_base.proofs.CountsLemmas.{grows-tail, rounds-tail, grows-no_tail, rounds-no_tail}
+use Rattle.chacha_base.proofs.CountsLemmas.{grows-tail}
 use Rattle.chacha_base.proofs.ListLemmas.{one_more}
 use Rattle.chacha_base.proofs.StateLemmas.{state_after-zero}
 use Rattle.chacha_base.proofs.backends.kernel.write_tail.Goals as goal
@@ -11,12 +11,6 @@ pub each-preserved : goal.each-preserved
 each-preserved g c =
     one_more (λ h. bytes (slice_index_or c.mixed_words-words.result h [])) c.each.g c.each.blocks _
     (omega arith) c.write_bytes.ensures c.each.invariant
-
-pub returns-after-each-clause-blocks : goal.returns-after-each-clause-blocks
-returns-after-each-clause-blocks g c i h =
-    let done : i < c.each.g = omega arith in
-    let made : i < g.row.W = omega arith in
-    c.each.invariant i done ∙ ap (λ s. Some (bytes s)) (c.mixed_words-words.ensures.words i made)
 
 pub returns-after-each-clause-steps : goal.returns-after-each-clause-steps
 returns-after-each-clause-steps g c =
@@ -36,23 +30,3 @@ pub returns-after-each-clause-state : goal.returns-after-each-clause-state
 returns-after-each-clause-state g c =
     let same : length c.each.blocks ≡ length c.args.blocks.now = omega arith in
     rw (← same) c.advance.ensures
-
-pub returns-after-each-clause-rounds : goal.returns-after-each-clause-rounds
-returns-after-each-clause-rounds g c =
-    let some : min 1 (length c.args.blocks.now) ≡ 1 = grind (arith, common_steps) in
-    rounds-tail (2 * g.G.Group.ROUND_STEPS) g.R.Rounds.COUNT
-    (length c.args.blocks.now) c.args.steps.now c.add_other.new.self c.mixed_words-words.new.steps some
-    c.add_other.ensures c.mixed_words-words.ensures.steps
-
-pub returns-else-not-is_empty-clause-steps : goal.returns-else-not-is_empty-clause-steps
-returns-else-not-is_empty-clause-steps g c =
-    let none : 0 ≡ length c.args.blocks.now = grind (arith, common_steps) in
-    grows-no_tail (2 * g.G.Group.ROUND_STEPS * g.R.Rounds.COUNT) (length c.args.blocks.now) c.args.steps.now none
-
-pub returns-else-not-is_empty-clause-rounds : goal.returns-else-not-is_empty-clause-rounds
-returns-else-not-is_empty-clause-rounds g c =
-    let none : 0 ≡ length c.args.blocks.now = grind (arith, common_steps) in
-    rounds-no_tail c.args.steps.now.rounds (2 * g.G.Group.ROUND_STEPS) g.R.Rounds.COUNT (length c.args.blocks.now) none
-
-pub each-init : goal.each-init
-each-init g c h none = absurd (omega arith)

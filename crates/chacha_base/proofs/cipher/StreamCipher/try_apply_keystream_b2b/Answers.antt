@@ -1,19 +1,9 @@
-use Rattle.std.proofs.Common.{◌≡◌, ◌+◌, ◌≤◌, length, take, arith, refl, sym, ap, ap₂, subst, ◌∙◌}
+use Rattle.std.proofs.Common.{◌≡◌, ◌≤◌, length, take, arith, refl, sym, ap, ap₂, subst, ◌∙◌}
 use Rattle.std.proofs.Math.Seq.{take-length}
 use Rattle.chacha_base.specs.Keystream.{keystream, xor_stream}
-use Rattle.chacha_base.specs.Limit.{limit_of}
 use Rattle.chacha_base.proofs.CipherLemmas.{moved_on}
-use Rattle.chacha_base.proofs.PieceLemmas.{xor_stream-written, piece-within, piece-long, piece-fits}
+use Rattle.chacha_base.proofs.PieceLemmas.{xor_stream-written, piece-within, piece-long}
 use Rattle.chacha_base.proofs.cipher.StreamCipher.try_apply_keystream_b2b.Goals as goal
-
-pub apply_keystream-requires : goal.apply_keystream-requires
-apply_keystream-requires g c =
-    let len = length c.args.input.now in
-    let inside = piece-within 65536 len c.pieces.done c.min.result c.min.ensures c.pieces.invariant.within in
-    let size = ap length c.copy_from_slice.ensures.after
-    ∙ piece-long c.pieces.done c.min.result c.args.input.now inside in
-    piece-fits _ (g.Self.Keystream.position c.args.self.now) c.pieces.done c.min.result _ len
-    (limit_of g.Self.Keystream.modulus) c.pieces.invariant.position size inside (c.in_default.ensures.accepted.0 refl)
 
 pub pieces-preserved : goal.pieces-preserved
 pieces-preserved g c =
@@ -56,11 +46,3 @@ returns-then-input-output-clause-refused g c = (refl, refl)
 
 pub returns-in-Err-clause-refused : goal.returns-in-Err-clause-refused
 returns-in-Err-clause-refused g c = (refl, refl)
-
-pub copy_from_slice-requires : goal.copy_from_slice-requires
-copy_from_slice-requires g c =
-    let done = c.pieces.done in
-    let n = c.min.result in
-    let inside = piece-within 65536 (length c.args.input.now) done n c.min.ensures c.pieces.invariant.within in
-    let room = subst (λ m. done + n ≤ m) (c.if-input-output.false ∙ sym c.pieces.auto.output) inside in
-    piece-long done n c.pieces.output room ∙ sym (piece-long done n c.args.input.now inside)

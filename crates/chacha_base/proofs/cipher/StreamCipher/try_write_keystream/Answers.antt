@@ -1,23 +1,10 @@
 use Rattle.std.proofs.Common.{◌≡◌, ◌+◌, ◌≤◌, ◌-◌, length, take, drop, replicate, arith, refl, sym, ap, ap₂, subst, ◌∙◌}
 use Rattle.std.proofs.Math.Seq.{take-length}
 use Rattle.chacha_base.specs.Keystream.{keystream, xor_stream}
-use Rattle.chacha_base.specs.Limit.{limit_of}
 use Rattle.chacha_base.proofs.CipherLemmas.{moved_on}
 use Rattle.chacha_base.proofs.KeystreamLemmas.{xor_stream-zeros}
-use Rattle.chacha_base.proofs.PieceLemmas.{stream_part-written, piece-within, piece-long, piece-fits}
+use Rattle.chacha_base.proofs.PieceLemmas.{stream_part-written, piece-within, piece-long}
 use Rattle.chacha_base.proofs.cipher.StreamCipher.try_write_keystream.Goals as goal
-
-pub apply_keystream-requires : goal.apply_keystream-requires
-apply_keystream-requires g c =
-    let position = g.Self.Keystream.position in
-    let limit = limit_of g.Self.Keystream.modulus in
-    let before : c.pieces.done ≤ length c.pieces.buf =
-    subst (λ m. c.pieces.done ≤ m) (sym c.pieces.auto.buf) c.pieces.invariant.within in
-    let inside = piece-within 65536 (length c.pieces.buf) c.pieces.done c.min.result c.min.ensures before in
-    let size = c.fill.ensures.len ∙ piece-long c.pieces.done c.min.result c.pieces.buf inside in
-    piece-fits _ (position c.args.self.now) c.pieces.done c.min.result _ (length c.pieces.buf) limit
-    c.pieces.invariant.position size inside
-    (subst (λ m. position c.args.self.now + m ≤ limit) (sym c.pieces.auto.buf) (c.in_default.ensures.accepted.0 refl))
 
 pub pieces-preserved : goal.pieces-preserved
 pieces-preserved g c =

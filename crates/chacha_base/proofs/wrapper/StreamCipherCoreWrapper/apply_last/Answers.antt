@@ -1,6 +1,6 @@
-use Rattle.std.proofs.Common.{◌+◌, length, ap, ap₂, sym, ◌∙◌, arith}
+use Rattle.std.proofs.Common.{length, ap, sym, ◌∙◌, arith}
 use Rattle.chacha_base.specs.Keystream.{keystream, xor_stream}
-use Rattle.chacha_base.proofs.BufferedLemmas.{at-last, position-fits, some-not_empty, xor_stream-front}
+use Rattle.chacha_base.proofs.BufferedLemmas.{at-last, some-not_empty, xor_stream-front}
 use Rattle.chacha_base.proofs.CountsLemmas.{grows-last}
 use Rattle.chacha_base.proofs.wrapper.StreamCipherCoreWrapper.apply_last.Goals as goal
 
@@ -18,13 +18,6 @@ returns-then-not-is_empty-clause-steps g c =
     let some = some-not_empty (length c.args.bytes.now) c.is_empty.result c.is_empty.ensures c.if-not-is_empty.true in
     grows-last g.C.StreamCipherCore.one_cost (length c.args.bytes.now) some c.write_block_counted.ensures.steps
 
-pub returns-then-not-is_empty-clause-fixed : goal.returns-then-not-is_empty-clause-fixed
-returns-then-not-is_empty-clause-fixed g c = c.write_block_counted.ensures.fixed ∙ ap (λ v. v.fixed) c.self.view_is
-
-pub returns-then-not-is_empty-clause-position : goal.returns-then-not-is_empty-clause-position
-returns-then-not-is_empty-clause-position g c =
-    ap₂ ◌+◌ (ap (λ v. v.position) c.self.view_is) c.xor_bytes.auto.output
-
 pub invariant_of-self : goal.invariant_of-self
 invariant_of-self g c =
     let block = g.C.Keystream.block_at in
@@ -34,9 +27,3 @@ invariant_of-self g c =
     at-last c.self.invariant (ap (λ v. v.position) c.self.view_is) (block (g.C.Keystream.fixed made.new.self)) _ _ _ _
     (c.requires.front some) some c.requires.part c.requires.fits c.xor_bytes.auto.output made.ensures.counter
     (made.ensures.block ∙ ap (λ f. block f counter) (sym made.ensures.fixed))
-
-pub overflow_add-self : goal.overflow_add-self
-overflow_add-self g c =
-    let place = ap (λ v. v.position) c.self.view_is in
-    position-fits _ _ _ g.met.C.StreamCipherSeekCore.counters g.met.C.Counter.StreamCipherCounter.sizes
-    (omega (arith, place, c.xor_bytes.auto.output, c.requires.fits))

@@ -27,15 +27,6 @@ invariant_of-self g c =
           (at-sought_front modulus (block (fixed set)) p _ _ c.requires w.if-position-gt0.false here)
     ]
 
-pub returns-clause-fixed : goal.returns-clause-fixed
-returns-clause-fixed g c =
-    let kept = c.set_block_pos.ensures.fixed ∙ ap (λ v. v.fixed) c.self.view_is in
-    elim c.if-position-gt0.branch [
-      | then-position-gt0 w ↦
-          ap (λ s. g.C.Keystream.fixed s.core) w.self-inside-is ∙ w.write_block_counted.ensures.fixed ∙ kept
-      | else-position-gt0 w ↦ ap (λ s. g.C.Keystream.fixed s.core) w.self-inside-is ∙ kept
-    ]
-
 pub returns-clause-steps : goal.returns-clause-steps
 returns-clause-steps g c =
     let one = g.C.StreamCipherCore.one_cost in

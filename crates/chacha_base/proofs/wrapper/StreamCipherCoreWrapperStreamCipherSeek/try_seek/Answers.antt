@@ -11,9 +11,6 @@ returns-in-Some-clause-accepted g c =
     let fits = subst (λ limit. c.in-Some.position ≤ limit) c.limit.ensures c.if-position-limit.true in
     (λ e. subst (λ o. IsSomeAnd o (λ p. p ≤ limit_of g.C.Keystream.modulus)) c.in-Some.ensures.value fits, λ some. refl)
 
-pub returns-in-Some-clause-fixed : goal.returns-in-Some-clause-fixed
-returns-in-Some-clause-fixed g c = c.move_to.ensures.fixed
-
 pub returns-in-Some-clause-position : goal.returns-in-Some-clause-position
 returns-in-Some-clause-position g c =
     subst (λ o. IfSome o (λ p. c.move_to.new.self.position ≡ p)) c.in-Some.ensures.value c.move_to.ensures.position

@@ -1,5 +1,4 @@
 use Rattle.std.proofs.Common.{◌*◌, ◌<◌, ◌≤◌, ◌∙◌, ap, arith, length}
-use borrow.Author.Rules.{scaled_Fits}
 use Rattle.chacha_base.specs.ColumnVectors.{block_in_columns}
 use Rattle.chacha_base.proofs.ListLemmas.{four_listed, four_more}
 use Rattle.chacha_base.proofs.backends.columns.ColumnsGroup.store.Goals as goal
@@ -16,8 +15,3 @@ each-preserved g c h less =
     ∙ four_listed (ap words (rows.first c.each.g inside)) (ap words (rows.second c.each.g inside))
     (ap words (rows.third c.each.g inside)) (ap words (rows.fourth c.each.g inside)))
     c.each.invariant h (omega arith)
-
-pub offset_bounds-buffers-g : goal.offset_bounds-buffers-g
-offset_bounds-buffers-g g c =
-    let inside : 4 * c.each.g < length c.args.buffers.now = omega (arith, c.requires) in
-    scaled_Fits (4 * c.each.g) (length c.args.buffers.now) _ inside c.well_formed.1.0.1

@@ -1,7 +1,0 @@
-use Rattle.chacha_base.proofs.ListLemmas.{four_set}
-use Rattle.chacha_base.proofs.backends.columns.write_four.Goals as goal
-
-pub returns : goal.returns
-returns g c =
-    four_set c.args.four.now c.requires.room c.write_block.ensures c.write_block-2.ensures
-    c.write_block-3.ensures c.write_block-4.ensures
