@@ -1,12 +1,12 @@
 -- Bytes combined with a stream, and bytes of a stream. Cores, the byte stream and generators cite these; `chacha20`
 -- passes on what proofs of callers cite. Read `xor_stream` and `stream_part` of `Keystream` first.
-use Rattle.std.proofs.Common.{◌≡◌, ℕ, zero, suc, ◌+◌, ◌*◌, ◌/◌, ◌%◌, ◌<◌, ◌≤◌, List, take, drop, [], ◌∷◌, ◌++◌, length, slice_index, slice_index_or, bit_xor, replicate, arith, refl, sym, ap, ap₂, ◌∙◌, append_assoc, append-nil, take-add, slice_get, Some, get_or-take, get_or-drop, length-take-le, take_at, take_all, drop_at, drop-drop}
+use Rattle.std.proofs.Common.{subst, ◌≡◌, ℕ, zero, suc, ◌+◌, ◌*◌, ◌/◌, ◌%◌, ◌<◌, ◌≤◌, List, take, drop, [], ◌∷◌, ◌++◌, length, slice_index, slice_index_or, bit_xor, replicate, arith, refl, sym, ap, ap₂, ◌∙◌, append_assoc, append-nil, take-add, Some, get_or-take, get_or-drop, length-take-le, take_at, take_all, drop_at, drop-drop}
 use Rattle.std.proofs.Math.Nat.{mod-add-mod, mod-mod}
 use Rattle.std.specs.Int.Bits.{xor_zero_l}
 use Rattle.std.proofs.lemmas.List.{length-replicate, drop_all}
 use borrow.Rule.Slice.PartMut.{put_mid}
 use Rattle.chacha_base.specs.Keystream.{keystream, xor_stream, stream_part}
-use Rattle.chacha_base.proofs.ListLemmas.{written_more}
+use Rattle.chacha_base.proofs.ListLemmas.{Written, written_more, part_long, slice_index_or-put_mid_above}
 
 -- two streams that agree on the bytes that are combined
 pub xor_stream-same : (f g : ℕ → ℕ) (p q : ℕ) (xs : List ℕ) → ((i : ℕ) → i < length xs → f (p + i) ≡ g (q + i))
@@ -45,11 +45,11 @@ module _ (stream : ℕ → ℕ) where
       ∙ ap (λ q. xor_stream stream (p + 1) xs ++ xor_stream stream q ys) next)
 
   -- two parts, one after another
-  pub xor_stream-parts : (p q : ℕ) (all front rest new_front new_rest : List ℕ)
+  pub xor_stream-parts : {q : ℕ} {all new_front new_rest : List ℕ} (p : ℕ) (front rest : List ℕ)
       → all ≡ front ++ rest → q ≡ p + length front
       → new_front ≡ xor_stream stream p front → new_rest ≡ xor_stream stream q rest
       → new_front ++ new_rest ≡ xor_stream stream p all
-  xor_stream-parts p q all front rest new_front new_rest parts place first then =
+  xor_stream-parts p front rest parts place first then =
       ap₂ ◌++◌ first (then ∙ ap (λ k. xor_stream stream k rest) place)
       ∙ sym (ap (xor_stream stream p) parts ∙ xor_stream-append p front rest)
 
@@ -161,8 +161,8 @@ module _ (modulus : ℕ) (block : ℕ → List ℕ) where
       ∙ keystream-wrapped (d + i) (64 * (d + i)) xs refl
 
 -- k counters on from one that is `a` counters on
-module _ (modulus first c a k n e : ℕ) (same : c % modulus ≡ (first + a) % modulus) (moved : e ≡ (c + k) % modulus)
-    (all : a + k ≡ n) where
+module _ {n e : ℕ} (modulus first c a k : ℕ) (same : c % modulus ≡ (first + a) % modulus)
+    (moved : e ≡ (c + k) % modulus) (all : a + k ≡ n) where
   pub counter-more : e ≡ (first + n) % modulus
   counter-more =
       let place : first + a + k ≡ first + n = omega arith in
@@ -177,21 +177,33 @@ module _ (modulus first c a k n e : ℕ) (same : c % modulus ≡ (first + a) % m
 abbrev pub combined : (modulus : ℕ) (block : ℕ → List ℕ) (c : ℕ) (blocks : List (List ℕ)) → ℕ → List ℕ
 combined modulus block c blocks i = xor_stream (keystream modulus block) (64 * (c + i)) (slice_index_or blocks i [])
 
--- k blocks of bytes more that are combined, from block a on
-pub blocks-more : (modulus : ℕ) (block other : ℕ → List ℕ) (first c a k : ℕ) (old now part : List (List ℕ))
-    → other ≡ block → c % modulus ≡ (first + a) % modulus → a ≤ length now → length part ≡ k
-    → ((i : ℕ) → i < a → slice_get now i ≡ Some (combined modulus block first old i))
-    → ((i : ℕ) → a ≤ i → slice_index_or now i [] ≡ slice_index_or old i [])
-    → ((i : ℕ) → i < k → slice_get part i ≡ Some (combined modulus other c (take k (drop a now)) i))
-    → (i : ℕ) → i < a + k → slice_get (put_mid a k now part) i ≡ Some (combined modulus block first old i)
-blocks-more modulus block other first c a k old now part alike same room long before rest made =
-    written_more (combined modulus block first old) a k now part room long before (λ i less.
-    let place : first + a + i ≡ first + (a + i) = omega arith in
-    let behind : a ≤ a + i = omega arith in
-    let bytes = slice_index_or old (a + i) [] in
-    let kept = get_or-take k (drop a now) i [] less ∙ get_or-drop a now i [] ∙ rest (a + i) behind in
-    made i less
-    ∙ ap Some (ap (xor_stream (keystream modulus other) (64 * (c + i))) kept
-    ∙ ap (λ b. xor_stream (keystream modulus b) (64 * (c + i)) bytes) alike
-    ∙ keystream-same modulus block c (first + a) i bytes same
-    ∙ ap (λ q. xor_stream (keystream modulus block) (64 * q) bytes) place))
+-- a list of blocks of which the first `a` are combined
+pub record AreCombined (modulus : ℕ) (block : ℕ → List ℕ) (first : ℕ) (old : List (List ℕ)) (a : ℕ)
+    (now : List (List ℕ)) : Type 0 where
+  pub done : Written (combined modulus block first old) a now
+  pub rest : (i : ℕ) → a ≤ i → slice_index_or now i [] ≡ slice_index_or old i []
+
+-- k blocks more
+pub blocks-more : {modulus first a n : ℕ} {block other : ℕ → List ℕ} {old now : List (List ℕ)} (c k : ℕ)
+    (part : List (List ℕ)) → other ≡ block → c % modulus ≡ (first + a) % modulus
+    → AreCombined modulus block first old a now
+    → (a + k ≤ length now) × (a + k ≡ n) × (length part ≡ length (take k (drop a now)))
+    → Written (combined modulus other c (take k (drop a now))) (length (take k (drop a now))) part
+    → AreCombined modulus block first old n (put_mid a k now part)
+blocks-more {modulus} {first} {a} {n} {block} {other} {old} {now} c k part alike same before room made =
+    let size = part_long a k now room.0 in
+    let inside : a ≤ length now = omega arith in
+    record {
+      done = subst (λ m. Written (combined modulus block first old) m (put_mid a k now part)) room.1
+          (written_more (combined modulus block first old) a now part inside (room.2 ∙ size) before.done (λ i less.
+          let place : first + a + i ≡ first + (a + i) = omega arith in
+          let bytes = slice_index_or old (a + i) [] in
+          let kept = get_or-take k (drop a now) i [] less ∙ get_or-drop a now i [] ∙ before.rest (a + i) (omega arith) in
+          made i (omega (arith, less, size))
+          ∙ ap Some (ap (xor_stream (keystream modulus other) (64 * (c + i))) kept
+          ∙ ap (λ b. xor_stream (keystream modulus b) (64 * (c + i)) bytes) alike
+          ∙ keystream-same modulus block c (first + a) i bytes same
+          ∙ ap (λ q. xor_stream (keystream modulus block) (64 * q) bytes) place)));
+      rest = λ i above. slice_index_or-put_mid_above a i now part [] (omega arith) inside (room.2 ∙ size)
+          ∙ before.rest i (omega arith);
+    }

@@ -46,9 +46,13 @@ slice_get-set_below (y ∷ ys) zero j x h = absurd (omega arith)
 slice_get-set_below (y ∷ ys) (suc i) zero x h = refl
 slice_get-set_below (y ∷ ys) (suc i) (suc j) x h = slice_get-set_below ys i j x (omega arith)
 
--- a list that is written from its front on, place by place: element j is to be f j
-pub one_more : {X : Type 0} (f : ℕ → X) (i : ℕ) (xs : List X) (x : X) → i < length xs → x ≡ f i
-    → ((j : ℕ) → j < i → slice_get xs j ≡ Some (f j)) → (j : ℕ) → j < i + 1 → slice_get (set xs i x) j ≡ Some (f j)
+-- a list that is written from its front on: its first n elements are f 0, f 1 and so on
+abbrev pub Written : {X : Type 0} (f : ℕ → X) (n : ℕ) (xs : List X) → Type 0
+Written f n xs = (j : ℕ) → j < n → slice_get xs j ≡ Some (f j)
+
+-- one element more
+pub one_more : {X : Type 0} (f : ℕ → X) (i : ℕ) (xs : List X) (x : X) → i < length xs → x ≡ f i → Written f i xs
+    → Written f (i + 1) (set xs i x)
 one_more f i xs x inside made before =
     below_more (λ j. slice_get (set xs i x) j ≡ Some (f j)) i
     (λ j less. slice_get-set_below xs i j x less ∙ before j less)
@@ -75,9 +79,9 @@ slice_get-put_mid_inside (suc a) k i [] ys h room = absurd (omega arith)
 slice_get-put_mid_inside (suc a) k i (x ∷ xs) ys h room =
     let next : suc a + i ≡ suc (a + i) = omega arith in rw next (slice_get-put_mid_inside a k i xs ys h (omega arith))
 
-pub slice_index_or-put_mid_above : {X : Type 0} (a k i : ℕ) (xs ys : List X) (d : X) → a + k ≤ i
+pub slice_index_or-put_mid_above : {X : Type 0} {k : ℕ} (a i : ℕ) (xs ys : List X) (d : X) → a + k ≤ i
     → a ≤ length xs → length ys ≡ k → slice_index_or (put_mid a k xs ys) i d ≡ slice_index_or xs i d
-slice_index_or-put_mid_above a k i xs ys d h room same =
+slice_index_or-put_mid_above {k = k} a i xs ys d h room same =
     let place : a + k + (i - (a + k)) ≡ i = omega arith in
     rw (← place)
     (sym (get_or-drop (a + k) (put_mid a k xs ys) (i - (a + k)) d)
@@ -88,11 +92,10 @@ slice_index_or-put_mid_above a k i xs ys d h room same =
 pub part_long : {X : Type 0} (a k : ℕ) (xs : List X) → a + k ≤ length xs → length (take k (drop a xs)) ≡ k
 part_long a k xs inside = length-take-le k (drop a xs) (omega (arith, length-drop a xs))
 
--- a list that is written from its front on, part by part: element i is to be f i
-pub written_more : {X : Type 0} (f : ℕ → X) (a k : ℕ) (xs ys : List X) → a ≤ length xs → length ys ≡ k
-    → ((i : ℕ) → i < a → slice_get xs i ≡ Some (f i)) → ((i : ℕ) → i < k → slice_get ys i ≡ Some (f (a + i)))
-    → (i : ℕ) → i < a + k → slice_get (put_mid a k xs ys) i ≡ Some (f i)
-written_more f a k xs ys room same before part i inside =
+-- k elements more of a list that is written from its front on
+pub written_more : {X : Type 0} {k : ℕ} (f : ℕ → X) (a : ℕ) (xs ys : List X) → a ≤ length xs → length ys ≡ k
+    → Written f a xs → Written (λ i. f (a + i)) k ys → Written f (a + k) (put_mid a k xs ys)
+written_more {k = k} f a xs ys room same before part i inside =
     elim (cases_lt i a) [
       | inl below ↦ slice_get-put_mid_below a k i xs ys below room ∙ before i below
       | inr above ↦
@@ -103,12 +106,11 @@ written_more f a k xs ys room same before part i inside =
     ]
 
 -- the same, four elements at a time
-pub four_more : {X : Type 0} (f : ℕ → X) (a k : ℕ) (xs ys : List X) → k ≡ 4 → a ≤ length xs
-    → ys ≡ f a ∷ f (a + 1) ∷ f (a + 2) ∷ f (a + 3) ∷ [] → ((i : ℕ) → i < a → slice_get xs i ≡ Some (f i))
-    → (i : ℕ) → i < a + k → slice_get (put_mid a k xs ys) i ≡ Some (f i)
-four_more f a k xs ys four room is before =
+pub four_more : {X : Type 0} {k : ℕ} (f : ℕ → X) (a : ℕ) (xs ys : List X) → k ≡ 4 → a ≤ length xs
+    → ys ≡ f a ∷ f (a + 1) ∷ f (a + 2) ∷ f (a + 3) ∷ [] → Written f a xs → Written f (a + k) (put_mid a k xs ys)
+four_more f a xs ys four room is before =
     let here : a ≡ a + 0 = omega arith in
-    written_more f a k xs ys room (ap length is ∙ sym four) before (λ i less.
+    written_more f a xs ys room (ap length is ∙ sym four) before (λ i less.
     ap (λ l. slice_get l i) is
     ∙ below_four (λ j. slice_get (f a ∷ f (a + 1) ∷ f (a + 2) ∷ f (a + 3) ∷ []) j ≡ Some (f (a + j)))
     (ap (λ j. Some (f j)) here) refl refl refl i (omega (arith, less, four)))
@@ -117,9 +119,8 @@ four_more f a k xs ys four room is before =
 pub halves_written : {X Y : Type 0} (f : Y → X) (n : ℕ) (xs ys zs : List X) (p q : ℕ → Y) → length xs ≡ n + n
     → (let half = length xs / 2 in let now = ys ++ drop half xs in
     length ys ≡ length (take half xs) → length zs ≡ length (take (length now - half) (drop half now))
-    → ((j : ℕ) → j < n → slice_get ys j ≡ Some (f (p j))) → ((j : ℕ) → j < n → slice_get zs j ≡ Some (f (q j)))
-    → (i : ℕ) → i < n + n
-    → slice_get (put_mid half (length now - half) now zs) i ≡ Some (f (if nat_lt i n then p i else q (i - n))))
+    → Written (λ j. f (p j)) n ys → Written (λ j. f (q j)) n zs
+    → Written (λ i. f (if nat_lt i n then p i else q (i - n))) (n + n) (put_mid half (length now - half) now zs))
 halves_written f n xs ys zs p q long front back first second i inside =
     let half = length xs / 2 in
     let rest = drop half xs in
@@ -131,7 +132,7 @@ halves_written f n xs ys zs p q long front back first second i inside =
     let count : length now - half ≡ n = omega arith in
     let lz : length zs ≡ n = back ∙ part_long half (length now - half) now (omega arith) ∙ count in
     ap₂ (λ a k. slice_get (put_mid a k now zs) i) at count
-    ∙ written_more (λ j. f (if nat_lt j n then p j else q (j - n))) n n now zs (omega arith) lz
+    ∙ written_more (λ j. f (if nat_lt j n then p j else q (j - n))) n now zs (omega arith) lz
     (λ j less.
     slice_get-append ys rest j (omega arith) ∙ first j less ∙ ap (λ b. either b j) (sym (lt-ltb j n less)))
     (λ j less.
@@ -156,10 +157,10 @@ put_mid-behind a k p q ys h =
     ap₂ (λ u v. u ++ (ys ++ drop k v)) (take_at p q a h) (drop_at p q a h) ∙ sym (append_assoc p ys (drop k q))
 
 -- a list that is written in four parts of n elements
-pub four_written : {X : Type 0} (n : ℕ) (s a b c d : List X) → length s ≡ 4 * n
-    → length a ≡ n → length b ≡ n → length c ≡ n
+pub four_written : {X : Type 0} {n : ℕ} (s a b c d : List X) → length s ≡ 4 * n
+    → (length a ≡ n) × (length b ≡ n) × (length c ≡ n)
     → put_mid (3 * n) n (put_mid (2 * n) n (put_mid n n (put_mid 0 n s a) b) c) d ≡ a ++ b ++ c ++ d
-four_written n s a b c d long la lb lc =
+four_written {n = n} s a b c d long same =
     let r1 = drop n s in
     let r2 = drop n r1 in
     let r3 = drop n r2 in
@@ -167,7 +168,7 @@ four_written n s a b c d long la lb lc =
     let abc : length ((a ++ b) ++ c) ≡ 3 * n = omega (arith, length-append (a ++ b) c) in
     let none : drop n r3 ≡ [] =
     drop-drop n n r2 ∙ drop-drop (n + n) n r1 ∙ drop-drop (n + (n + n)) n s ∙ drop_all _ s (omega arith) in
-    ap (λ t. put_mid (3 * n) n (put_mid (2 * n) n t c) d) (put_mid-behind n n a r1 b la)
+    ap (λ t. put_mid (3 * n) n (put_mid (2 * n) n t c) d) (put_mid-behind n n a r1 b same.0)
     ∙ ap (λ t. put_mid (3 * n) n t d) (put_mid-behind (2 * n) n (a ++ b) r2 c ab)
     ∙ put_mid-behind (3 * n) n ((a ++ b) ++ c) r3 d abc
     ∙ ap (λ t. (((a ++ b) ++ c) ++ d) ++ t) none

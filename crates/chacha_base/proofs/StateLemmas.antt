@@ -170,7 +170,7 @@ module _ (n : ℕ) (layout : Layout) (s : List ℕ) where
       → (k : ℕ) → k < 16 * i + 16 → slice_get (put_mid (16 * i) 16 now part) k ≡ Some (next_word n layout s k)
   next_words-more t i now part moved made room before =
       let long : length part ≡ 16 = ap length made ∙ length-mix n t in
-      written_more (next_word n layout s) (16 * i) 16 now part room long before
+      written_more (next_word n layout s) (16 * i) now part room long before
       (λ k less.
       let which : (16 * i + k) / 16 ≡ i = omega arith in
       let place : (16 * i + k) % 16 ≡ k = omega arith in
@@ -183,7 +183,7 @@ module _ (n : ℕ) (layout : Layout) (s : List ℕ) where
       → AreNextBlocks n layout s a now → AreNextBlocks n layout t k part
       → AreNextBlocks n layout s (a + k) (put_mid a k now part)
   next_blocks-more t a k now part h moved room long before made =
-      written_more (next_block n layout s) a k now part room long before
+      written_more (next_block n layout s) a now part room long before
       (λ i less.
       made i less
       ∙ ap (λ u. Some (next_block n layout u i)) moved

@@ -15,9 +15,9 @@ returns-clause-bytes g c =
     let blocks = c.split_at_mut-blocks.result.0.now in
     let last = c.split_at_mut-blocks.result.1.now in
     let kept = c.apply_begun.ensures.fixed in
-    xor_stream-parts stream c.args.self.now.position begun.position c.args.buf.now c.split_at_mut-front.result.0.now
-    rest _ _ c.split_at_mut-front.ensures.value c.apply_begun.ensures.position c.apply_begun.ensures.bytes
-    (xor_stream-parts stream begun.position whole.position rest blocks last _ _
+    xor_stream-parts stream c.args.self.now.position c.split_at_mut-front.result.0.now rest
+    c.split_at_mut-front.ensures.value c.apply_begun.ensures.position c.apply_begun.ensures.bytes
+    (xor_stream-parts stream begun.position blocks last
     c.split_at_mut-blocks.ensures.value c.apply_whole.ensures.position
     (c.apply_whole.ensures.bytes ∙ ap (λ f. xor_stream (keystream modulus (block f)) begun.position blocks) kept)
     (c.apply_last.ensures.bytes

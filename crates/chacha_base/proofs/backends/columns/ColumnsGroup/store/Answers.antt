@@ -9,7 +9,7 @@ each-preserved g c h less =
     let room : 4 * c.each.g ≤ length c.each.buffers = omega (arith, c.requires, c.each.auto.buffers) in
     let words = g.B.BlockBuffer.of_words in
     let rows = c.in_rows-rows.ensures in
-    four_more (λ k. words (block_in_columns g.V.Vector.lane c.args.self k)) (4 * c.each.g) _ c.each.buffers
+    four_more (λ k. words (block_in_columns g.V.Vector.lane c.args.self k)) (4 * c.each.g) c.each.buffers
     c.write_four.new.four (omega arith) room
     (c.write_four.ensures
     ∙ four_listed (ap words (rows.first c.each.g inside)) (ap words (rows.second c.each.g inside))
