@@ -1,12 +1,12 @@
 -- Lanes of vectors: rotated, turned, interleaved, and written as bytes. The proofs of `vector`, and some of rows and
 -- columns, cite these. Read `Lanes` and `Diagonalized` first.
-use Rattle.std.proofs.Common.{◌≡◌, ℕ, zero, suc, ◌<◌, ◌+◌, ◌-◌, ◌*◌, ◌/◌, ◌%◌, ◌^◌, List, [], ◌∷◌, ◌++◌, length, map, slice_index, replicate, bit_or, bit_xor, arith, refl, sym, ap, ◌∙◌, get_or-append-add}
+use Rattle.std.proofs.Common.{w32, Fits, ◌≡◌, ℕ, zero, suc, ◌<◌, ◌+◌, ◌-◌, ◌*◌, ◌/◌, ◌%◌, ◌^◌, List, [], ◌∷◌, ◌++◌, length, map, slice_index, replicate, bit_or, bit_xor, arith, refl, sym, ap, ◌∙◌, get_or-append-add}
 use Rattle.std.specs.List.{range_with_len}
 use Rattle.std.specs.Simd.Lanes.{zip2, Each1, pick_l, number_l, digits_l}
 use Rattle.std.proofs.lemmas.List.{get_or-map, get_or_append_left}
 use Rattle.std.proofs.lemmas.List.FromFn.{length-map-range_with_len, get_or-map-range_with_len}
 use Rattle.std.proofs.lemmas.Nat.{xor_lt}
-use Rattle.std.proofs.lemmas.Simd.{Each1-get_or, get_or-zip2, get_or-replicate, length-zip2, length-replicate}
+use Rattle.std.proofs.lemmas.Simd.{below_from_Fits, Each1-get_or, get_or-zip2, get_or-replicate, length-zip2, length-replicate}
 use Rattle.chacha_base.specs.Words.{rotl}
 use Rattle.chacha_base.specs.Lanes.{row, turned}
 use Rattle.chacha_base.specs.Bytes.{bytes}
@@ -19,36 +19,40 @@ lane_of : (f : ℕ → ℕ → ℕ) (n : ℕ) (a b : List ℕ) → length a ≡ 
     → slice_index (zip2 f a b) j ≡ f (slice_index a j) (slice_index b j)
 lane_of f n a b la lb j h = get_or-zip2 f a b j 0 0 0 (omega arith) (omega arith)
 
+-- a vector of n words
+abbrev IsVector : ℕ → List ℕ → Type 0
+IsVector n xs = (length xs ≡ n) × Each1 (Fits w32) xs
+
 -- the words of a lane, combined and shifted both ways, are their exclusive or rotated
-pub xor_shifted-is-rotl : (n k : ℕ) → 0 < k → k < 32 → (a b : List ℕ) → length a ≡ n → length b ≡ n
-    → Each1 (λ x. x < 2 ^ 32) a → Each1 (λ x. x < 2 ^ 32) b → (j : ℕ) → j < n
+pub xor_shifted-is-rotl : {n : ℕ} (k : ℕ) (a b : List ℕ) → (0 < k) × (k < 32) → IsVector n a → IsVector n b
+    → (j : ℕ) → j < n
     → slice_index (zip2 bit_or
     (zip2 (λ x s. x * 2 ^ s % 2 ^ 32) (zip2 bit_xor a b) (replicate n k))
     (zip2 (λ x s. x / 2 ^ s) (zip2 bit_xor a b) (replicate n (32 - k)))) j
     ≡ rotl (bit_xor (slice_index a j) (slice_index b j)) k
-xor_shifted-is-rotl n k some most a b la lb fa fb j h =
+xor_shifted-is-rotl {n} k a b turn va vb j h =
     let x = zip2 bit_xor a b in
     let ks = replicate n k in
     let ms = replicate n (32 - k) in
     let up = zip2 (λ (x s : ℕ). x * 2 ^ s % 2 ^ 32) x ks in
     let down = zip2 (λ (x s : ℕ). x / 2 ^ s) x ms in
-    let lx : length x ≡ n = length-zip2 bit_xor a b (omega arith) ∙ la in
+    let lx : length x ≡ n = length-zip2 bit_xor a b (omega arith) ∙ va.0 in
     let lk : length ks ≡ n = length-replicate n k in
     let lm : length ms ≡ n = length-replicate n (32 - k) in
     let lup : length up ≡ n = length-zip2 _ x ks (omega arith) ∙ lx in
     let ldown : length down ≡ n = length-zip2 _ x ms (omega arith) ∙ lx in
-    let word_a : slice_index a j < 2 ^ 32 = Each1-get_or (λ x. x < 2 ^ 32) a j 0 (omega arith) fa in
-    let word_b : slice_index b j < 2 ^ 32 = Each1-get_or (λ x. x < 2 ^ 32) b j 0 (omega arith) fb in
+    let word_a : slice_index a j < 2 ^ 32 = Each1-get_or (λ x. x < 2 ^ 32) a j 0 (omega arith) (below_from_Fits w32 a va.1) in
+    let word_b : slice_index b j < 2 ^ 32 = Each1-get_or (λ x. x < 2 ^ 32) b j 0 (omega arith) (below_from_Fits w32 b vb.1) in
     let w = bit_xor (slice_index a j) (slice_index b j) in
     let left : k % 32 ≡ k = omega arith in
     let right : (32 - k) % 32 ≡ 32 - k = omega arith in
     let turned : bit_or (w * 2 ^ k % 2 ^ 32) (w / 2 ^ (32 - k)) ≡ rotl w k =
-    rw (left, right) at (rotate_left_is w k (xor_lt 32 _ _ word_a word_b) some most) in
+    rw (left, right) at (rotate_left_is w k (xor_lt 32 _ _ word_a word_b) turn.0 turn.1) in
     rw (
       lane_of bit_or n up down lup ldown j h,
       lane_of (λ x s. x * 2 ^ s % 2 ^ 32) n x ks lx lk j h,
       lane_of (λ x s. x / 2 ^ s) n x ms lx lm j h,
-      lane_of bit_xor n a b la lb j h,
+      lane_of bit_xor n a b va.0 vb.0 j h,
       get_or-replicate n j k 0 h,
       get_or-replicate n j (32 - k) 0 h,
     ) turned
@@ -85,23 +89,22 @@ abbrev moved_bytes : ℕ → List ℕ → List ℕ
 moved_bytes n bytes = digits_l (2 ^ 32) n (number_l 256 (pick_l 0 bytes (last_first_places n 0)))
 
 -- the words of a lane, combined and their bytes moved, are their exclusive or rotated by 8
-pub xor_moved-is-rotl : (n : ℕ) (a b : List ℕ) → length a ≡ n → length b ≡ n
-    → Each1 (λ x. x < 2 ^ 32) a → Each1 (λ x. x < 2 ^ 32) b
+pub xor_moved-is-rotl : {n : ℕ} (a b : List ℕ) → IsVector n a → IsVector n b
     → ((xs : List ℕ) → length xs ≡ n → pick_l 0 (bytes xs) (last_first_places n 0) ≡ last_first xs)
     → (j : ℕ) → j < n
     → slice_index (moved_bytes n (digits_l 256 (4 * n) (number_l (2 ^ 32) (zip2 bit_xor a b)))) j
     ≡ rotl (bit_xor (slice_index a j) (slice_index b j)) 8
-xor_moved-is-rotl n a b la lb fa fb moved j h =
+xor_moved-is-rotl {n} a b va vb moved j h =
     let xs = zip2 bit_xor a b in
-    let lx : length xs ≡ n = length-zip2 bit_xor a b (omega arith) ∙ la in
-    let words = words-xor a b fa fb in
+    let lx : length xs ≡ n = length-zip2 bit_xor a b (omega arith) ∙ va.0 in
+    let words = words-xor a b (below_from_Fits w32 a va.1) (below_from_Fits w32 b vb.1) in
     let all = ap (λ m. digits_l 256 (4 * m) (number_l (2 ^ 32) xs)) (sym lx) ∙ digits-bytes xs words in
     ap (λ bs. slice_index (moved_bytes n bs) j) all
     ∙ ap (λ ys. slice_index (digits_l (2 ^ 32) n (number_l 256 ys)) j) (moved xs lx)
     ∙ ap (λ m. slice_index (digits_l (2 ^ 32) m (number_l 256 (last_first xs))) j) (sym lx)
     ∙ ap (λ ys. slice_index ys j) (last_first-words xs words)
     ∙ get_or-map (λ x. rotl x 8) xs j 0 0 (omega arith)
-    ∙ ap (λ x. rotl x 8) (lane_of bit_xor n a b la lb j h)
+    ∙ ap (λ x. rotl x 8) (lane_of bit_xor n a b va.0 vb.0 j h)
 
 -- two words of each of two vectors by turns, read where the vectors lie one after the other
 pub by_turns : (xs ys : List ℕ) (n i : ℕ) → length xs ≡ n → i + 1 < n

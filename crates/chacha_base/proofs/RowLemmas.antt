@@ -1,6 +1,6 @@
--- Blocks in the rows of vectors: set, moved, summed and stored. The proofs of `rows`, `group` and the kernel cite
+-- Blocks in the rows of vectors: set, moved, summed and stored. The proofs of `rows`, `group`, `rounds` and the kernel cite
 -- these. Read `Lanes` and `Vectors` first.
-use Rattle.std.proofs.Common.{◌≡◌, ℕ, ◌<◌, ◌≤◌, ◌≢◌, ◌+◌, ◌-◌, ◌*◌, ◌%◌, Bool, true, false, List, [], ◌∷◌, ◌++◌, length, drop, slice_index, refl, ap₂, ◌∙◌, arith, set, length-set, get_or-set_same, get_or-set_other, if◌then◌else◌}
+use Rattle.std.proofs.Common.{◌≡◌, ℕ, ◌<◌, ◌≤◌, ◌≢◌, ◌+◌, ◌-◌, ◌*◌, ◌%◌, Bool, true, false, List, [], ◌∷◌, ◌++◌, length, drop, slice_index, refl, ap, ap₂, ◌∙◌, arith, set, length-set, get_or-set_same, get_or-set_other, if◌then◌else◌}
 use Rattle.chacha_base.specs.declared.backends.vector.FourVectors.{FourVectors}
 use Rattle.chacha_base.specs.Layout.{Layout, row_at}
 use Rattle.chacha_base.specs.Lanes.{row, state_row, with_last_row}
@@ -32,17 +32,17 @@ column_of-same {c = c} {d = d} {p = p} {q = q} ea eb ec ed =
     ap₂ (column_of p q) ec ed ∙ ap₂ (λ x y. column_of x y c d) ea eb
 
 -- what is made of two lists, where one or the other pair is taken
-pub either-same : (f : List ℕ → List ℕ → List ℕ) (front : Bool) (a b p q r s : List ℕ)
+pub either-same : {a b p q r s : List ℕ} (f : List ℕ → List ℕ → List ℕ) (front : Bool)
     → (front ≡ true → a ≡ f p r) → (front ≡ false → b ≡ f q s)
     → (if front then a else b) ≡ f (if front then p else q) (if front then r else s)
-either-same f true a b p q r s first second = first refl
-either-same f false a b p q r s first second = second refl
+either-same f true first second = first refl
+either-same f false first second = second refl
 
 -- a row, word by word
-pub row-same : (f g : ℕ → ℕ) (k : ℕ) → ((j : ℕ) → j < 4 * k + 4 → f j ≡ g j) → row f k ≡ row g k
+pub row-same : (f g : ℕ → ℕ) (k : ℕ) → ((j : ℕ) → 4 * k ≤ j → j < 4 * k + 4 → f j ≡ g j) → row f k ≡ row g k
 row-same f g k same =
-    four_listed (same (4 * k) (omega arith)) (same (4 * k + 1) (omega arith))
-    (same (4 * k + 2) (omega arith)) (same (4 * k + 3) (omega arith))
+    four_listed (same (4 * k) (omega arith) (omega arith)) (same (4 * k + 1) (omega arith) (omega arith))
+    (same (4 * k + 2) (omega arith) (omega arith)) (same (4 * k + 3) (omega arith) (omega arith))
 
 -- a row of sixteen words that repeat
 pub row-repeated : (w0 w1 w2 w3 k : ℕ) → k < 4
@@ -51,38 +51,46 @@ row-repeated w0 w1 w2 w3 =
     let four = w0 ∷ w1 ∷ w2 ∷ w3 ∷ [] in
     below_four (λ k. row (slice_index (four ++ four ++ four ++ four)) k ≡ four) refl refl refl refl
 
+-- four words written at different places
+abbrev pub set_four : (s : List ℕ) (p q : ℕ × ℕ × ℕ × ℕ) → List ℕ
+set_four s p q = set (set (set (set s p.0 q.0) p.1 q.1) p.2 q.2) p.3 q.3
+
+pub words-written : {n : ℕ} (s : List ℕ) (p q : ℕ × ℕ × ℕ × ℕ) → length s ≡ n
+    → (p.0 < n) × (p.1 < n) × (p.2 < n) × (p.3 < n)
+    → (p.0 ≢ p.1) × (p.0 ≢ p.2) × (p.0 ≢ p.3) × (p.1 ≢ p.2) × (p.1 ≢ p.3) × (p.2 ≢ p.3)
+    → (let word = slice_index (set_four s p q) in column_of (word p.0) (word p.1) (word p.2) (word p.3) ≡ q)
+words-written s p q long within apart =
+    let t = set s p.0 q.0 in
+    let u = set t p.1 q.1 in
+    let v = set u p.2 q.2 in
+    let lt = length-set s p.0 q.0 ∙ long in
+    let lu = length-set t p.1 q.1 ∙ lt in
+    let lv = length-set u p.2 q.2 ∙ lu in
+    column_of-same
+    (get_or-set_other v p.3 p.0 q.3 0 apart.2 ∙ get_or-set_other u p.2 p.0 q.2 0 apart.1
+    ∙ get_or-set_other t p.1 p.0 q.1 0 apart.0 ∙ get_or-set_same s p.0 q.0 0 (rw long within.0))
+    (get_or-set_other v p.3 p.1 q.3 0 apart.4 ∙ get_or-set_other u p.2 p.1 q.2 0 apart.3
+    ∙ get_or-set_same t p.1 q.1 0 (rw lt within.1))
+    (get_or-set_other v p.3 p.2 q.3 0 apart.5 ∙ get_or-set_same u p.2 q.2 0 (rw lu within.2))
+    (get_or-set_same v p.3 q.3 0 (rw lv within.3))
+
 -- the words of a state after a row is written: those of the row, and those of another
-abbrev set_row : (s : List ℕ) (g w x y z : ℕ) → List ℕ
-set_row s g w x y z = set (set (set (set s (4 * g) w) (4 * g + 1) x) (4 * g + 2) y) (4 * g + 3) z
+abbrev row_places : ℕ → ℕ × ℕ × ℕ × ℕ
+row_places g = (4 * g, 4 * g + 1, 4 * g + 2, 4 * g + 3)
 
-pub row-written : (s : List ℕ) (g w x y z : ℕ) → 4 * g + 3 < length s
-    → row (slice_index (set_row s g w x y z)) g ≡ w ∷ x ∷ y ∷ z ∷ []
-row-written s g w x y z inside =
-    let t = set s (4 * g) w in
-    let u = set t (4 * g + 1) x in
-    let v = set u (4 * g + 2) y in
-    let lt : length t ≡ length s = length-set s (4 * g) w in
-    let lu : length u ≡ length t = length-set t (4 * g + 1) x in
-    let lv : length v ≡ length u = length-set u (4 * g + 2) y in
-    four_listed
-    (get_or-set_other v (4 * g + 3) (4 * g) z 0 (omega arith) ∙ get_or-set_other u (4 * g + 2) (4 * g) y 0 (omega arith)
-    ∙ get_or-set_other t (4 * g + 1) (4 * g) x 0 (omega arith) ∙ get_or-set_same s (4 * g) w 0 (omega arith))
-    (get_or-set_other v (4 * g + 3) (4 * g + 1) z 0 (omega arith)
-    ∙ get_or-set_other u (4 * g + 2) (4 * g + 1) y 0 (omega arith) ∙ get_or-set_same t (4 * g + 1) x 0 (omega arith))
-    (get_or-set_other v (4 * g + 3) (4 * g + 2) z 0 (omega arith) ∙ get_or-set_same u (4 * g + 2) y 0 (omega arith))
-    (get_or-set_same v (4 * g + 3) z 0 (omega arith))
+pub row-written : (s : List ℕ) (g : ℕ) (q : ℕ × ℕ × ℕ × ℕ) → 4 * g + 3 < length s
+    → row (slice_index (set_four s (row_places g) q)) g ≡ q.0 ∷ q.1 ∷ q.2 ∷ q.3 ∷ []
+row-written s g q inside =
+    ap (λ c. c.0 ∷ c.1 ∷ c.2 ∷ c.3 ∷ []) (words-written s (row_places g) q refl
+    (omega arith, omega arith, omega arith, inside)
+    (omega arith, omega arith, omega arith, omega arith, omega arith, omega arith))
 
-module _ (s : List ℕ) (g w x y z h : ℕ) (apart : h ≢ g) where
-  word-elsewhere : (i : ℕ) → 4 * h ≤ i → i < 4 * h + 4 → slice_index (set_row s g w x y z) i ≡ slice_index s i
-  word-elsewhere i from to =
-      get_or-set_other _ (4 * g + 3) i z 0 (omega arith) ∙ get_or-set_other _ (4 * g + 2) i y 0 (omega arith)
-      ∙ get_or-set_other _ (4 * g + 1) i x 0 (omega arith) ∙ get_or-set_other s (4 * g) i w 0 (omega arith)
-
-  pub row-elsewhere : row (slice_index (set_row s g w x y z)) h ≡ row (slice_index s) h
-  row-elsewhere =
-      four_listed
-      (word-elsewhere (4 * h) (omega arith) (omega arith)) (word-elsewhere (4 * h + 1) (omega arith) (omega arith))
-      (word-elsewhere (4 * h + 2) (omega arith) (omega arith)) (word-elsewhere (4 * h + 3) (omega arith) (omega arith))
+pub row-elsewhere : (s : List ℕ) (g : ℕ) (q : ℕ × ℕ × ℕ × ℕ) (h : ℕ) → h ≢ g
+    → row (slice_index (set_four s (row_places g) q)) h ≡ row (slice_index s) h
+row-elsewhere s g q h apart =
+    row-same (slice_index (set_four s (row_places g) q)) (slice_index s) h (λ i from to.
+    get_or-set_other _ (4 * g + 3) i q.3 0 (omega arith) ∙ get_or-set_other _ (4 * g + 2) i q.2 0 (omega arith)
+    ∙ get_or-set_other _ (4 * g + 1) i q.1 0 (omega arith) ∙ get_or-set_other s (4 * g) i q.0 0 (omega arith))
 
 -- the quarter round of each lane is a round of the columns of each block
 pub columns-of-lanes : {V : Type 0} (n : ℕ) (lane : V → ℕ → ℕ) (x y : FourVectors V)

@@ -7,5 +7,5 @@ use Rattle.chacha_base.proofs.backends.group.TwiceGroup.sums.Goals as goal
 pub returns : goal.returns
 returns g c j h =
     let n = g.G.Group.BLOCKS in
-    either-same add_states (nat_lt j n) _ _ _ _ _ _ (λ front. c.sums.ensures j (ltb-true j n front))
+    either-same add_states (nat_lt j n) (λ front. c.sums.ensures j (ltb-true j n front))
     (λ back. c.sums-2.ensures (j - n) (omega (arith, h, ltb-false j n back)))

@@ -22,5 +22,5 @@ pub returns : goal.returns
 returns g c h less =
     four_joined (c.repeated.ensures h less) (c.repeated-2.ensures h less) (c.repeated-3.ensures h less)
     (row-same (g.V.Vector.lane c.from_words.result) (slice_index c.each.d) h
-    (λ j within. c.from_words.ensures j (omega (arith, less, within)))
+    (λ j from within. c.from_words.ensures j (omega (arith, less, within)))
     ∙ c.each.invariant.done h (omega (arith, less)))
