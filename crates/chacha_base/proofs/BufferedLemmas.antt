@@ -8,19 +8,26 @@ use Rattle.chacha_base.specs.Limit.{limit_of}
 use Rattle.chacha_base.specs.Buffered.{IsBuffered, left_at}
 use Rattle.chacha_base.proofs.KeystreamLemmas.{xor_stream-is, xor_stream-block, keystream_byte}
 
--- what `is_empty` says
-pub some-not_empty : (n : ℕ) (empty : Bool) → empty ≡ nat_eq n 0 → empty ≡ false → 0 < n
-some-not_empty zero empty is not = absurd (false≢true (sym not ∙ is))
-some-not_empty (suc n) empty is not = omega arith
+-- n bytes, and not none, that begin at a block's front and end within the limit
+pub record Begins (p n limit : ℕ) : Type 0 where
+  pub front : p % 64 ≡ 0
+  pub some : 0 < n
+  pub fits : p + n ≤ limit
+
+-- those of a slice that `is_empty` says isn't empty
+pub begins-not_empty : {empty : Bool} {limit : ℕ} (p n : ℕ) → empty ≡ nat_eq n 0 → empty ≡ false
+    → (0 < n → p % 64 ≡ 0) → p + n ≤ limit → Begins p n limit
+begins-not_empty p zero is not front fits = absurd (false≢true (sym not ∙ is))
+begins-not_empty p (suc n) is not front fits = record { front = front (omega arith); some = omega arith; fits = fits }
 
 -- how many blocks there are up to the limit
 pub limit-blocks : (modulus limit : ℕ) → limit ≡ limit_of modulus → limit / 64 ≡ modulus
 limit-blocks modulus limit is = omega arith
 
 -- a core whose counter was set for a position: at a block's front no block is made, and else one
-pub at-sought_front : (modulus : ℕ) (block : ℕ → List ℕ) (p counter : ℕ) (buffer : List ℕ) → p ≤ limit_of modulus
+pub at-sought_front : {modulus p counter : ℕ} {block : ℕ → List ℕ} {buffer : List ℕ} → p ≤ limit_of modulus
     → p % 64 ≤ 0 → counter ≡ p / 64 % modulus → IsBuffered modulus block counter buffer p
-at-sought_front modulus block p counter buffer within front here =
+at-sought_front {modulus} {p} within front here =
     let next : p / 64 ≡ (p + 63) / 64 = omega arith in
     record {
       within = within;
@@ -28,10 +35,10 @@ at-sought_front modulus block p counter buffer within front here =
       held = λ some. absurd (omega arith);
     }
 
-pub at-sought_part : (modulus : ℕ) (block : ℕ → List ℕ) (p counter new : ℕ) (buffer : List ℕ) → p ≤ limit_of modulus
+pub at-sought_part : {modulus p counter new : ℕ} {block : ℕ → List ℕ} {buffer : List ℕ} → p ≤ limit_of modulus
     → 0 < p % 64 → counter ≡ p / 64 % modulus → new ≡ (counter + 1) % modulus → buffer ≡ block counter
     → IsBuffered modulus block new buffer p
-at-sought_part modulus block p counter new buffer within part here moved made =
+at-sought_part {modulus} {p} {block = block} within part here moved made =
     let next : p / 64 + 1 ≡ (p + 63) / 64 = omega arith in
     let inside : p / 64 < modulus = omega arith in
     record {
@@ -44,31 +51,31 @@ at-sought_part modulus block p counter new buffer within part here moved made =
 module _ {modulus : ℕ} {block : ℕ → List ℕ} {counter : ℕ} {buffer : List ℕ} {stored p : ℕ}
     (at : IsBuffered modulus block counter buffer stored) (place : stored ≡ p) where
   -- at a block's front, with bytes still to come, the core's counter is that of the block that begins there
-  pub counter-at_front : (n : ℕ) → p % 64 ≡ 0 → 0 < n → p + n ≤ limit_of modulus → 64 * counter ≡ p
-  counter-at_front n front some fits =
-      let next : (stored + 63) / 64 ≡ p / 64 = omega arith in
-      let inside : p / 64 < modulus = omega arith in
+  pub counter-at_front : {n : ℕ} → Begins p n (limit_of modulus) → 64 * counter ≡ p
+  counter-at_front begins =
+      let next : (stored + 63) / 64 ≡ p / 64 = omega (arith, begins.front) in
+      let inside : p / 64 < modulus = omega (arith, begins.some, begins.fits) in
       let here : counter ≡ p / 64 = at.made ∙ ap (λ k. k % modulus) next ∙ mod-eq_of_lt inside in
-      omega arith
+      omega (arith, begins.front)
 
   -- bytes combined with the front of that block
-  pub xor_stream-front : (made xs ys : List ℕ) → made ≡ block counter → p % 64 ≡ 0 → 0 < length xs
-      → p + length xs ≤ limit_of modulus → length xs ≤ 64 → length ys ≡ length xs
+  pub xor_stream-front : {made ys : List ℕ} (xs : List ℕ) → made ≡ block counter
+      → Begins p (length xs) (limit_of modulus) → length xs ≤ 64 → length ys ≡ length xs
       → ((i : ℕ) → i < length xs
       → slice_index ys i ≡ bit_xor (slice_index xs i) (slice_index (take (length xs) made) i))
       → ys ≡ xor_stream (keystream modulus block) p xs
-  xor_stream-front made xs ys held front some fits part same each =
-      let here = counter-at_front (length xs) front some fits in
-      let below : counter < modulus = omega arith in
+  xor_stream-front {made} {ys} xs held begins part same each =
+      let here = counter-at_front begins in
+      let below : counter < modulus = omega (arith, here, begins.some, begins.fits) in
       xor_stream-block modulus block counter made xs ys (held ∙ sym (ap block (mod-eq_of_lt below))) part same
       (λ i less. each i less ∙ ap (bit_xor (slice_index xs i)) (get_or-take (length xs) made i 0 less))
       ∙ ap (λ q. xor_stream (keystream modulus block) q xs) here
 
   -- after m bytes more, for which the core made k blocks
-  at-more : (other : ℕ → List ℕ) (made : List ℕ) (m k new : ℕ) → p + m ≤ limit_of modulus
+  at-more : {other : ℕ → List ℕ} {made : List ℕ} {new : ℕ} (m k : ℕ) → p + m ≤ limit_of modulus
       → (p + 63) / 64 + k ≡ (p + m + 63) / 64 → new ≡ (counter + k) % modulus
       → (0 < (p + m) % 64 → made ≡ other ((p + m) / 64)) → IsBuffered modulus other new made (stored + m)
-  at-more other made m k new fits blocks moved held =
+  at-more {other} m k fits blocks moved held =
       let sum : (stored + 63) / 64 + k ≡ (stored + m + 63) / 64 = omega arith in
       record {
         within = omega arith;
@@ -78,23 +85,23 @@ module _ {modulus : ℕ} {block : ℕ → List ℕ} {counter : ℕ} {buffer : Li
       }
 
   -- after whole blocks
-  pub at-whole : (other : ℕ → List ℕ) (n m new : ℕ) → p % 64 ≡ 0 → n % 64 ≡ 0 → p + n ≤ limit_of modulus → m ≡ n
+  pub at-whole : {other : ℕ → List ℕ} {n m new : ℕ} → Begins p n (limit_of modulus) → n % 64 ≡ 0 → m ≡ n
       → new ≡ (counter + n / 64) % modulus → IsBuffered modulus other new buffer (stored + m)
-  at-whole other n m new front whole fits size moved =
-      at-more other buffer m (n / 64) new (omega arith) (omega arith) moved (λ some. absurd (omega arith))
+  at-whole {n = n} {m = m} begins whole size moved =
+      at-more m (n / 64) (omega (arith, begins.fits)) (omega (arith, begins.front)) moved
+      (λ some. absurd (omega (arith, begins.front)))
 
   -- after a last part, for which one block was made
-  pub at-last : (other : ℕ → List ℕ) (made : List ℕ) (n m new : ℕ) → p % 64 ≡ 0 → 0 < n → n < 64
-      → p + n ≤ limit_of modulus → m ≡ n → new ≡ (counter + 1) % modulus → made ≡ other counter
-      → IsBuffered modulus other new made (stored + m)
-  at-last other made n m new front some part fits size moved held =
-      let begins = counter-at_front n front some fits in
-      let here : counter ≡ (p + m) / 64 = omega arith in
-      at-more other made m 1 new (omega arith) (omega arith) moved (λ more. held ∙ ap other here)
+  pub at-last : {other : ℕ → List ℕ} {made : List ℕ} {n m new : ℕ} → Begins p n (limit_of modulus) → n < 64 → m ≡ n
+      → new ≡ (counter + 1) % modulus → made ≡ other counter → IsBuffered modulus other new made (stored + m)
+  at-last {other} {m = m} begins part size moved held =
+      let here : counter ≡ (p + m) / 64 = omega (arith, counter-at_front begins) in
+      at-more m 1 (omega (arith, begins.fits)) (omega (arith, begins.front, begins.some)) moved
+      (λ more. held ∙ ap other here)
 
   -- after more bytes of the buffered block
-  pub at-begun : (n m : ℕ) → n ≤ left_at p → m ≡ n → IsBuffered modulus block counter buffer (stored + m)
-  at-begun n m fits size =
+  pub at-begun : {n m : ℕ} → n ≤ left_at p → m ≡ n → IsBuffered modulus block counter buffer (stored + m)
+  at-begun {n} {m} fits size =
       let same : (stored + 63) / 64 ≡ (stored + m + 63) / 64 = omega arith in
       let inside : stored + m ≤ limit_of modulus = omega (arith, at.within) in
       record {
@@ -106,12 +113,12 @@ module _ {modulus : ℕ} {block : ℕ → List ℕ} {counter : ℕ} {buffer : Li
       }
 
   -- bytes combined with what is left of that block
-  pub xor_stream-begun : (xs ys : List ℕ) → length xs ≤ left_at p → length ys ≡ length xs
+  pub xor_stream-begun : {ys : List ℕ} (xs : List ℕ) → length xs ≤ left_at p → length ys ≡ length xs
       → ((i : ℕ) → i < length xs
       → slice_index ys i ≡ bit_xor (slice_index xs i)
       (slice_index (take (stored % 64 + length xs - stored % 64) (drop (stored % 64) buffer)) i))
       → ys ≡ xor_stream (keystream modulus block) p xs
-  xor_stream-begun xs ys fits same each =
+  xor_stream-begun {ys} xs fits same each =
       xor_stream-is (keystream modulus block) p xs ys same (λ i less.
       let inside : stored / 64 < modulus = omega (arith, at.within) in
       let next : 64 * (stored / 64) + (stored % 64 + i) ≡ p + i = omega arith in

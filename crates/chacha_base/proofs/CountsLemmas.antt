@@ -91,10 +91,10 @@ grows-more w par one m k first then =
     (omega (arith, least, zero_least)) (omega (arith, most, zero_most))
 
 -- whole blocks and a last part
-pub grows-rest : (w par one n whole last : ℕ) (a b c : Counts) → whole ≡ n / 64 * 64 → last + n / 64 * 64 ≡ n
+pub grows-rest : {n whole : ℕ} {a b c : Counts} (w par one last : ℕ) → whole ≡ n / 64 * 64 → last + n / 64 * 64 ≡ n
     → Grows (for_whole_blocks w par one (whole / 64)) a b → Grows (for_last_part one last) b c
     → Grows (for_blocks w par one (n / 64) (min 1 (n % 64))) a c
-grows-rest w par one n whole last a b c cut all first then =
+grows-rest {n} {whole} {a} {c = c} w par one last cut all first then =
     let blocks : whole / 64 ≡ n / 64 = omega arith in
     let part : last ≡ n % 64 = omega arith in
     let all = grows-more w par one (whole / 64) (min 1 last) first then in
@@ -102,16 +102,16 @@ grows-rest w par one n whole last a b c cut all first then =
     (subst (λ k. Grows (for_blocks w par one (whole / 64) (min 1 k)) a c) part all)
 
 -- the same after what was left of a block
-pub grows-bytes : (w par one p len begun rest : ℕ) {a b : Counts} → begun ≡ min len (left_at p) → rest + begun ≡ len
+pub grows-bytes : {len begun : ℕ} {a b : Counts} (w par one p rest : ℕ) → begun ≡ min len (left_at p) → rest + begun ≡ len
     → Grows (for_blocks w par one (rest / 64) (min 1 (rest % 64))) a b → Grows (for_bytes w par one p len) a b
-grows-bytes w par one p len begun rest {a} {b} cut all grows =
+grows-bytes {len} {a = a} {b = b} w par one p rest cut all grows =
     let after : rest ≡ len - left_at p = omega arith in
     subst (λ n. Grows (for_blocks w par one (n / 64) (min 1 (n % 64))) a b) after grows
 
 -- a tail of some blocks: one other call, and the quarter rounds of a single block
-pub grows-tail : (one k : ℕ) (a b c : Counts) → min 1 k ≡ 1
+pub grows-tail : {a b c : Counts} (one k : ℕ) → min 1 k ≡ 1
     → b ≡ record a { other = a.other + 1 } → c ≡ record b { rounds = b.rounds + one } → Grows (for_tail one k) a c
-grows-tail one k a b c some call made =
+grows-tail {a} {b} {c} one k some call made =
     let par : c.par ≡ a.par = ap (λ s. s.par) made ∙ ap (λ s. s.par) call in
     let other : c.other ≡ a.other + 1 = ap (λ s. s.other) made ∙ ap (λ s. s.other) call in
     let rounds : c.rounds ≡ a.rounds + one = ap (λ s. s.rounds) made ∙ ap (λ s. s.rounds + one) call in

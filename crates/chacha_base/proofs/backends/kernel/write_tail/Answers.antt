@@ -16,8 +16,7 @@ pub returns-after-each-clause-steps : goal.returns-after-each-clause-steps
 returns-after-each-clause-steps g c =
     let some : min 1 (length c.args.blocks.now) ≡ 1 = grind (arith, common_steps) in
     grows-tail (2 * g.G.Group.ROUND_STEPS * g.R.Rounds.COUNT)
-    (length c.args.blocks.now) c.args.steps.now c.add_other.new.self c.mixed_words-words.new.steps some
-    c.add_other.ensures c.mixed_words-words.ensures.steps
+    (length c.args.blocks.now) some c.add_other.ensures c.mixed_words-words.ensures.steps
 
 pub returns-else-not-is_empty-clause-state : goal.returns-else-not-is_empty-clause-state
 returns-else-not-is_empty-clause-state g c =

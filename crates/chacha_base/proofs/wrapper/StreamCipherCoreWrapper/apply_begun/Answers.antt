@@ -5,11 +5,11 @@ use Rattle.chacha_base.proofs.wrapper.StreamCipherCoreWrapper.apply_begun.Goals 
 
 pub returns-clause-bytes : goal.returns-clause-bytes
 returns-clause-bytes g c =
-    xor_stream-begun c.self.invariant (ap (λ v. v.position) c.self.view_is) _ _ c.requires c.xor_bytes.auto.output
+    xor_stream-begun c.self.invariant (ap (λ v. v.position) c.self.view_is) _ c.requires c.xor_bytes.auto.output
     c.xor_bytes.ensures
     ∙ ap (λ f. xor_stream (keystream g.C.Keystream.modulus (g.C.Keystream.block_at f)) c.args.self.now.position
     c.args.bytes.now) (ap (λ v. v.fixed) c.self.view_is)
 
 pub invariant_of-self : goal.invariant_of-self
 invariant_of-self g c =
-    at-begun c.self.invariant (ap (λ v. v.position) c.self.view_is) _ _ c.requires c.xor_bytes.auto.output
+    at-begun c.self.invariant (ap (λ v. v.position) c.self.view_is) c.requires c.xor_bytes.auto.output

@@ -1,29 +1,30 @@
 use Rattle.std.proofs.Common.{length, ap, sym, ◌∙◌, arith}
 use Rattle.chacha_base.specs.Keystream.{keystream, xor_stream}
-use Rattle.chacha_base.proofs.BufferedLemmas.{at-last, some-not_empty, xor_stream-front}
+use Rattle.chacha_base.proofs.BufferedLemmas.{at-last, begins-not_empty, xor_stream-front}
 use Rattle.chacha_base.proofs.CountsLemmas.{grows-last}
 use Rattle.chacha_base.proofs.wrapper.StreamCipherCoreWrapper.apply_last.Goals as goal
 
 pub returns-then-not-is_empty-clause-bytes : goal.returns-then-not-is_empty-clause-bytes
 returns-then-not-is_empty-clause-bytes g c =
-    let some = some-not_empty (length c.args.bytes.now) c.is_empty.result c.is_empty.ensures c.if-not-is_empty.true in
-    xor_stream-front c.self.invariant (ap (λ v. v.position) c.self.view_is) _ _ _ c.write_block_counted.ensures.block
-    (c.requires.front some) some c.requires.fits (omega (arith, c.requires.part)) c.xor_bytes.auto.output
-    c.xor_bytes.ensures
+    let begins = begins-not_empty _ (length c.args.bytes.now) c.is_empty.ensures c.if-not-is_empty.true c.requires.front
+    c.requires.fits in
+    xor_stream-front c.self.invariant (ap (λ v. v.position) c.self.view_is) _ c.write_block_counted.ensures.block
+    begins (omega (arith, c.requires.part)) c.xor_bytes.auto.output c.xor_bytes.ensures
     ∙ ap (λ f. xor_stream (keystream g.C.Keystream.modulus (g.C.Keystream.block_at f)) c.args.self.now.position
     c.args.bytes.now) (ap (λ v. v.fixed) c.self.view_is)
 
 pub returns-then-not-is_empty-clause-steps : goal.returns-then-not-is_empty-clause-steps
 returns-then-not-is_empty-clause-steps g c =
-    let some = some-not_empty (length c.args.bytes.now) c.is_empty.result c.is_empty.ensures c.if-not-is_empty.true in
-    grows-last g.C.StreamCipherCore.one_cost (length c.args.bytes.now) some c.write_block_counted.ensures.steps
+    let begins = begins-not_empty _ (length c.args.bytes.now) c.is_empty.ensures c.if-not-is_empty.true c.requires.front
+    c.requires.fits in
+    grows-last g.C.StreamCipherCore.one_cost (length c.args.bytes.now) begins.some c.write_block_counted.ensures.steps
 
 pub invariant_of-self : goal.invariant_of-self
 invariant_of-self g c =
-    let block = g.C.Keystream.block_at in
-    let counter = g.C.StreamCipherCore.counter c.self.inside.core in
-    let some = some-not_empty (length c.args.bytes.now) c.is_empty.result c.is_empty.ensures c.if-not-is_empty.true in
     let made = c.write_block_counted in
-    at-last c.self.invariant (ap (λ v. v.position) c.self.view_is) (block (g.C.Keystream.fixed made.new.self)) _ _ _ _
-    (c.requires.front some) some c.requires.part c.requires.fits c.xor_bytes.auto.output made.ensures.counter
-    (made.ensures.block ∙ ap (λ f. block f counter) (sym made.ensures.fixed))
+    let begins = begins-not_empty _ (length c.args.bytes.now) c.is_empty.ensures c.if-not-is_empty.true c.requires.front
+    c.requires.fits in
+    at-last c.self.invariant (ap (λ v. v.position) c.self.view_is) begins c.requires.part c.xor_bytes.auto.output
+    made.ensures.counter
+    (made.ensures.block
+    ∙ ap (λ f. g.C.Keystream.block_at f (g.C.StreamCipherCore.counter c.self.inside.core)) (sym made.ensures.fixed))

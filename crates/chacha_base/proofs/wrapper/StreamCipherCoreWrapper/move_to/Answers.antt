@@ -20,11 +20,11 @@ invariant_of-self g c =
       | then-position-gt0 w ↦
           let made = w.write_block_counted in
           subst (λ s. IsBuffered modulus (block (fixed s.core)) (counter s.core) s.buffer p) (sym w.self-inside-is)
-          (at-sought_part modulus (block (fixed made.new.self)) p (counter set) _ _ c.requires w.if-position-gt0.true here
+          (at-sought_part c.requires w.if-position-gt0.true here
           made.ensures.counter (made.ensures.block ∙ ap (λ f. block f (counter set)) (sym made.ensures.fixed)))
       | else-position-gt0 w ↦
           subst (λ s. IsBuffered modulus (block (fixed s.core)) (counter s.core) s.buffer p) (sym w.self-inside-is)
-          (at-sought_front modulus (block (fixed set)) p _ _ c.requires w.if-position-gt0.false here)
+          (at-sought_front c.requires w.if-position-gt0.false here)
     ]
 
 pub returns-clause-steps : goal.returns-clause-steps

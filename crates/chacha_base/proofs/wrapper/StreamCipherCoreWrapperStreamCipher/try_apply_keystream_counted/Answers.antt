@@ -25,15 +25,12 @@ returns-clause-bytes g c =
 
 pub returns-clause-steps : goal.returns-clause-steps
 returns-clause-steps g c =
-    let rest = length c.split_at_mut-front.result.1.now in
-    let blocks = length c.split_at_mut-blocks.result.0.now in
-    let last = length c.split_at_mut-blocks.result.1.now in
     let width = g.C.ParBlocksSizeUser.PAR_BLOCKS in
     let par = g.C.StreamCipherCore.par_cost in
     let one = g.C.StreamCipherCore.one_cost in
-    grows-bytes width par one c.args.self.now.position (length c.args.buf.now) c.begun-begun.result rest
+    grows-bytes width par one c.args.self.now.position (length c.split_at_mut-front.result.1.now)
     c.begun-begun.ensures c.split_at_mut-front.ensures.back_len
-    (grows-rest width par one rest blocks last _ _ _ c.split_at_mut-blocks.ensures.front_len
+    (grows-rest width par one (length c.split_at_mut-blocks.result.1.now) c.split_at_mut-blocks.ensures.front_len
     c.split_at_mut-blocks.ensures.back_len c.apply_whole.ensures.steps c.apply_last.ensures.steps)
 
 pub returns-in-Err-clause-refused : goal.returns-in-Err-clause-refused
