@@ -198,7 +198,8 @@ blocks-more {modulus} {first} {a} {n} {block} {other} {old} {now} c k part alike
           (written_more (combined modulus block first old) a now part inside (room.2 ∙ size) before.done (λ i less.
           let place : first + a + i ≡ first + (a + i) = omega arith in
           let bytes = slice_index_or old (a + i) [] in
-          let kept = get_or-take k (drop a now) i [] less ∙ get_or-drop a now i [] ∙ before.rest (a + i) (omega arith) in
+          let kept = get_or-take k (drop a now) i [] less ∙ get_or-drop a now i []
+          ∙ before.rest (a + i) (omega arith) in
           made i (omega (arith, less, size))
           ∙ ap Some (ap (xor_stream (keystream modulus other) (64 * (c + i))) kept
           ∙ ap (λ b. xor_stream (keystream modulus b) (64 * (c + i)) bytes) alike

@@ -41,8 +41,10 @@ xor_shifted-is-rotl {n} k a b turn va vb j h =
     let lm : length ms ≡ n = length-replicate n (32 - k) in
     let lup : length up ≡ n = length-zip2 _ x ks (omega arith) ∙ lx in
     let ldown : length down ≡ n = length-zip2 _ x ms (omega arith) ∙ lx in
-    let word_a : slice_index a j < 2 ^ 32 = Each1-get_or (λ x. x < 2 ^ 32) a j 0 (omega arith) (below_from_Fits w32 a va.1) in
-    let word_b : slice_index b j < 2 ^ 32 = Each1-get_or (λ x. x < 2 ^ 32) b j 0 (omega arith) (below_from_Fits w32 b vb.1) in
+    let word_a : slice_index a j < 2 ^ 32 =
+    Each1-get_or (λ x. x < 2 ^ 32) a j 0 (omega arith) (below_from_Fits w32 a va.1) in
+    let word_b : slice_index b j < 2 ^ 32 =
+    Each1-get_or (λ x. x < 2 ^ 32) b j 0 (omega arith) (below_from_Fits w32 b vb.1) in
     let w = bit_xor (slice_index a j) (slice_index b j) in
     let left : k % 32 ≡ k = omega arith in
     let right : (32 - k) % 32 ≡ 32 - k = omega arith in

@@ -1,16 +1,9 @@
-use Rattle.std.proofs.Common.{◌≡◌, ◌*◌, [], min, length, slice_index_or, sym, ap, ◌∙◌, arith}
+use Rattle.std.proofs.Common.{◌≡◌, ◌*◌, min, length, sym, ap, ◌∙◌, arith}
 use Rattle.std.proofs.lemmas.Grind.{common_steps}
-use Rattle.chacha_base.specs.Bytes.{bytes}
 use Rattle.chacha_base.specs.State.{state_after}
 use Rattle.chacha_base.proofs.CountsLemmas.{grows-tail}
-use Rattle.chacha_base.proofs.ListLemmas.{one_more}
 use Rattle.chacha_base.proofs.StateLemmas.{state_after-zero}
 use Rattle.chacha_base.proofs.backends.kernel.write_tail.Goals as goal
-
-pub each-preserved : goal.each-preserved
-each-preserved g c =
-    one_more (λ h. bytes (slice_index_or c.mixed_words-words.result h [])) c.each.g c.each.blocks _
-    (omega arith) c.write_bytes.ensures c.each.invariant
 
 pub returns-after-each-clause-steps : goal.returns-after-each-clause-steps
 returns-after-each-clause-steps g c =

@@ -1,5 +1,4 @@
-use Rattle.std.proofs.Common.{◌≡◌, ◌≤◌, length, take, arith, refl, sym, ap, ap₂, subst, ◌∙◌}
-use Rattle.std.proofs.Math.Seq.{take-length}
+use Rattle.std.proofs.Common.{◌≡◌, ◌≤◌, length, refl, sym, ap, ap₂, subst, ◌∙◌}
 use Rattle.chacha_base.specs.Keystream.{keystream, xor_stream}
 use Rattle.chacha_base.proofs.CipherLemmas.{moved_on}
 use Rattle.chacha_base.proofs.PieceLemmas.{xor_stream-written, piece-within, piece-long}
@@ -28,18 +27,6 @@ pieces-preserved g c =
           c.copy_from_slice.new.self) before.fixed
           ∙ ap₂ (xor_stream stream) before.position c.copy_from_slice.ensures.after);
     }
-
-pub returns-clause-bytes : goal.returns-clause-bytes
-returns-clause-bytes g c =
-    let cipher = g.Self.Keystream in
-    let old = c.args.self.now in
-    let stream = keystream cipher.modulus (cipher.block_at (cipher.fixed old)) in
-    let output_done : c.pieces.done ≡ length c.pieces.output = omega arith in
-    let input_done : c.pieces.done ≡ length c.args.input.now = omega arith in
-    sym (ap (λ n. take n c.pieces.output) output_done ∙ take-length c.pieces.output)
-    ∙ c.pieces.invariant.bytes
-    ∙ ap (xor_stream stream (cipher.position old))
-    (ap (λ n. take n c.args.input.now) input_done ∙ take-length c.args.input.now)
 
 pub returns-then-input-output-clause-refused : goal.returns-then-input-output-clause-refused
 returns-then-input-output-clause-refused g c = (refl, refl)

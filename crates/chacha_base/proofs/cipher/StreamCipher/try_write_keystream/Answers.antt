@@ -1,5 +1,4 @@
-use Rattle.std.proofs.Common.{◌≡◌, ◌+◌, ◌≤◌, ◌-◌, length, take, drop, replicate, arith, refl, sym, ap, ap₂, subst, ◌∙◌}
-use Rattle.std.proofs.Math.Seq.{take-length}
+use Rattle.std.proofs.Common.{◌≡◌, ◌+◌, ◌≤◌, ◌-◌, length, take, drop, replicate, sym, ap, ap₂, subst, ◌∙◌}
 use Rattle.chacha_base.specs.Keystream.{keystream, xor_stream}
 use Rattle.chacha_base.proofs.CipherLemmas.{moved_on}
 use Rattle.chacha_base.proofs.KeystreamLemmas.{xor_stream-zeros}
@@ -32,10 +31,3 @@ pieces-preserved g c =
           c.fill.new.self) before.fixed
           ∙ ap₂ (xor_stream stream) before.position zeros ∙ xor_stream-zeros stream (p + done) n);
     }
-
-pub returns-clause-bytes : goal.returns-clause-bytes
-returns-clause-bytes g c =
-    let all : c.pieces.done ≡ length c.pieces.buf = omega arith in
-    let same : length c.pieces.buf ≡ length c.args.buf.now = omega arith in
-    let bytes = rw all at c.pieces.invariant.bytes in
-    sym (take-length c.pieces.buf) ∙ bytes ∙ rw same refl
