@@ -11,7 +11,7 @@ use Rattle.chacha_base.specs.Bytes.{word_bytes, bytes, words}
 pub bytes-append : (xs ys : List ℕ) → bytes (xs ++ ys) ≡ bytes xs ++ bytes ys
 bytes-append [] ys = refl
 bytes-append (x ∷ xs) ys =
-    ap (λ t. word_bytes x ++ t) (bytes-append xs ys) ∙ sym (append_assoc (word_bytes x) (bytes xs) (bytes ys))
+    rw (bytes-append xs ys) (sym (append_assoc (word_bytes x) (bytes xs) (bytes ys)))
 
 -- after a write of word i behind the bytes of the words before it
 pub bytes-written : (xs out four : List ℕ) (i : ℕ) → i < length xs → 4 * i + 4 ≤ length out

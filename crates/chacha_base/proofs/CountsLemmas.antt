@@ -39,17 +39,16 @@ grows-par n a exact =
 
 -- one other call for a last part, and none where there is none
 pub grows-last : (one n : ℕ) {a b : Counts} → 0 < n → Grows (for_single one) a b → Grows (for_last_part one n) a b
-grows-last one n {a} {b} some grows =
-    let single : 1 ≡ min 1 n = omega arith in
-    let cost : one ≡ 1 * one = omega arith in
-    subst (λ k. Grows (for_call 0 k (k * one)) a b) single (subst (λ m. Grows (for_single m) a b) cost grows)
+grows-last one n some grows =
+    let single : min 1 n ≡ 1 = omega arith in
+    let cost : 1 * one ≡ one = omega arith in
+    rw (single, cost) grows
 
 pub grows-no_last : (one n : ℕ) (a : Counts) → n ≤ 0 → Grows (for_last_part one n) a a
 grows-no_last one n a none =
-    let calls : 0 ≡ min 1 n = omega arith in
-    let rounds : 0 ≡ 0 * one = omega arith in
-    subst (λ k. Grows (for_call 0 k (k * one)) a a) calls
-    (subst (λ m. Grows (for_call 0 0 m) a a) rounds (grows-none a))
+    let calls : min 1 n ≡ 0 = omega arith in
+    let rounds : 0 * one ≡ 0 = omega arith in
+    rw (calls, rounds) (grows-none a)
 
 -- one after another
 grows-then : {x y z : Bounds} {a b c : Counts} → Grows x a b → Grows y b c

@@ -3,7 +3,7 @@
 use Rattle.std.proofs.Common.{subst, ◌≡◌, ℕ, zero, suc, ◌+◌, ◌*◌, ◌/◌, ◌%◌, ◌<◌, ◌≤◌, List, take, drop, [], ◌∷◌, ◌++◌, length, slice_index, slice_index_or, bit_xor, replicate, arith, refl, sym, ap, ap₂, ◌∙◌, append_assoc, append-nil, take-add, Some, get_or-take, get_or-drop, length-take-le, take_at, take_all, drop_at, drop-drop}
 use Rattle.std.proofs.Math.Nat.{mod-add-mod, mod-mod}
 use Rattle.std.specs.Int.Bits.{xor_zero_l}
-use Rattle.std.proofs.lemmas.List.{length-replicate, drop_all}
+use Rattle.std.proofs.lemmas.List.{get_or-replicate, length-replicate, drop_all}
 use borrow.Rule.Slice.PartMut.{put_mid}
 use Rattle.chacha_base.specs.Keystream.{keystream, xor_stream, stream_part}
 use Rattle.chacha_base.proofs.ListLemmas.{Written, written_more, part_long, slice_index_or-put_mid_above}
@@ -41,8 +41,7 @@ module _ (stream : ℕ → ℕ) where
   xor_stream-append p [] ys = let here : p + 0 ≡ p = omega arith in rw here refl
   xor_stream-append p (x ∷ xs) ys =
       let next : p + 1 + length xs ≡ p + suc (length xs) = omega arith in
-      ap (λ t. bit_xor x (stream p) ∷ t) (xor_stream-append (p + 1) xs ys
-      ∙ ap (λ q. xor_stream stream (p + 1) xs ++ xor_stream stream q ys) next)
+      rw (xor_stream-append (p + 1) xs ys, next) refl
 
   -- two parts, one after another
   pub xor_stream-parts : {q : ℕ} {all new_front new_rest : List ℕ} (p : ℕ) (front rest : List ℕ)
@@ -91,13 +90,12 @@ module _ (stream : ℕ → ℕ) where
   -- a list whose elements are a stream's
   pub streamed_is : (p n : ℕ) (xs : List ℕ) → length xs ≡ n
       → ((i : ℕ) → i < n → slice_index xs i ≡ stream (p + i)) → xs ≡ stream_part stream p n
-  streamed_is p zero [] long each = refl
-  streamed_is p (suc n) (x ∷ xs) long each =
-      let here : p + 0 ≡ p = omega arith in
-      ap₂ ◌∷◌ (each 0 (omega arith) ∙ ap stream here)
-      (streamed_is (p + 1) n xs (omega arith) (λ i less.
-      let next : p + suc i ≡ p + 1 + i = omega arith in each (suc i) (omega arith) ∙ ap stream next))
-  streamed_is p _ _ long each = absurd (omega arith)
+  streamed_is p n xs long each =
+      xor_stream-is p (replicate n 0) xs (long ∙ sym (length-replicate n 0)) (λ i less.
+      let inside : i < n = omega (arith, less, length-replicate {A = ℕ} n 0) in
+      each i inside
+      ∙ sym (ap (λ z. bit_xor z (stream (p + i))) (get_or-replicate n i 0 0 inside) ∙ xor_zero_l (stream (p + i))))
+      ∙ xor_stream-zeros p n
 
   -- m elements, and then n
   pub stream_part-add : (p m n : ℕ)
@@ -107,8 +105,7 @@ module _ (stream : ℕ → ℕ) where
   stream_part-add p (suc m) n =
       let more : suc m + n ≡ suc (m + n) = omega arith in
       let next : p + 1 + m ≡ p + suc m = omega arith in
-      rw more (ap (λ t. stream p ∷ t) (stream_part-add (p + 1) m n
-      ∙ ap (λ q. stream_part stream (p + 1) m ++ stream_part stream q n) next))
+      rw (more, stream_part-add (p + 1) m n, next) refl
 
 -- two streams that agree where they are read
 pub stream_part-same : (f g : ℕ → ℕ) (p q n : ℕ) → ((i : ℕ) → i < n → f (p + i) ≡ g (q + i))
