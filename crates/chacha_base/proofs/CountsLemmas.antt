@@ -74,31 +74,25 @@ grows-group {k} {cost} groups group =
 pub grows-blocks : (w par one m : ℕ) {a b c : Counts} → Grows (for_call (m / w) 0 (m / w * par)) a b
     → Grows (for_tail one (m % w)) b c → Grows (for_whole_blocks w par one m) a c
 grows-blocks w par one m groups tail =
-    let least = add-mul (min 1 (m % w)) 0 one in
-    let most = add-mul (m % w) 0 one in
-    grows-then groups tail (omega arith) (omega arith) (omega (arith, least)) (omega (arith, most))
+    grows-then groups tail (omega arith) (omega arith) (omega (arith, add-mul (min 1 (m % w)) 0 one))
+    (omega (arith, add-mul (m % w) 0 one))
 
 -- k single blocks after the others
 grows-more : (w par one m k : ℕ) {a b c : Counts} → Grows (for_whole_blocks w par one m) a b
     → Grows (for_call 0 k (k * one)) b c → Grows (for_blocks w par one m k) a c
 grows-more w par one m k first then =
-    let least = add-mul (min 1 (m % w)) k one in
-    let most = add-mul (m % w) k one in
-    let zero_least = add-mul (min 1 (m % w)) 0 one in
-    let zero_most = add-mul (m % w) 0 one in
     grows-then first then (omega arith) (omega arith)
-    (omega (arith, least, zero_least)) (omega (arith, most, zero_most))
+    (omega (arith, add-mul (min 1 (m % w)) k one, add-mul (min 1 (m % w)) 0 one))
+    (omega (arith, add-mul (m % w) k one, add-mul (m % w) 0 one))
 
 -- whole blocks and a last part
 pub grows-rest : {n whole : ℕ} {a b c : Counts} (w par one last : ℕ) → whole ≡ n / 64 * 64 → last + n / 64 * 64 ≡ n
     → Grows (for_whole_blocks w par one (whole / 64)) a b → Grows (for_last_part one last) b c
     → Grows (for_blocks w par one (n / 64) (min 1 (n % 64))) a c
-grows-rest {n} {whole} {a} {c = c} w par one last cut all first then =
+grows-rest {n} {whole} w par one last cut all first then =
     let blocks : whole / 64 ≡ n / 64 = omega arith in
     let part : last ≡ n % 64 = omega arith in
-    let all = grows-more w par one (whole / 64) (min 1 last) first then in
-    subst (λ m. Grows (for_blocks w par one m (min 1 (n % 64))) a c) blocks
-    (subst (λ k. Grows (for_blocks w par one (whole / 64) (min 1 k)) a c) part all)
+    rw (← blocks, ← part) (grows-more w par one (whole / 64) (min 1 last) first then)
 
 -- the same after what was left of a block
 pub grows-bytes : {len begun : ℕ} {a b : Counts} (w par one p rest : ℕ) → begun ≡ min len (left_at p)

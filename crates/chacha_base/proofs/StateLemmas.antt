@@ -85,15 +85,13 @@ module _ (layout : Layout) where
   -- the state so many blocks on
   pub fixed_words-state_after : (i : ℕ) (s t : List ℕ) → length s ≡ 16 → t ≡ state_after layout i s
       → fixed_words layout t ≡ fixed_words layout s
-  fixed_words-state_after i s t long moved =
-      ap (fixed_words layout) moved ∙ fixed_words-state_at (counter_after layout s i) s long
+  fixed_words-state_after i s t long moved = rw moved (fixed_words-state_at (counter_after layout s i) s long)
 
   pub state_counter-state_after : (i : ℕ) (s t : List ℕ) → length s ≡ 16 → t ≡ state_after layout i s
       → state_counter layout t ≡ (state_counter layout s + i) % modulus layout
   state_counter-state_after i s t long moved =
-      ap (state_counter layout) moved
-      ∙ state_counter-state_at (counter_after layout s i) s long
-      ∙ mod-mod (state_counter layout s + i) (modulus layout)
+      rw moved (state_counter-state_at (counter_after layout s i) s long
+      ∙ mod-mod (state_counter layout s + i) (modulus layout))
 
   -- no blocks on
   pub state_after-zero : (s : List ℕ) → length s ≡ 16 → Words s → state_after layout 0 s ≡ s
@@ -185,9 +183,7 @@ module _ (n : ℕ) (layout : Layout) (s : List ℕ) where
   next_blocks-more t a k now part h moved room long before made =
       written_more (next_block n layout s) a now part room long before
       (λ i less.
-      made i less
-      ∙ ap (λ u. Some (next_block n layout u i)) moved
-      ∙ ap Some (next_block-state_after a i h))
+      made i less ∙ ap Some (ap (λ u. next_block n layout u i) moved ∙ next_block-state_after a i h))
 
   -- one block more of a state that is i blocks on
   pub next_block-more : (t : List ℕ) (i : ℕ) (now : List (List ℕ)) (block : List ℕ) → length s ≡ 16
@@ -196,10 +192,8 @@ module _ (n : ℕ) (layout : Layout) (s : List ℕ) where
   next_block-more t i now block h moved room made before =
       let here : i + 0 ≡ i = omega arith in
       one_more (next_block n layout s) i now block room
-      (made
-      ∙ ap (λ u. next_block n layout u 0) moved
-      ∙ next_block-state_after i 0 h
-      ∙ ap (next_block n layout s) here) before
+      (made ∙ ap (λ u. next_block n layout u 0) moved ∙ next_block-state_after i 0 h ∙ ap (next_block n layout s) here)
+      before
 
   pub next_words-are : (now : List ℕ) → length now ≡ 64
       → ((k : ℕ) → k < 64 → slice_get now k ≡ Some (next_word n layout s k)) → now ≡ next_words n layout s
