@@ -143,12 +143,12 @@ halves_written f n xs ys zs p q long front back first second i inside =
 -- four lists in a row, piece by piece
 pub four_joined : {X : Type 0} {a b c d p q r s : List X} → a ≡ p → b ≡ q → c ≡ r → d ≡ s
     → a ++ b ++ c ++ d ≡ p ++ q ++ r ++ s
-four_joined ea eb ec ed = ap₂ ◌++◌ (ap₂ ◌++◌ (ap₂ ◌++◌ ea eb) ec) ed
+four_joined ea eb ec ed = cc
 
 -- four elements, one by one
 pub four_listed : {X : Type 0} {a b c d p q r s : X} → a ≡ p → b ≡ q → c ≡ r → d ≡ s
     → a ∷ b ∷ c ∷ d ∷ [] ≡ p ∷ q ∷ r ∷ s ∷ []
-four_listed ea eb ec ed = ap₂ ◌∷◌ ea (ap₂ ◌∷◌ eb (ap₂ ◌∷◌ ec (ap (λ x. x ∷ []) ed)))
+four_listed ea eb ec ed = cc
 
 -- a write of k elements behind a part that is written
 put_mid-behind : {X : Type 0} (a k : ℕ) (p q ys : List X) → length p ≡ a

@@ -1,6 +1,6 @@
 -- Blocks in the rows of vectors: set, moved, summed and stored. The proofs of `rows`, `group`, `rounds` and the kernel
 -- cite these. Read `Lanes` and `Vectors` first.
-use Rattle.std.proofs.Common.{◌≡◌, ℕ, ◌<◌, ◌≤◌, ◌≢◌, ◌+◌, ◌-◌, ◌*◌, ◌%◌, Bool, true, false, List, [], ◌∷◌, ◌++◌, length, drop, slice_index, refl, ap, ap₂, ◌∙◌, arith, set, length-set, get_or-set_same, get_or-set_other, if◌then◌else◌}
+use Rattle.std.proofs.Common.{◌≡◌, ℕ, ◌<◌, ◌≤◌, ◌≢◌, ◌+◌, ◌-◌, ◌*◌, ◌%◌, Bool, true, false, List, [], ◌∷◌, ◌++◌, length, drop, slice_index, refl, ap, ◌∙◌, arith, set, length-set, get_or-set_same, get_or-set_other, if◌then◌else◌}
 use Rattle.chacha_base.specs.declared.backends.vector.FourVectors.{FourVectors}
 use Rattle.chacha_base.specs.Layout.{Layout, row_at}
 use Rattle.chacha_base.specs.Lanes.{row, state_row, with_last_row}
@@ -20,16 +20,14 @@ of_columns p q r s =
 
 pub of_columns-same : {a b c d p q r s : ℕ × ℕ × ℕ × ℕ} → p ≡ a → q ≡ b → r ≡ c → s ≡ d
     → of_columns p q r s ≡ of_columns a b c d
-of_columns-same {c = c} {d = d} {p = p} {q = q} ea eb ec ed =
-    ap₂ (of_columns p q) ec ed ∙ ap₂ (λ x y. of_columns x y c d) ea eb
+of_columns-same ea eb ec ed = cc
 
 -- a column, and it word by word
 abbrev pub column_of : (a b c d : ℕ) → ℕ × ℕ × ℕ × ℕ
 column_of a b c d = (a, b, c, d)
 
 pub column_of-same : {a b c d p q r s : ℕ} → p ≡ a → q ≡ b → r ≡ c → s ≡ d → column_of p q r s ≡ column_of a b c d
-column_of-same {c = c} {d = d} {p = p} {q = q} ea eb ec ed =
-    ap₂ (column_of p q) ec ed ∙ ap₂ (λ x y. column_of x y c d) ea eb
+column_of-same ea eb ec ed = cc
 
 -- what is made of two lists, where one or the other pair is taken
 pub either-same : {a b p q r s : List ℕ} (f : List ℕ → List ℕ → List ℕ) (front : Bool)
