@@ -96,7 +96,8 @@ grows-rest {n} {whole} w par one last cut all first then =
 
 -- the same after what was left of a block
 pub grows-bytes : {len begun : ℕ} {a b : Counts} (w par one p rest : ℕ) → begun ≡ min len (left_at p)
-    → rest + begun ≡ len → Grows (for_blocks w par one (rest / 64) (min 1 (rest % 64))) a b → Grows (for_bytes w par one p len) a b
+    → rest + begun ≡ len → Grows (for_blocks w par one (rest / 64) (min 1 (rest % 64))) a b
+    → Grows (for_bytes w par one p len) a b
 grows-bytes {len} {a = a} {b = b} w par one p rest cut all grows =
     let after : rest ≡ len - left_at p = omega arith in
     subst (λ n. Grows (for_blocks w par one (n / 64) (min 1 (n % 64))) a b) after grows
