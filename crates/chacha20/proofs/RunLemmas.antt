@@ -11,7 +11,6 @@ use Rattle.std.proofs.Math.Seq.{take-add}
 use Rattle.std.specs.Bool.{Decides}
 use Rattle.std.proofs.lemmas.Bool.{le-leb, leb-true, cases_Bool, false≢true}
 use Rattle.std.proofs.lemmas.Int.{to_z-of_z}
-use Rattle.std.proofs.lemmas.Result.{on_ok_weaker, on_err_weaker}
 use mir.Val.{to_z, of_z}
 use mir.Syntax.{w32}
 use Rattle.std.proofs.lemmas.Bool.Decides.{Decides-and, Decides-eqb, Decides-like}
@@ -62,27 +61,17 @@ put-next at len more ys zs xs inside size =
 -- what a call on c and old bytes that may be refused leaves: if its result is `Ok`, position p and the data `after`
 pub record Leaves {E : Type 0} (r : Result (Unit {0}) E) (c : Cipher) (old : List ℕ) (p : ℕ) (after : List ℕ)
     (left : CipherOutcome) : Type 0 where
-  pub done : OnOk r (left.answer ≡ Done)
-  pub fixed : OnOk r (left.cipher.fixed ≡ c.fixed)
-  pub position : OnOk r (left.cipher.position ≡ p)
-  pub bytes : OnOk r (left.bytes ≡ after)
-  pub refused : OnErr r (left.answer ≡ Refused)
-  pub same : OnErr r ((left.bytes ≡ old) × (left.cipher ≡ c))
+  pub done : OnOk r (left ≡ record { answer = Done; cipher = record c { position = p }; bytes = after })
+  pub refused : OnErr r (left ≡ record { answer = Refused; cipher = c; bytes = old })
 
 -- that is the outcome of a call that is accepted where the test says yes
 pub outcome-is : {E P : Type 0} {r : Result (Unit {0}) E} {c : Cipher} {bytes : List ℕ} {p : ℕ} {after : List ℕ}
     {left : CipherOutcome} (test : Bool) → Decides test P → IsOk r ↔ P → Leaves r c bytes p after left
     → done_if test c bytes p after ≡ left
-outcome-is {r = Ok x} true tells accepted is =
-    λ i. record {
-      answer = sym is.done i;
-      cipher = record { fixed = sym is.fixed i; position = sym is.position i };
-      bytes = sym is.bytes i;
-    }
+outcome-is {r = Ok x} true tells accepted is = sym is.done
 outcome-is {r = Ok x} false tells accepted is = absurd (false≢true (tells.1 (accepted.0 refl)))
 outcome-is {r = Err e} true tells accepted is = absurd (false≢true (accepted.1 (tells.0 refl)))
-outcome-is {r = Err e} false tells accepted is =
-    λ i. record { answer = sym is.refused i; cipher = sym is.same.1 i; bytes = sym is.same.0 i }
+outcome-is {r = Err e} false tells accepted is = sym is.refused
 
 leb-Decides : (m n : ℕ) → Decides (nat_le m n) (m ≤ n)
 leb-Decides m n = (leb-true m n, le-leb m n)
@@ -92,11 +81,7 @@ pub le-outcome-is : {E : Type 0} {r : Result (Unit {0}) E} {c : Cipher} {old : L
     → done_if (nat_le m n) c old p after ≡ left
 le-outcome-is m n = outcome-is _ (leb-Decides m n)
 
-pub on_ok : {T E P : Type 0} (r : Result T E) → P → OnOk r P
-on_ok (Ok x) holds = holds
-on_ok (Err e) holds = tt
-
-on_ok_given : {T E P Q : Type 0} (r : Result T E) → (IsOk r → P → Q) → OnOk r P → OnOk r Q
+pub on_ok_given : {T E P Q : Type 0} (r : Result T E) → (IsOk r → P → Q) → OnOk r P → OnOk r Q
 on_ok_given (Ok x) next holds = next refl holds
 on_ok_given (Err e) next holds = tt
 
@@ -104,7 +89,7 @@ on_ok_given (Err e) next holds = tt
 abbrev answered : CipherAnswer → Cipher → List ℕ → CipherOutcome
 answered a c old = record { answer = a; cipher = c; bytes = old }
 
--- what the contracts of the private `answer`, of a seek and of a call that writes n bytes say
+-- what the contracts of the private `answer`, of a seek and of a call that writes say
 abbrev pub Answers : {E : Type 0} → Result (Unit {0}) E → CipherAnswer → Type 0
 Answers r a = record { done : OnOk r (a ≡ Done); refused : OnErr r (a ≡ Refused) }
 
@@ -116,53 +101,59 @@ Seeks r Accepted There c d = record {
   refused : OnErr r (d ≡ c);
 }
 
-abbrev pub Writes : {E : Type 0} → Result (Unit {0}) E → Type 0 → Cipher → Cipher → ℕ → List ℕ → List ℕ → List ℕ
+abbrev pub Writes : {E : Type 0} → Result (Unit {0}) E → Type 0 → Type 0 → Cipher → Cipher → List ℕ → List ℕ → List ℕ
     → Type 0
-Writes r Accepted c d n old new made = record {
+Writes r Accepted There c d old new made = record {
   accepted : IsOk r ↔ Accepted;
   bytes : OnOk r (new ≡ made);
   fixed : OnOk r (d.fixed ≡ c.fixed);
-  position : OnOk r (d.position ≡ c.position + n);
+  position : OnOk r There;
   refused : OnErr r ((new ≡ old) × (d ≡ c));
 }
 
--- what they leave
+-- what a check, a seek and a write leave
+pub check-leaves : {E : Type 0} {r : Result (Unit {0}) E} {c : Cipher} {old : List ℕ} {a : CipherAnswer}
+    → Answers r a → Leaves r c old c.position old (answered a c old)
+check-leaves {r = Ok x} {c} {old} told = record { done = ap (λ a. answered a c old) told.done; refused = tt }
+check-leaves {r = Err e} {c} {old} told = record { done = tt; refused = ap (λ a. answered a c old) told.refused }
+
 pub seek-leaves : {E : Type 0} {r : Result (Unit {0}) E} {c d : Cipher} {old : List ℕ} {p : ℕ} {a : CipherAnswer}
     (Accepted : Type 0) → Seeks r Accepted (d.position ≡ p) c d → Answers r a
     → Leaves r c old p old (answered a d old)
-seek-leaves {r = r} Accepted said answered = record {
-  done = answered.done;
-  fixed = said.fixed;
-  position = said.position;
-  bytes = on_ok r refl;
-  refused = answered.refused;
-  same = on_err_weaker r (λ same. (refl, same)) said.refused;
+seek-leaves {r = Ok x} {old = old} Accepted said told = record {
+  done = λ i. answered (told.done i) (record { fixed = said.fixed i; position = said.position i }) old;
+  refused = tt;
 }
+seek-leaves {r = Err e} {old = old} Accepted said told =
+    record { done = tt; refused = λ i. answered (told.refused i) (said.refused i) old }
+
+pub put-leaves : {E : Type 0} {r : Result (Unit {0}) E} {c d : Cipher} {old : List ℕ} {a : CipherAnswer} {p : ℕ}
+    (at len : ℕ) (new made : List ℕ) (Accepted : Type 0)
+    → Writes r Accepted (d.position ≡ p) c d (part at len old) new made → Answers r a
+    → Leaves r c old p (put at len made old) (record { answer = a; cipher = d; bytes = put at len new old })
+put-leaves {r = Ok x} {old = old} at len new made Accepted said told =
+    record {
+      done = λ i. record {
+        answer = told.done i;
+        cipher = record { fixed = said.fixed i; position = said.position i };
+        bytes = put at len (said.bytes i) old;
+      };
+      refused = tt;
+    }
+put-leaves {r = Err e} {old = old} at len new made Accepted said told =
+    let same = ap (λ ys. put at len ys old) said.refused.0 ∙ put_same at len old in
+    record {
+      done = tt;
+      refused = λ i. record { answer = told.refused i; cipher = said.refused.1 i; bytes = same i };
+    }
 
 pub seek_i32-is : {E : Type 0} {d : Cipher} {a : CipherAnswer} (s : Setting) (c : Cipher) (old : List ℕ) (z : ℤ)
     (r : Result (Unit {0}) E)
     → Seeks r (IsSomeAnd (signed_position z) (λ p. p ≤ s.limit)) (IfSome (signed_position z) (λ p. d.position ≡ p)) c d
     → Answers r a → cipher_outcome s c old (SeekI32 z) ≡ answered a d old
-seek_i32-is s c old (pos p) r said answered = le-outcome-is p s.limit said.accepted (seek-leaves _ said answered)
-seek_i32-is s c old (negsuc p) (Ok x) said answered = absurd (said.accepted.0 refl)
-seek_i32-is s c old (negsuc p) (Err e) said answered =
-    λ i. record { answer = sym answered.refused i; cipher = sym said.refused i; bytes = old }
-
--- the range that is written has l bytes, which are len
-pub put-leaves : {E : Type 0} {r : Result (Unit {0}) E} {c d : Cipher} {old : List ℕ} {a : CipherAnswer} {p : ℕ}
-    (n at len l : ℕ) (new made : List ℕ) (Accepted : Type 0) → (IsOk r → c.position + n ≡ p) → l ≡ len
-    → Writes r Accepted c d n (part at len old) new made → Answers r a
-    → Leaves r c old p (put at len made old) (record { answer = a; cipher = d; bytes = put at l new old })
-put-leaves {r = r} {old = old} n at len l new made Accepted there width said answered =
-    let write = λ (xs ys : List ℕ) (same : xs ≡ ys). ap₂ (λ k zs. put at k zs old) width same in
-    record {
-      done = answered.done;
-      fixed = said.fixed;
-      position = on_ok_given r (λ ok place. place ∙ there ok) said.position;
-      bytes = on_ok_weaker r (write new made) said.bytes;
-      refused = answered.refused;
-      same = on_err_weaker r (λ same. (write new (part at len old) same.0 ∙ put_same at len old, same.1)) said.refused;
-    }
+seek_i32-is s c old (pos p) r said told = le-outcome-is p s.limit said.accepted (seek-leaves _ said told)
+seek_i32-is s c old (negsuc p) (Ok x) said told = absurd (said.accepted.0 refl)
+seek_i32-is s c old (negsuc p) (Err e) said told = λ i. answered (sym told.refused i) (sym said.refused i) old
 
 pub both-Decides : (a b p limit : ℕ) → Decides ((a == b) && nat_le (p + b) limit) ((a ≡ b) × (p + a ≤ limit))
 both-Decides a b p limit =
@@ -185,123 +176,9 @@ pos_i32-is {c} {old} (pos p) fits is =
     rw (le-leb c.position (2 ^ 31 - 1) fits) (ap (λ (z : ℤ). answered (PositionI32 z) c old) number)
 pos_i32-is (negsuc p) fits is = absurd (cc)
 
--- what an application that is accepted leaves
-abbrev applied : Setting → Cipher → List ℕ → ℕ → ℕ → CipherOutcome
-applied s c bytes at len = record {
-  answer = Done;
-  cipher = record c { position = c.position + len };
-  bytes = put at len (xor_stream (s.stream c.fixed) c.position (part at len bytes)) bytes;
-}
-
-apply-is : (s : Setting) (c : Cipher) (bytes : List ℕ) (at len : ℕ) → c.position + len ≤ s.limit
-    → cipher_outcome s c bytes (Apply at len) ≡ applied s c bytes at len
-apply-is s c bytes at len fits = rw (le-leb (c.position + len) s.limit fits) refl
-
--- an application that was answered by `Done`
-apply-fits : (s : Setting) (c : Cipher) (bytes : List ℕ) (at len : ℕ)
-    → (cipher_outcome s c bytes (Apply at len)).answer ≡ Done → c.position + len ≤ s.limit
-apply-fits s c bytes at len done =
-    elim (cases_Bool (nat_le (c.position + len) s.limit)) [
-      | inl within ↦ leb-true (c.position + len) s.limit within
-      | inr past ↦ let refused : Refused ≡ Done = rw past at done in cc
-    ]
-
-length-applied : (s : Setting) (c : Cipher) (bytes : List ℕ) (at len : ℕ)
-    → length (applied s c bytes at len).bytes ≡ length bytes
-length-applied s c bytes at len =
-    same_len_mid at len bytes _ (length-xor_stream (s.stream c.fixed) c.position (part at len bytes))
-
--- an application and another of the range behind it, and an application and another of the same range
-applied-more : (s : Setting) (c : Cipher) (bytes : List ℕ) (at len more : ℕ) → at + (len + more) ≤ length bytes
-    → (let first = applied s c bytes at len in applied s first.cipher first.bytes (at + len) more)
-    ≡ applied s c bytes at (len + more)
-applied-more s c bytes at len more inside =
-    let stream = s.stream c.fixed in
-    let p = c.position in
-    let old = part at len bytes in
-    let long : length old ≡ len = length-part at len bytes (omega arith) in
-    let ys = xor_stream stream p old in
-    let size = length-xor_stream stream p old ∙ long in
-    let place : p + len + more ≡ p + (len + more) = omega arith in
-    let behind : part (at + len) more (put at len ys bytes) ≡ part (at + len) more bytes =
-    ap (take more) (drop-put_mid at len bytes ys (at + len) (omega arith) (omega arith) size) in
-    let all : ys ++ xor_stream stream (p + len) (part (at + len) more bytes)
-    ≡ xor_stream stream p (part at (len + more) bytes) =
-    ap (λ k. ys ++ xor_stream stream (p + k) (part (at + len) more bytes)) (sym long)
-    ∙ sym (xor_stream-append stream p old (part (at + len) more bytes))
-    ∙ ap (xor_stream stream p) (sym (part-add at len more bytes)) in
-    let made =
-    put-next at len more ys (xor_stream stream (p + len) (part (at + len) more (put at len ys bytes))) bytes
-    (omega arith) size
-    ∙ ap (λ zs. put at (len + more) (ys ++ xor_stream stream (p + len) zs) bytes) behind
-    ∙ ap (λ zs. put at (len + more) zs bytes) all in
-    λ i. record { answer = Done; cipher = record c { position = place i }; bytes = made i }
-
-applied-again : (s : Setting) (c : Cipher) (bytes : List ℕ) (at len : ℕ) → at + len ≤ length bytes
-    → (applied s c (applied s c bytes at len).bytes at len).bytes ≡ bytes
-applied-again s c bytes at len inside =
-    let stream = s.stream c.fixed in
-    let old = part at len bytes in
-    let ys = xor_stream stream c.position old in
-    let size = length-xor_stream stream c.position old ∙ length-part at len bytes inside in
-    ap (λ t. put at len t (put at len ys bytes))
-    (ap (xor_stream stream c.position) (part-put at len ys bytes (omega arith) size)
-    ∙ xor_stream-xor_stream stream c.position old)
-    ∙ put-put at len ys old bytes (omega arith) size
-    ∙ put_same at len bytes
-
 -- answers that are written, and then a run of what is left
 abbrev pub behind : {A S : Type 0} → List A → List A × S × List ℕ → List A × S × List ℕ
 behind front left = (front ++ left.0, left.1, left.2)
-
--- a run's first call, of which the outcome is known
-run-first : {o : CipherOutcome} (s : Setting) (c : Cipher) (bytes : List ℕ) (k : CipherCall) (ks : List CipherCall)
-    → cipher_outcome s c bytes k ≡ o
-    → cipher_run s c bytes (k ∷ ks) ≡ behind (o.answer ∷ []) (cipher_run s o.cipher o.bytes ks)
-run-first s c bytes k ks is = ap (λ (o : CipherOutcome). behind (o.answer ∷ []) (cipher_run s o.cipher o.bytes ks)) is
-
-run-again : (s : Setting) (c : Cipher) (bytes : List ℕ) (at len : ℕ) → c.position + len ≤ s.limit
-    → (let first = applied s c bytes at len in
-    cipher_run s c bytes (Apply at len ∷ Seek c.position ∷ Apply at len ∷ [])
-    ≡ (Done ∷ Done ∷ Done ∷ [], first.cipher, (applied s c first.bytes at len).bytes))
-run-again s c bytes at len fits =
-    let first = applied s c bytes at len in
-    let sought : cipher_outcome s first.cipher first.bytes (Seek c.position)
-    ≡ record { answer = Done; cipher = c; bytes = first.bytes } = rw (le-leb c.position s.limit (omega arith)) refl in
-    let again = run-first s c first.bytes (Apply at len) [] (apply-is s c first.bytes at len fits) in
-    let back = run-first s first.cipher first.bytes (Seek c.position) (Apply at len ∷ []) sought in
-    run-first s c bytes (Apply at len) (Seek c.position ∷ Apply at len ∷ []) (apply-is s c bytes at len fits)
-    ∙ ap (behind (Done ∷ [])) (back ∙ ap (behind (Done ∷ [])) again)
-
--- pieces that lie in the data lie in it together
-pieces-fit : (input n at len : ℕ) (lens : List ℕ) → AllByRecursion (InSlices input n) (pieces at (len ∷ lens))
-    → at + (len + sum lens) ≤ n
-pieces-fit input n at len [] h = let here : at + len ≤ n = h.0 in omega arith
-pieces-fit input n at len (l ∷ ls) h =
-    omega (arith, pieces-fit input n (at + len) l ls h.1, sum_by-cons (λ x. x) l ls)
-
--- what a run leaves is what a call leaves
-abbrev Ends : List CipherAnswer × Cipher × List ℕ → CipherOutcome → Type 0
-Ends run o = (run.1 ≡ o.cipher) × (run.2 ≡ o.bytes)
-
--- a range that is applied piece by piece is applied as a whole
-run-pieces : (s : Setting) (input at : ℕ) (lens : List ℕ) (c : Cipher) (bytes : List ℕ)
-    → AllByRecursion (InSlices input (length bytes)) (pieces at lens) → c.position + sum lens ≤ s.limit
-    → Ends (cipher_run s c bytes (pieces at lens)) (applied s c bytes at (sum lens))
-run-pieces s input at [] c bytes ranges fits =
-    let still : c.position + 0 ≡ c.position = omega arith in
-    (ap (λ p. record c { position = p }) (sym still), sym (put_same at 0 bytes))
-run-pieces s input at (len ∷ lens) c bytes ranges fits =
-    let all : sum (len ∷ lens) ≡ len + sum lens = sum_by-cons (λ x. x) len lens in
-    let inside : at + (len + sum lens) ≤ length bytes = pieces-fit input (length bytes) at len lens ranges in
-    let first = applied s c bytes at len in
-    let same = sym (length-applied s c bytes at len) in
-    let rest = subst (λ n. AllByRecursion (InSlices input n) (pieces (at + len) lens)) same ranges.1 in
-    let run = λ (o : CipherOutcome). cipher_run s o.cipher o.bytes (pieces (at + len) lens) in
-    let whole = applied-more s c bytes at len (sum lens) inside ∙ ap (applied s c bytes at) (sym all) in
-    let next = run-pieces s input (at + len) lens first.cipher first.bytes rest (omega (arith, all)) in
-    subst (λ o. Ends (run o) (applied s c bytes at (sum (len ∷ lens))))
-    (sym (apply-is s c bytes at len (omega (arith, all)))) (subst (Ends (run first)) whole next)
 
 -- one call more: `now` and `next` run what is left before it and after it
 pub run-more : {K A S : Type 0} {whole : List A × S × List ℕ} {k : K} {a : A} {calls left : List K} {longer : List A}
@@ -321,6 +198,102 @@ run-all {end = end} {new = new} rest front none ran all same =
     sym (ran
     ∙ ap (behind front) (ap rest all ∙ none)
     ∙ ap (λ xs. (xs, end, new)) (append-nil front ∙ same))
+
+-- what an application that is accepted leaves
+abbrev applied : Setting → Cipher → List ℕ → ℕ → ℕ → CipherOutcome
+applied s c bytes at len = record {
+  answer = Done;
+  cipher = record c { position = c.position + len };
+  bytes = put at len (xor_stream (s.stream c.fixed) c.position (part at len bytes)) bytes;
+}
+
+module _ (s : Setting) (c : Cipher) (bytes : List ℕ) (at len : ℕ) where
+  apply-is : c.position + len ≤ s.limit → cipher_outcome s c bytes (Apply at len) ≡ applied s c bytes at len
+  apply-is fits = rw (le-leb (c.position + len) s.limit fits) refl
+
+  -- an application that was answered by `Done`
+  apply-fits : (cipher_outcome s c bytes (Apply at len)).answer ≡ Done → c.position + len ≤ s.limit
+  apply-fits done =
+      elim (cases_Bool (nat_le (c.position + len) s.limit)) [
+        | inl within ↦ leb-true (c.position + len) s.limit within
+        | inr past ↦ let refused : Refused ≡ Done = rw past at done in cc
+      ]
+
+  length-applied : length (applied s c bytes at len).bytes ≡ length bytes
+  length-applied = same_len_mid at len bytes _ (length-xor_stream (s.stream c.fixed) c.position (part at len bytes))
+
+  -- an application and another of the range behind it, and an application and another of the same range
+  applied-more : (more : ℕ) → at + (len + more) ≤ length bytes
+      → (let first = applied s c bytes at len in applied s first.cipher first.bytes (at + len) more)
+      ≡ applied s c bytes at (len + more)
+  applied-more more inside =
+      let stream = s.stream c.fixed in
+      let p = c.position in
+      let old = part at len bytes in
+      let rest = part (at + len) more bytes in
+      let ys = xor_stream stream p old in
+      let long : length old ≡ len = length-part at len bytes (omega arith) in
+      let size = length-xor_stream stream p old ∙ long in
+      let place : p + len + more ≡ p + (len + more) = omega arith in
+      let behind : part (at + len) more (put at len ys bytes) ≡ rest =
+      ap (take more) (drop-put_mid at len bytes ys (at + len) (omega arith) (omega arith) size) in
+      let made =
+      ap (λ zs. put (at + len) more (xor_stream stream (p + len) zs) (put at len ys bytes)) behind
+      ∙ put-next at len more ys (xor_stream stream (p + len) rest) bytes (omega arith) size
+      ∙ ap (λ zs. put at (len + more) zs bytes)
+      (ap (λ k. ys ++ xor_stream stream (p + k) rest) (sym long)
+      ∙ sym (xor_stream-append stream p old rest)
+      ∙ ap (xor_stream stream p) (sym (part-add at len more bytes))) in
+      λ i. record { answer = Done; cipher = record c { position = place i }; bytes = made i }
+
+  applied-again : at + len ≤ length bytes → (applied s c (applied s c bytes at len).bytes at len).bytes ≡ bytes
+  applied-again inside =
+      let stream = s.stream c.fixed in
+      let old = part at len bytes in
+      let ys = xor_stream stream c.position old in
+      let size = length-xor_stream stream c.position old ∙ length-part at len bytes inside in
+      ap (λ t. put at len t (put at len ys bytes))
+      (ap (xor_stream stream c.position) (part-put at len ys bytes (omega arith) size)
+      ∙ xor_stream-xor_stream stream c.position old)
+      ∙ put-put at len ys old bytes (omega arith) size
+      ∙ put_same at len bytes
+
+  run-again : c.position + len ≤ s.limit
+      → (let first = applied s c bytes at len in
+      cipher_run s c bytes (Apply at len ∷ Seek c.position ∷ Apply at len ∷ [])
+      ≡ (Done ∷ Done ∷ Done ∷ [], first.cipher, (applied s c first.bytes at len).bytes))
+  run-again fits =
+      let room = le-leb (c.position + len) s.limit fits in
+      rw (room, le-leb c.position s.limit (omega arith), room)
+
+-- pieces that lie in the data lie in it together
+pieces-fit : (input n at len : ℕ) (lens : List ℕ) → AllByRecursion (InSlices input n) (pieces at (len ∷ lens))
+    → at + (len + sum lens) ≤ n
+pieces-fit input n at len [] h = let here : at + len ≤ n = h.0 in omega arith
+pieces-fit input n at len (l ∷ ls) h =
+    omega (arith, pieces-fit input n (at + len) l ls h.1, sum_by-cons (λ x. x) l ls)
+
+-- what a run leaves is what a call leaves
+abbrev Ends : List CipherAnswer × Cipher × List ℕ → CipherOutcome → Type 0
+Ends run o = (run.1 ≡ o.cipher) × (run.2 ≡ o.bytes)
+
+-- a range that is applied piece by piece is applied as a whole
+run-pieces : {n : ℕ} (s : Setting) (at : ℕ) (lens : List ℕ) (c : Cipher) (bytes : List ℕ) → length bytes ≡ n
+    → AllByRecursion (InSlices (length s.input) n) (pieces at lens) → c.position + sum lens ≤ s.limit
+    → Ends (cipher_run s c bytes (pieces at lens)) (applied s c bytes at (sum lens))
+run-pieces s at [] c bytes size ranges fits =
+    let still : c.position + 0 ≡ c.position = omega arith in
+    (ap (λ p. record c { position = p }) (sym still), sym (put_same at 0 bytes))
+run-pieces {n} s at (len ∷ lens) c bytes size ranges fits =
+    let all : sum (len ∷ lens) ≡ len + sum lens = sum_by-cons (λ x. x) len lens in
+    let inside : at + (len + sum lens) ≤ length bytes = rw size (pieces-fit (length s.input) n at len lens ranges) in
+    let first = applied s c bytes at len in
+    let run = λ (o : CipherOutcome). cipher_run s o.cipher o.bytes (pieces (at + len) lens) in
+    let next = run-pieces s (at + len) lens first.cipher first.bytes (length-applied s c bytes at len ∙ size) ranges.1
+    (omega (arith, all)) in
+    let whole = applied-more s c bytes at len (sum lens) inside ∙ ap (applied s c bytes at) (sym all) in
+    subst (λ o. Ends (run o) (applied s c bytes at (sum (len ∷ lens))))
+    (sym (apply-is s c bytes at len (omega (arith, all)))) (subst (Ends (run first)) whole next)
 
 -- a run of calls whose ranges lie in the data
 pub record Ran (s : Setting) (c : Cipher) (old : List ℕ) (calls : List CipherCall)
@@ -351,6 +324,6 @@ law-cut_anywhere {s} {c} {old} ran at lens these done =
     let all = ran.run ∙ ap (cipher_run s c old) these in
     let fits = apply-fits s c old at (sum lens) done in
     let ranges = subst (AllByRecursion (InSlices (length s.input) (length old))) these ran.ranges in
-    let cut = run-pieces s (length s.input) at lens c old ranges fits in
+    let cut = run-pieces s at lens c old refl ranges fits in
     let whole = sym (apply-is s c old at (sum lens) fits) in
     (ap (λ r. r.1) all ∙ cut.0 ∙ ap (λ a. a.cipher) whole, ap (λ r. r.2) all ∙ cut.1 ∙ ap (λ a. a.bytes) whole)

@@ -3,25 +3,16 @@ use Rattle.std.proofs.lemmas.Int.{to_z-of_z}
 use Rattle.std.specs.Prelude.{IsOk}
 use mir.Val.{SFits}
 use mir.Syntax.{w32}
-use Rattle.chacha_base.proofs.CipherLemmas.{on_err}
 use Rattle.chacha20.specs.declared.runs.CipherCall.TheVariants.{SeekI32}
 use Rattle.chacha20.specs.Runs.{setting, cipher_outcome}
-use Rattle.chacha20.proofs.RunLemmas.{length-part, outcome-is, le-outcome-is, on_ok, seek-leaves, seek_i32-is, put-leaves, both-Decides, pos-is, pos_i32-is}
+use Rattle.chacha20.proofs.RunLemmas.{length-part, outcome-is, le-outcome-is, on_ok_given, check-leaves, seek-leaves, seek_i32-is, put-leaves, both-Decides, pos-is, pos_i32-is}
 use Rattle.chacha20.proofs.runs.call_cipher.Goals as goal
 
 pub returns-in-CheckRemaining : goal.returns-in-CheckRemaining
 returns-in-CheckRemaining g c =
     let s = setting g.C.Keystream.modulus g.C.Keystream.block_at c.args.input.now in
-    let r = c.check_remaining.result in
     ap (cipher_outcome s c.args.cipher.now c.args.data.now) c.in-CheckRemaining.is
-    ∙ le-outcome-is _ _ c.check_remaining.ensures.accepted (record {
-      done = c.answer.ensures.done;
-      fixed = on_ok r refl;
-      position = on_ok r refl;
-      bytes = on_ok r refl;
-      refused = c.answer.ensures.refused;
-      same = on_err r (refl, refl);
-    })
+    ∙ le-outcome-is _ _ c.check_remaining.ensures.accepted (check-leaves c.answer.ensures)
 
 -- a call on data[at..at + len] has at + len - at bytes
 pub returns-in-Apply : goal.returns-in-Apply
@@ -32,8 +23,7 @@ returns-in-Apply g c =
     let size = length-part range.at range.len c.args.data.now (rw range.is at c.requires) in
     let said = rw (width, size) at c.try_apply_keystream.ensures in
     ap (cipher_outcome s c.args.cipher.now c.args.data.now) range.is
-    ∙ le-outcome-is _ _ said.accepted
-    (put-leaves range.len range.at range.len _ _ _ _ (λ ok. refl) width said c.answer-in-Apply.ensures)
+    ∙ rw width (le-outcome-is _ _ said.accepted (put-leaves range.at range.len _ _ _ said c.answer-in-Apply.ensures))
 
 pub returns-in-Write : goal.returns-in-Write
 returns-in-Write g c =
@@ -43,8 +33,7 @@ returns-in-Write g c =
     let size = length-part range.at range.len c.args.data.now (rw range.is at c.requires) in
     let said = rw (width, size) at c.try_write_keystream.ensures in
     ap (cipher_outcome s c.args.cipher.now c.args.data.now) range.is
-    ∙ le-outcome-is _ _ said.accepted
-    (put-leaves range.len range.at range.len _ _ _ _ (λ ok. refl) width said c.answer-in-Write.ensures)
+    ∙ rw width (le-outcome-is _ _ said.accepted (put-leaves range.at range.len _ _ _ said c.answer-in-Write.ensures))
 
 pub returns-in-ApplyFrom : goal.returns-in-ApplyFrom
 returns-in-ApplyFrom g c =
@@ -59,8 +48,14 @@ returns-in-ApplyFrom g c =
     let there = λ (ok : IsOk c.try_apply_keystream_b2b.result).
     ap (λ n. c.args.cipher.now.position + n) (said.accepted.0 ok).0 in
     ap (cipher_outcome s c.args.cipher.now c.args.data.now) range.is
-    ∙ outcome-is _ (both-Decides range.from_len range.len _ _) said.accepted
-    (put-leaves range.from_len range.at range.len _ _ _ _ there width said c.answer-in-ApplyFrom.ensures)
+    ∙ rw width (outcome-is _ (both-Decides range.from_len range.len _ _) said.accepted
+    (put-leaves range.at range.len _ _ _ (record {
+      accepted = said.accepted;
+      bytes = said.bytes;
+      fixed = said.fixed;
+      position = on_ok_given _ (λ ok place. place ∙ there ok) said.position;
+      refused = said.refused;
+    }) c.answer-in-ApplyFrom.ensures))
 
 pub returns-in-Seek : goal.returns-in-Seek
 returns-in-Seek g c =
