@@ -18,7 +18,7 @@ use Rattle.chacha_base.specs.Rounds.{mix}
 use Rattle.chacha_base.specs.State.{fixed_words, state_of, state_at, counter_after, state_after, next_words}
 use Rattle.chacha_base.proofs.StateLemmas.{length-state_at, fixed_words-state_after, state_counter-state_after, state_of-start, next_words-at}
 use Rattle.chacha20.proofs.GeneratorLemmas.{length-bytes, length-seed_in, generator_is}
-use Rattle.chacha20.proofs.RepeatedLemmas.{word-same, words-same, at-same, fill-words}
+use Rattle.chacha20.proofs.RepeatedLemmas.{word-same, words-same, at-same, fill-words, fill-add}
 use Rattle.chacha20.specs.Generator.{GeneratorState, positions, at_word_pos, word, next_u32, next_u64, fill}
 use Rattle.chacha20.specs.Unread.{seed_in, stream_in, IsStart, generator_of, IsUnread}
 
@@ -126,63 +126,59 @@ two_reads {h} {i} {low} {high} n g first then =
     (ap (λ (p : ℕ × GeneratorState). p.0) second ∙ word-same n g _ _ wrapped))
     (ap (λ (p : ℕ × GeneratorState). p.1) second ∙ at-same g _ _ after)
 
--- k words more are written, behind those before them
-pub words-written : {n : ℕ} {core buffer : List ℕ} {i : ℕ} {part : List ℕ} → IsUnread n core buffer i
-    → (rng : GeneratorState) (k done : ℕ) (dst : List ℕ) → i + k ≤ 64 → length buffer ≡ 64
-    → generator_of core i ≡ at_word_pos rng (rng.word_pos + done) → 4 * (done + k) ≤ length dst
-    → take (4 * done) dst ≡ bytes (stream_part (word n rng) rng.word_pos done)
+-- so many words of a fill are written to dst, and the generator has moved on by as many
+pub record FilledTo (n : ℕ) (rng : GeneratorState) (done : ℕ) (core buffer : List ℕ) (i : ℕ) (dst : List ℕ) : Type 0 where
+  pub unread : IsUnread n core buffer i
+  pub long : length buffer ≡ 64
+  pub moved : generator_of core i ≡ at_word_pos rng (rng.word_pos + done)
+  pub made : take (4 * done) dst ≡ bytes (stream_part (word n rng) rng.word_pos done)
+
+-- k words more, behind those before them
+pub words-more : {n : ℕ} {rng : GeneratorState} {done : ℕ} {core buffer : List ℕ} {i : ℕ} {dst part : List ℕ}
+    → FilledTo n rng done core buffer i dst → (k : ℕ) → i + k ≤ 64 → 4 * (done + k) ≤ length dst
     → part ≡ bytes (take k (drop i buffer))
-    → take (4 * (done + k)) (put_mid (4 * done) (4 * (done + k) - 4 * done) dst part)
-    ≡ bytes (stream_part (word n rng) rng.word_pos (done + k))
-words-written {n} {core} {buffer} {i} {part} held rng k done dst room long moved fits before made =
+    → FilledTo n rng (done + k) core buffer (i + k) (put_mid (4 * done) (4 * (done + k) - 4 * done) dst part)
+words-more {n} {rng} {done} {core} {buffer} {i} {dst} {part} held k room fits made =
     let w = rng.word_pos in
     let stream = word n rng in
     let wrapped : (w + done) % positions % positions ≡ (w + done) % positions = omega arith in
     let next : take k (drop i buffer) ≡ stream_part stream (w + done) k =
-    next_unread held k room long
-    ∙ ap (λ (h : GeneratorState). stream_part (word n h) h.word_pos k) moved
+    next_unread held.unread k room held.long
+    ∙ ap (λ (h : GeneratorState). stream_part (word n h) h.word_pos k) held.moved
     ∙ words-same n rng _ _ k wrapped in
     let size : length part ≡ 4 * k =
     ap length made
     ∙ length-bytes (take k (drop i buffer))
     ∙ ap (λ x. 4 * x) (ap length next ∙ length-stream_part stream (w + done) k) in
-    take-put_mid (4 * done) (4 * (done + k) - 4 * done) dst part (4 * (done + k)) (omega (arith, size))
-    (omega (arith, fits))
-    ∙ ap₂ ◌++◌ before (made ∙ ap bytes next)
-    ∙ sym (ap bytes (stream_part-add stream w done k)
-    ∙ bytes-append (stream_part stream w done) (stream_part stream (w + done) k))
+    record {
+      unread = taken held.unread k _ refl room;
+      long = held.long;
+      moved = generator_of-taken core i k _ refl
+          ∙ ap (λ (h : GeneratorState). at_word_pos h (h.word_pos + k)) held.moved
+          ∙ at-same rng _ _ (omega arith);
+      made = take-put_mid (4 * done) (4 * (done + k) - 4 * done) dst part (4 * (done + k)) (omega (arith, size))
+          (omega (arith, fits))
+          ∙ ap₂ ◌++◌ held.made (made ∙ ap bytes next)
+          ∙ sym (ap bytes (stream_part-add stream w done k)
+          ∙ bytes-append (stream_part stream w done) (stream_part stream (w + done) k));
+    }
 
--- a fill that ends with a word's last byte
-pub filled-whole : {h : GeneratorState} {len : ℕ} {dst : List ℕ} (n : ℕ) (g : GeneratorState) (q : ℕ) → len ≡ 4 * q
-    → dst ≡ bytes (stream_part (word n g) g.word_pos q) → h ≡ at_word_pos g (g.word_pos + q)
-    → (dst, h) ≡ fill n g len
-filled-whole n g q size made moved =
-    ap₂ (λ x y. (x, y)) made moved ∙ sym (fill-words n q g) ∙ ap (fill n g) (sym size)
+-- a fill of whole words
+pub filled-whole : {h : GeneratorState} {dst : List ℕ} (n q : ℕ) (g : GeneratorState)
+    → dst ≡ bytes (stream_part (word n g) g.word_pos q) → h ≡ at_word_pos g (g.word_pos + q) → (dst, h) ≡ fill n g (4 * q)
+filled-whole n q g made moved = ap₂ (λ x y. (x, y)) made moved ∙ sym (fill-words n q g)
 
--- a fill that ends with the front of a word
-pub filled-over : {h i : GeneratorState} {len x : ℕ} {front last : List ℕ} (n : ℕ) (g : GeneratorState) (q r : ℕ)
-    → len ≡ 4 * q + r → 0 < r → r < 4 → front ≡ bytes (stream_part (word n g) g.word_pos q)
-    → h ≡ at_word_pos g (g.word_pos + q) → (x, i) ≡ next_u32 n h → last ≡ take r (word_bytes x)
-    → (front ++ last, i) ≡ fill n g len
-filled-over {len = len} {x = x} n g q r size some part made moved read cut =
-    let w = g.word_pos in
-    let front = stream_part (word n g) w q in
-    let words : (len + 3) / 4 ≡ q + 1 = omega (arith, size, some, part) in
-    let here = read ∙ ap (next_u32 n) moved in
-    let wrapped : (w + q) % positions % positions ≡ (w + q) % positions = omega arith in
-    let after : ((w + q) % positions + 1) % positions ≡ (w + (q + 1)) % positions = omega arith in
-    let word_is : x ≡ word n g (w + q) =
-    ap (λ (p : ℕ × GeneratorState). p.0) here ∙ word-same n g _ _ wrapped in
-    let all : bytes (stream_part (word n g) w (q + 1)) ≡ bytes front ++ word_bytes x =
-    ap bytes (stream_part-add (word n g) w q 1)
-    ∙ bytes-append front (word n g (w + q) ∷ [])
-    ∙ ap (λ v. bytes front ++ word_bytes v) (sym word_is) in
-    let long : len ≡ length (bytes front) + r =
-    omega (arith, size, length-bytes front, length-stream_part (word n g) w q) in
+-- and the front of a word behind them
+pub filled-over : {h i : GeneratorState} {x : ℕ} {front last : List ℕ} (n q r : ℕ) (g : GeneratorState) → 0 < r → r < 4
+    → (front, h) ≡ fill n g (4 * q) → (x, i) ≡ next_u32 n h → last ≡ take r (word_bytes x)
+    → (front ++ last, i) ≡ fill n g (4 * q + r)
+filled-over {h} {i} {x} {front} {last} n q r g some short whole read cut =
     let filled : ℕ → List ℕ × GeneratorState =
-    λ k. (take len (bytes (stream_part (word n g) w k)), at_word_pos g (w + k)) in
-    ◌∙◌ {b = filled (q + 1)}
-    (ap₂ (λ y z. (y, z))
-    (ap₂ ◌++◌ made cut ∙ sym (ap₂ take long all ∙ take-append-add (bytes front) (word_bytes x) r))
-    (ap (λ (p : ℕ × GeneratorState). p.1) here ∙ at-same g _ _ after))
-    (ap filled (sym words))
+    λ k. (take r (bytes (stream_part (word n h) h.word_pos k)), at_word_pos h (h.word_pos + k)) in
+    let both : List ℕ × GeneratorState → List ℕ × GeneratorState =
+    λ first. let rest = fill n first.1 r in (first.0 ++ rest.0, rest.1) in
+    let one : 1 ≡ (r + 3) / 4 = omega arith in
+    let rest : (last, i) ≡ fill n h r =
+    ap (λ y. (y, i)) cut ∙ ap (λ (p : ℕ × GeneratorState). (take r (word_bytes p.0), p.1)) read ∙ ap filled one in
+    let joined : (front ++ last, i) ≡ both (front, h) = ap (λ (p : List ℕ × GeneratorState). (front ++ p.0, p.1)) rest in
+    joined ∙ ap both whole ∙ sym (fill-add n q r g)

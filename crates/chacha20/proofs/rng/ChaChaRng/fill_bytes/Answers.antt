@@ -12,17 +12,14 @@ some_left r empty test part = grind (arith, common_steps)
 none_left : (r : ℕ) (empty : Bool) → empty ≡ (r == 0) → empty ≡ true → r ≡ 0
 none_left r empty test whole = grind (arith, common_steps)
 
-all_parts : (len front r : ℕ) → front ≡ len / 4 * 4 → r + len / 4 * 4 ≡ len → len ≡ 4 * (front / 4) + r
+all_parts : (len front r : ℕ) → front ≡ len / 4 * 4 → r + len / 4 * 4 ≡ len → 4 * (front / 4) + r ≡ len
 all_parts len front r words rest = omega arith
-
-all_whole : (len front r : ℕ) → front ≡ len / 4 * 4 → r + len / 4 * 4 ≡ len → r ≡ 0 → len ≡ 4 * (front / 4)
-all_whole len front r words rest none = omega arith
 
 part_short : (len r : ℕ) → r + len / 4 * 4 ≡ len → r < 4
 part_short len r rest = omega arith
 
 part_inside : (len r : ℕ) (word : List ℕ) → r + len / 4 * 4 ≡ len → length word ≡ 4 → r ≤ length word
-part_inside len r word rest four = omega (arith, part_short len r rest)
+part_inside len r word rest four = omega arith
 
 part_long : (len r : ℕ) (word : List ℕ) → r + len / 4 * 4 ≡ len → length word ≡ 4 → r ≡ length (take r word)
 part_long len r word rest four = sym (length-take-le r word (part_inside len r word rest four))
@@ -48,22 +45,22 @@ slice_back_joined-dst g c = refl
 
 pub returns-then-not-is_empty-clause-value : goal.returns-then-not-is_empty-clause-value
 returns-then-not-is_empty-clause-value g c =
+    let n = g.R.Rounds.COUNT in
     let q = length c.split_at_mut-words.result.0.now / 4 in
     let last = c.split_at_mut-words.result.1.now in
+    let split = c.split_at_mut-words.ensures in
     let some = some_left (length last) _ c.is_empty.ensures c.if-not-is_empty.true in
-    filled-over g.R.Rounds.COUNT c.args.self.now q (length last)
-    (all_parts _ _ _ c.split_at_mut-words.ensures.front_len c.split_at_mut-words.ensures.back_len) some
-    (part_short _ _ c.split_at_mut-words.ensures.back_len)
-    c.fill_words.ensures.dst c.fill_words.ensures.moved c.next_u32.ensures.value
-    (c.copy_from_slice.ensures.after ∙ ap (take (length last)) c.to_le_bytes-word.ensures)
+    rw (← all_parts _ _ _ split.front_len split.back_len)
+    (filled-over n q (length last) c.args.self.now some (part_short _ _ split.back_len)
+    (filled-whole n q c.args.self.now c.fill_words.ensures.dst c.fill_words.ensures.moved) c.next_u32.ensures.value
+    (c.copy_from_slice.ensures.after ∙ ap (take (length last)) c.to_le_bytes-word.ensures))
 
 pub returns-else-not-is_empty-clause-value : goal.returns-else-not-is_empty-clause-value
 returns-else-not-is_empty-clause-value g c =
     let q = length c.split_at_mut-words.result.0.now / 4 in
     let last = c.split_at_mut-words.result.1.now in
     let none = none_left (length last) _ c.is_empty.ensures c.if-not-is_empty.false in
-    let all : c.fill_words.new.dst ++ last ≡ c.fill_words.new.dst =
-    ap (λ l. c.fill_words.new.dst ++ l) (nil_from_length last none) ∙ append-nil c.fill_words.new.dst in
-    filled-whole g.R.Rounds.COUNT c.args.self.now q
-    (all_whole _ _ _ c.split_at_mut-words.ensures.front_len c.split_at_mut-words.ensures.back_len none)
-    (all ∙ c.fill_words.ensures.dst) c.fill_words.ensures.moved
+    let split = c.split_at_mut-words.ensures in
+    let all : 4 * q ≡ length c.args.dst.now = omega (arith, all_parts _ _ _ split.front_len split.back_len, none) in
+    rw (nil_from_length last none, append-nil c.fill_words.new.dst, ← all)
+    (filled-whole g.R.Rounds.COUNT q c.args.self.now c.fill_words.ensures.dst c.fill_words.ensures.moved)

@@ -1,11 +1,10 @@
-use Rattle.std.proofs.Common.{◌≡◌, ℕ, List, ◌≤◌, ◌<◌, ◌+◌, ◌-◌, ◌*◌, ◌/◌, ◌%◌, ◌∙◌, min, length, take, drop, ap, sym, arith, refl, length-drop}
+use Rattle.std.proofs.Common.{◌≡◌, ℕ, List, [], ◌≤◌, ◌<◌, ◌+◌, ◌-◌, ◌*◌, ◌/◌, ◌%◌, ◌∙◌, min, length, take, drop, ap, sym, arith, refl, length-drop}
 use Rattle.std.proofs.lemmas.List.{take_all, length-take-le}
 use borrow.Rule.Slice.PartMut.{mid_of}
 use Rattle.chacha_base.specs.Bytes.{bytes}
 use Rattle.chacha_base.specs.Keystream.{stream_part}
 use Rattle.chacha20.specs.Generator.{GeneratorState, at_word_pos, word}
-use Rattle.chacha20.proofs.ReadLemmas.{taken, generator_of-taken, words-written}
-use Rattle.chacha20.proofs.RepeatedLemmas.{at-same}
+use Rattle.chacha20.proofs.ReadLemmas.{generator_of-taken, FilledTo, words-more}
 use Rattle.chacha20.proofs.rng.ChaChaRng.fill_words.Goals as goal
 
 part_long : (a k i : ℕ) (dst buffer : List ℕ) → 4 * (a + k) ≤ length dst → i + k ≤ length buffer
@@ -17,53 +16,47 @@ part_long a k i dst buffer room unread =
     ∙ bytes
     ∙ ap (λ n. 4 * n) (sym (length-take-le _ (drop i buffer) (omega (arith, length-drop i buffer)) ∙ words))
 
-smaller : (n m a k i : ℕ) → m ≡ n → 4 * a < m → n % 4 ≡ 0 → k ≡ min (m / 4 - a) (64 - i) → i < 64
-    → n - 4 * (a + k) < n - 4 * a
-smaller n m a k i same less whole count some = omega arith
+smaller : (n a k i : ℕ) → 4 * a < n → n % 4 ≡ 0 → k ≡ min (n / 4 - a) (64 - i) → i < 64 → n - 4 * (a + k) < n - 4 * a
+smaller n a k i less whole count some = omega arith
 
 pub words-init : goal.words-init
 words-init g c = record {
-  unread = c.self.invariant;
-  long = c.self.told;
-  moved =
-      generator_of-taken c.self.inside.core c.self.inside.index 0 _ (omega arith)
-      ∙ ap (λ (h : GeneratorState). at_word_pos h (h.word_pos + 0)) c.self.view_is;
+  filled = record {
+    unread = c.self.invariant;
+    long = c.self.told;
+    moved =
+        generator_of-taken c.self.inside.core c.self.inside.index 0 _ (omega arith)
+        ∙ ap (λ (h : GeneratorState). at_word_pos h (h.word_pos + 0)) c.self.view_is;
+    made = refl {a = []};
+  };
   within = omega arith;
-  dst = refl;
 }
 
 pub words-preserved : goal.words-preserved
 words-preserved g c =
-    let rng = c.args.self.now in
-    let kept = c.words.invariant in
+    let kept = c.words.invariant.filled in
     let i = c.refill.new.index in
     let k = c.min-count.result in
-    let room : i + k ≤ 64 = omega arith in
     let whole : i + k - i ≡ k = omega arith in
-    let moved : _ ≡ at_word_pos rng (rng.word_pos + c.words.done) = c.refill.ensures.same ∙ kept.moved in
+    let again = c.refill.ensures in
+    let now : FilledTo g.R.Rounds.COUNT c.args.self.now c.words.done c.refill.new.core c.refill.new.buffer i c.words.dst =
+    record { unread = again.unread; long = again.long; moved = again.same ∙ kept.moved; made = kept.made } in
     record {
-      unread = taken c.refill.ensures.unread k _ refl room;
-      long = c.refill.ensures.long;
-      moved =
-          generator_of-taken c.refill.new.core i k _ refl
-          ∙ ap (λ (h : GeneratorState). at_word_pos h (h.word_pos + k)) moved
-          ∙ at-same rng _ _ (omega arith);
+      filled = words-more now k (omega arith) (omega arith) (rw whole at c.write_bytes.ensures);
       within = omega arith;
-      dst = words-written c.refill.ensures.unread rng k c.words.done c.words.dst room c.refill.ensures.long moved
-          (omega arith) kept.dst (c.write_bytes.ensures ∙ ap (λ j. bytes (mid_of i j c.refill.new.buffer)) whole);
     }
 
 pub returns-clause-dst : goal.returns-clause-dst
 returns-clause-dst g c =
     let all : c.words.done ≡ length c.args.dst.now / 4 = omega arith in
     sym (take_all (4 * c.words.done) c.words.dst (omega arith))
-    ∙ c.words.invariant.dst
+    ∙ c.words.invariant.filled.made
     ∙ ap (λ k. bytes (stream_part (word g.R.Rounds.COUNT c.args.self.now) c.args.self.now.word_pos k)) all
 
 pub returns-clause-moved : goal.returns-clause-moved
 returns-clause-moved g c =
     let all : c.words.done ≡ length c.args.dst.now / 4 = omega arith in
-    c.words.invariant.moved ∙ ap (λ k. at_word_pos c.args.self.now (c.args.self.now.word_pos + k)) all
+    c.words.invariant.filled.moved ∙ ap (λ k. at_word_pos c.args.self.now (c.args.self.now.word_pos + k)) all
 
 pub write_bytes-requires : goal.write_bytes-requires
 write_bytes-requires g c =
@@ -72,5 +65,6 @@ write_bytes-requires g c =
 
 pub words-smaller : goal.words-smaller
 words-smaller g c =
-    smaller (length c.args.dst.now) (length c.words.dst) c.words.done c.min-count.result c.refill.new.index
-    c.words.auto.dst c.words-test.true c.requires c.min-count.ensures c.refill.ensures.some
+    smaller (length c.args.dst.now) c.words.done c.min-count.result c.refill.new.index
+    (rw c.words.auto.dst at c.words-test.true) c.requires (rw c.words.auto.dst at c.min-count.ensures)
+    c.refill.ensures.some
