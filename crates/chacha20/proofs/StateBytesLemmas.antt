@@ -89,16 +89,16 @@ from_le_bytes-below : (bs : List ℕ) → Bytes bs → from_le_bytes w64 bs < 2 
 from_le_bytes-below bs fits = omega (arith, fits 0, fits 1, fits 2, fits 3, fits 4, fits 5, fits 6, fits 7)
 
 -- the generator that is put to what is read of 49 bytes
-pub read_back : (bs seed : List ℕ) (stream low top : ℕ) → low < 2 ^ 64 → top < 256 → seed ≡ take 32 bs
-    → stream ≡ from_le_bytes w64 (take 8 (drop 32 bs))
-    → low ≡ from_le_bytes w64 (take 8 (drop 40 bs)) → top ≡ slice_index bs 48
-    → at_word_pos (record { seed = seed; stream = stream; word_pos = 0 }) (bit_or (top * 2 ^ 64 % 2 ^ 128) low)
-    ≡ of_state_bytes bs
-read_back bs seed stream low top less small seed_is stream_is low_is top_is =
+pub read_back : {seed : List ℕ} {stream low : ℕ} (bs : List ℕ) → low < 2 ^ 64 → slice_index bs 48 < 256
+    → seed ≡ take 32 bs → stream ≡ from_le_bytes w64 (take 8 (drop 32 bs)) → low ≡ from_le_bytes w64 (take 8 (drop 40 bs))
+    → at_word_pos (record { seed = seed; stream = stream; word_pos = 0 })
+    (bit_or (slice_index bs 48 * 2 ^ 64 % 2 ^ 128) low) ≡ of_state_bytes bs
+read_back {low = low} bs less small seed_is stream_is low_is =
+    let top = slice_index bs 48 in
     let whole : top * 2 ^ 64 % 2 ^ 128 ≡ top * 2 ^ 64 = omega arith in
     let joined : bit_or (top * 2 ^ 64 % 2 ^ 128) low ≡ low + 2 ^ 64 * top =
     ap (λ t. bit_or t low) whole ∙ or_shifted top 64 low less ∙ omega arith in
-    generator_is _ _ seed_is stream_is (ap (λ w. w % positions) (joined ∙ ap₂ (λ l t. l + 2 ^ 64 * t) low_is top_is))
+    generator_is _ _ seed_is stream_is (ap (λ w. w % positions) (joined ∙ ap (λ l. l + 2 ^ 64 * top) low_is))
 
 -- in and out again
 pub state_bytes-of_state_bytes : (bs : List ℕ) → length bs ≡ 49 → Bytes bs
