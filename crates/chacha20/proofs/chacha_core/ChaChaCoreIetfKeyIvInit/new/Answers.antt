@@ -1,4 +1,4 @@
-use Rattle.std.proofs.Common.{◌≡◌, ◌∙◌, ◌++◌, [], ◌∷◌, length, sym, ap, append_assoc}
+use Rattle.std.proofs.Common.{◌∙◌, ◌++◌, [], ◌∷◌, sym, append_assoc}
 use Rattle.chacha_base.specs.Bytes.{words}
 use Rattle.chacha_base.specs.Layout.{ietf}
 use Rattle.chacha_base.specs.Block.{constants}
@@ -8,12 +8,9 @@ use Rattle.chacha20.proofs.chacha_core.ChaChaCoreIetfKeyIvInit.new.Goals as goal
 
 pub returns-clause-value : goal.returns-clause-value
 returns-clause-value g c =
-    let key = words c.args.key.now in
-    let nonce : c.read_words.new.output ≡ words c.args.iv.now = c.read_words.ensures in
-    c.start_state.ensures
-    ∙ ap (λ r. constants ++ key ++ r) (row_written _ (ap length nonce ∙ length-words 3 _ c.told-iv)
-    ∙ ap (λ n. 0 ∷ n) nonce)
-    ∙ sym (append_assoc (constants ++ key) (0 ∷ []) (words c.args.iv.now))
+    let row = row_written _ (length-words 3 _ c.told-iv) in
+    rw (c.read_words.ensures, row) at c.start_state.ensures
+    ∙ sym (append_assoc (constants ++ words c.args.key.now) (0 ∷ []) (words c.args.iv.now))
 
 pub returns-clause-blocks : goal.returns-clause-blocks
 returns-clause-blocks g c =

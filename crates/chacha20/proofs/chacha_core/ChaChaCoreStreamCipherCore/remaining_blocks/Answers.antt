@@ -1,11 +1,7 @@
-use Rattle.std.proofs.Common.{◌∙◌, ap}
-use Rattle.chacha_base.specs.Layout.{modulus}
-use Rattle.chacha_base.specs.Limit.{remaining}
 use Rattle.chacha20.proofs.chacha_core.ChaChaCoreStreamCipherCore.remaining_blocks.Goals as goal
 
 pub returns-clause-remaining : goal.returns-clause-remaining
-returns-clause-remaining g c = rw (← c.self.view_is) (c.remaining_blocks.ensures
-    ∙ ap (remaining (modulus g.V.Variant.layout)) c.counter_of.ensures.value)
+returns-clause-remaining g c = rw (← c.self.view_is, ← c.counter_of.ensures.value) c.remaining_blocks.ensures
 
 pub returns-clause-below : goal.returns-clause-below
 returns-clause-below g c = rw (← c.self.view_is) c.counter_of.ensures.below

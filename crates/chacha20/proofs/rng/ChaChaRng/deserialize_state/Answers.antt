@@ -1,5 +1,4 @@
-use Rattle.std.proofs.Common.{◌≡◌, ◌*◌, ◌%◌, ◌^◌, slice_index, bit_or, refl, ap, ap₂, arith, ◌∙◌}
-use Rattle.chacha20.specs.Generator.{GeneratorState, at_word_pos}
+use Rattle.std.proofs.Common.{ap, arith, ◌∙◌}
 use Rattle.chacha20.specs.StateBytes.{state_bytes}
 use Rattle.chacha20.proofs.StateBytesLemmas.{read_back, state_bytes-of_state_bytes}
 use Rattle.chacha20.proofs.rng.ChaChaRng.deserialize_state.Goals as goal
