@@ -1,8 +1,6 @@
 -- `same_generator` computes whether two generators are one. The proofs of `==` and of `run_rng` cite this. Read
 -- `same_generator` of `Generator` first.
-use Rattle.std.proofs.Common.{◌≡◌, Bool, Decides, refl, sym, ap, ◌∙◌}
-use Rattle.std.specs.Prelude.{◌↔◌}
-use Rattle.std.specs.Bool.{IsTrue}
+use Rattle.std.proofs.Common.{◌≡◌, Bool, Decides, refl, sym, ap, ◌∙◌, ◌↔◌, IsTrue}
 use Rattle.std.specs.Cmp.Lexicographic.{pointwise_decides}
 use Rattle.std.proofs.lemmas.Bool.Decides.{Decides-and, Decides-eqb}
 use Rattle.chacha20.specs.Generator.{GeneratorState, same_generator}

@@ -1,11 +1,9 @@
 -- The seed and the stream, read back from the words of a state, and the generator that they make with its counter.
 -- The proofs of construction and of `set_stream`, and the other lemma files on generators, cite these. Read `Unread`
 -- first.
-use Rattle.std.proofs.Common.{◌≡◌, ℕ, zero, suc, ◌+◌, ◌*◌, ◌-◌, ◌/◌, ◌%◌, ◌^◌, ◌<◌, List, [], ◌∷◌, ◌++◌, length, take, replicate, slice_index, arith, refl, sym, ap, ap₂, subst, ◌∙◌}
-use Rattle.std.proofs.lemmas.List.{take_at, drop_at, length-append, length-take-le}
+use Rattle.std.proofs.Common.{◌≡◌, ℕ, zero, suc, ◌+◌, ◌*◌, ◌-◌, ◌/◌, ◌%◌, ◌^◌, ◌<◌, List, [], ◌∷◌, ◌++◌, length, take, replicate, slice_index, arith, refl, sym, ap, ap₂, subst, ◌∙◌, take_at, drop_at, length-append, length-take-le, bit_and, bit_or, slice_set}
 use Rattle.std.proofs.lemmas.Nat.{and_mask, or_shifted, from_le_bytes-to_le_bytes_4}
 use Rattle.std.specs.Int.{w64, to_le_bytes, from_le_bytes}
-use Rattle.std.specs.Prelude.{bit_and, bit_or, slice_set}
 use Rattle.chacha_base.specs.Bytes.{word_bytes, bytes, words}
 use Rattle.chacha_base.specs.Block.{constants, start}
 use Rattle.chacha_base.specs.Layout.{legacy}
@@ -44,14 +42,10 @@ bytes-word a b c d ha hb hc hd =
 
 bytes-words : (n : ℕ) (bs : List ℕ) → length bs ≡ 4 * n → Bytes bs → bytes (words bs) ≡ bs
 bytes-words zero [] long fits = refl
-bytes-words zero (a ∷ bs) long fits = absurd (omega arith)
-bytes-words (suc n) [] long fits = absurd (omega arith)
-bytes-words (suc n) (a ∷ []) long fits = absurd (omega arith)
-bytes-words (suc n) (a ∷ b ∷ []) long fits = absurd (omega arith)
-bytes-words (suc n) (a ∷ b ∷ c ∷ []) long fits = absurd (omega arith)
 bytes-words (suc n) (a ∷ b ∷ c ∷ d ∷ bs) long fits =
     ap₂ ◌++◌ (bytes-word a b c d (fits 0) (fits 1) (fits 2) (fits 3))
     (bytes-words n bs (omega arith) (λ i. fits (suc (suc (suc (suc i))))))
+bytes-words n bs long fits = absurd (omega arith)
 
 -- the two words of the 8 bytes of a number, and the number of two words
 words-to_le_bytes : (x : ℕ) → x < 2 ^ 64 → words (to_le_bytes w64 x) ≡ x % 2 ^ 32 ∷ x / 2 ^ 32 ∷ []

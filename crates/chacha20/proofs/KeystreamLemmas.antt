@@ -1,5 +1,5 @@
 -- Bytes combined with a stream, and bytes of a stream, for proofs about messages, words and cores.
-use Rattle.std.proofs.Common.{◌≡◌, ℕ, zero, suc, ◌+◌, ◌*◌, ◌-◌, ◌%◌, ◌≤◌, List, length, take, drop, [], ◌∷◌, bit_xor, replicate, arith, refl, sym, ap, ap₂, ◌∙◌}
+use Rattle.std.proofs.Common.{◌≡◌, ℕ, zero, suc, ◌+◌, ◌*◌, ◌-◌, ◌%◌, ◌≤◌, List, length, take, drop, [], ◌∷◌, bit_xor, arith, refl, sym, ap, ap₂, ◌∙◌}
 use Rattle.std.specs.Int.Bits.{xor_assoc, xor_self, xor_zero_r}
 use Rattle.std.proofs.lemmas.List.{take-replicate, drop-replicate, get_or-take, length-take-le}
 use Rattle.chacha_base.specs.Block.{block}
@@ -37,37 +37,29 @@ pub drop-xor_stream : (stream : ℕ → ℕ) (p n : ℕ) (xs : List ℕ)
 drop-xor_stream stream p zero xs = let here : p + 0 ≡ p = omega arith in rw here refl
 drop-xor_stream stream p (suc n) [] = refl
 drop-xor_stream stream p (suc n) (x ∷ xs) =
-    let next : p + 1 + n ≡ p + suc n = omega arith in
-    drop-xor_stream stream (p + 1) n xs ∙ ap (λ q. xor_stream stream q (drop n xs)) next
+    let next : p + 1 + n ≡ p + suc n = omega arith in rw (drop-xor_stream stream (p + 1) n xs, next)
 
 -- the window of n bytes from byte m on, as of a slice
 pub window-xor_stream : (stream : ℕ → ℕ) (p m n : ℕ) (xs : List ℕ)
     → take n (drop m (xor_stream stream p xs)) ≡ xor_stream stream (p + m) (take n (drop m xs))
-window-xor_stream stream p m n xs =
-    ap (take n) (drop-xor_stream stream p m xs) ∙ take-xor_stream stream (p + m) n (drop m xs)
+window-xor_stream stream p m n xs = rw (drop-xor_stream, take-xor_stream)
 
 -- the first n of a stream's bytes, or of a generator's words
 pub take-stream_part : (stream : ℕ → ℕ) (p n k : ℕ) → n ≤ k → take n (stream_part stream p k) ≡ stream_part stream p n
 take-stream_part stream p n k inside =
-    ap (take n) (sym (xor_stream-zeros stream p k))
-    ∙ take-xor_stream stream p n (replicate k 0)
-    ∙ ap (xor_stream stream p) (take-replicate n k 0 inside)
-    ∙ xor_stream-zeros stream p n
+    rw (← xor_stream-zeros stream p k, take-xor_stream, take-replicate {X = ℕ} n k 0 inside, xor_stream-zeros stream p n)
 
 -- those from element n on
 pub drop-stream_part : (stream : ℕ → ℕ) (p n k : ℕ)
     → drop n (stream_part stream p k) ≡ stream_part stream (p + n) (k - n)
 drop-stream_part stream p n k =
-    ap (drop n) (sym (xor_stream-zeros stream p k))
-    ∙ drop-xor_stream stream p n (replicate k 0)
-    ∙ ap (xor_stream stream (p + n)) (drop-replicate n k 0)
-    ∙ xor_stream-zeros stream (p + n) (k - n)
+    rw (← xor_stream-zeros stream p k, drop-xor_stream, drop-replicate {X = ℕ} n k 0, xor_stream-zeros stream (p + n) (k - n))
 
 -- the window of n elements from element m on
 pub window-stream_part : (stream : ℕ → ℕ) (p m n k : ℕ) → m + n ≤ k
     → take n (drop m (stream_part stream p k)) ≡ stream_part stream (p + m) n
 window-stream_part stream p m n k inside =
-    ap (take n) (drop-stream_part stream p m k) ∙ take-stream_part stream (p + m) n (k - m) (omega arith)
+    rw (drop-stream_part, take-stream_part stream (p + m) n (k - m) (omega arith))
 
 -- how many bytes a block has
 pub length-block : (n : ℕ) (layout : Layout) (key nonce : List ℕ) (c : ℕ) → length (block n layout key nonce c) ≡ 64

@@ -1,7 +1,6 @@
 -- Lists that are written part by part. Proofs of callers may cite these, for a nonce that is made of parts; here the
 -- 49 bytes of a state are written so.
-use Rattle.std.proofs.Common.{◌≡◌, ℕ, List, ◌++◌, length, drop, ap₂}
-use Rattle.std.proofs.lemmas.List.{take_at, drop_at}
+use Rattle.std.proofs.Common.{◌≡◌, ℕ, List, ◌++◌, length, drop, ap₂, take_at, drop_at}
 use borrow.Rule.Slice.PartMut.{put_mid}
 
 -- a part written where it belongs

@@ -1,10 +1,8 @@
 -- Words that a generator reads out of its buffer, and the buffer that is filled again. The proofs of the reads and
 -- of `set_word_pos` cite these. Read `IsUnread` of `Unread` first, and then `RepeatedLemmas`.
-use Rattle.std.proofs.Common.{◌≡◌, ℕ, ◌+◌, ◌-◌, ◌*◌, ◌/◌, ◌%◌, ◌^◌, ◌<◌, ◌≤◌, List, ◌++◌, length, take, drop, slice_index, arith, refl, sym, ap, ap₂, subst, ◌∙◌, length-drop}
-use Rattle.std.proofs.lemmas.List.{length-take-le, get_or-take, get_or-drop}
+use Rattle.std.proofs.Common.{◌≡◌, ℕ, ◌+◌, ◌-◌, ◌*◌, ◌/◌, ◌%◌, ◌^◌, ◌<◌, ◌≤◌, List, ◌++◌, length, take, drop, slice_index, arith, refl, sym, ap, ap₂, subst, ◌∙◌, length-drop, length-take-le, get_or-take, get_or-drop, bit_or}
 use Rattle.std.proofs.lemmas.Slice.{take-put_mid}
 use Rattle.std.proofs.lemmas.Grind.{or_after_shift}
-use Rattle.std.specs.Int.Bits.{bit_or}
 use Rattle.std.specs.Int.{w64, to_le_bytes}
 use borrow.Rule.Slice.PartMut.{put_mid}
 use Rattle.chacha_base.specs.Block.{start}
@@ -46,10 +44,10 @@ taken {n} {core} {buffer} {i} held j e all room = record {
 pub first_unread : {n : ℕ} {core buffer : List ℕ} {i : ℕ} → IsUnread n core buffer i → i < 64
     → slice_index buffer i ≡ word n (generator_of core i) (generator_of core i).word_pos
 first_unread {n} {core} {buffer} {i} held less =
-    let g = generator_of core i in
+    let w = (generator_of core i).word_pos in
     let here : i + 0 ≡ i = omega arith in
-    let place : g.word_pos + 0 ≡ g.word_pos = omega arith in
-    ap (slice_index buffer) (sym here) ∙ held.next 0 (omega arith) ∙ ap (word n g) place
+    let place : w + 0 ≡ w = omega arith in
+    rw (here, place) at (held.next 0 (omega arith))
 
 -- the first two of them
 pub two_unread : {n : ℕ} {core buffer : List ℕ} {i : ℕ} → IsUnread n core buffer i → i + 1 < 64

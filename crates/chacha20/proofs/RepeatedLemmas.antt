@@ -1,7 +1,6 @@
 -- Reads of a generator, one after another, for proofs about simulations that draw in parts.
-use Rattle.std.proofs.Common.{◌≡◌, ℕ, zero, suc, ◌+◌, ◌*◌, ◌/◌, ◌%◌, ◌<◌, List, [], ◌∷◌, ◌++◌, length, take, slice_index, arith, refl, sym, ap, ap₂, ◌∙◌}
+use Rattle.std.proofs.Common.{◌≡◌, ℕ, zero, suc, ◌+◌, ◌*◌, ◌/◌, ◌%◌, ◌<◌, List, [], ◌∷◌, ◌++◌, length, take, slice_index, arith, refl, ap, ap₂, ◌∙◌, take_all}
 use Rattle.std.proofs.Math.Seq.{take-append-add}
-use Rattle.std.proofs.lemmas.List.{take_all}
 use Rattle.std.specs.Int.{w64, to_le_bytes}
 use Rattle.chacha_base.specs.Block.{start}
 use Rattle.chacha_base.specs.Bytes.{bytes}
@@ -40,20 +39,15 @@ length-repeated read (suc k) g = ap suc (length-repeated read k (read g).1)
 pub reads-add : {A : Type 0} (read : GeneratorState → A × GeneratorState) (k m : ℕ) (g : GeneratorState)
     → repeated read (k + m) g
     ≡ (let first = repeated read k g in let rest = repeated read m first.1 in (first.0 ++ rest.0, rest.1))
-reads-add read zero m g = let none : 0 + m ≡ m = omega arith in rw none refl
-reads-add {A} read (suc k) m g =
-    let more : suc k + m ≡ suc (k + m) = omega arith in
-    rw more (ap (λ (rest : List A × GeneratorState). ((read g).0 ∷ rest.0, rest.1)) (reads-add read k m (read g).1))
+reads-add read zero m g = let none : 0 + m ≡ m = omega arith in rw none
+reads-add read (suc k) m g =
+    let more : suc k + m ≡ suc (k + m) = omega arith in rw (more, reads-add read k m (read g).1)
 
 -- the same of two calls, one after another
 pub reads-then : {A : Type 0} {h i : GeneratorState} {xs ys : List A} (read : GeneratorState → A × GeneratorState)
     (k m : ℕ) (g : GeneratorState) → (xs, h) ≡ repeated read k g → (ys, i) ≡ repeated read m h
     → (xs ++ ys, i) ≡ repeated read (k + m) g
-reads-then {A} {h} {i} {xs} {ys} read k m g first then =
-    let both : List A × GeneratorState → List A × GeneratorState =
-    λ first. let rest = repeated read m first.1 in (first.0 ++ rest.0, rest.1) in
-    let joined : (xs ++ ys, i) ≡ both (xs, h) = ap (λ (rest : List A × GeneratorState). (xs ++ rest.0, rest.1)) then in
-    joined ∙ ap both first ∙ sym (reads-add read k m g)
+reads-then read k m g first then = rw (reads-add read k m g, ← first, ← then)
 
 -- one read more, as a loop makes it
 pub reads-more : {A : Type 0} {h i : GeneratorState} {xs : List A} {x : A} (read : GeneratorState → A × GeneratorState)
@@ -65,34 +59,22 @@ reads-more {A} read k g before now =
 -- k words, read one by one
 pub reads-next_u32 : (n k : ℕ) (g : GeneratorState) → g.word_pos < positions
     → repeated (next_u32 n) k g ≡ (stream_part (word n g) g.word_pos k, at_word_pos g (g.word_pos + k))
-reads-next_u32 n zero g below =
-    let here : g.word_pos ≡ (g.word_pos + 0) % positions = omega (arith, below) in
-    ap (λ p. ([], record g { word_pos = p })) here
+reads-next_u32 n zero g below = let here : (g.word_pos + 0) % positions ≡ g.word_pos = omega (arith, below) in rw here
 reads-next_u32 n (suc k) g below =
     let w = g.word_pos in
     let wrapped : (w + 1) % positions % positions ≡ (w + 1) % positions = omega arith in
     let after : ((w + 1) % positions + k) % positions ≡ (w + suc k) % positions = omega arith in
-    let words : stream_part (word n g) ((w + 1) % positions) k ≡ stream_part (word n g) (w + 1) k =
-    words-same n g _ _ k wrapped in
-    let moved : at_word_pos g ((w + 1) % positions + k) ≡ at_word_pos g (w + suc k) = at-same g _ _ after in
-    let rest : repeated (next_u32 n) k (at_word_pos g (w + 1))
-    ≡ (stream_part (word n g) (w + 1) k, at_word_pos g (w + suc k)) =
-    reads-next_u32 n k (at_word_pos g (w + 1)) (omega arith) ∙ ap₂ (λ xs h. (xs, h)) words moved in
-    ap (λ (rest : List ℕ × GeneratorState). (word n g w ∷ rest.0, rest.1)) rest
+    rw (reads-next_u32 n k (at_word_pos g (w + 1)) (omega arith), words-same n g _ _ k wrapped, after)
 
 -- a fill of whole words
 pub fill-words : (n k : ℕ) (g : GeneratorState)
     → fill n g (4 * k) ≡ (bytes (stream_part (word n g) g.word_pos k), at_word_pos g (g.word_pos + k))
 fill-words n k g =
-    let w = g.word_pos in
-    let words = stream_part (word n g) w k in
-    let all = bytes words in
-    let filled : ℕ → List ℕ × GeneratorState =
-    λ m. (take (4 * k) (bytes (stream_part (word n g) w m)), at_word_pos g (w + m)) in
+    let words = stream_part (word n g) g.word_pos k in
     let count : (4 * k + 3) / 4 ≡ k = omega arith in
-    let whole : take (4 * k) all ≡ all =
-    take_all (4 * k) all (omega (arith, length-bytes words, length-stream_part (word n g) w k)) in
-    ◌∙◌ {b = filled k} (ap filled count) (ap (λ bs. (bs, at_word_pos g (w + k))) whole)
+    let whole = take_all (4 * k) (bytes words)
+    (omega (arith, length-bytes words, length-stream_part (word n g) g.word_pos k)) in
+    rw (count, whole)
 
 -- a fill of whole words, and then another, are one fill
 pub fill-add : (n k len : ℕ) (g : GeneratorState)
@@ -103,19 +85,13 @@ fill-add n k len g =
     let m = (len + 3) / 4 in
     let front = stream_part (word n g) w k in
     let behind = stream_part (word n g) (w + k) m in
-    let filled : ℕ → List ℕ × GeneratorState =
-    λ j. (take (4 * k + len) (bytes (stream_part (word n g) w j)), at_word_pos g (w + j)) in
-    let both : List ℕ × GeneratorState → List ℕ × GeneratorState =
-    λ first. let rest = fill n first.1 len in (first.0 ++ rest.0, rest.1) in
+    let none : (4 * k + 3) / 4 ≡ k = omega arith in
     let count : (4 * k + len + 3) / 4 ≡ k + m = omega arith in
     let size : 4 * k ≡ length (bytes front) = omega (arith, length-bytes front, length-stream_part (word n g) w k) in
+    let whole = take_all (4 * k) (bytes front) (omega (arith, size)) in
+    let cut : take (4 * k + len) (bytes front ++ bytes behind) ≡ bytes front ++ take len (bytes behind) =
+    ap (λ e. take (e + len) (bytes front ++ bytes behind)) size ∙ take-append-add (bytes front) (bytes behind) len in
     let wrapped : (w + k) % positions ≡ (w + k) % positions % positions = omega arith in
     let after : (w + (k + m)) % positions ≡ ((w + k) % positions + m) % positions = omega arith in
-    let all : take (4 * k + len) (bytes (stream_part (word n g) w (k + m))) ≡ bytes front ++ take len (bytes behind) =
-    ap₂ (λ e bs. take (e + len) bs) size (ap bytes (stream_part-add (word n g) w k m) ∙ bytes-append front behind)
-    ∙ take-append-add (bytes front) (bytes behind) len in
-    let again : behind ≡ stream_part (word n g) ((w + k) % positions) m = words-same n g _ _ m wrapped in
-    let moved : at_word_pos g (w + (k + m)) ≡ at_word_pos g ((w + k) % positions + m) = at-same g _ _ after in
-    let joined : filled (k + m) ≡ both (bytes front, at_word_pos g (w + k)) =
-    ap₂ (λ bs h. (bs, h)) (all ∙ ap (λ ws. bytes front ++ take len (bytes ws)) again) moved in
-    ◌∙◌ {b = filled (k + m)} (ap filled count) joined ∙ ap both (sym (fill-words n k g))
+    let again = words-same n g _ _ m wrapped in
+    rw (none, count, whole, stream_part-add (word n g) w k m, bytes-append front behind, cut, again, after)

@@ -1,5 +1,5 @@
 -- What holds of a call that is known to be accepted. For proofs of callers, where a clause has no `OnOk`.
-use Rattle.std.specs.Prelude.{Result, Ok, Err, OnOk, IsOk}
+use Rattle.std.proofs.Common.{Result, Ok, Err, OnOk, IsOk}
 use Rattle.std.proofs.lemmas.Bool.{false≢true}
 
 -- a call that is accepted has what it ensures on `Ok`

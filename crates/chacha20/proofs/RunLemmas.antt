@@ -1,18 +1,11 @@
 -- Runs of calls whose answers are written one after another, and the laws of runs: seeking back, and cutting
 -- anywhere. The proofs of `run_cipher`, `call_cipher` and `run_rng` cite these. Read `Runs` first.
-use Rattle.std.proofs.Common.{inl, inr, ◌≡◌, ℕ, ◌+◌, ◌-◌, ◌≤◌, List, [], ◌∷◌, ◌++◌, length, take, drop, arith, refl, sym, ap, ap₂, subst, ◌∙◌, append_assoc, append-nil, length-drop}
-use Rattle.std.specs.Prelude.{if◌then◌else◌, sum, nat_le, ◌==◌, ◌&&◌, ◌^◌, Bool, true, false, ℤ, pos, negsuc, ◌↔◌, Result, Ok, Err, Some, IsOk, OnOk, OnErr, IsSomeAnd, IfSome}
+use Rattle.std.proofs.Common.{inl, inr, ◌≡◌, ℕ, ◌+◌, ◌-◌, ◌≤◌, List, [], ◌∷◌, ◌++◌, length, take, drop, arith, refl, sym, ap, subst, ◌∙◌, append_assoc, append-nil, length-drop, if◌then◌else◌, sum, nat_le, ◌==◌, ◌&&◌, ◌^◌, Bool, true, false, ℤ, pos, negsuc, ◌↔◌, Result, Ok, Err, Some, IsOk, OnOk, OnErr, IsSomeAnd, IfSome, drop-drop, length-take-le, take-add, Decides, to_z-of_z, to_z, of_z, w32}
 use Rattle.std.specs.List.{AllByRecursion}
-use Rattle.std.proofs.lemmas.List.{drop-drop, length-take-le}
 use Rattle.std.proofs.lemmas.Slice.{take-put_mid, drop-put_mid, between-put_mid}
 use borrow.Rule.Slice.PartMut.{put_same, same_len_mid, take_put}
 use Rattle.std.proofs.lemmas.List.Sums.{sum_by-cons}
-use Rattle.std.proofs.Math.Seq.{take-add}
-use Rattle.std.specs.Bool.{Decides}
 use Rattle.std.proofs.lemmas.Bool.{le-leb, leb-true, cases_Bool, false≢true}
-use Rattle.std.proofs.lemmas.Int.{to_z-of_z}
-use mir.Val.{to_z, of_z}
-use mir.Syntax.{w32}
 use Rattle.std.proofs.lemmas.Bool.Decides.{Decides-and, Decides-eqb, Decides-like}
 use Rattle.chacha_base.specs.Cipher.{Cipher}
 use Rattle.chacha_base.specs.Keystream.{xor_stream}
@@ -27,8 +20,7 @@ use Rattle.chacha20.specs.Runs.{Setting, CipherOutcome, part, put, done_if, ciph
 
 -- a range as its front and what follows
 part-add : (at len more : ℕ) (xs : List ℕ) → part at (len + more) xs ≡ part at len xs ++ part (at + len) more xs
-part-add at len more xs =
-    take-add len more (drop at xs) ∙ ap (λ t. take len (drop at xs) ++ take more t) (drop-drop len at xs)
+part-add at len more xs = rw (take-add len more (drop at xs), drop-drop len at xs)
 
 pub length-part : (at len : ℕ) (xs : List ℕ) → at + len ≤ length xs → length (part at len xs) ≡ len
 length-part at len xs inside = length-take-le len (drop at xs) (omega (arith, length-drop at xs))
@@ -43,20 +35,15 @@ part-put at len ys xs inside size =
 put-put : (at len : ℕ) (ys zs xs : List ℕ) → at ≤ length xs → length ys ≡ len
     → put at len zs (put at len ys xs) ≡ put at len zs xs
 put-put at len ys zs xs inside size =
-    ap₂ (λ a b. a ++ (zs ++ b)) (take_put at len xs ys inside)
-    (drop-drop len at (put at len ys xs)
-    ∙ drop-put_mid at len xs ys (at + len) (omega arith) inside size
-    ∙ sym (drop-drop len at xs))
+    let behind = drop-put_mid at len xs ys (at + len) (omega arith) inside size in
+    rw (take_put at len xs ys inside, drop-drop len at (put at len ys xs), behind, drop-drop len at xs)
 
 put-next : (at len more : ℕ) (ys zs xs : List ℕ) → at ≤ length xs → length ys ≡ len
     → put (at + len) more zs (put at len ys xs) ≡ put at (len + more) (ys ++ zs) xs
 put-next at len more ys zs xs inside size =
-    let behind = drop len (drop at xs) in
-    ap₂ (λ a b. a ++ (zs ++ drop more b)) (take-put_mid at len xs ys (at + len) (omega arith) inside)
-    (drop-put_mid at len xs ys (at + len) (omega arith) inside size ∙ sym (drop-drop len at xs))
-    ∙ append_assoc (take at xs) ys (zs ++ drop more behind)
-    ∙ ap (λ t. take at xs ++ t)
-    (sym (append_assoc ys zs (drop more behind)) ∙ ap (λ t. (ys ++ zs) ++ t) (drop-drop more len (drop at xs)))
+    let front = take-put_mid at len xs ys (at + len) (omega arith) inside in
+    let behind = drop-put_mid at len xs ys (at + len) (omega arith) inside size in
+    rw (front, behind, ← drop-drop len at xs, drop-drop more len (drop at xs)) (simp append_assoc)
 
 -- what a call on c and old bytes that may be refused leaves: if its result is `Ok`, position p and the data `after`
 pub record Leaves {E : Type 0} (r : Result (Unit {0}) E) (c : Cipher) (old : List ℕ) (p : ℕ) (after : List ℕ)
@@ -172,7 +159,7 @@ pub pos_i32-is : {c : Cipher} {old : List ℕ} (z : ℤ) → c.position ≤ 2 ^ 
 pos_i32-is {c} {old} (pos p) fits is =
     let same : c.position ≡ p = cc in
     let number : pos c.position ≡ to_z w32 (of_z w32 (pos p)) =
-    ap pos same ∙ sym (to_z-of_z w32 (pos p) (record { sfits = omega arith })) in
+    ap pos same ∙ sym (to_z-of_z {w = w32} {z = pos p} (record { sfits = omega arith })) in
     rw (le-leb c.position (2 ^ 31 - 1) fits) (ap (λ (z : ℤ). answered (PositionI32 z) c old) number)
 pos_i32-is (negsuc p) fits is = absurd (cc)
 
@@ -237,14 +224,8 @@ module _ (s : Setting) (c : Cipher) (bytes : List ℕ) (at len : ℕ) where
       let place : p + len + more ≡ p + (len + more) = omega arith in
       let behind : part (at + len) more (put at len ys bytes) ≡ rest =
       ap (take more) (drop-put_mid at len bytes ys (at + len) (omega arith) (omega arith) size) in
-      let made =
-      ap (λ zs. put (at + len) more (xor_stream stream (p + len) zs) (put at len ys bytes)) behind
-      ∙ put-next at len more ys (xor_stream stream (p + len) rest) bytes (omega arith) size
-      ∙ ap (λ zs. put at (len + more) zs bytes)
-      (ap (λ k. ys ++ xor_stream stream (p + k) rest) (sym long)
-      ∙ sym (xor_stream-append stream p old rest)
-      ∙ ap (xor_stream stream p) (sym (part-add at len more bytes))) in
-      λ i. record { answer = Done; cipher = record c { position = place i }; bytes = made i }
+      let next = put-next at len more ys (xor_stream stream (p + len) rest) bytes (omega arith) size in
+      rw (place, behind, next, part-add at len more bytes, xor_stream-append stream p old rest, long)
 
   applied-again : at + len ≤ length bytes → (applied s c (applied s c bytes at len).bytes at len).bytes ≡ bytes
   applied-again inside =
@@ -252,11 +233,9 @@ module _ (s : Setting) (c : Cipher) (bytes : List ℕ) (at len : ℕ) where
       let old = part at len bytes in
       let ys = xor_stream stream c.position old in
       let size = length-xor_stream stream c.position old ∙ length-part at len bytes inside in
-      ap (λ t. put at len t (put at len ys bytes))
-      (ap (xor_stream stream c.position) (part-put at len ys bytes (omega arith) size)
-      ∙ xor_stream-xor_stream stream c.position old)
-      ∙ put-put at len ys old bytes (omega arith) size
-      ∙ put_same at len bytes
+      let again = part-put at len ys bytes (omega arith) size in
+      rw (again, xor_stream-xor_stream stream c.position old, put-put at len ys old bytes (omega arith) size)
+      (put_same at len bytes)
 
   run-again : c.position + len ≤ s.limit
       → (let first = applied s c bytes at len in

@@ -1,13 +1,10 @@
 -- Generators as 49 bytes, written part by part and read back. The proofs of `serialize_state` and
 -- `deserialize_state` cite these, and those of the exports for C. Read `StateBytes` first.
-use Rattle.std.proofs.Common.{inl, inr, ◌≡◌, ℕ, ◌+◌, ◌*◌, ◌/◌, ◌%◌, ◌^◌, ◌<◌, List, [], ◌∷◌, ◌++◌, length, take, drop, slice_index, replicate, arith, refl, sym, ap, ap₂, ◌∙◌, append_assoc}
+use Rattle.std.proofs.Common.{inl, inr, ◌≡◌, ℕ, ◌+◌, ◌*◌, ◌/◌, ◌%◌, ◌^◌, ◌<◌, List, [], ◌∷◌, ◌++◌, length, take, drop, slice_index, replicate, arith, refl, sym, ap, ap₂, ◌∙◌, append_assoc, set, take-add, bit_or}
 use Rattle.std.proofs.lemmas.Bool.{cases_lt}
 use Rattle.std.proofs.lemmas.List.{take_at, drop_at, set_at, length-append, length-drop, length-take, length-take-le, get_or-take, get_or-drop, get_or_past, drop-drop}
 use Rattle.std.proofs.lemmas.Nat.{or_shifted, le_bytes_8, from_le_bytes-to_le_bytes_8}
-use Rattle.std.proofs.Math.ListN.{set}
-use Rattle.std.proofs.Math.Seq.{take-add}
 use Rattle.std.specs.Int.{w64, to_le_bytes, from_le_bytes}
-use Rattle.std.specs.Int.Bits.{bit_or}
 use borrow.Rule.Slice.PartMut.{put_mid}
 use Rattle.chacha20.proofs.PartLemmas.{put_mid-at}
 use Rattle.chacha20.specs.Generator.{GeneratorState, positions, at_word_pos}

@@ -1,7 +1,6 @@
 -- The derived nonce, the input of HChaCha and its 32 bytes, written part by part. The proofs of `hchacha` and of
 -- `new` of XChaCha cite these. Read `XChaCha` first.
-use Rattle.std.proofs.Common.{◌≡◌, ℕ, ◌+◌, ◌*◌, ◌≤◌, List, ◌++◌, length, take, drop, replicate, arith, refl, sym, ap, ◌∙◌, length-drop}
-use Rattle.std.proofs.lemmas.List.{length-take-le}
+use Rattle.std.proofs.Common.{◌≡◌, ℕ, ◌+◌, ◌*◌, ◌≤◌, List, ◌++◌, length, take, drop, replicate, arith, refl, sym, ap, ◌∙◌, length-drop, length-take-le}
 use borrow.Rule.Slice.PartMut.{put_mid}
 use Rattle.chacha_base.specs.Bytes.{bytes}
 use Rattle.chacha_base.proofs.ListLemmas.{each}

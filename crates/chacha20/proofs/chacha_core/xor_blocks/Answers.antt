@@ -1,5 +1,4 @@
-use Rattle.std.proofs.Common.{◌≡◌, ℕ, ◌*◌, ◌+◌, ◌-◌, ◌≤◌, ◌∙◌, ◌++◌, List, length, take, drop, ap, ap₂, arith, bit_xor, length-drop}
-use Rattle.std.proofs.lemmas.List.{length-take-le}
+use Rattle.std.proofs.Common.{◌≡◌, ℕ, ◌*◌, ◌+◌, ◌-◌, ◌≤◌, ◌∙◌, ◌++◌, List, length, take, drop, ap, ap₂, arith, bit_xor, length-drop, length-take-le}
 use borrow.Rule.Slice.PartMut.{put_mid}
 use Rattle.chacha_base.specs.Keystream.{xor_stream}
 use Rattle.chacha_base.proofs.KeystreamLemmas.{xor_stream-more, xor_stream-whole, xor_stream-is}

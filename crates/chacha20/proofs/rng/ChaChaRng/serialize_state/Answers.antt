@@ -1,5 +1,4 @@
-use Rattle.std.proofs.Common.{length, sym, ap, arith, ◌∙◌}
-use Rattle.std.specs.Int.Bits.{bit_and}
+use Rattle.std.proofs.Common.{length, sym, ap, arith, ◌∙◌, bit_and}
 use Rattle.std.proofs.lemmas.Nat.{and_mask}
 use Rattle.chacha20.specs.StateBytes.{of_state_bytes}
 use Rattle.chacha20.proofs.StateBytesLemmas.{length-free, two_written_length, length-free-behind, state_is, of_state_bytes-state_bytes}
