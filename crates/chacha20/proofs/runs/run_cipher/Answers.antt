@@ -27,9 +27,6 @@ returns g c =
     record { run = run; ranges = recursion_from_All _ c.args.calls.now c.requires.ranges } in
     record { run = run; seek_back = law-seek_back ran; cut_anywhere = law-cut_anywhere ran }
 
-pub calls-init : goal.calls-init
-calls-init g c = refl
-
 pub call_cipher-requires : goal.call_cipher-requires
 call_cipher-requires g c =
     let within = InSlices (length c.args.input.now) (length c.args.data.now) in

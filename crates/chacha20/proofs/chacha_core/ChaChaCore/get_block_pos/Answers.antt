@@ -2,6 +2,3 @@ use Rattle.chacha20.proofs.chacha_core.ChaChaCore.get_block_pos.Goals as goal
 
 pub returns-clause-value : goal.returns-clause-value
 returns-clause-value g c = rw (← c.self.view_is) c.counter_of.ensures.value
-
-pub returns-clause-below : goal.returns-clause-below
-returns-clause-below g c = rw (← c.self.view_is) c.counter_of.ensures.below

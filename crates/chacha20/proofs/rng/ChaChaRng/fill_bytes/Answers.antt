@@ -36,12 +36,6 @@ pub copy_from_slice-requires : goal.copy_from_slice-requires
 copy_from_slice-requires g c =
     part_long _ _ c.to_le_bytes-word.result c.split_at_mut-words.ensures.back_len (ap length c.to_le_bytes-word.ensures)
 
-pub both_followed-dst : goal.both_followed-dst
-both_followed-dst g c = (refl, refl)
-
-pub slice_back_joined-dst : goal.slice_back_joined-dst
-slice_back_joined-dst g c = refl
-
 pub returns-then-not-is_empty-clause-value : goal.returns-then-not-is_empty-clause-value
 returns-then-not-is_empty-clause-value g c =
     let n = g.R.Rounds.COUNT in

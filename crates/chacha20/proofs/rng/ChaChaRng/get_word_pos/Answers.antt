@@ -5,6 +5,3 @@ pub returns-clause-value : goal.returns-clause-value
 returns-clause-value g c =
     let first = rw c.get_block_pos-first.ensures.value at c.from.ensures in
     rw (← c.self.view_is) (omega (arith, first))
-
-pub returns-clause-below : goal.returns-clause-below
-returns-clause-below g c = omega arith

@@ -33,6 +33,3 @@ returns-clause-value g c =
     ∙ generator_of-recounted c.self.inside.core _ c.self.inside.index c.set_block_pos.ensures.fixed
     c.set_block_pos.ensures.counter (omega arith) c.self.view_is)
     ∙ at-same c.args.self.now _ _ (omega arith)
-
-pub returns-clause-position : goal.returns-clause-position
-returns-clause-position g c = ap (λ (h : GeneratorState). h.word_pos) (returns-clause-value g c)

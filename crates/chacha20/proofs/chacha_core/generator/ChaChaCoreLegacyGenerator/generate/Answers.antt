@@ -2,6 +2,3 @@ use Rattle.chacha20.proofs.chacha_core.generator.ChaChaCoreLegacyGenerator.gener
 
 pub returns-clause-output : goal.returns-clause-output
 returns-clause-output g c = rw (← c.self.view_is) c.gen_ks_blocks.ensures.words
-
-pub returns-clause-moved : goal.returns-clause-moved
-returns-clause-moved g c = rw (← c.self.view_is) c.gen_ks_blocks.ensures.state
