@@ -1,8 +1,9 @@
 -- The seed and the stream, read back from the words of a state, and the generator that they make with its counter.
 -- The proofs of construction and of `set_stream`, and the other lemma files on generators, cite these. Read `Unread`
 -- first.
-use Rattle.std.proofs.Common.{◌≡◌, ℕ, zero, suc, ◌+◌, ◌*◌, ◌-◌, ◌/◌, ◌%◌, ◌^◌, ◌<◌, List, [], ◌∷◌, ◌++◌, length, take, replicate, slice_index, arith, refl, sym, ap, ap₂, subst, ◌∙◌, take_at, drop_at, length-append, length-take-le, bit_and, bit_or, slice_set}
-use Rattle.std.proofs.lemmas.Nat.{and_mask, or_shifted, from_le_bytes-to_le_bytes_4}
+use Rattle.std.proofs.Common.{◌≡◌, ℕ, zero, suc, ◌+◌, ◌*◌, ◌-◌, ◌/◌, ◌%◌, ◌^◌, ◌<◌, List, [], ◌∷◌, ◌++◌, length, take, replicate, slice_index, arith, refl, sym, ap, ap₂, ◌∙◌, take_at, drop_at, length-append, length-take-le, bit_and, bit_or, slice_set}
+use Rattle.std.proofs.lemmas.Grind.{or_after_shift}
+use Rattle.std.proofs.lemmas.Nat.{and_mask, from_le_bytes-to_le_bytes_4}
 use Rattle.std.specs.Int.{w64, to_le_bytes, from_le_bytes}
 use Rattle.chacha_base.specs.Bytes.{word_bytes, bytes, words}
 use Rattle.chacha_base.specs.Block.{constants, start}
@@ -70,34 +71,21 @@ nonce_written s x long fits =
     (λ x0 x1 x2 x3 x4 x5 x6 x7 x8 x9 x10 x11 x12 x13 x14 x15. refl) s long
     ∙ ap (λ ws. take 14 s ++ ws) (ap (λ l. l ∷ x / 2 ^ 32 ∷ []) (and_mask x 32) ∙ sym (words-to_le_bytes x fits))
 
--- the last two words, read as a number
+-- two words as the halves of a number, and the last two words of a state, read so
+pub halves_joined : (low high : ℕ) → low < 2 ^ 32 → high < 2 ^ 32
+    → bit_or (high * 2 ^ 32 % 2 ^ 64) low ≡ low + 2 ^ 32 * high
+halves_joined low high low_fits high_fits =
+    or_after_shift high (2 ^ 32) (2 ^ 64) low refl low_fits (omega arith) ∙ omega arith
+
 pub stream_read : (s : List ℕ) (low high : ℕ) → length s ≡ 16 → low ≡ slice_index s 14 → high ≡ slice_index s 15
     → low < 2 ^ 32 → high < 2 ^ 32
     → bit_or (high * 2 ^ 32 % 2 ^ 64) low ≡ stream_in (fixed_words legacy s)
 stream_read s low high long low_is high_is low_fits high_fits =
-    let whole : high * 2 ^ 32 % 2 ^ 64 ≡ high * 2 ^ 32 = omega arith in
-    let joined : bit_or (high * 2 ^ 32 % 2 ^ 64) low ≡ low + 2 ^ 32 * high =
-    ap (λ t. bit_or t low) whole ∙ or_shifted high 32 low low_fits ∙ omega arith in
-    joined
+    halves_joined low high low_fits high_fits
     ∙ sym (from_le_bytes-bytes low high low_fits high_fits)
-    ∙ ap₂ (λ l h. from_le_bytes w64 (bytes (l ∷ h ∷ []))) low_is high_is
-    ∙ each 16 (λ t. from_le_bytes w64 (bytes (slice_index t 14 ∷ slice_index t 15 ∷ []))
+    ∙ rw (low_is, high_is) (each 16 (λ t. from_le_bytes w64 (bytes (slice_index t 14 ∷ slice_index t 15 ∷ []))
     ≡ stream_in (fixed_words legacy t))
-    (λ x0 x1 x2 x3 x4 x5 x6 x7 x8 x9 x10 x11 x12 x13 x14 x15. refl) s long
-
--- the seed and the stream of the fixed words of a start state
-seed_in-start : (seed nonce : List ℕ) → length seed ≡ 32 → Bytes seed
-    → seed_in (constants ++ words seed ++ words nonce) ≡ seed
-seed_in-start seed nonce long fits =
-    ap bytes (take_at (words seed) (words nonce) 8 (length-words 8 seed long)) ∙ bytes-words 8 seed long fits
-
-stream_in-start : (seed : List ℕ) (x : ℕ) → length seed ≡ 32 → x < 2 ^ 64
-    → stream_in (constants ++ words seed ++ words (to_le_bytes w64 x)) ≡ x
-stream_in-start seed x long fits =
-    ap (λ ws. from_le_bytes w64 (bytes ws))
-    (drop_at (words seed) (words (to_le_bytes w64 x)) 8 (length-words 8 seed long) ∙ words-to_le_bytes x fits)
-    ∙ from_le_bytes-bytes (x % 2 ^ 32) (x / 2 ^ 32) (omega arith) (omega arith)
-    ∙ omega arith
+    (λ x0 x1 x2 x3 x4 x5 x6 x7 x8 x9 x10 x11 x12 x13 x14 x15. refl) s long)
 
 pub length-seed_in : (core : List ℕ) → length core ≡ 16 → length (seed_in (fixed_words legacy core)) ≡ 32
 length-seed_in =
@@ -123,10 +111,6 @@ length-renonced : (core next : List ℕ) (stream : ℕ) → length core ≡ 16
     → next ≡ take 14 core ++ words (to_le_bytes w64 stream) → length next ≡ 16
 length-renonced core next stream long moved =
     ap length moved ∙ simp length-append (omega (arith, length-take-le 14 core (omega arith)))
-
-length-start : (seed nonce : List ℕ) (c : ℕ) → length (words seed) ≡ 8 → length (words nonce) ≡ 2
-    → length (start legacy seed nonce c) ≡ 16
-length-start seed nonce c eight two = simp length-append (omega arith)
 
 -- generators with the same parts are one
 pub generator_is : (g h : GeneratorState) → g.seed ≡ h.seed → g.stream ≡ h.stream → g.word_pos ≡ h.word_pos → g ≡ h
@@ -164,7 +148,7 @@ pub starts-new : {core seed : List ℕ} → length seed ≡ 32 → Bytes seed �
 starts-new {seed = seed} long fits same =
     let eight = length-words 8 seed long in
     record {
-      sixteen = ap length same ∙ length-start seed (replicate 8 0) 0 eight refl;
+      sixteen = ap length same ∙ simp (length-append, eight);
       long = long;
       fits = fits;
       below = omega arith;
@@ -182,17 +166,27 @@ starts-renonced {stream = stream} {core = core} {renonced = renonced} held writt
   fixed = fixed ∙ fixed_words-renonced core renonced stream held.sixteen held.start written;
 }
 
+-- its seed and its stream
+starts-seed : {core seed : List ℕ} {stream : ℕ} → Starts core seed stream → seed_in (fixed_words legacy core) ≡ seed
+starts-seed {seed = seed} {stream = stream} is =
+    let key = take_at (words seed) (words (to_le_bytes w64 stream)) 8 (length-words 8 seed is.long) in
+    rw (is.fixed, key) (bytes-words 8 seed is.long is.fits)
+
+starts-stream : {core seed : List ℕ} {stream : ℕ} → Starts core seed stream
+    → stream_in (fixed_words legacy core) ≡ stream
+starts-stream {seed = seed} {stream = x} is =
+    let nonce = drop_at (words seed) (words (to_le_bytes w64 x)) 8 (length-words 8 seed is.long) in
+    let below : x < 2 ^ 64 = is.below in
+    rw (is.fixed, nonce) (ap (λ ws. from_le_bytes w64 (bytes ws)) (words-to_le_bytes x below)
+    ∙ from_le_bytes-bytes (x % 2 ^ 32) (x / 2 ^ 32) (omega arith) (omega arith)
+    ∙ omega arith)
+
 -- no word of its buffer is left, and its generator is at the start of the stream
 pub unread-start : {core seed : List ℕ} {stream : ℕ} (n : ℕ) (buffer : List ℕ) → Starts core seed stream
     → IsUnread n core buffer 64
-unread-start {core} {seed} {stream} n buffer is =
-    let seeds = seed_in-start seed (to_le_bytes w64 stream) is.long is.fits in
-    let streams = stream_in-start seed stream is.long is.below in
-    let own = ap₂ (λ k t. constants ++ words k ++ words (to_le_bytes w64 t)) seeds streams in
-    unread-none n core buffer is.sixteen (subst IsStart (sym is.fixed) (sym own))
+unread-start {core} n buffer is =
+    unread-none n core buffer is.sixteen (rw (starts-seed is, starts-stream is) is.fixed)
 
 pub generator_of-start : {core seed : List ℕ} {stream : ℕ} → Starts core seed stream → state_counter legacy core ≡ 0
     → generator_of core 64 ≡ record { seed = seed; stream = stream; word_pos = 0 }
-generator_of-start {seed = seed} {stream = stream} is counter =
-    generator_is _ _ (ap seed_in is.fixed ∙ seed_in-start seed (to_le_bytes w64 stream) is.long is.fits)
-    (ap stream_in is.fixed ∙ stream_in-start seed stream is.long is.below) (omega (arith, counter))
+generator_of-start is counter = generator_is _ _ (starts-seed is) (starts-stream is) (omega (arith, counter))

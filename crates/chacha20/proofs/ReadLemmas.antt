@@ -1,8 +1,7 @@
 -- Words that a generator reads out of its buffer, and the buffer that is filled again. The proofs of the reads and
 -- of `set_word_pos` cite these. Read `IsUnread` of `Unread` first, and then `RepeatedLemmas`.
-use Rattle.std.proofs.Common.{◌≡◌, ℕ, ◌+◌, ◌-◌, ◌*◌, ◌/◌, ◌%◌, ◌^◌, ◌<◌, ◌≤◌, List, ◌++◌, length, take, drop, slice_index, arith, refl, sym, ap, ap₂, subst, ◌∙◌, length-drop, length-take-le, get_or-take, get_or-drop, bit_or}
+use Rattle.std.proofs.Common.{◌≡◌, ℕ, ◌+◌, ◌-◌, ◌*◌, ◌/◌, ◌%◌, ◌^◌, ◌<◌, ◌≤◌, List, ◌++◌, length, take, drop, slice_index, arith, refl, sym, ap, ap₂, ◌∙◌, length-drop, length-take-le, get_or-take, get_or-drop}
 use Rattle.std.proofs.lemmas.Slice.{take-put_mid}
-use Rattle.std.proofs.lemmas.Grind.{or_after_shift}
 use Rattle.std.specs.Int.{w64, to_le_bytes}
 use borrow.Rule.Slice.PartMut.{put_mid}
 use Rattle.chacha_base.specs.Block.{start}
@@ -73,28 +72,27 @@ next_unread {n} {core} {buffer} {i} held k room size =
 pub refilled : (n : ℕ) (core next made : List ℕ) → length core ≡ 16 → IsStart (fixed_words legacy core)
     → next ≡ state_after legacy 4 core → made ≡ next_words n legacy core → IsUnread n next made 0
 refilled n core next made long own moved words =
-    let fixed : fixed_words legacy next ≡ fixed_words legacy core =
-    fixed_words-state_after legacy 4 core next long moved in
+    let fixed = fixed_words-state_after legacy 4 core next long moved in
     let counter = state_counter-state_after legacy 4 core next long moved in
     let g = generator_of next 0 in
     let again : (c : ℕ) → state_at legacy c core ≡ start legacy g.seed (to_le_bytes w64 g.stream) c =
-    λ c. ap (λ f. state_of legacy f c) own
-    ∙ state_of-start legacy (seed_in (fixed_words legacy core))
-    (to_le_bytes w64 (stream_in (fixed_words legacy core))) c (length-words 8 _ (length-seed_in core long))
-    ∙ ap (λ f. start legacy (seed_in f) (to_le_bytes w64 (stream_in f)) c) (sym fixed) in
+    λ c. rw fixed
+    (ap (λ f. state_of legacy f c) own
+    ∙ state_of-start legacy (seed_in (fixed_words legacy core)) (to_le_bytes w64 (stream_in (fixed_words legacy core))) c
+    (length-words 8 _ (length-seed_in core long))) in
     record {
       sixteen = ap length moved ∙ length-state_at legacy (counter_after legacy core 4) core long;
-      start = subst IsStart (sym fixed) own;
+      start = rw fixed own;
       within = omega arith;
       next = λ k less.
           let w = g.word_pos + k in
           let block : counter_after legacy core (k / 16) ≡ w % positions / 16 = omega (arith, counter) in
           let place : k % 16 ≡ w % 16 = omega arith in
           let here : 0 + k ≡ k = omega arith in
-          ap₂ (λ b i. slice_index b i) words here
-          ∙ next_words-at n legacy core k (omega arith)
+          rw (words, here)
+          (next_words-at n legacy core k (omega arith)
           ∙ ap₂ (λ d i. slice_index (mix n (state_at legacy d core)) i) block place
-          ∙ ap (λ s. slice_index (mix n s) (w % 16)) (again (w % positions / 16));
+          ∙ ap (λ s. slice_index (mix n s) (w % 16)) (again (w % positions / 16)));
     }
 
 pub generator_of-refilled : (core next : List ℕ) → length core ≡ 16 → next ≡ state_after legacy 4 core
@@ -104,24 +102,17 @@ generator_of-refilled core next long moved =
     generator_is _ _ (ap seed_in fixed) (ap stream_in fixed)
     (omega (arith, state_counter-state_after legacy 4 core next long moved))
 
--- two words as the halves of a number, and read one after the other
-pub halves_joined : (low high : ℕ) → low < 2 ^ 32 → high < 2 ^ 32
-    → bit_or (high * 2 ^ 32 % 2 ^ 64) low ≡ low + 2 ^ 32 * high
-halves_joined low high low_fits high_fits =
-    or_after_shift high (2 ^ 32) (2 ^ 64) low refl low_fits (omega arith) ∙ omega arith
-
+-- two words, read one after the other
 pub two_reads : {h i : GeneratorState} {low high : ℕ} (n : ℕ) (g : GeneratorState) → (low, h) ≡ next_u32 n g
     → (high, i) ≡ next_u32 n h → (low + 2 ^ 32 * high, i) ≡ next_u64 n g
-two_reads {h} {i} {low} {high} n g first then =
+two_reads n g first then =
     let w = g.word_pos in
-    let moved : h ≡ at_word_pos g (w + 1) = ap (λ (p : ℕ × GeneratorState). p.1) first in
-    let second : (high, i) ≡ next_u32 n (at_word_pos g (w + 1)) = then ∙ ap (next_u32 n) moved in
     let wrapped : (w + 1) % positions % positions ≡ (w + 1) % positions = omega arith in
     let after : ((w + 1) % positions + 1) % positions ≡ (w + 2) % positions = omega arith in
-    ap₂ (λ x y. (x, y))
-    (ap₂ (λ x y. x + 2 ^ 32 * y) (ap (λ (p : ℕ × GeneratorState). p.0) first)
-    (ap (λ (p : ℕ × GeneratorState). p.0) second ∙ word-same n g _ _ wrapped))
-    (ap (λ (p : ℕ × GeneratorState). p.1) second ∙ at-same g _ _ after)
+    let second : next_u32 n (at_word_pos g (w + 1)) ≡ (word n g (w + 1), at_word_pos g (w + 2)) =
+    rw (word-same n g _ _ wrapped, after) in
+    ap₂ (λ (p q : ℕ × GeneratorState). (p.0 + 2 ^ 32 * q.0, q.1)) first
+    (then ∙ ap (λ (p : ℕ × GeneratorState). next_u32 n p.1) first ∙ second)
 
 -- so many words of a fill are written to dst, and the generator has moved on by as many
 pub record FilledTo (n : ℕ) (rng : GeneratorState) (done : ℕ) (core buffer : List ℕ) (i : ℕ) (dst : List ℕ) : Type 0 where

@@ -1,6 +1,6 @@
 -- Generators as 49 bytes, written part by part and read back. The proofs of `serialize_state` and
 -- `deserialize_state` cite these, and those of the exports for C. Read `StateBytes` first.
-use Rattle.std.proofs.Common.{inl, inr, ◌≡◌, ℕ, ◌+◌, ◌*◌, ◌/◌, ◌%◌, ◌^◌, ◌<◌, List, [], ◌∷◌, ◌++◌, length, take, drop, slice_index, replicate, arith, refl, sym, ap, ap₂, ◌∙◌, append_assoc, set, take-add, bit_or}
+use Rattle.std.proofs.Common.{inl, inr, ◌≡◌, ℕ, ◌+◌, ◌*◌, ◌/◌, ◌%◌, ◌^◌, ◌<◌, ◌≤◌, List, [], ◌∷◌, ◌++◌, length, take, drop, slice_index, replicate, arith, refl, sym, ap, ap₂, ◌∙◌, append_assoc, set, take-add, bit_or}
 use Rattle.std.proofs.lemmas.Bool.{cases_lt}
 use Rattle.std.proofs.lemmas.List.{take_at, drop_at, set_at, length-append, length-drop, length-take, length-take-le, get_or-take, get_or-drop, get_or_past, drop-drop}
 use Rattle.std.proofs.lemmas.Nat.{or_shifted, le_bytes_8, from_le_bytes-to_le_bytes_8}
@@ -51,9 +51,7 @@ pub state_is : (g : GeneratorState) (seed stream low : List ℕ) (s l w : ℕ) �
     → set (put_mid 40 8 (put_mid 32 8 (seed ++ replicate 17 0) stream) low) 48 (w / 2 ^ 64) ≡ state_bytes g
 state_is g seed stream low s l w long seed_is stream_is s_is low_is l_is w_is =
     state_written seed stream low (w / 2 ^ 64) long (ap length stream_is) (ap length low_is)
-    ∙ ap₂ (λ a b. a ++ (b ++ (low ++ w / 2 ^ 64 ∷ []))) seed_is (stream_is ∙ ap (to_le_bytes w64) s_is)
-    ∙ ap (λ t. g.seed ++ (to_le_bytes w64 g.stream ++ (t ++ w / 2 ^ 64 ∷ []))) (low_is ∙ ap (to_le_bytes w64) l_is)
-    ∙ ap (λ v. g.seed ++ (to_le_bytes w64 g.stream ++ (to_le_bytes w64 (v % 2 ^ 64) ++ v / 2 ^ 64 ∷ []))) w_is
+    ∙ rw (seed_is, stream_is, s_is, low_is, l_is, w_is)
 
 -- out and in again
 pub of_state_bytes-state_bytes : (g : GeneratorState) → length g.seed ≡ 32 → g.stream < 2 ^ 64 → g.word_pos < positions
@@ -108,12 +106,8 @@ state_bytes-of_state_bytes bs long fits =
     let less : from_le_bytes w64 low < 2 ^ 64 = from_le_bytes-below low (Bytes-part 40 8 bs fits) in
     let below : w % 2 ^ 64 ≡ from_le_bytes w64 low = omega arith in
     let above : w / 2 ^ 64 ≡ top % 16 = omega arith in
-    ap₂ (λ s l. take 32 bs ++ (s ++ (l ++ w / 2 ^ 64 ∷ [])))
-    (le_bytes_8 stream (from_le_bytes w64 stream) (length-take-le 8 (drop 32 bs) (omega (arith, length-drop 32 bs)))
-    (Bytes-part 32 8 bs fits) refl)
-    (le_bytes_8 low (w % 2 ^ 64) (length-take-le 8 (drop 40 bs) (omega (arith, length-drop 40 bs)))
-    (Bytes-part 40 8 bs fits) below)
-    ∙ ap (λ t. take 32 bs ++ (stream ++ (low ++ t ∷ []))) above
-    ∙ sym (ap (λ f. f ++ top % 16 ∷ []) (take-add 40 8 bs ∙ ap (λ f. f ++ low) (take-add 32 8 bs))
-    ∙ append_assoc (take 32 bs ++ stream) low (top % 16 ∷ [])
-    ∙ append_assoc (take 32 bs) stream (low ++ top % 16 ∷ []))
+    let eight = λ (i : ℕ) (room : i + 8 ≤ 49). length-take-le 8 (drop i bs) (omega (arith, room, long, length-drop i bs)) in
+    let mid = le_bytes_8 stream (from_le_bytes w64 stream) (eight 32 (omega arith)) (Bytes-part 32 8 bs fits) refl in
+    let last = le_bytes_8 low (w % 2 ^ 64) (eight 40 (omega arith)) (Bytes-part 40 8 bs fits) below in
+    ap₂ (λ s l. take 32 bs ++ (s ++ (l ++ w / 2 ^ 64 ∷ []))) mid last
+    ∙ rw (above, take-add 40 8 bs, take-add 32 8 bs) (simp append_assoc)

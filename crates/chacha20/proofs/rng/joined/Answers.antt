@@ -1,5 +1,5 @@
 use Rattle.std.proofs.Common.{arith}
-use Rattle.chacha20.proofs.ReadLemmas.{halves_joined}
+use Rattle.chacha20.proofs.GeneratorLemmas.{halves_joined}
 use Rattle.chacha20.proofs.rng.joined.Goals as goal
 
 pub returns : goal.returns

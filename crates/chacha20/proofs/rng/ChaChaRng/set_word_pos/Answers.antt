@@ -1,25 +1,18 @@
-use Rattle.std.proofs.Common.{ℕ, List, ◌≤◌, ◌+◌, ◌/◌, ◌%◌, ◌∙◌, length, ap, subst, sym, arith}
+use Rattle.std.proofs.Common.{◌+◌, ◌/◌, ◌%◌, ◌∙◌, length, ap, arith}
 use Rattle.chacha_base.specs.Layout.{legacy}
 use Rattle.chacha_base.proofs.StateLemmas.{length-state_at}
 use Rattle.chacha20.specs.Generator.{GeneratorState, at_word_pos, positions}
-use Rattle.chacha20.specs.Unread.{IsStart, IsUnread}
 use Rattle.chacha20.proofs.GeneratorLemmas.{generator_of-recounted}
 use Rattle.chacha20.proofs.ReadLemmas.{taken, generator_of-taken, refilled, generator_of-refilled}
 use Rattle.chacha20.proofs.RepeatedLemmas.{at-same}
 use Rattle.chacha20.proofs.rng.ChaChaRng.set_word_pos.Goals as goal
 
--- the words from the front of a buffer on, of which so many are used
-from_front : (n e : ℕ) (core buffer : List ℕ) → IsUnread n core buffer 0 → e ≤ 64 → IsUnread n core buffer e
-from_front n e core buffer held room = taken held e e (omega arith) room
-
 pub invariant_of-self : goal.invariant_of-self
 invariant_of-self g c =
-    let n = g.R.Rounds.COUNT in
-    let sixteen =
-    ap length c.set_block_pos.ensures.state ∙ length-state_at legacy _ c.self.inside.core c.self.invariant.sixteen in
-    let start = subst IsStart (sym c.set_block_pos.ensures.fixed) c.self.invariant.start in
-    from_front n _ _ _ (refilled n c.set_block_pos.new.self _ _ sixteen start c.generate.ensures.moved
-    c.generate.ensures.output) (omega arith)
+    let set = c.set_block_pos.ensures in
+    let sixteen = ap length set.state ∙ length-state_at legacy _ c.self.inside.core c.self.invariant.sixteen in
+    taken (refilled g.R.Rounds.COUNT c.set_block_pos.new.self _ _ sixteen (rw set.fixed c.self.invariant.start)
+    c.generate.ensures.moved c.generate.ensures.output) (c.args.word_pos % positions % 16) _ (omega arith) (omega arith)
 
 pub returns-clause-value : goal.returns-clause-value
 returns-clause-value g c =

@@ -1,7 +1,7 @@
 use Rattle.std.proofs.Common.{◌≡◌, ℕ, List, ◌∙◌, length, ap, ap₂, arith}
 use Rattle.chacha_base.specs.Layout.{ietf}
 use Rattle.chacha_base.specs.Block.{start}
-use Rattle.chacha20.specs.XChaCha.{hchacha, subkey, subnonce}
+use Rattle.chacha20.specs.XChaCha.{subkey, subnonce}
 use Rattle.chacha20.proofs.StartLemmas.{blocks-of-start}
 use Rattle.chacha20.proofs.XChaChaLemmas.{subnonce_written}
 use Rattle.chacha20.proofs.xchacha.XChaChaCoreKeyIvInit.new.Goals as goal
@@ -9,7 +9,7 @@ use Rattle.chacha20.proofs.xchacha.XChaChaCoreKeyIvInit.new.Goals as goal
 pub returns : goal.returns
 returns g c =
     let n = g.R.Rounds.COUNT in
-    let key = c.hchacha-subkey.ensures ∙ ap (hchacha n c.args.key.now) c.copy_from_slice.ensures.after in
+    let key = rw c.copy_from_slice.ensures.after at c.hchacha-subkey.ensures in
     let nonce =
     subnonce_written c.args.iv.now c.copy_from_slice-2.new.self c.told-iv c.copy_from_slice-2.ensures.after in
     let long : length (subkey n c.args.key.now c.args.iv.now) ≡ 32 = omega (arith, ap length key) in
