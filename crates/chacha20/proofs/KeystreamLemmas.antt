@@ -47,13 +47,15 @@ window-xor_stream stream p m n xs = rw (drop-xor_stream, take-xor_stream)
 -- the first n of a stream's bytes, or of a generator's words
 pub take-stream_part : (stream : ℕ → ℕ) (p n k : ℕ) → n ≤ k → take n (stream_part stream p k) ≡ stream_part stream p n
 take-stream_part stream p n k inside =
-    rw (← xor_stream-zeros stream p k, take-xor_stream, take-replicate {X = ℕ} n k 0 inside, xor_stream-zeros stream p n)
+    let zeros = take-replicate {X = ℕ} n k 0 inside in
+    rw (← xor_stream-zeros stream p k, take-xor_stream, zeros, xor_stream-zeros stream p n)
 
 -- those from element n on
 pub drop-stream_part : (stream : ℕ → ℕ) (p n k : ℕ)
     → drop n (stream_part stream p k) ≡ stream_part stream (p + n) (k - n)
 drop-stream_part stream p n k =
-    rw (← xor_stream-zeros stream p k, drop-xor_stream, drop-replicate {X = ℕ} n k 0, xor_stream-zeros stream (p + n) (k - n))
+    let zeros = drop-replicate {X = ℕ} n k 0 in
+    rw (← xor_stream-zeros stream p k, drop-xor_stream, zeros, xor_stream-zeros stream (p + n) (k - n))
 
 -- the window of n elements from element m on
 pub window-stream_part : (stream : ℕ → ℕ) (p m n k : ℕ) → m + n ≤ k

@@ -78,8 +78,8 @@ refilled n core next made long own moved words =
     let again : (c : ℕ) → state_at legacy c core ≡ start legacy g.seed (to_le_bytes w64 g.stream) c =
     λ c. rw fixed
     (ap (λ f. state_of legacy f c) own
-    ∙ state_of-start legacy (seed_in (fixed_words legacy core)) (to_le_bytes w64 (stream_in (fixed_words legacy core))) c
-    (length-words 8 _ (length-seed_in core long))) in
+    ∙ state_of-start legacy (seed_in (fixed_words legacy core))
+    (to_le_bytes w64 (stream_in (fixed_words legacy core))) c (length-words 8 _ (length-seed_in core long))) in
     record {
       sixteen = ap length moved ∙ length-state_at legacy (counter_after legacy core 4) core long;
       start = rw fixed own;
@@ -115,7 +115,8 @@ two_reads n g first then =
     (then ∙ ap (λ (p : ℕ × GeneratorState). next_u32 n p.1) first ∙ second)
 
 -- so many words of a fill are written to dst, and the generator has moved on by as many
-pub record FilledTo (n : ℕ) (rng : GeneratorState) (done : ℕ) (core buffer : List ℕ) (i : ℕ) (dst : List ℕ) : Type 0 where
+pub record FilledTo (n : ℕ) (rng : GeneratorState) (done : ℕ) (core buffer : List ℕ) (i : ℕ) (dst : List ℕ)
+    : Type 0 where
   pub unread : IsUnread n core buffer i
   pub long : length buffer ≡ 64
   pub moved : generator_of core i ≡ at_word_pos rng (rng.word_pos + done)
@@ -153,20 +154,23 @@ words-more {n} {rng} {done} {core} {buffer} {i} {dst} {part} held k room fits ma
 
 -- a fill of whole words
 pub filled-whole : {h : GeneratorState} {dst : List ℕ} (n q : ℕ) (g : GeneratorState)
-    → dst ≡ bytes (stream_part (word n g) g.word_pos q) → h ≡ at_word_pos g (g.word_pos + q) → (dst, h) ≡ fill n g (4 * q)
+    → dst ≡ bytes (stream_part (word n g) g.word_pos q) → h ≡ at_word_pos g (g.word_pos + q)
+    → (dst, h) ≡ fill n g (4 * q)
 filled-whole n q g made moved = ap₂ (λ x y. (x, y)) made moved ∙ sym (fill-words n q g)
 
--- and the front of a word behind them
-pub filled-over : {h i : GeneratorState} {x : ℕ} {front last : List ℕ} (n q r : ℕ) (g : GeneratorState) → 0 < r → r < 4
-    → (front, h) ≡ fill n g (4 * q) → (x, i) ≡ next_u32 n h → last ≡ take r (word_bytes x)
+-- and r bytes behind them, which take one word
+pub filled-over : {h i : GeneratorState} {x : ℕ} {front last : List ℕ} (n q r : ℕ) (g : GeneratorState)
+    → (r + 3) / 4 ≡ 1 → (front, h) ≡ fill n g (4 * q) → (x, i) ≡ next_u32 n h → last ≡ take r (word_bytes x)
     → (front ++ last, i) ≡ fill n g (4 * q + r)
-filled-over {h} {i} {x} {front} {last} n q r g some short whole read cut =
+filled-over {h} {i} {x} {front} {last} n q r g one whole read cut =
     let filled : ℕ → List ℕ × GeneratorState =
     λ k. (take r (bytes (stream_part (word n h) h.word_pos k)), at_word_pos h (h.word_pos + k)) in
     let both : List ℕ × GeneratorState → List ℕ × GeneratorState =
     λ first. let rest = fill n first.1 r in (first.0 ++ rest.0, rest.1) in
-    let one : 1 ≡ (r + 3) / 4 = omega arith in
     let rest : (last, i) ≡ fill n h r =
-    ap (λ y. (y, i)) cut ∙ ap (λ (p : ℕ × GeneratorState). (take r (word_bytes p.0), p.1)) read ∙ ap filled one in
-    let joined : (front ++ last, i) ≡ both (front, h) = ap (λ (p : List ℕ × GeneratorState). (front ++ p.0, p.1)) rest in
+    ap (λ y. (y, i)) cut
+    ∙ ap (λ (p : ℕ × GeneratorState). (take r (word_bytes p.0), p.1)) read
+    ∙ ap filled (sym one) in
+    let joined : (front ++ last, i) ≡ both (front, h) =
+    ap (λ (p : List ℕ × GeneratorState). (front ++ p.0, p.1)) rest in
     joined ∙ ap both whole ∙ sym (fill-add n q r g)

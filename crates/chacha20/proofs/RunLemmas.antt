@@ -290,7 +290,7 @@ law-seek_back {s} {c} {old} ran at len these done =
     let first : (cipher_outcome s c old (Apply at len)).answer ≡ Done =
     let answers = sym (ap (λ r. r.0) all) ∙ done in cc in
     let fits = apply-fits s c old at len first in
-    let inside = (subst (AllByRecursion (InSlices (length s.input) (length old))) these ran.ranges).0 in
+    let inside = (rw these at ran.ranges).0 in
     let run = all ∙ run-again s c old at len fits in
     (ap (λ r. r.1) run, ap (λ r. r.2) run ∙ applied-again s c old at len inside)
 
@@ -302,7 +302,6 @@ pub law-cut_anywhere : {s : Setting} {c : Cipher} {old : List ℕ} {calls : List
 law-cut_anywhere {s} {c} {old} ran at lens these done =
     let all = ran.run ∙ ap (cipher_run s c old) these in
     let fits = apply-fits s c old at (sum lens) done in
-    let ranges = subst (AllByRecursion (InSlices (length s.input) (length old))) these ran.ranges in
-    let cut = run-pieces s at lens c old refl ranges fits in
+    let cut = run-pieces s at lens c old refl (rw these at ran.ranges) fits in
     let whole = sym (apply-is s c old at (sum lens) fits) in
     (ap (λ r. r.1) all ∙ cut.0 ∙ ap (λ a. a.cipher) whole, ap (λ r. r.2) all ∙ cut.1 ∙ ap (λ a. a.bytes) whole)

@@ -37,13 +37,11 @@ state_written : (seed stream low : List ℕ) (top : ℕ) → length seed ≡ 32 
 state_written seed stream low top long eight eight' =
     let front : length (seed ++ stream) ≡ 40 = omega (arith, length-append seed stream) in
     let all : length ((seed ++ stream) ++ low) ≡ 48 = omega (arith, length-append (seed ++ stream) low) in
-    ap (λ s. set (put_mid 40 8 s low) 48 top)
-    (two_written seed stream long ∙ sym (append_assoc seed stream (replicate 9 0)))
-    ∙ ap (λ s. set s 48 top)
-    (put_mid-at 40 8 (seed ++ stream) (replicate 9 0) low front ∙ sym (append_assoc (seed ++ stream) low (0 ∷ [])))
-    ∙ set_at ((seed ++ stream) ++ low) 0 [] top 48 all
-    ∙ append_assoc (seed ++ stream) low (top ∷ [])
-    ∙ append_assoc seed stream (low ++ top ∷ [])
+    let third = put_mid-at 40 8 (seed ++ stream) (replicate 9 0) low front in
+    let last = set_at ((seed ++ stream) ++ low) 0 [] top 48 all in
+    let join = append_assoc seed stream (replicate 9 0) in
+    rw (two_written seed stream long, ← join, third, ← append_assoc (seed ++ stream) low (0 ∷ []), last)
+    (simp append_assoc)
 
 -- what is written of a generator
 pub state_is : (g : GeneratorState) (seed stream low : List ℕ) (s l w : ℕ) → length seed ≡ 32 → seed ≡ g.seed
@@ -85,7 +83,8 @@ from_le_bytes-below bs fits = omega (arith, fits 0, fits 1, fits 2, fits 3, fits
 
 -- the generator that is put to what is read of 49 bytes
 pub read_back : {seed : List ℕ} {stream low : ℕ} (bs : List ℕ) → low < 2 ^ 64 → slice_index bs 48 < 256
-    → seed ≡ take 32 bs → stream ≡ from_le_bytes w64 (take 8 (drop 32 bs)) → low ≡ from_le_bytes w64 (take 8 (drop 40 bs))
+    → seed ≡ take 32 bs → stream ≡ from_le_bytes w64 (take 8 (drop 32 bs))
+    → low ≡ from_le_bytes w64 (take 8 (drop 40 bs))
     → at_word_pos (record { seed = seed; stream = stream; word_pos = 0 })
     (bit_or (slice_index bs 48 * 2 ^ 64 % 2 ^ 128) low) ≡ of_state_bytes bs
 read_back {low = low} bs less small seed_is stream_is low_is =
@@ -106,7 +105,8 @@ state_bytes-of_state_bytes bs long fits =
     let less : from_le_bytes w64 low < 2 ^ 64 = from_le_bytes-below low (Bytes-part 40 8 bs fits) in
     let below : w % 2 ^ 64 ≡ from_le_bytes w64 low = omega arith in
     let above : w / 2 ^ 64 ≡ top % 16 = omega arith in
-    let eight = λ (i : ℕ) (room : i + 8 ≤ 49). length-take-le 8 (drop i bs) (omega (arith, room, long, length-drop i bs)) in
+    let eight = λ (i : ℕ) (room : i + 8 ≤ 49). length-take-le 8 (drop i bs)
+    (omega (arith, room, long, length-drop i bs)) in
     let mid = le_bytes_8 stream (from_le_bytes w64 stream) (eight 32 (omega arith)) (Bytes-part 32 8 bs fits) refl in
     let last = le_bytes_8 low (w % 2 ^ 64) (eight 40 (omega arith)) (Bytes-part 40 8 bs fits) below in
     ap₂ (λ s l. take 32 bs ++ (s ++ (l ++ w / 2 ^ 64 ∷ []))) mid last

@@ -14,8 +14,8 @@ none_left r empty test whole = grind (arith, common_steps)
 all_parts : (len front r : ℕ) → front ≡ len / 4 * 4 → r + len / 4 * 4 ≡ len → 4 * (front / 4) + r ≡ len
 all_parts len front r words rest = omega arith
 
-part_short : (len r : ℕ) → r + len / 4 * 4 ≡ len → r < 4
-part_short len r rest = omega arith
+one_word : (len r : ℕ) → r + len / 4 * 4 ≡ len → 0 < r → (r + 3) / 4 ≡ 1
+one_word len r rest some = omega arith
 
 part_inside : (len r : ℕ) (word : List ℕ) → r + len / 4 * 4 ≡ len → length word ≡ 4 → r ≤ length word
 part_inside len r word rest four = omega arith
@@ -44,7 +44,7 @@ returns-then-not-is_empty-clause-value g c =
     let split = c.split_at_mut-words.ensures in
     let some = some_left (length last) _ c.is_empty.ensures c.if-not-is_empty.true in
     rw (← all_parts _ _ _ split.front_len split.back_len)
-    (filled-over n q (length last) c.args.self.now some (part_short _ _ split.back_len)
+    (filled-over n q (length last) c.args.self.now (one_word _ _ split.back_len some)
     (filled-whole n q c.args.self.now c.fill_words.ensures.dst c.fill_words.ensures.moved) c.next_u32.ensures.value
     (c.copy_from_slice.ensures.after ∙ ap (take (length last)) c.to_le_bytes-word.ensures))
 

@@ -38,7 +38,8 @@ words-preserved g c =
     let k = c.min-count.result in
     let whole : i + k - i ≡ k = omega arith in
     let again = c.refill.ensures in
-    let now : FilledTo g.R.Rounds.COUNT c.args.self.now c.words.done c.refill.new.core c.refill.new.buffer i c.words.dst =
+    let n = g.R.Rounds.COUNT in
+    let now : FilledTo n c.args.self.now c.words.done c.refill.new.core c.refill.new.buffer i c.words.dst =
     record { unread = again.unread; long = again.long; moved = again.same ∙ kept.moved; made = kept.made } in
     record {
       filled = words-more now k (omega arith) (omega arith) (rw whole at c.write_bytes.ensures);

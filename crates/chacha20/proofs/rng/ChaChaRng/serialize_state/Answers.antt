@@ -32,8 +32,5 @@ copy_from_slice-requires-3 g c =
 
 pub slice_bounds-state-end-3 : goal.slice_bounds-state-end-3
 slice_bounds-state-end-3 g c =
-    omega (
-      arith,
-      two_written_length c.copy_from_slice.new.self c.copy_from_slice-2.new.self c.copy_from_slice.ensures.len
-          (ap length (c.copy_from_slice-2.ensures.after ∙ c.to_le_bytes-stream.ensures)),
-    )
+    let eight = ap length (c.copy_from_slice-2.ensures.after ∙ c.to_le_bytes-stream.ensures) in
+    omega (arith, two_written_length c.copy_from_slice.new.self _ c.copy_from_slice.ensures.len eight)

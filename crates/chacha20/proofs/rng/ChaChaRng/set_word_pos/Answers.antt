@@ -17,12 +17,11 @@ invariant_of-self g c =
 pub returns-clause-value : goal.returns-clause-value
 returns-clause-value g c =
     let position = c.args.word_pos % positions in
-    let sixteen =
-    ap length c.set_block_pos.ensures.state
-    ∙ length-state_at legacy (position / 16) c.self.inside.core c.self.invariant.sixteen in
+    let set = c.set_block_pos.ensures in
+    let old = c.self.inside.core in
+    let sixteen = ap length set.state ∙ length-state_at legacy (position / 16) old c.self.invariant.sixteen in
     generator_of-taken c.generate.new.self 0 (position % 16) _ (omega arith)
     ∙ ap (λ (h : GeneratorState). at_word_pos h (h.word_pos + position % 16))
     (generator_of-refilled c.set_block_pos.new.self _ sixteen c.generate.ensures.moved
-    ∙ generator_of-recounted c.self.inside.core _ c.self.inside.index c.set_block_pos.ensures.fixed
-    c.set_block_pos.ensures.counter (omega arith) c.self.view_is)
+    ∙ generator_of-recounted old _ c.self.inside.index set.fixed set.counter (omega arith) c.self.view_is)
     ∙ at-same c.args.self.now _ _ (omega arith)
