@@ -281,27 +281,23 @@ pub record Ran (s : Setting) (c : Cipher) (old : List ℕ) (calls : List CipherC
   pub ranges : AllByRecursion (InSlices (length s.input) (length old)) calls
 
 -- the two laws, of any such run
-pub law-seek_back : {s : Setting} {c : Cipher} {old : List ℕ} {calls : List CipherCall}
-    {end : List CipherAnswer × Cipher × List ℕ} → Ran s c old calls end → (at len : ℕ)
-    → calls ≡ Apply at len ∷ Seek c.position ∷ Apply at len ∷ [] → end.0 ≡ Done ∷ Done ∷ Done ∷ []
-    → (end.1 ≡ record c { position = c.position + len }) × (end.2 ≡ old)
-law-seek_back {s} {c} {old} ran at len these done =
-    let all = ran.run ∙ ap (cipher_run s c old) these in
-    let first : (cipher_outcome s c old (Apply at len)).answer ≡ Done =
-    let answers = sym (ap (λ r. r.0) all) ∙ done in cc in
-    let fits = apply-fits s c old at len first in
-    let inside = (rw these at ran.ranges).0 in
-    let run = all ∙ run-again s c old at len fits in
-    (ap (λ r. r.1) run, ap (λ r. r.2) run ∙ applied-again s c old at len inside)
+module _ {s : Setting} {c : Cipher} {old : List ℕ} {calls : List CipherCall} {end : List CipherAnswer × Cipher × List ℕ}
+    (ran : Ran s c old calls end) where
+  pub law-seek_back : (at len : ℕ) → calls ≡ Apply at len ∷ Seek c.position ∷ Apply at len ∷ []
+      → end.0 ≡ Done ∷ Done ∷ Done ∷ [] → (end.1 ≡ record c { position = c.position + len }) × (end.2 ≡ old)
+  law-seek_back at len these done =
+      let all = ran.run ∙ ap (cipher_run s c old) these in
+      let first : (cipher_outcome s c old (Apply at len)).answer ≡ Done =
+      let answers = sym (ap (λ r. r.0) all) ∙ done in cc in
+      let run = all ∙ run-again s c old at len (apply-fits s c old at len first) in
+      (ap (λ r. r.1) run, ap (λ r. r.2) run ∙ applied-again s c old at len (rw these at ran.ranges).0)
 
-pub law-cut_anywhere : {s : Setting} {c : Cipher} {old : List ℕ} {calls : List CipherCall}
-    {end : List CipherAnswer × Cipher × List ℕ} → Ran s c old calls end → (at : ℕ) (lens : List ℕ)
-    → calls ≡ pieces at lens
-    → (let whole = cipher_outcome s c old (Apply at (sum lens)) in
-    whole.answer ≡ Done → (end.1 ≡ whole.cipher) × (end.2 ≡ whole.bytes))
-law-cut_anywhere {s} {c} {old} ran at lens these done =
-    let all = ran.run ∙ ap (cipher_run s c old) these in
-    let fits = apply-fits s c old at (sum lens) done in
-    let cut = run-pieces s at lens c old refl (rw these at ran.ranges) fits in
-    let whole = sym (apply-is s c old at (sum lens) fits) in
-    (ap (λ r. r.1) all ∙ cut.0 ∙ ap (λ a. a.cipher) whole, ap (λ r. r.2) all ∙ cut.1 ∙ ap (λ a. a.bytes) whole)
+  pub law-cut_anywhere : (at : ℕ) (lens : List ℕ) → calls ≡ pieces at lens
+      → (let whole = cipher_outcome s c old (Apply at (sum lens)) in
+      whole.answer ≡ Done → (end.1 ≡ whole.cipher) × (end.2 ≡ whole.bytes))
+  law-cut_anywhere at lens these done =
+      let all = ran.run ∙ ap (cipher_run s c old) these in
+      let fits = apply-fits s c old at (sum lens) done in
+      let cut = run-pieces s at lens c old refl (rw these at ran.ranges) fits in
+      let whole = sym (apply-is s c old at (sum lens) fits) in
+      (ap (λ r. r.1) all ∙ cut.0 ∙ ap (λ a. a.cipher) whole, ap (λ r. r.2) all ∙ cut.1 ∙ ap (λ a. a.bytes) whole)

@@ -1,5 +1,3 @@
-use Rattle.std.proofs.Common.{◌∙◌, sym, ap}
-use Rattle.chacha20.specs.Unread.{generator_of}
 use Rattle.chacha20.proofs.ReadLemmas.{refilled, generator_of-refilled}
 use Rattle.chacha20.proofs.rng.refill.Goals as goal
 
@@ -10,5 +8,4 @@ returns-then-index-eq64-clause-unread g c =
 
 pub returns-then-index-eq64-clause-same : goal.returns-then-index-eq64-clause-same
 returns-then-index-eq64-clause-same g c =
-    generator_of-refilled c.args.core.now _ c.requires.sixteen c.generate.ensures.moved
-    ∙ ap (generator_of c.args.core.now) (sym c.if-index-eq64.true)
+    rw c.if-index-eq64.true (generator_of-refilled c.args.core.now _ c.requires.sixteen c.generate.ensures.moved)

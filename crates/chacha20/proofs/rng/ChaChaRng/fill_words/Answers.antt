@@ -1,8 +1,5 @@
 use Rattle.std.proofs.Common.{◌≡◌, ℕ, List, [], ◌≤◌, ◌<◌, ◌+◌, ◌-◌, ◌*◌, ◌/◌, ◌%◌, ◌∙◌, min, length, take, drop, ap, sym, arith, refl, length-drop, take_all, length-take-le}
 use borrow.Rule.Slice.PartMut.{mid_of}
-use Rattle.chacha_base.specs.Bytes.{bytes}
-use Rattle.chacha_base.specs.Keystream.{stream_part}
-use Rattle.chacha20.specs.Generator.{GeneratorState, at_word_pos, word}
 use Rattle.chacha20.proofs.ReadLemmas.{generator_of-taken, FilledTo, words-more}
 use Rattle.chacha20.proofs.rng.ChaChaRng.fill_words.Goals as goal
 
@@ -23,9 +20,7 @@ words-init g c = record {
   filled = record {
     unread = c.self.invariant;
     long = c.self.told;
-    moved =
-        generator_of-taken c.self.inside.core c.self.inside.index 0 _ (omega arith)
-        ∙ ap (λ (h : GeneratorState). at_word_pos h (h.word_pos + 0)) c.self.view_is;
+    moved = rw (← c.self.view_is) (generator_of-taken c.self.inside.core c.self.inside.index 0 _ (omega arith));
     made = refl {a = []};
   };
   within = omega arith;
@@ -49,14 +44,11 @@ words-preserved g c =
 pub returns-clause-dst : goal.returns-clause-dst
 returns-clause-dst g c =
     let all : c.words.done ≡ length c.args.dst.now / 4 = omega arith in
-    sym (take_all (4 * c.words.done) c.words.dst (omega arith))
-    ∙ c.words.invariant.filled.made
-    ∙ ap (λ k. bytes (stream_part (word g.R.Rounds.COUNT c.args.self.now) c.args.self.now.word_pos k)) all
+    rw (← all) (sym (take_all (4 * c.words.done) c.words.dst (omega arith)) ∙ c.words.invariant.filled.made)
 
 pub returns-clause-moved : goal.returns-clause-moved
 returns-clause-moved g c =
-    let all : c.words.done ≡ length c.args.dst.now / 4 = omega arith in
-    c.words.invariant.filled.moved ∙ ap (λ k. at_word_pos c.args.self.now (c.args.self.now.word_pos + k)) all
+    let all : c.words.done ≡ length c.args.dst.now / 4 = omega arith in rw (← all) c.words.invariant.filled.moved
 
 pub write_bytes-requires : goal.write_bytes-requires
 write_bytes-requires g c =

@@ -1,6 +1,5 @@
-use Rattle.std.proofs.Common.{rules, ◌≡◌, length, replicate, ap, ◌∙◌}
+use Rattle.std.proofs.Common.{rules, ◌≡◌, length, replicate}
 use Rattle.chacha_base.specs.Layout.{legacy}
-use Rattle.chacha_base.specs.State.{state_counter}
 use Rattle.chacha_base.proofs.BytesLemmas.{length-words}
 use Rattle.chacha_base.proofs.StateLemmas.{state_counter-start}
 use Rattle.chacha20.proofs.GeneratorLemmas.{Bytes, starts-new, unread-start, generator_of-start}
@@ -18,5 +17,4 @@ returns g c =
     let long : length seed ≡ 32 = search rules in
     let fits : Bytes seed = λ i. search rules in
     generator_of-start (starts-new long fits c.from_seed.ensures)
-    (ap (state_counter legacy) c.from_seed.ensures
-    ∙ state_counter-start legacy seed (replicate 8 0) 0 (length-words 8 seed long))
+    (rw c.from_seed.ensures (state_counter-start legacy seed (replicate 8 0) 0 (length-words 8 seed long)))

@@ -1,5 +1,4 @@
-use Rattle.std.proofs.Common.{ap, arith, ◌∙◌}
-use Rattle.chacha20.specs.Generator.{GeneratorState}
+use Rattle.std.proofs.Common.{arith}
 use Rattle.chacha20.proofs.GeneratorLemmas.{starts-renonced, unread-start, generator_of-start}
 use Rattle.chacha20.proofs.rng.ChaChaRng.set_stream.Goals as goal
 
@@ -11,6 +10,5 @@ invariant_of-self g c =
 pub returns : goal.returns
 returns g c =
     let set = c.set_block_pos.ensures in
-    generator_of-start (starts-renonced c.self.invariant c.set_stream.ensures (omega arith) set.state set.fixed)
-    set.counter
-    ∙ ap (λ (v : GeneratorState). record v { stream = c.args.stream; word_pos = 0 }) c.self.view_is
+    rw (← c.self.view_is) (generator_of-start
+    (starts-renonced c.self.invariant c.set_stream.ensures (omega arith) set.state set.fixed) set.counter)

@@ -1,7 +1,6 @@
-use Rattle.std.proofs.Common.{◌∷◌, [], ◌+◌, take, drop, length, ◌∙◌, refl, ap, arith}
+use Rattle.std.proofs.Common.{◌∷◌, [], ◌+◌, take, drop, length, refl, ap, arith}
 use Rattle.std.proofs.lemmas.List.{take_all, take_more_set, drop_all, drop_more}
 use Rattle.std.proofs.lemmas.List.Elements.{All-get_or}
-use Rattle.chacha20.specs.Generator.{GeneratorState}
 use Rattle.chacha20.specs.GeneratorRuns.{RngOutcome, rng_run, InData}
 use Rattle.chacha20.proofs.RunLemmas.{behind, run-more, run-all}
 use Rattle.chacha20.proofs.GeneratorEquality.{same-is}
@@ -31,10 +30,4 @@ returns g c =
     let run =
     run-all (rng_run n c.calls.rng c.calls.data) (take c.calls.i c.calls.answers) refl c.calls.invariant
     (drop_all c.calls.i c.args.calls.now (omega arith)) (take_all c.calls.i c.calls.answers (omega arith)) in
-    record {
-      run = run;
-      equality = λ other equal.
-          run
-          ∙ ap (λ (from : GeneratorState). rng_run n from c.args.data.now c.args.calls.now)
-          (same-is c.args.rng.now other equal);
-    }
+    record { run = run; equality = λ other equal. rw (← same-is c.args.rng.now other equal) run }
