@@ -110,7 +110,7 @@ fixed_words-renonced core next stream long own moved =
 length-renonced : (core next : List ℕ) (stream : ℕ) → length core ≡ 16
     → next ≡ take 14 core ++ words (to_le_bytes w64 stream) → length next ≡ 16
 length-renonced core next stream long moved =
-    ap length moved ∙ simp length-append (omega (arith, length-take-le 14 core (omega arith)))
+    rw moved (simp length-append (omega (arith, length-take-le 14 core (omega arith))))
 
 -- generators with the same parts are one
 pub generator_is : (g h : GeneratorState) → g.seed ≡ h.seed → g.stream ≡ h.stream → g.word_pos ≡ h.word_pos → g ≡ h

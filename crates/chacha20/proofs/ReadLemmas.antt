@@ -136,9 +136,7 @@ words-more {n} {rng} {done} {core} {buffer} {i} {dst} {part} held k room fits ma
     ∙ ap (λ (h : GeneratorState). stream_part (word n h) h.word_pos k) held.moved
     ∙ words-same n rng _ _ k wrapped in
     let size : length part ≡ 4 * k =
-    ap length made
-    ∙ length-bytes (take k (drop i buffer))
-    ∙ ap (λ x. 4 * x) (ap length next ∙ length-stream_part stream (w + done) k) in
+    rw (made, length-bytes (take k (drop i buffer)), next, length-stream_part stream (w + done) k) in
     record {
       unread = taken held.unread k _ refl room;
       long = held.long;

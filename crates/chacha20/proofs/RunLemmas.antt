@@ -151,7 +151,7 @@ both-Decides a b p limit =
 pub pos-is : {c : Cipher} {old : List ℕ} (p : ℕ) → Some p ≡ Some c.position
     → answered (Position c.position) c old ≡ answered (Position p) c old
 pos-is {c} {old} p is =
-    let same : c.position ≡ p = cc in ap (λ (p : ℕ). answered (Position p) c old) same
+    let same : c.position ≡ p = cc in rw same
 
 pub pos_i32-is : {c : Cipher} {old : List ℕ} (z : ℤ) → c.position ≤ 2 ^ 31 - 1 → signed_position z ≡ Some c.position
     → answered (if nat_le c.position (2 ^ 31 - 1) then PositionI32 (pos c.position) else Overflow) c old
@@ -172,19 +172,13 @@ pub run-more : {K A S : Type 0} {whole : List A × S × List ℕ} {k : K} {a : A
     (now next : List K → List A × S × List ℕ) (front : List A) → whole ≡ behind front (now calls) → calls ≡ k ∷ left
     → now (k ∷ left) ≡ behind (a ∷ []) (next left) → longer ≡ front ++ (a ∷ []) → whole ≡ behind longer (next left)
 run-more {a = a} {left = left} now next front ran these made longer =
-    let rest = next left in
-    ran
-    ∙ ap (behind front) (ap now these ∙ made)
-    ∙ ap (λ xs. (xs, rest.1, rest.2)) (sym (ap (λ xs. xs ++ rest.0) longer ∙ append_assoc front (a ∷ []) rest.0))
+    rw (ran, these, made, longer, append_assoc front (a ∷ []) (next left).0)
 
 -- the end of a run: `rest` runs what is left, which is nothing
 pub run-all : {K A S : Type 0} {whole : List A × S × List ℕ} {end : S} {new : List ℕ} {calls : List K}
     {answers : List A} (rest : List K → List A × S × List ℕ) (front : List A) → rest [] ≡ ([], end, new)
     → whole ≡ behind front (rest calls) → calls ≡ [] → front ≡ answers → (answers, end, new) ≡ whole
-run-all {end = end} {new = new} rest front none ran all same =
-    sym (ran
-    ∙ ap (behind front) (ap rest all ∙ none)
-    ∙ ap (λ xs. (xs, end, new)) (append-nil front ∙ same))
+run-all rest front none ran all same = rw (ran, all, none, append-nil front, same)
 
 -- what an application that is accepted leaves
 abbrev applied : Setting → Cipher → List ℕ → ℕ → ℕ → CipherOutcome

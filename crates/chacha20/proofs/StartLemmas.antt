@@ -49,5 +49,4 @@ blocks-of-start n layout key nonce s long same =
 pub first-of-start : (layout : Layout) (key nonce s : List ℕ) → length key ≡ 32 → s ≡ start layout key nonce 0
     → 64 * state_counter layout s ≡ 0
 first-of-start layout key nonce s long same =
-    ap (λ t. 64 * state_counter layout t) same
-    ∙ ap (λ c. 64 * c) (state_counter-start layout key nonce 0 (length-words 8 key long) ∙ zero-mod (modulus layout))
+    rw (same, state_counter-start layout key nonce 0 (length-words 8 key long), zero-mod (modulus layout))

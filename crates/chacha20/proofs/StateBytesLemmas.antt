@@ -1,6 +1,6 @@
 -- Generators as 49 bytes, written part by part and read back. The proofs of `serialize_state` and
 -- `deserialize_state` cite these, and those of the exports for C. Read `StateBytes` first.
-use Rattle.std.proofs.Common.{inl, inr, ◌≡◌, ℕ, ◌+◌, ◌*◌, ◌/◌, ◌%◌, ◌^◌, ◌<◌, ◌≤◌, List, [], ◌∷◌, ◌++◌, length, take, drop, slice_index, replicate, arith, refl, sym, ap, ap₂, ◌∙◌, append_assoc, set, take-add, bit_or}
+use Rattle.std.proofs.Common.{inl, inr, ◌≡◌, ℕ, ◌+◌, ◌*◌, ◌/◌, ◌%◌, ◌^◌, ◌<◌, ◌≤◌, List, [], ◌∷◌, ◌++◌, length, take, drop, slice_index, replicate, arith, refl, ap, ap₂, ◌∙◌, append_assoc, set, take-add, bit_or}
 use Rattle.std.proofs.lemmas.Bool.{cases_lt}
 use Rattle.std.proofs.lemmas.List.{take_at, drop_at, set_at, length-append, length-drop, length-take, length-take-le, get_or-take, get_or-drop, get_or_past, drop-drop}
 use Rattle.std.proofs.lemmas.Nat.{or_shifted, le_bytes_8, from_le_bytes-to_le_bytes_8}
@@ -59,14 +59,11 @@ of_state_bytes-state_bytes g long below less =
     let all = state_bytes g in
     let rest = to_le_bytes w64 g.stream ++ (to_le_bytes w64 (w % 2 ^ 64) ++ w / 2 ^ 64 ∷ []) in
     let behind : drop 32 all ≡ rest = drop_at g.seed rest 32 long in
-    let low : take 8 (drop 40 all) ≡ to_le_bytes w64 (w % 2 ^ 64) =
-    ap (take 8) (sym (drop-drop 8 32 all) ∙ ap (drop 8) behind) in
-    let top : slice_index all 48 ≡ w / 2 ^ 64 = sym (get_or-drop 32 all 16 0) ∙ ap (λ r. slice_index r 16) behind in
-    let read : from_le_bytes w64 (take 8 (drop 40 all)) ≡ w % 2 ^ 64 =
-    ap (from_le_bytes w64) low ∙ from_le_bytes-to_le_bytes_8 (w % 2 ^ 64) (omega arith) in
-    generator_is _ g (take_at g.seed rest 32 long)
-    (ap (λ r. from_le_bytes w64 (take 8 r)) behind ∙ from_le_bytes-to_le_bytes_8 g.stream below)
-    (omega (arith, read, top))
+    let top : slice_index all 48 ≡ w / 2 ^ 64 = rw (← get_or-drop 32 all 16 0, behind) in
+    let low : from_le_bytes w64 (take 8 (drop 40 all)) ≡ w % 2 ^ 64 =
+    rw (← drop-drop 8 32 all, behind) (from_le_bytes-to_le_bytes_8 (w % 2 ^ 64) (omega arith)) in
+    generator_is _ g (take_at g.seed rest 32 long) (rw behind (from_le_bytes-to_le_bytes_8 g.stream below))
+    (omega (arith, low, top))
 
 -- the bytes of a part, and the number of 8
 Bytes-part : (front len : ℕ) (bs : List ℕ) → Bytes bs → Bytes (take len (drop front bs))

@@ -1,4 +1,4 @@
-use Rattle.std.proofs.Common.{◌≡◌, ℕ, ◌*◌, ◌+◌, ◌-◌, ◌≤◌, ◌∙◌, ◌++◌, List, length, take, drop, ap, ap₂, arith, bit_xor, length-drop, length-take-le}
+use Rattle.std.proofs.Common.{◌≡◌, ℕ, ◌*◌, ◌+◌, ◌-◌, ◌≤◌, ◌∙◌, ◌++◌, List, length, take, drop, ap, arith, bit_xor, length-drop, length-take-le}
 use borrow.Rule.Slice.PartMut.{put_mid}
 use Rattle.chacha_base.specs.Keystream.{xor_stream}
 use Rattle.chacha_base.proofs.KeystreamLemmas.{xor_stream-more, xor_stream-whole, xor_stream-is}
@@ -23,10 +23,9 @@ put_back : (first i : ℕ) (blocks : List (List ℕ)) (xs now : List ℕ) → 64
 put_back first i blocks xs now inside all is =
     let wide = part_wide first (length blocks) in
     let part = take (64 * (first + length blocks) - 64 * first) (drop (64 * first) xs) in
-    ap₂ (λ l ys. put_mid (64 * first) l xs ys) wide
-    (is
-    ∙ xor_stream-whole (byte_of blocks) 0 (64 * i) part (omega (arith, part_long first (length blocks) xs inside))
-    ∙ ap (λ l. xor_stream (byte_of blocks) 0 (take l (drop (64 * first) xs))) wide)
+    let whole = xor_stream-whole (byte_of blocks) 0 (64 * i) part
+    (omega (arith, part_long first (length blocks) xs inside)) in
+    rw (is, whole, wide)
 
 pub loop-i-preserved : goal.loop-i-preserved
 loop-i-preserved c =
