@@ -1,6 +1,6 @@
 -- The seed and the stream, read back from the words of a state, and the generator that they make with its counter.
--- The proofs of construction and of `set_stream`, and the other lemma files on generators, cite these. Read `Unread`
--- first.
+-- The proofs of construction, of `set_stream` and of `joined`, and the other lemma files on generators, cite these.
+-- Read `Unread` first.
 use Rattle.std.proofs.Common.{◌≡◌, ℕ, zero, suc, ◌+◌, ◌*◌, ◌-◌, ◌/◌, ◌%◌, ◌^◌, ◌<◌, List, [], ◌∷◌, ◌++◌, length, take, replicate, slice_index, arith, refl, sym, ap, ap₂, ◌∙◌, take_at, drop_at, length-append, length-take-le, bit_and, bit_or, slice_set}
 use Rattle.std.proofs.lemmas.Grind.{or_after_shift}
 use Rattle.std.proofs.lemmas.Nat.{and_mask, from_le_bytes-to_le_bytes_4}
