@@ -50,9 +50,7 @@ at-more {n} {layout} {s} {old} {t} {now} {i = i} {l = l} {e = e} blocks held cou
     let whole = length-take-le size (drop (64 * i) now) (omega (arith, held.long, length-drop (64 * i) now)) in
     record {
       sixteen = held.sixteen;
-      long = ap length xored
-          ∙ same_len_mid (64 * i) size now _ (length-xor_stream (byte_of blocks) 0 part)
-          ∙ held.long;
+      long = rw xored (same_len_mid (64 * i) size now _ (length-xor_stream (byte_of blocks) 0 part) ∙ held.long);
       state = state_after-more layout s t _ i l e held.sixteen held.state moved all;
       bytes = xored
           ∙ xor_stream-more (state_stream n layout s) (64 * c) (64 * i) size (64 * e) old now

@@ -1,6 +1,6 @@
 -- The derived nonce, the input of HChaCha and its 32 bytes, written part by part. The proofs of `hchacha` and of
 -- `new` of XChaCha cite these. Read `XChaCha` first.
-use Rattle.std.proofs.Common.{◌≡◌, ℕ, ◌+◌, ◌*◌, ◌≤◌, List, ◌++◌, length, take, drop, replicate, arith, refl, sym, ap, ◌∙◌, length-drop, length-take-le}
+use Rattle.std.proofs.Common.{◌≡◌, ℕ, ◌+◌, ◌*◌, ◌≤◌, List, ◌++◌, length, take, drop, replicate, arith, refl, sym, ap, length-drop, length-take-le}
 use borrow.Rule.Slice.PartMut.{put_mid}
 use Rattle.chacha_base.specs.Bytes.{bytes}
 use Rattle.chacha_base.proofs.ListLemmas.{each}
@@ -22,6 +22,5 @@ rows_written =
 pub subnonce_written : (nonce back : List ℕ) → length nonce ≡ 24 → back ≡ take 8 (drop 16 nonce)
     → put_mid 4 8 (replicate 12 0) back ≡ subnonce nonce
 subnonce_written nonce back whole last =
-    ap (put_mid 4 8 (replicate 12 0)) last
-    ∙ each 24 (λ v. put_mid 4 8 (replicate 12 0) (take 8 (drop 16 v)) ≡ subnonce v)
-    (λ x0 x1 x2 x3 x4 x5 x6 x7 x8 x9 x10 x11 x12 x13 x14 x15 x16 x17 x18 x19 x20 x21 x22 x23. refl) nonce whole
+    rw last (each 24 (λ v. put_mid 4 8 (replicate 12 0) (take 8 (drop 16 v)) ≡ subnonce v)
+    (λ x0 x1 x2 x3 x4 x5 x6 x7 x8 x9 x10 x11 x12 x13 x14 x15 x16 x17 x18 x19 x20 x21 x22 x23. refl) nonce whole)

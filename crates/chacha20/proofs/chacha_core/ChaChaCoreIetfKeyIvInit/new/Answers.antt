@@ -1,16 +1,12 @@
-use Rattle.std.proofs.Common.{◌∙◌, ◌++◌, [], ◌∷◌, sym, append_assoc}
-use Rattle.chacha_base.specs.Bytes.{words}
+use Rattle.std.proofs.Common.{◌∙◌, append_assoc}
 use Rattle.chacha_base.specs.Layout.{ietf}
-use Rattle.chacha_base.specs.Block.{constants}
 use Rattle.chacha_base.proofs.BytesLemmas.{length-words}
 use Rattle.chacha20.proofs.StartLemmas.{row_written, blocks-of-start, first-of-start}
 use Rattle.chacha20.proofs.chacha_core.ChaChaCoreIetfKeyIvInit.new.Goals as goal
 
 pub returns-clause-value : goal.returns-clause-value
 returns-clause-value g c =
-    let row = row_written _ (length-words 3 _ c.told-iv) in
-    rw (c.read_words.ensures, row) at c.start_state.ensures
-    ∙ sym (append_assoc (constants ++ words c.args.key.now) (0 ∷ []) (words c.args.iv.now))
+    rw (c.read_words.ensures, row_written _ (length-words 3 _ c.told-iv)) at c.start_state.ensures ∙ simp append_assoc
 
 pub returns-clause-blocks : goal.returns-clause-blocks
 returns-clause-blocks g c =

@@ -22,13 +22,12 @@ returns-clause-restored g c =
 
 pub copy_from_slice-requires-2 : goal.copy_from_slice-requires-2
 copy_from_slice-requires-2 g c =
-    length-free c.copy_from_slice.new.self c.copy_from_slice.ensures.len ∙ sym (ap length c.to_le_bytes-stream.ensures)
+    rw c.to_le_bytes-stream.ensures (length-free c.copy_from_slice.new.self c.copy_from_slice.ensures.len)
 
 pub copy_from_slice-requires-3 : goal.copy_from_slice-requires-3
 copy_from_slice-requires-3 g c =
-    length-free-behind c.copy_from_slice.new.self c.copy_from_slice-2.new.self c.copy_from_slice.ensures.len
-    (ap length (c.copy_from_slice-2.ensures.after ∙ c.to_le_bytes-stream.ensures))
-    ∙ sym (ap length c.to_le_bytes-low.ensures)
+    let eight = ap length (c.copy_from_slice-2.ensures.after ∙ c.to_le_bytes-stream.ensures) in
+    rw c.to_le_bytes-low.ensures (length-free-behind c.copy_from_slice.new.self _ c.copy_from_slice.ensures.len eight)
 
 pub slice_bounds-state-end-3 : goal.slice_bounds-state-end-3
 slice_bounds-state-end-3 g c =
