@@ -8,13 +8,13 @@ use Rattle.chacha_base.specs.Limit.{limit_of}
 use Rattle.chacha_base.specs.Buffered.{IsBuffered, left_at}
 use Rattle.chacha_base.proofs.KeystreamLemmas.{xor_stream-is, xor_stream-block, keystream_byte}
 
--- n bytes, and not none, that begin at a block's front and end within the limit
+-- at least one byte, n in all, that begin at a block's front and end within the limit
 pub record Begins (p n limit : ℕ) : Type 0 where
   pub front : p % 64 ≡ 0
   pub some : 0 < n
   pub fits : p + n ≤ limit
 
--- those of a slice that `is_empty` says isn't empty
+-- the n bytes of a slice for which `is_empty` returned false
 pub begins-not_empty : {empty : Bool} {limit : ℕ} (p n : ℕ) → empty ≡ nat_eq n 0 → empty ≡ false
     → (0 < n → p % 64 ≡ 0) → p + n ≤ limit → Begins p n limit
 begins-not_empty p zero is not front fits = absurd (false≢true (sym not ∙ is))

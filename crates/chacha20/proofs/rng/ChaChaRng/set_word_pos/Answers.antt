@@ -25,3 +25,6 @@ returns-clause-value g c =
     (generator_of-refilled c.set_block_pos.new.self _ sixteen c.generate.ensures.moved
     ∙ generator_of-recounted old _ c.self.inside.index set.fixed set.counter (omega arith) c.self.view_is)
     ∙ at-same c.args.self.now _ _ (omega arith)
+
+pub returns-clause-position : goal.returns-clause-position
+returns-clause-position g c = ap (λ (h : GeneratorState). h.word_pos) (returns-clause-value g c)

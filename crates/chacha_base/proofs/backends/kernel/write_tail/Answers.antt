@@ -1,7 +1,9 @@
-use Rattle.std.proofs.Common.{◌≡◌, ◌*◌, min, length, sym, ap, ◌∙◌, arith}
+use Rattle.std.proofs.Common.{◌≡◌, ◌*◌, [], min, length, slice_index_or, Some, sym, ap, ◌∙◌, arith}
 use Rattle.std.proofs.lemmas.Grind.{common_steps}
+use Rattle.chacha_base.specs.Bytes.{bytes}
 use Rattle.chacha_base.specs.State.{state_after}
 use Rattle.chacha_base.proofs.CountsLemmas.{grows-tail}
+use Rattle.chacha_base.proofs.ListLemmas.{one_more}
 use Rattle.chacha_base.proofs.StateLemmas.{state_after-zero}
 use Rattle.chacha_base.proofs.backends.kernel.write_tail.Goals as goal
 
@@ -22,3 +24,13 @@ pub returns-after-each-clause-state : goal.returns-after-each-clause-state
 returns-after-each-clause-state g c =
     let same : length c.each.blocks ≡ length c.args.blocks.now = omega arith in
     rw (← same) c.advance.ensures
+
+-- answered for speed
+pub each-preserved : goal.each-preserved
+each-preserved g l =
+    one_more (λ h. bytes (slice_index_or l.mixed_words-words.result h [])) l.each.g l.each.blocks
+    l.write_bytes.new.output (omega arith) l.write_bytes.ensures l.each.invariant
+
+pub returns-after-each-clause-blocks : goal.returns-after-each-clause-blocks
+returns-after-each-clause-blocks g c i less =
+    c.each.invariant i (omega arith) ∙ ap (λ w. Some (bytes w)) (c.mixed_words-words.ensures.words i (omega arith))
