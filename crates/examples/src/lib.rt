@@ -1,5 +1,5 @@
-//! What people build on `chacha20`, one file each. Every function has a contract, and its proof uses nothing but the
-//! public contracts of `chacha20`. Copy a file with its folder of proofs, and change it.
+//! What people build on `chacha20`, one file each. Every function has a contract. Its proof uses only the public
+//! contracts, definitions and lemmas of `chacha20`. `docs/GUIDE.md` has the steps to copy a file.
 #![tactic(auto)]
 
 pub mod file;

@@ -1,15 +1,16 @@
 //! A message under a key and a nonce, in one call: by ChaCha20, by any other cipher, or with a number of rounds of your
 //! own.
 //!
-//! The lines between a function's head and its body are its contract. A program is built only after its contracts
-//! are proved for every key, nonce and message. That of `encrypt` says:
+//! The lines between a function's signature and its body are its contract. A program is built only after its contracts
+//! are proved for every key, nonce and message. The contract of `encrypt` says:
 //!
 //! - `accepted`: the call returns `Ok` exactly where the message has at most 274877906944 bytes (256 GiB).
 //! - `bytes`: on `Ok` the message (`message.new`) equals (`≡`) what it was (`message.old`), each byte XORed with the
 //!   byte at its place in the keystream. The keystream is the blocks of the key and the nonce, in order.
 //! - `refused`: on `Err` the message is as it was.
 //!
-//! What the prover doesn't find by itself is in `proofs/message`: a line or two for a function.
+//! `proofs/message` has the answers that the prover needs, or that make its check quicker: a line or two for each
+//! function.
 //!
 //! Decryption is the same call. Never use a nonce twice under one key. Nothing here authenticates a message: add a MAC.
 
@@ -84,7 +85,7 @@ pub fn encrypt_legacy(
     encrypt_by::<ChaCha20Legacy>(key, nonce, message)
 }
 
-/// Three double rounds, so six rounds (this crate). Contracts see the number that stands behind `ghost`; the code has
+/// Three double rounds, so six rounds (this crate). Contracts see the number after `ghost`; the code has
 /// the constant.
 #[derive(Clone, Copy)]
 pub struct R6;

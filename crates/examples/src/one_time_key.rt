@@ -6,12 +6,12 @@
 //! if they are equal call `encrypt_from_block_1`, which also decrypts. RFC 8439, section 2.8, says what else the tag
 //! covers: additional data, padding and lengths. Never use a nonce twice under one key.
 //!
-//! The lines between a function's head and its body are its contract. A program is built only after its contracts are
-//! proved for every key, nonce and message. `block 10 ietf key.now nonce.now 0` is the 64 bytes of block 0, after ten
-//! double rounds, and `take 32` the first 32 of them. The message begins at position 64 of the keystream, so no byte of
-//! it serves twice. `accepted` says that `Ok` is returned exactly where the message ends within the keystream, and
-//! `refused` that on `Err` the message is as it was. What the prover doesn't find by itself is in
-//! `proofs/one_time_key`.
+//! The lines between a function's signature and its body are its contract. A program is built only after its contracts
+//! are proved for every key, nonce and message. `block 10 ietf key.now nonce.now 0` is the 64 bytes of block 0, after
+//! ten double rounds, and `take 32` the first 32 of them. The message begins at position 64 of the keystream, so no
+//! byte of it serves twice. `accepted` says that `Ok` is returned exactly where the message ends within the keystream,
+//! and `refused` that on `Err` the message is as it was. `proofs/one_time_key` has the answers that the prover needs,
+//! or that make its check quicker.
 
 ghost use Rattle.std.specs.Prelude.{◌≡◌, ◌≤◌, ◌+◌, ◌^◌, ◌↔◌, take, length, IsOk, OnOk, OnErr};
 ghost use Rattle.chacha20.specs.Block.{block};

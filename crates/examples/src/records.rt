@@ -3,14 +3,14 @@
 //! ChaCha20 XORs (exclusive or) a text with a keystream, which the key and the nonce determine. If a record were
 //! overwritten under the same nonce, the XOR of its two ciphertexts would be the XOR of its two texts. So each write
 //! takes a new nonce: the record's number, and its version, which every write raises by one. The version is stored next
-//! to the bytes, and isn't secret. The text between a function's head and its body is its contract, which is proved for
-//! all inputs: `ensures` says what holds when the call returns. The contracts say that a write takes a nonce that no
-//! record of the file has had, that a read gives what was written, and that a write leaves all other records as they
-//! are.
+//! to the bytes, and isn't secret. The text between a function's signature and its body is its contract, which is
+//! proved for all inputs: `ensures` says what holds when the call returns. The contracts say that a write takes a nonce
+//! that no record of the file has had, that a read gives what was written, and that a write leaves all other records as
+//! they are.
 //!
 //! Take a new key for each file, since two files have the same nonces. The contracts do not cover a file whose versions
-//! are rolled back, as from a backup: the next write takes a nonce again. Nor do they cover an attacker who keeps a
-//! copy of the file: it shows which records are written later, and an older record that is put back is read. Nothing is
+//! are rolled back, as from a backup: the next write reuses a nonce. Nor do they cover an attacker who keeps a copy of
+//! the file: it shows which records are written later, and `read` accepts an older record that is put back. Nothing is
 //! authenticated: where a bit of a record is changed, that bit of its text changes, and no read notices it.
 
 ghost use Rattle.std.specs.Prelude.{◌≡◌, ◌≢◌, ◌↔◌, ◌<◌, ◌≤◌, ◌+◌, ◌-◌, ◌^◌, ℕ, length, IsOk, OnOk, OnErr};

@@ -1,12 +1,12 @@
 //! Simulations that can be repeated: numbers below a bound, dice and a shuffle from a seed; a generator for each
 //! worker; and a run that is stored in 49 bytes and resumed later (this crate).
 //!
-//! The lines between a function's head and its body are its contract. A caller must show what `requires` says. What
-//! `ensures` says holds when the function returns: this is proved for every input before the crate is built. `rng.old`
-//! and `rng.new` are the generator before and after the call. `next_u64 n g` is a pair: the next word of 64 bits of the
-//! generator g, which makes n double rounds, and the generator after it. `repeated (next_u64 n) k g` is the pair of the
-//! list of the next k words and the generator after them. `.0` and `.1` are the two parts of a pair. So each contract
-//! says which words a function reads and what it makes of them: the same seed gives the same run.
+//! The lines between a function's signature and its body are its contract. A caller must show what `requires` says.
+//! What `ensures` says holds when the function returns: this is proved for every input before the crate is built.
+//! `rng.old` and `rng.new` are the generator before and after the call. `next_u64 n g` is a pair: the next word of 64
+//! bits of the generator g, which makes n double rounds, and the generator after it. `repeated (next_u64 n) k g` is the
+//! pair of the list of the next k words and the generator after them. `.0` and `.1` are the two parts of a pair. So
+//! each contract says which words a function reads and what it makes of them: the same seed gives the same run.
 
 ghost use Rattle.std.specs.Prelude.{◌≡◌, ℕ, ◌<◌, ◌≤◌, ◌+◌, ◌-◌, ◌*◌, ◌/◌, ◌^◌, ◌++◌, length, map, fold, swap, All};
 ghost use Rattle.std.specs.Int.{w64, to_le_bytes};
@@ -19,7 +19,7 @@ use chacha20::cipher::RngBackend;
 use chacha20::{ChaCha20Rng, ChaChaRng, Rounds, Seed, SerializedRngState};
 
 /// Draws a number below a bound: the next word of 64 bits times the bound, divided by 2^64. It draws exactly one word.
-/// So it is not quite uniform: of the 2^64 words, some numbers have one more than others. The chance of each number is
+/// So it is not quite uniform: some numbers come from one more of the 2^64 words than others. The chance of each is
 /// 1 / bound, within a factor of 1 ± bound / 2^64.
 pub fn below<R: Rounds, B: RngBackend<R>>(rng: &mut ChaChaRng<R, B>, bound: u64) -> u64
     requires { 0 < bound }

@@ -431,7 +431,7 @@ fn row_18<C: KeyIvInit<Key = Key, Iv = Nonce> + StreamCipherSeek + Drop>() -> Ve
     )
 }
 
-/// Whether a cipher answers this position; of none, whether it answers that the type can't say it.
+/// Whether a cipher returns this position; for `None`, whether it returns that the type can't represent it.
 pub fn is_at<C: StreamCipherSeek, T: SeekNum + PartialEq>(cipher: &C, place: Option<T>) -> bool {
     cipher.try_current_pos::<T>().ok() == place
 }

@@ -282,7 +282,7 @@ static TABLES: [NumberedTable; 7] = [
     ),
 ];
 
-/// What is wrong with lists of calls on a new generator of a seed.
+/// The name of the first list that differs on a new generator of a seed, of lists that are run one after another.
 pub fn wrong_table<B: RngBackend<R20>>(seed: Seed, lists: &[RngList]) -> Verdict {
     wrong_draw(&mut ChaChaRng::<R20, B>::from_seed(seed), lists)
 }

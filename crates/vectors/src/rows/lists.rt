@@ -135,7 +135,7 @@ fn is_right<C: Listed>(cipher: &mut C, list: &CipherList) -> bool {
     answers_are(cipher, list.input, data, list.calls, list.answers) && data.ends_with(list.after)
 }
 
-/// The name of the first list that a cipher answers otherwise, of lists one after another; nothing where there is none.
+/// Runs lists one after another on a cipher. The name of the first whose answers or bytes differ; `None` if none does.
 pub fn wrong_list<C: Listed>(cipher: &mut C, lists: &[CipherList]) -> Verdict {
     for list in lists {
         if !is_right(cipher, list) {
@@ -157,7 +157,7 @@ fn draws_as<R: Rounds, B: RngBackend<R>>(rng: &mut ChaChaRng<R, B>, list: &RngLi
     answers.ends_with(list.answers) && data.starts_with(list.first) && data.ends_with(list.last)
 }
 
-/// The same of a generator.
+/// The same for a generator.
 pub fn wrong_draw<R: Rounds, B: RngBackend<R>>(
     rng: &mut ChaChaRng<R, B>,
     lists: &[RngList],

@@ -1,5 +1,6 @@
 use Rattle.examples.proofs.one_time_key.encrypt_from_block_1.Goals as goal
 
+-- answered for speed
 pub returns-clause-accepted : goal.returns-clause-accepted
 returns-clause-accepted c = rw c.seek.ensures.position at c.try_apply_keystream.ensures.accepted
 
