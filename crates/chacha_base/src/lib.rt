@@ -7,5 +7,6 @@ pub mod backends;
 pub mod bytes;
 pub mod cipher;
 pub mod rounds;
+pub mod state;
 pub mod variants;
 pub mod wrapper;

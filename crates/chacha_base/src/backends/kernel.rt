@@ -9,16 +9,8 @@ ghost use Rattle.chacha_base.specs.Counts.{Grows, for_tail};
 use crate::backends::group::Group;
 use crate::bytes::write_bytes;
 use crate::rounds::{Rounds, Steps};
+use crate::state::{advance, counter};
 use crate::variants::{Legacy, StreamCipherCounter, Variant};
-
-/// Moves the counter of a state on by so many blocks.
-#[inline(always)]
-pub fn advance<V: Variant>(state: &mut [u32; 16], blocks: usize)
-    ensures { state.new ≡ state_after V.layout blocks state.old }
-{
-    let pos = V::get_block_pos(&state[12..]);
-    V::set_block_pos(&mut state[12..], pos.advanced_by(blocks));
-}
 
 // Writes the last rows of the next states, each with its own counter.
 #[inline(always)]
@@ -26,7 +18,7 @@ fn write_last_rows<V: Variant>(state: &[u32; 16], rows: &mut [[u32; 4]])
     ensures { (g : ℕ) → g < length rows.old
         → slice_index_or rows.new g [] ≡ drop 12 (state_after V.layout g state.now) }
 {
-    let first = V::get_block_pos(&state[12..]);
+    let first = counter::<V>(state);
     'each: for g in 0..rows.len() {
         let mut row = [state[12], state[13], state[14], state[15]];
         V::set_block_pos(&mut row, first.advanced_by(g));

@@ -6,10 +6,10 @@ ghost use Rattle.chacha_base.specs.Bytes.{bytes};
 ghost use Rattle.chacha_base.specs.Counts.{Grows, for_tail};
 ghost use Rattle.chacha_base.specs.State.{state_after, AreNextBlocks};
 
-use crate::backends::kernel::advance;
 use crate::bytes::write_bytes;
 use crate::cipher::{ParBlocksSizeUser, RngBackend, StreamCipherBackend};
 use crate::rounds::{Rounds, Steps, double_rounds};
+use crate::state::advance;
 use crate::variants::{Legacy, Variant};
 
 /// The plain block function, a block at a time (RFC 8439, section 2.3).

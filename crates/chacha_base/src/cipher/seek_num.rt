@@ -2,7 +2,7 @@
 
 ghost use Rattle.std.specs.Prelude.{◌≡◌, ◌↔◌, ◌≤◌, ◌-◌, ◌^◌, ℕ, Option, Some, IsOk, IfOk, IfSome};
 
-use crate::cipher::OverflowError;
+use crate::cipher::errors::OverflowError;
 
 mod sealed {
     pub trait Sealed {}

@@ -1,7 +1,6 @@
 use Rattle.std.proofs.Common.{◌≡◌, ◌%◌, ◌+◌, [], ◌∙◌, ap, ap₂, drop, slice_index_or, slice_set, below_more, arith, get_or-set_same, get_or-set_other}
 use Rattle.chacha_base.specs.State.{state_at, state_after}
 use Rattle.chacha_base.proofs.RowLemmas.{last_row-state_at}
-use Rattle.chacha_base.proofs.StateLemmas.{row_counter-state}
 use Rattle.chacha_base.proofs.backends.kernel.write_last_rows.Goals as goal
 
 pub each-preserved : goal.each-preserved
@@ -15,5 +14,4 @@ each-preserved g c =
     ∙ last_row-state_at layout _ s _ c.told-state c.set_block_pos.ensures.row
     ∙ ap (λ n. drop 12 (state_at layout n s))
     (c.advanced_by.ensures
-    ∙ ap₂ (λ v m. (v + i) % m) (c.get_block_pos-first.ensures
-    ∙ row_counter-state layout s c.told-state) g.met.V.Variant.counters))
+    ∙ ap₂ (λ v m. (v + i) % m) c.counter-first.ensures.value g.met.V.Variant.counters))

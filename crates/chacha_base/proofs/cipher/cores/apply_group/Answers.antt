@@ -3,7 +3,7 @@ use Rattle.std.proofs.lemmas.Option.{get_or_from_slice_get}
 use Rattle.chacha_base.specs.Keystream.{keystream, xor_stream}
 use Rattle.chacha_base.proofs.ListLemmas.{one_more}
 use Rattle.chacha_base.proofs.KeystreamLemmas.{combined, xor_stream-block}
-use Rattle.chacha_base.proofs.cipher.apply_group.Goals as goal
+use Rattle.chacha_base.proofs.cipher.cores.apply_group.Goals as goal
 
 pub loop-i-init : goal.loop-i-init
 loop-i-init g c = record { done = λ j less. absurd (omega arith); rest = λ j above. refl }

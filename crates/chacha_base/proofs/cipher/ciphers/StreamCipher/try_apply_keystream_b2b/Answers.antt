@@ -2,7 +2,7 @@ use Rattle.std.proofs.Common.{◌≡◌, ◌≤◌, length, refl, sym, ap, ap₂
 use Rattle.chacha_base.specs.Keystream.{keystream, xor_stream}
 use Rattle.chacha_base.proofs.CipherLemmas.{moved_on}
 use Rattle.chacha_base.proofs.PieceLemmas.{xor_stream-written, piece-within, piece-long}
-use Rattle.chacha_base.proofs.cipher.StreamCipher.try_apply_keystream_b2b.Goals as goal
+use Rattle.chacha_base.proofs.cipher.ciphers.StreamCipher.try_apply_keystream_b2b.Goals as goal
 
 pub pieces-preserved : goal.pieces-preserved
 pieces-preserved g c =

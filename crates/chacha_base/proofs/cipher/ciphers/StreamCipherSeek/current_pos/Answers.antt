@@ -1,4 +1,4 @@
-use Rattle.chacha_base.proofs.cipher.StreamCipherSeek.current_pos.Goals as goal
+use Rattle.chacha_base.proofs.cipher.ciphers.StreamCipherSeek.current_pos.Goals as goal
 
 -- answered for speed
 pub returns : goal.returns

@@ -1,6 +1,6 @@
 use Rattle.std.proofs.Common.{◌≡◌, ◌+◌, ◌-◌, ◌≤◌, length, take}
 use Rattle.chacha_base.specs.Keystream.{keystream, stream_part}
-use Rattle.chacha_base.proofs.cipher.StreamCipher.try_write_keystream.Given as goal
+use Rattle.chacha_base.proofs.cipher.ciphers.StreamCipher.try_write_keystream.Given as goal
 
 abbrev pub invariant-pieces : goal.invariant-pieces
 invariant-pieces g l =

@@ -3,7 +3,7 @@ use Rattle.chacha_base.specs.Keystream.{keystream, xor_stream}
 use Rattle.chacha_base.proofs.CipherLemmas.{moved_on}
 use Rattle.chacha_base.proofs.KeystreamLemmas.{xor_stream-zeros}
 use Rattle.chacha_base.proofs.PieceLemmas.{stream_part-written, piece-within, piece-long}
-use Rattle.chacha_base.proofs.cipher.StreamCipher.try_write_keystream.Goals as goal
+use Rattle.chacha_base.proofs.cipher.ciphers.StreamCipher.try_write_keystream.Goals as goal
 
 pub pieces-preserved : goal.pieces-preserved
 pieces-preserved g c =

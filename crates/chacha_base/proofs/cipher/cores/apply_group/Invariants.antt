@@ -1,5 +1,5 @@
 use Rattle.chacha_base.proofs.KeystreamLemmas.{AreCombined}
-use Rattle.chacha_base.proofs.cipher.apply_group.Given as goal
+use Rattle.chacha_base.proofs.cipher.cores.apply_group.Given as goal
 
 abbrev pub invariant-loop-i : goal.invariant-loop-i
 invariant-loop-i g l =

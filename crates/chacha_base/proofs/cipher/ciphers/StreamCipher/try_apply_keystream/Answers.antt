@@ -1,6 +1,6 @@
 use Rattle.std.proofs.lemmas.Grind.{common_steps}
 use Rattle.std.proofs.Common.{arith}
-use Rattle.chacha_base.proofs.cipher.StreamCipher.try_apply_keystream.Goals as goal
+use Rattle.chacha_base.proofs.cipher.ciphers.StreamCipher.try_apply_keystream.Goals as goal
 
 -- answered for speed
 pub returns-clause-refused : goal.returns-clause-refused

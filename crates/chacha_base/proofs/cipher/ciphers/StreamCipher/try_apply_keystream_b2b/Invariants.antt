@@ -1,6 +1,6 @@
 use Rattle.std.proofs.Common.{◌≡◌, ◌+◌, ◌-◌, ◌≤◌, length, take}
 use Rattle.chacha_base.specs.Keystream.{keystream, xor_stream}
-use Rattle.chacha_base.proofs.cipher.StreamCipher.try_apply_keystream_b2b.Given as goal
+use Rattle.chacha_base.proofs.cipher.ciphers.StreamCipher.try_apply_keystream_b2b.Given as goal
 
 abbrev pub invariant-pieces : goal.invariant-pieces
 invariant-pieces g l =

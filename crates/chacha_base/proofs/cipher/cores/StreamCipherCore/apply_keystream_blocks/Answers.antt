@@ -1,7 +1,7 @@
 use Rattle.std.proofs.Common.{◌≡◌, ◌≤◌, ◌+◌, ◌-◌, ◌∙◌, length, ap, arith}
 use Rattle.chacha_base.proofs.ListLemmas.{part_long}
 use Rattle.chacha_base.proofs.KeystreamLemmas.{counter-more, counter-wrapped, blocks-more}
-use Rattle.chacha_base.proofs.cipher.StreamCipherCore.apply_keystream_blocks.Goals as goal
+use Rattle.chacha_base.proofs.cipher.cores.StreamCipherCore.apply_keystream_blocks.Goals as goal
 
 pub groups-preserved : goal.groups-preserved
 groups-preserved g c =

@@ -1,6 +1,6 @@
 use Rattle.std.proofs.Common.{◌≡◌, ◌≤◌, ◌+◌, ◌-◌, ◌%◌, length}
 use Rattle.chacha_base.proofs.KeystreamLemmas.{AreCombined}
-use Rattle.chacha_base.proofs.cipher.StreamCipherCore.apply_keystream_blocks.Given as goal
+use Rattle.chacha_base.proofs.cipher.cores.StreamCipherCore.apply_keystream_blocks.Given as goal
 
 abbrev pub invariant-groups : goal.invariant-groups
 invariant-groups g l =

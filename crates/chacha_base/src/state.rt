@@ -1,0 +1,35 @@
+//! The counter of a state of sixteen words, read, set and moved on (RFC 8439, section 2.3). `chacha20` does not export
+//! these functions. None of them refuses.
+
+ghost use Rattle.std.specs.Prelude.{◌≡◌, ◌<◌};
+ghost use Rattle.chacha_base.specs.Layout.{modulus};
+ghost use Rattle.chacha_base.specs.State.{state_counter, state_at, state_after};
+
+use crate::variants::{StreamCipherCounter, Variant};
+
+/// The counter of a state.
+#[inline(always)]
+pub fn counter<V: Variant>(state: &[u32; 16]) -> V::Counter
+    ensures value { V.Counter.value result ≡ state_counter V.layout state.now }
+    ensures below { state_counter V.layout state.now < modulus V.layout }
+{
+    V::get_block_pos(&state[12..])
+}
+
+/// Sets the counter of a state. The other words stay.
+#[inline(always)]
+pub fn set_counter<V: Variant>(state: &mut [u32; 16], pos: V::Counter)
+    ensures { state.new ≡ state_at V.layout (V.Counter.value pos) state.old }
+{
+    V::set_block_pos(&mut state[12..], pos);
+}
+
+/// Moves the counter of a state on by so many blocks. It wraps, at 2^32 or 2^64 as the variant says. The other words
+/// stay.
+#[inline(always)]
+pub fn advance<V: Variant>(state: &mut [u32; 16], blocks: usize)
+    ensures { state.new ≡ state_after V.layout blocks state.old }
+{
+    let next = counter::<V>(state).advanced_by(blocks);
+    set_counter::<V>(state, next);
+}
