@@ -3,7 +3,7 @@
 
 ghost use Rattle.std.specs.Prelude.{◌≡◌, ◌<◌};
 ghost use Rattle.chacha_base.specs.Layout.{modulus};
-ghost use Rattle.chacha_base.specs.State.{state_counter, state_at, state_after};
+ghost use Rattle.chacha_base.specs.State.{state_counter, fixed_words, state_at, state_after};
 
 use crate::variants::{StreamCipherCounter, Variant};
 
@@ -19,7 +19,9 @@ pub fn counter<V: Variant>(state: &[u32; 16]) -> V::Counter
 /// Sets the counter of a state. The other words stay.
 #[inline(always)]
 pub fn set_counter<V: Variant>(state: &mut [u32; 16], pos: V::Counter)
-    ensures { state.new ≡ state_at V.layout (V.Counter.value pos) state.old }
+    ensures state { state.new ≡ state_at V.layout (V.Counter.value pos) state.old }
+    ensures fixed { fixed_words V.layout state.new ≡ fixed_words V.layout state.old }
+    ensures counter { state_counter V.layout state.new ≡ V.Counter.value pos }
 {
     V::set_block_pos(&mut state[12..], pos);
 }
