@@ -10,7 +10,7 @@ use Rattle.std.proofs.lemmas.Simd.{below_from_Fits, Each1-get_or, get_or-zip2, g
 use Rattle.chacha_base.specs.Words.{rotl}
 use Rattle.chacha_base.specs.Lanes.{row, turned}
 use Rattle.chacha_base.specs.Bytes.{bytes}
-use Rattle.chacha_base.proofs.ListLemmas.{below_four, four_listed}
+use Rattle.chacha_base.proofs.ListLemmas.{words_of, by_words}
 use Rattle.chacha_base.proofs.WordLemmas.{rotate_left_is}
 use Rattle.chacha_base.proofs.BytesLemmas.{digits-bytes}
 
@@ -92,7 +92,7 @@ moved_bytes n bytes = digits_l (2 ^ 32) n (number_l 256 (pick_l 0 bytes (last_fi
 
 -- the words of a lane, combined and their bytes moved, are their exclusive or rotated by 8
 pub xor_moved-is-rotl : {n : ℕ} (a b : List ℕ) → IsVector n a → IsVector n b
-    → ((xs : List ℕ) → length xs ≡ n → pick_l 0 (bytes xs) (last_first_places n 0) ≡ last_first xs)
+    → ((xs : List ℕ) → pick_l 0 (bytes (words_of n xs)) (last_first_places n 0) ≡ last_first (words_of n xs))
     → (j : ℕ) → j < n
     → slice_index (moved_bytes n (digits_l 256 (4 * n) (number_l (2 ^ 32) (zip2 bit_xor a b)))) j
     ≡ rotl (bit_xor (slice_index a j) (slice_index b j)) 8
@@ -100,58 +100,31 @@ xor_moved-is-rotl {n} a b va vb moved j h =
     let xs = zip2 bit_xor a b in
     let lx : length xs ≡ n = length-zip2 bit_xor a b (omega arith) ∙ va.0 in
     let words = words-xor a b (below_from_Fits w32 a va.1) (below_from_Fits w32 b vb.1) in
+    let first = by_words n (λ ys. pick_l 0 (bytes ys) (last_first_places n 0) ≡ last_first ys) xs lx (moved xs) in
     let all = ap (λ m. digits_l 256 (4 * m) (number_l (2 ^ 32) xs)) (sym lx) ∙ digits-bytes xs words in
     ap (λ bs. slice_index (moved_bytes n bs) j) all
-    ∙ ap (λ ys. slice_index (digits_l (2 ^ 32) n (number_l 256 ys)) j) (moved xs lx)
+    ∙ ap (λ ys. slice_index (digits_l (2 ^ 32) n (number_l 256 ys)) j) first
     ∙ ap (λ m. slice_index (digits_l (2 ^ 32) m (number_l 256 (last_first xs))) j) (sym lx)
     ∙ ap (λ ys. slice_index ys j) (last_first-words xs words)
     ∙ get_or-map (λ x. rotl x 8) xs j 0 0 (omega arith)
     ∙ ap (λ x. rotl x 8) (lane_of bit_xor n a b va.0 vb.0 j h)
 
--- two words of each of two vectors by turns, read where the vectors lie one after the other
-pub by_turns : (xs ys : List ℕ) (n i : ℕ) → length xs ≡ n → i + 1 < n
-    → slice_index (xs ++ ys) i ∷ slice_index (xs ++ ys) (n + i)
-    ∷ slice_index (xs ++ ys) (i + 1) ∷ slice_index (xs ++ ys) (n + (i + 1)) ∷ []
-    ≡ slice_index xs i ∷ slice_index ys i ∷ slice_index xs (i + 1) ∷ slice_index ys (i + 1) ∷ []
-by_turns xs ys n i long inside =
-    four_listed
-    (get_or_append_left xs ys 0 i (omega arith))
-    (ap (λ m. slice_index (xs ++ ys) (m + i)) (sym long) ∙ get_or-append-add xs ys i 0)
-    (get_or_append_left xs ys 0 (i + 1) (omega arith))
-    (ap (λ m. slice_index (xs ++ ys) (m + (i + 1))) (sym long) ∙ get_or-append-add xs ys (i + 1) 0)
+-- rows of words that are picked from two vectors, of which a row each makes them
+pub rows-picked : (places : List ℕ) (n : ℕ) (f : List ℕ → List ℕ → List ℕ) (a b : List ℕ)
+    → length a ≡ n → length b ≡ n
+    → ((g : ℕ) → g < 4 → row (slice_index (pick_l 0 (words_of n a ++ words_of n b) places)) g
+    ≡ f (row (slice_index (words_of n a)) g) (row (slice_index (words_of n b)) g))
+    → (g : ℕ) → g < 4
+    → row (slice_index (pick_l 0 (a ++ b) places)) g ≡ f (row (slice_index a) g) (row (slice_index b) g)
+rows-picked places n f a b la lb same g less =
+    let made = λ (x y : List ℕ). row (slice_index (pick_l 0 (x ++ y) places)) g
+        ≡ f (row (slice_index x) g) (row (slice_index y) g) in
+    by_words n (λ x. made x b) a la (by_words n (made (words_of n a)) b lb (same g less))
 
--- word i of a row
-row-word : (f : ℕ → ℕ) (g i : ℕ) → i < 4 → slice_index (row f g) i ≡ f (4 * g + i)
-row-word f g =
-    let here : 4 * g ≡ 4 * g + 0 = omega arith in
-    below_four (λ i. slice_index (row f g) i ≡ f (4 * g + i)) (ap f here) refl refl refl
-
--- where the words of m rows are taken from, each row turned to the left by some places
-abbrev turned_place : (by j : ℕ) → ℕ
-turned_place by j = 4 * (j / 4) + (by + j) % 4
-
-abbrev pub turned_places : (by m : ℕ) → List ℕ
-turned_places by m = map (turned_place by) (range_with_len 0 (4 * m))
-
-pub turned-picked : (by m : ℕ) (xs : List ℕ) → length xs ≡ 4 * m → (g : ℕ) → g < m
-    → row (slice_index (pick_l 0 (xs ++ xs) (turned_places by m))) g ≡ turned by (row (slice_index xs) g)
-turned-picked by m xs long g less =
-    let all : length (turned_places by m) ≡ 4 * m = length-map-range_with_len (turned_place by) 0 (4 * m) in
-    let word : (i : ℕ) → i < 4 → slice_index (pick_l 0 (xs ++ xs) (turned_places by m)) (4 * g + i)
-    ≡ slice_index (row (slice_index xs) g) ((by + i) % 4) = λ i few.
-    let place : turned_place by (4 * g + i) ≡ 4 * g + (by + i) % 4 = omega arith in
-    let inside : 4 * g + i < 4 * m = omega arith in
-    get_or-map (slice_index (xs ++ xs)) (turned_places by m) (4 * g + i) 0 0 (omega (arith, all, inside))
-    ∙ ap (slice_index (xs ++ xs))
-    (get_or-map-range_with_len (turned_place by) 0 (4 * m) (4 * g + i) (4 * g + i) 0 inside (omega arith) ∙ place)
-    ∙ get_or_append_left xs xs 0 (4 * g + (by + i) % 4) (omega arith)
-    ∙ sym (row-word (slice_index xs) g ((by + i) % 4) (omega arith)) in
-    let here : 4 * g ≡ 4 * g + 0 = omega arith in
-    let front : (by + 0) % 4 ≡ by % 4 = omega arith in
-    four_listed
-    (ap (slice_index (pick_l 0 (xs ++ xs) (turned_places by m))) here
-    ∙ word 0 (omega arith) ∙ ap (slice_index (row (slice_index xs) g)) front)
-    (word 1 (omega arith)) (word 2 (omega arith)) (word 3 (omega arith))
+-- where words that alternate between two vectors of n stand, four in each of m rows, from word k of both on
+abbrev pub alternating : (n m k : ℕ) → List ℕ
+alternating n zero k = []
+alternating n (suc m) k = k ∷ (n + k) ∷ (k + 1) ∷ (n + (k + 1)) ∷ alternating n m (k + 4)
 
 -- turns by a number of places and by what is left of it after whole turns
 pub turned-rest : (k m : ℕ) (x : List ℕ) → k % 4 ≡ m → turned k x ≡ turned m x
@@ -161,3 +134,17 @@ turned-rest k m x rest =
     let third : (k + 2) % 4 ≡ (m + 2) % 4 = omega arith in
     let fourth : (k + 3) % 4 ≡ (m + 3) % 4 = omega arith in
     rw (first, second, third, fourth) refl
+
+-- where the words of m rows are taken from, each row turned to the left by k places
+abbrev turned_places : (k m : ℕ) → List ℕ
+turned_places k m = map (λ j. 4 * (j / 4) + (k + j) % 4) (range_with_len 0 (4 * m))
+
+pub rows-turned : {vector : List ℕ} (m by k : ℕ) (xs : List ℕ) → vector ≡ pick_l 0 (xs ++ xs) (turned_places k m)
+    → by % 4 ≡ k → length xs ≡ 4 * m
+    → (let ys = words_of (4 * m) xs in (g : ℕ) → g < 4
+    → row (slice_index (pick_l 0 (ys ++ ys) (turned_places k m))) g ≡ turned k (row (slice_index ys) g))
+    → (g : ℕ) → g < 4 → row (slice_index vector) g ≡ turned by (row (slice_index xs) g)
+rows-turned m by k xs is rest long same g less =
+    ap (λ v. row (slice_index v) g) is
+    ∙ rows-picked (turned_places k m) (4 * m) (λ x y. turned k x) xs xs long long same g less
+    ∙ sym (turned-rest by k (row (slice_index xs) g) rest)

@@ -35,30 +35,9 @@ pub trait Vector: Copy {
         ensures { (j : ℕ) → j < 4 * FOURS
             → lane result j ≡ rotl (bit_xor (lane self j) (lane other j)) by };
 
-    /// Each four turned to the left by one place.
-    fn turned_1(self) -> Self
-        ensures { (g : ℕ) → g < FOURS → row (lane result) g ≡ turned 1 (row (lane self) g) };
-
-    /// Each four turned to the left by two places.
-    fn turned_2(self) -> Self
-        ensures { (g : ℕ) → g < FOURS → row (lane result) g ≡ turned 2 (row (lane self) g) };
-
-    /// Each four turned to the left by three places.
-    fn turned_3(self) -> Self
-        ensures { (g : ℕ) → g < FOURS → row (lane result) g ≡ turned 3 (row (lane self) g) };
-
     /// Each four turned to the left by so many places.
-    #[inline(always)]
-    final fn turned(self, by: usize) -> Self
-        ensures { (g : ℕ) → g < FOURS → row (lane result) g ≡ turned by (row (lane self) g) }
-    {
-        match by % 4 {
-            0 => self,
-            1 => self.turned_1(),
-            2 => self.turned_2(),
-            _ => self.turned_3(),
-        }
-    }
+    fn turned(self, by: usize) -> Self
+        ensures { (g : ℕ) → g < FOURS → row (lane result) g ≡ turned by (row (lane self) g) };
 
     /// The words of one four.
     fn four(self, g: usize) -> u32x4
@@ -210,18 +189,13 @@ impl Vector for u32x4 {
     }
 
     #[inline(always)]
-    fn turned_1(self) -> u32x4 {
-        self.swizzle([1, 2, 3, 0])
-    }
-
-    #[inline(always)]
-    fn turned_2(self) -> u32x4 {
-        self.swizzle([2, 3, 0, 1])
-    }
-
-    #[inline(always)]
-    fn turned_3(self) -> u32x4 {
-        self.swizzle([3, 0, 1, 2])
+    fn turned(self, by: usize) -> u32x4 {
+        match by % 4 {
+            0 => self,
+            1 => self.swizzle([1, 2, 3, 0]),
+            2 => self.swizzle([2, 3, 0, 1]),
+            _ => self.swizzle([3, 0, 1, 2]),
+        }
     }
 
     #[inline(always)]
@@ -272,18 +246,13 @@ impl Vector for u32x8 {
     }
 
     #[inline(always)]
-    fn turned_1(self) -> u32x8 {
-        self.swizzle([1, 2, 3, 0, 5, 6, 7, 4])
-    }
-
-    #[inline(always)]
-    fn turned_2(self) -> u32x8 {
-        self.swizzle([2, 3, 0, 1, 6, 7, 4, 5])
-    }
-
-    #[inline(always)]
-    fn turned_3(self) -> u32x8 {
-        self.swizzle([3, 0, 1, 2, 7, 4, 5, 6])
+    fn turned(self, by: usize) -> u32x8 {
+        match by % 4 {
+            0 => self,
+            1 => self.swizzle([1, 2, 3, 0, 5, 6, 7, 4]),
+            2 => self.swizzle([2, 3, 0, 1, 6, 7, 4, 5]),
+            _ => self.swizzle([3, 0, 1, 2, 7, 4, 5, 6]),
+        }
     }
 
     #[inline(always)]
@@ -322,18 +291,13 @@ impl Vector for u32x16 {
     }
 
     #[inline(always)]
-    fn turned_1(self) -> u32x16 {
-        self.swizzle([1, 2, 3, 0, 5, 6, 7, 4, 9, 10, 11, 8, 13, 14, 15, 12])
-    }
-
-    #[inline(always)]
-    fn turned_2(self) -> u32x16 {
-        self.swizzle([2, 3, 0, 1, 6, 7, 4, 5, 10, 11, 8, 9, 14, 15, 12, 13])
-    }
-
-    #[inline(always)]
-    fn turned_3(self) -> u32x16 {
-        self.swizzle([3, 0, 1, 2, 7, 4, 5, 6, 11, 8, 9, 10, 15, 12, 13, 14])
+    fn turned(self, by: usize) -> u32x16 {
+        match by % 4 {
+            0 => self,
+            1 => self.swizzle([1, 2, 3, 0, 5, 6, 7, 4, 9, 10, 11, 8, 13, 14, 15, 12]),
+            2 => self.swizzle([2, 3, 0, 1, 6, 7, 4, 5, 10, 11, 8, 9, 14, 15, 12, 13]),
+            _ => self.swizzle([3, 0, 1, 2, 7, 4, 5, 6, 11, 8, 9, 10, 15, 12, 13, 14]),
+        }
     }
 
     #[inline(always)]

@@ -1,5 +1,0 @@
-use Rattle.chacha_base.proofs.LaneLemmas.{turned-picked}
-use Rattle.chacha_base.proofs.backends.vector.U32x8Vector.turned_3.Goals as goal
-
-pub returns : goal.returns
-returns c = turned-picked 3 2 c.args.self c.fits-self.0
