@@ -102,24 +102,19 @@ grows-bytes {len} {a = a} {b = b} w par one p rest cut all grows =
     let after : rest ≡ len - left_at p = omega arith in
     subst (λ n. Grows (for_blocks w par one (n / 64) (min 1 (n % 64))) a b) after grows
 
+-- so many quarter rounds more
+abbrev plus_rounds : ℕ → Counts → Counts
+plus_rounds n s = record s { rounds = s.rounds + n }
+
 -- a tail of some blocks: one other call, and the quarter rounds of a single block
 pub grows-tail : {a b c : Counts} (one k : ℕ) → min 1 k ≡ 1
-    → b ≡ record a { other = a.other + 1 } → c ≡ record b { rounds = b.rounds + one } → Grows (for_tail one k) a c
-grows-tail {a} {b} {c} one k some call made =
-    let par : c.par ≡ a.par = ap (λ s. s.par) made ∙ ap (λ s. s.par) call in
-    let other : c.other ≡ a.other + 1 = ap (λ s. s.other) made ∙ ap (λ s. s.other) call in
-    let rounds : c.rounds ≡ a.rounds + one = ap (λ s. s.rounds) made ∙ ap (λ s. s.rounds + one) call in
+    → b ≡ record a { other = a.other + 1 } → c ≡ plus_rounds one b → Grows (for_tail one k) a c
+grows-tail {a} {c = c} one k some call made =
     let few : 1 ≤ k = omega (arith, some) in
     let least : min 1 k * one ≡ 1 * one = ap (λ m. m * one) some in
     let most : 1 * one ≤ k * one = mul-le-mul_right one few in
-    record {
-      par_from = omega (arith, par);
-      par_to = omega (arith, par);
-      other_from = omega (arith, other);
-      other_to = omega (arith, other, few);
-      rounds_from = omega (arith, rounds, least);
-      rounds_to = omega (arith, rounds, most);
-    }
+    grows-then (grows-other one a (made ∙ ap (plus_rounds one) call)) (grows-none c)
+    (omega arith) (omega (arith, few)) (omega (arith, least)) (omega (arith, most))
 
 -- a tail where sixteen are the width, by its quarter rounds
 pub grows-of-16 : (one n k : ℕ) {a b : Counts} → Grows (for_tail one k) a b
@@ -137,10 +132,6 @@ grows-of-16 one n k grows rounds =
       rounds_from = omega (arith, rounds, fewest);
       rounds_to = omega (arith, rounds, greatest);
     }
-
--- so many quarter rounds more
-abbrev plus_rounds : ℕ → Counts → Counts
-plus_rounds n s = record s { rounds = s.rounds + n }
 
 -- two rounds more, of so many quarter rounds each
 pub counted-double_round : (one n : ℕ) (a : Counts) {b c d : Counts} → b ≡ plus_rounds (2 * one * n) a

@@ -1,10 +1,11 @@
 -- Lists of known length, and elements that are written one after another. All other lemma files and the proofs of
 -- loops cite these.
-use Rattle.std.proofs.Common.{◌≡◌, inl, inr, Bool, ℕ, zero, suc, ◌+◌, ◌-◌, ◌*◌, ◌/◌, ◌<◌, ◌≤◌, List, [], ◌∷◌, ◌++◌, length, map, take, drop, slice_index, slice_index_or, refl, sym, ap, ap₂, subst, ◌∙◌, append_assoc, length-append, length-drop, arith, below_more, set, slice_get, Some, nat_lt, if◌then◌else◌, lt-ltb, le-ltb, length-take-le, get_or-drop, take_at, drop_at, drop-drop, append-nil}
+use Rattle.std.proofs.Common.{◌≡◌, inl, inr, Bool, ℕ, zero, suc, ◌+◌, ◌-◌, ◌*◌, ◌<◌, ◌≤◌, List, [], ◌∷◌, ◌++◌, length, map, take, drop, slice_index, slice_index_or, refl, sym, ap, ap₂, subst, ◌∙◌, append_assoc, length-append, length-drop, length-set, arith, below_more, set, slice_get, Some, nat_lt, if◌then◌else◌, lt-ltb, le-ltb, length-take-le, get_or-drop, get_or-take, get_or-set_same, get_or-set_other, take_at, drop_at, drop-drop, append-nil}
 use Rattle.std.specs.List.{range_with_len}
 use Rattle.std.proofs.lemmas.Bool.{cases_lt}
-use Rattle.std.proofs.lemmas.List.{drop_all}
+use Rattle.std.proofs.lemmas.List.{drop_all, get_or_append_left, get_or-append_right}
 use Rattle.std.proofs.lemmas.List.FromFn.{fill_by_all}
+use Rattle.std.proofs.lemmas.Option.{slice_get_read, slice_get_within, get_or_from_slice_get}
 use Rattle.std.proofs.lemmas.Slice.{drop-put_mid}
 use borrow.Rule.Slice.PartMut.{put_mid}
 
@@ -33,18 +34,11 @@ below_four P p q r s (suc (suc zero)) less = r
 below_four P p q r s (suc (suc (suc zero))) less = s
 below_four P p q r s _ less = absurd (omega arith)
 
--- an element after a write to its place, and after a write to a place behind it
+-- an element after a write to its place
 pub slice_get-set_same : {X : Type 0} (xs : List X) (i : ℕ) (x : X) → i < length xs
     → slice_get (set xs i x) i ≡ Some x
-slice_get-set_same [] i x h = absurd (omega arith)
-slice_get-set_same (y ∷ ys) zero x h = refl
-slice_get-set_same (y ∷ ys) (suc i) x h = slice_get-set_same ys i x (omega arith)
-
-slice_get-set_below : {X : Type 0} (xs : List X) (i j : ℕ) (x : X) → j < i → slice_get (set xs i x) j ≡ slice_get xs j
-slice_get-set_below [] i j x h = refl
-slice_get-set_below (y ∷ ys) zero j x h = absurd (omega arith)
-slice_get-set_below (y ∷ ys) (suc i) zero x h = refl
-slice_get-set_below (y ∷ ys) (suc i) (suc j) x h = slice_get-set_below ys i j x (omega arith)
+slice_get-set_same xs i x inside =
+    slice_get_read _ (length xs) i x (sym (length-set xs i x)) inside (sym (get_or-set_same xs i x x inside))
 
 -- a list that is written from its front on: its first n elements are f 0, f 1 and so on
 abbrev pub Written : {X : Type 0} (f : ℕ → X) (n : ℕ) (xs : List X) → Type 0
@@ -55,30 +49,12 @@ pub one_more : {X : Type 0} (f : ℕ → X) (i : ℕ) (xs : List X) (x : X) → 
     → Written f (i + 1) (set xs i x)
 one_more f i xs x inside made before =
     below_more (λ j. slice_get (set xs i x) j ≡ Some (f j)) i
-    (λ j less. slice_get-set_below xs i j x less ∙ before j less)
+    (λ j less.
+    slice_get_read _ (length xs) j (f j) (sym (length-set xs i x)) (slice_get_within xs j (f j) (before j less))
+    (sym (get_or-set_other xs i j x (f j) (omega arith) ∙ get_or_from_slice_get xs j (f j) (f j) (before j less))))
     (slice_get-set_same xs i x inside ∙ ap Some made)
 
--- the elements of a list of which a part is written: those before the part, in it and after it
-slice_get-append : {X : Type 0} (xs ys : List X) (i : ℕ) → i < length xs → slice_get (xs ++ ys) i ≡ slice_get xs i
-slice_get-append [] ys i h = absurd (omega arith)
-slice_get-append (x ∷ xs) ys zero h = refl
-slice_get-append (x ∷ xs) ys (suc i) h = slice_get-append xs ys i (omega arith)
-
-slice_get-put_mid_below : {X : Type 0} (a k i : ℕ) (xs ys : List X) → i < a → a ≤ length xs
-    → slice_get (put_mid a k xs ys) i ≡ slice_get xs i
-slice_get-put_mid_below (suc a) k zero (x ∷ xs) ys h room = refl
-slice_get-put_mid_below (suc a) k (suc i) (x ∷ xs) ys h room =
-    slice_get-put_mid_below a k i xs ys (omega arith) (omega arith)
-slice_get-put_mid_below _ k i _ ys h room = absurd (omega arith)
-
-slice_get-put_mid_inside : {X : Type 0} (a k i : ℕ) (xs ys : List X) → i < length ys → a ≤ length xs
-    → slice_get (put_mid a k xs ys) (a + i) ≡ slice_get ys i
-slice_get-put_mid_inside zero k i xs ys h room =
-    let here : 0 + i ≡ i = omega arith in rw here (slice_get-append ys (drop k (drop 0 xs)) i h)
-slice_get-put_mid_inside (suc a) k i [] ys h room = absurd (omega arith)
-slice_get-put_mid_inside (suc a) k i (x ∷ xs) ys h room =
-    let next : suc a + i ≡ suc (a + i) = omega arith in rw next (slice_get-put_mid_inside a k i xs ys h (omega arith))
-
+-- an element behind a part that is written
 pub slice_index_or-put_mid_above : {X : Type 0} {k : ℕ} (a i : ℕ) (xs ys : List X) (d : X) → a + k ≤ i
     → a ≤ length xs → length ys ≡ k → slice_index_or (put_mid a k xs ys) i d ≡ slice_index_or xs i d
 slice_index_or-put_mid_above {k = k} a i xs ys d h room same =
@@ -92,18 +68,29 @@ slice_index_or-put_mid_above {k = k} a i xs ys d h room same =
 pub part_long : {X : Type 0} (a k : ℕ) (xs : List X) → a + k ≤ length xs → length (take k (drop a xs)) ≡ k
 part_long a k xs inside = length-take-le k (drop a xs) (omega (arith, length-drop a xs))
 
+-- k elements behind the first a
+written_behind : {X : Type 0} (f : ℕ → X) (a k : ℕ) (xs ys zs : List X) → length xs ≡ a → k ≤ length ys
+    → Written f a xs → Written (λ i. f (a + i)) k ys → Written f (a + k) (xs ++ (ys ++ zs))
+written_behind f a k xs ys zs long room before part i inside =
+    let x = f i in
+    let all : i < length (xs ++ (ys ++ zs)) = simp length-append (omega arith) in
+    slice_get_read _ _ i x refl all (sym (elim (cases_lt i a) [
+      | inl below ↦ get_or_append_left xs (ys ++ zs) x i (omega arith) ∙ get_or_from_slice_get xs i x x (before i below)
+      | inr above ↦
+          let place : a + (i - a) ≡ i = omega arith in
+          get_or-append_right xs (ys ++ zs) a i x long above ∙ get_or_append_left ys zs x (i - a) (omega arith)
+          ∙ get_or_from_slice_get ys (i - a) x x (part (i - a) (omega arith) ∙ ap (λ j. Some (f j)) place)
+    ]))
+
 -- k elements more of a list that is written from its front on
 pub written_more : {X : Type 0} {k : ℕ} (f : ℕ → X) (a : ℕ) (xs ys : List X) → a ≤ length xs → length ys ≡ k
     → Written f a xs → Written (λ i. f (a + i)) k ys → Written f (a + k) (put_mid a k xs ys)
-written_more {k = k} f a xs ys room same before part i inside =
-    elim (cases_lt i a) [
-      | inl below ↦ slice_get-put_mid_below a k i xs ys below room ∙ before i below
-      | inr above ↦
-          let place : a + (i - a) ≡ i = omega arith in
-          let here : i - a < length ys = omega arith in
-          let less : i - a < k = omega arith in
-          rw (← place) (slice_get-put_mid_inside a k (i - a) xs ys here room ∙ part (i - a) less)
-    ]
+written_more {k = k} f a xs ys room same before part =
+    written_behind f a k (take a xs) ys (drop k (drop a xs)) (length-take-le a xs room) (omega arith)
+    (λ j less.
+    slice_get_read _ a j (f j) (sym (length-take-le a xs room)) less
+    (sym (get_or-take a xs j (f j) less ∙ get_or_from_slice_get xs j (f j) (f j) (before j less))))
+    part
 
 -- the same, four elements at a time
 pub four_more : {X : Type 0} {k : ℕ} (f : ℕ → X) (a : ℕ) (xs ys : List X) → k ≡ 4 → a ≤ length xs
@@ -115,30 +102,19 @@ four_more f a xs ys four room is before =
     ∙ below_four (λ j. slice_get (f a ∷ f (a + 1) ∷ f (a + 2) ∷ f (a + 3) ∷ []) j ≡ Some (f (a + j)))
     (ap (λ j. Some (f j)) here) refl refl refl i (omega (arith, less, four)))
 
--- a list of which the front half is written, and then the back half
-pub halves_written : {X Y : Type 0} (f : Y → X) (n : ℕ) (xs ys zs : List X) (p q : ℕ → Y) → length xs ≡ n + n
-    → (let half = length xs / 2 in let now = ys ++ drop half xs in
-    length ys ≡ length (take half xs) → length zs ≡ length (take (length now - half) (drop half now))
-    → Written (λ j. f (p j)) n ys → Written (λ j. f (q j)) n zs
-    → Written (λ i. f (if nat_lt i n then p i else q (i - n))) (n + n) (put_mid half (length now - half) now zs))
-halves_written f n xs ys zs p q long front back first second i inside =
-    let half = length xs / 2 in
-    let rest = drop half xs in
-    let now = ys ++ rest in
+-- two lists of n elements in a row
+pub halves_written : {X Y : Type 0} (f : Y → X) (n : ℕ) (xs ys : List X) (p q : ℕ → Y) → length xs ≡ n
+    → length ys ≡ n → Written (λ j. f (p j)) n xs → Written (λ j. f (q j)) n ys
+    → Written (λ i. f (if nat_lt i n then p i else q (i - n))) (n + n) (xs ++ ys)
+halves_written f n xs ys p q lx ly first second =
     let either = λ (b : Bool) (j : ℕ). Some (f (if b then p j else q (j - n))) in
-    let at : half ≡ n = omega arith in
-    let ly : length ys ≡ n = front ∙ length-take-le half xs (omega arith) ∙ at in
-    let all : length now ≡ n + n = omega (arith, length-append ys rest, length-drop half xs) in
-    let count : length now - half ≡ n = omega arith in
-    let lz : length zs ≡ n = back ∙ part_long half (length now - half) now (omega arith) ∙ count in
-    ap₂ (λ a k. slice_get (put_mid a k now zs) i) at count
-    ∙ written_more (λ j. f (if nat_lt j n then p j else q (j - n))) n now zs (omega arith) lz
-    (λ j less.
-    slice_get-append ys rest j (omega arith) ∙ first j less ∙ ap (λ b. either b j) (sym (lt-ltb j n less)))
+    subst (Written (λ i. f (if nat_lt i n then p i else q (i - n))) (n + n)) (ap (λ t. xs ++ t) (append-nil ys))
+    (written_behind (λ i. f (if nat_lt i n then p i else q (i - n))) n n xs ys [] lx (omega arith)
+    (λ j less. first j less ∙ ap (λ b. either b j) (sym (lt-ltb j n less)))
     (λ j less.
     let place : j ≡ n + j - n = omega arith in
-    second j less ∙ ap (λ k. Some (f (q k))) place ∙ ap (λ b. either b (n + j)) (sym (le-ltb (n + j) n (omega arith))))
-    i inside
+    second j less ∙ ap (λ k. Some (f (q k))) place
+    ∙ ap (λ b. either b (n + j)) (sym (le-ltb (n + j) n (omega arith)))))
 
 -- four lists in a row, piece by piece
 pub four_joined : {X : Type 0} {a b c d p q r s : List X} → a ≡ p → b ≡ q → c ≡ r → d ≡ s

@@ -112,9 +112,9 @@ impl<G: Group> Group for Twice<G> {
 
     #[inline(always)]
     fn store<B: BlockBuffer>(self, buffers: &mut [B]) {
-        let half = buffers.len() / 2;
-        self.0.store(&mut buffers[..half]);
-        self.1.store(&mut buffers[half..]);
+        let (front, back) = buffers.split_at_mut(buffers.len() / 2);
+        self.0.store(front);
+        self.1.store(back);
     }
 }
 

@@ -1,8 +1,9 @@
+use Rattle.std.proofs.Common.{arith}
 use Rattle.chacha_base.proofs.ListLemmas.{halves_written}
 use Rattle.chacha_base.proofs.backends.group.TwiceGroup.store.Goals as goal
 
 pub returns : goal.returns
 returns g c =
-    halves_written g.B.BlockBuffer.of_words g.G.Group.BLOCKS c.args.buffers.now _ _
+    halves_written g.B.BlockBuffer.of_words g.G.Group.BLOCKS _ _
     (g.G.Group.words_of c.args.self.0) (g.G.Group.words_of c.args.self.1)
-    c.requires c.store.auto.buffers c.store-2.auto.buffers c.store.ensures c.store-2.ensures
+    (omega arith) (omega arith) c.store.ensures c.store-2.ensures
