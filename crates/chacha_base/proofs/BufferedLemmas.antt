@@ -1,12 +1,12 @@
 -- A core and the block in its buffer, as a byte stream keeps them: at which position they are, and at which after more
 -- bytes or a seek. The proofs of the byte stream alone cite these. Read `IsBuffered` first.
-use Rattle.std.proofs.Common.{◌≡◌, ◌+◌, ◌-◌, ◌*◌, ◌/◌, ◌%◌, ◌<◌, ◌≤◌, ◌∙◌, ℕ, zero, suc, Bool, false, nat_eq, List, length, take, drop, slice_index, bit_xor, arith, sym, ap, get_or-take, get_or-drop, mod-eq_of_lt}
+use Rattle.std.proofs.Common.{◌≡◌, ◌+◌, ◌-◌, ◌*◌, ◌/◌, ◌%◌, ◌<◌, ◌≤◌, ◌∙◌, ℕ, zero, suc, Bool, false, nat_eq, List, length, take, drop, slice_index, arith, sym, ap, get_or-take, get_or-drop, mod-eq_of_lt}
 use Rattle.std.proofs.lemmas.Bool.{false≢true}
 use Rattle.std.proofs.Math.Nat.{mod-add-mod}
 use Rattle.chacha_base.specs.Keystream.{keystream, xor_stream}
 use Rattle.chacha_base.specs.Limit.{limit_of}
 use Rattle.chacha_base.specs.Buffered.{IsBuffered, left_at}
-use Rattle.chacha_base.proofs.KeystreamLemmas.{xor_stream-is, xor_stream-block, keystream_byte}
+use Rattle.chacha_base.proofs.KeystreamLemmas.{xor_stream-same, xor_stream-part, xor_stream-block}
 
 -- at least one byte, n in all, that begin at a block's front and end within the limit
 pub record Begins (p n limit : ℕ) : Type 0 where
@@ -59,16 +59,15 @@ module _ {modulus : ℕ} {block : ℕ → List ℕ} {counter : ℕ} {buffer : Li
       omega (arith, begins.front)
 
   -- bytes combined with the front of that block
-  pub xor_stream-front : {made ys : List ℕ} (xs : List ℕ) → made ≡ block counter
-      → Begins p (length xs) (limit_of modulus) → length xs ≤ 64 → length ys ≡ length xs
-      → ((i : ℕ) → i < length xs
-      → slice_index ys i ≡ bit_xor (slice_index xs i) (slice_index (take (length xs) made) i))
-      → ys ≡ xor_stream (keystream modulus block) p xs
-  xor_stream-front {made} {ys} xs held begins part same each =
+  pub xor_stream-front : {made : List ℕ} (xs : List ℕ) → made ≡ block counter
+      → Begins p (length xs) (limit_of modulus) → length xs ≤ 64
+      → xor_stream (slice_index (take (length xs) made)) 0 xs ≡ xor_stream (keystream modulus block) p xs
+  xor_stream-front {made} xs held begins part =
       let here = counter-at_front begins in
       let below : counter < modulus = omega (arith, here, begins.some, begins.fits) in
-      xor_stream-block modulus block counter made xs ys (held ∙ sym (ap block (mod-eq_of_lt below))) part same
-      (λ i less. each i less ∙ ap (bit_xor (slice_index xs i)) (get_or-take (length xs) made i 0 less))
+      xor_stream-same (slice_index (take (length xs) made)) (slice_index made) 0 0 xs (λ i less.
+      get_or-take (length xs) made (0 + i) 0 (omega arith))
+      ∙ xor_stream-block modulus block counter made xs (held ∙ sym (ap block (mod-eq_of_lt below))) part
       ∙ ap (λ q. xor_stream (keystream modulus block) q xs) here
 
   -- after m bytes more, for which the core made k blocks
@@ -113,19 +112,13 @@ module _ {modulus : ℕ} {block : ℕ → List ℕ} {counter : ℕ} {buffer : Li
       }
 
   -- bytes combined with what is left of that block
-  pub xor_stream-begun : {ys : List ℕ} (xs : List ℕ) → length xs ≤ left_at p → length ys ≡ length xs
-      → ((i : ℕ) → i < length xs
-      → slice_index ys i ≡ bit_xor (slice_index xs i)
-      (slice_index (take (stored % 64 + length xs - stored % 64) (drop (stored % 64) buffer)) i))
-      → ys ≡ xor_stream (keystream modulus block) p xs
-  xor_stream-begun {ys} xs fits same each =
-      xor_stream-is (keystream modulus block) p xs ys same (λ i less.
+  pub xor_stream-begun : (xs : List ℕ) → length xs ≤ left_at p
+      → (let part = take (stored % 64 + length xs - stored % 64) (drop (stored % 64) buffer) in
+      xor_stream (slice_index part) 0 xs ≡ xor_stream (keystream modulus block) p xs)
+  xor_stream-begun xs fits =
+      let whole : 64 * (stored / 64) + stored % 64 ≡ p = omega arith in
+      xor_stream-part modulus block (stored / 64) (stored % 64) _ xs (omega arith) (λ i less.
       let inside : stored / 64 < modulus = omega (arith, at.within) in
-      let next : 64 * (stored / 64) + (stored % 64 + i) ≡ p + i = omega arith in
-      each i less
-      ∙ ap (bit_xor (slice_index xs i))
-      (get_or-take (stored % 64 + length xs - stored % 64) (drop (stored % 64) buffer) i 0 (omega arith)
-      ∙ get_or-drop (stored % 64) buffer i 0
-      ∙ ap (λ b. slice_index b (stored % 64 + i)) (at.held (omega arith) ∙ sym (ap block (mod-eq_of_lt inside)))
-      ∙ keystream_byte modulus block (stored / 64) (stored % 64 + i) (omega arith)
-      ∙ ap (keystream modulus block) next))
+      get_or-take _ (drop (stored % 64) buffer) i 0 (omega arith) ∙ get_or-drop (stored % 64) buffer i 0
+      ∙ ap (λ b. slice_index b (stored % 64 + i)) (at.held (omega arith) ∙ sym (ap block (mod-eq_of_lt inside))))
+      ∙ ap (λ q. xor_stream (keystream modulus block) q xs) whole

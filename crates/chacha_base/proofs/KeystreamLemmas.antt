@@ -137,15 +137,25 @@ module _ (modulus : ℕ) (block : ℕ → List ℕ) where
       let place : (64 * c + j) % 64 ≡ j = omega arith in
       rw (which, place) refl
 
-  -- bytes combined with the block of a counter
-  pub xor_stream-block : (c : ℕ) (key xs ys : List ℕ) → key ≡ block (c % modulus) → length xs ≤ 64
-      → length ys ≡ length xs
-      → ((j : ℕ) → j < length xs → slice_index ys j ≡ bit_xor (slice_index xs j) (slice_index key j))
-      → ys ≡ xor_stream (keystream modulus block) (64 * c) xs
-  xor_stream-block c key xs ys made fits same each =
-      xor_stream-is (keystream modulus block) (64 * c) xs ys same (λ j less.
-      each j less
-      ∙ ap (bit_xor (slice_index xs j)) (ap (λ b. slice_index b j) made ∙ keystream_byte c j (omega arith)))
+  -- bytes combined with a part of a counter's block, from its byte j on
+  pub xor_stream-part : (c j : ℕ) (part xs : List ℕ) → j + length xs ≤ 64
+      → ((i : ℕ) → i < length xs → slice_index part i ≡ slice_index (block (c % modulus)) (j + i))
+      → xor_stream (slice_index part) 0 xs ≡ xor_stream (keystream modulus block) (64 * c + j) xs
+  xor_stream-part c j part xs fits same =
+      xor_stream-same (slice_index part) (keystream modulus block) 0 (64 * c + j) xs (λ i less.
+      let here : 0 + i ≡ i = omega arith in
+      let place : 64 * c + (j + i) ≡ 64 * c + j + i = omega arith in
+      ap (slice_index part) here ∙ same i less
+      ∙ keystream_byte c (j + i) (omega arith) ∙ ap (keystream modulus block) place)
+
+  -- bytes combined with the front of a counter's block
+  pub xor_stream-block : (c : ℕ) (key xs : List ℕ) → key ≡ block (c % modulus) → length xs ≤ 64
+      → xor_stream (slice_index key) 0 xs ≡ xor_stream (keystream modulus block) (64 * c) xs
+  xor_stream-block c key xs made fits =
+      let front : 64 * c + 0 ≡ 64 * c = omega arith in
+      xor_stream-part c 0 key xs (omega arith) (λ i less.
+      let here : i ≡ 0 + i = omega arith in ap₂ slice_index made here)
+      ∙ ap (λ p. xor_stream (keystream modulus block) p xs) front
 
   -- counters that are the same when they wrap
   keystream-same : (c d i : ℕ) (xs : List ℕ) → c % modulus ≡ d % modulus

@@ -1,10 +1,9 @@
 -- Lanes of vectors: rotated, turned, interleaved, and written as bytes. The proofs of `vector`, and some of rows and
 -- columns, cite these. Read `Lanes` and `Diagonalized` first.
-use Rattle.std.proofs.Common.{w32, Fits, ◌≡◌, ℕ, zero, suc, ◌<◌, ◌+◌, ◌-◌, ◌*◌, ◌/◌, ◌%◌, ◌^◌, List, [], ◌∷◌, ◌++◌, length, map, slice_index, replicate, bit_or, bit_xor, arith, refl, sym, ap, ◌∙◌, get_or-append-add}
+use Rattle.std.proofs.Common.{w32, Fits, ◌≡◌, ℕ, zero, suc, ◌<◌, ◌+◌, ◌-◌, ◌*◌, ◌/◌, ◌%◌, ◌^◌, List, [], ◌∷◌, ◌++◌, length, map, slice_index, replicate, bit_or, bit_xor, arith, refl, sym, ap, ◌∙◌}
 use Rattle.std.specs.List.{range_with_len}
 use Rattle.std.specs.Simd.Lanes.{zip2, Each1, pick_l, number_l, digits_l}
-use Rattle.std.proofs.lemmas.List.{get_or-map, get_or_append_left}
-use Rattle.std.proofs.lemmas.List.FromFn.{length-map-range_with_len, get_or-map-range_with_len}
+use Rattle.std.proofs.lemmas.List.{get_or-map}
 use Rattle.std.proofs.lemmas.Nat.{xor_lt}
 use Rattle.std.proofs.lemmas.Simd.{below_from_Fits, Each1-get_or, get_or-zip2, get_or-replicate, length-zip2, length-replicate}
 use Rattle.chacha_base.specs.Words.{rotl}
@@ -118,7 +117,7 @@ pub rows-picked : (places : List ℕ) (n : ℕ) (f : List ℕ → List ℕ → L
     → row (slice_index (pick_l 0 (a ++ b) places)) g ≡ f (row (slice_index a) g) (row (slice_index b) g)
 rows-picked places n f a b la lb same g less =
     let made = λ (x y : List ℕ). row (slice_index (pick_l 0 (x ++ y) places)) g
-        ≡ f (row (slice_index x) g) (row (slice_index y) g) in
+    ≡ f (row (slice_index x) g) (row (slice_index y) g) in
     by_words n (λ x. made x b) a la (by_words n (made (words_of n a)) b lb (same g less))
 
 -- where words that alternate between two vectors of n stand, four in each of m rows, from word k of both on

@@ -1,8 +1,9 @@
 //! Bytes as words, the low byte first (RFC 8439, section 2.3), and the XOR of bytes. `chacha20` does not export these
 //! functions. None of them refuses: the caller proves that the lengths fit.
 
-ghost use Rattle.std.specs.Prelude.{◌≡◌, ℕ, ◌<◌, ◌*◌, length, bit_xor, slice_index};
+ghost use Rattle.std.specs.Prelude.{◌≡◌, ◌*◌, length, slice_index};
 ghost use Rattle.chacha_base.specs.Bytes.{bytes, words};
+ghost use Rattle.chacha_base.specs.Keystream.{xor_stream};
 
 /// Writes words as bytes, four for each.
 #[inline(always)]
@@ -36,8 +37,7 @@ pub fn read_words(input: &[u8], output: &mut [u32])
 #[inline(always)]
 pub fn xor_bytes(output: &mut [u8], other: &[u8])
     requires { length output.old ≡ length other.now }
-    ensures { (i : ℕ) → i < length output.old
-        → slice_index output.new i ≡ bit_xor (slice_index output.old i) (slice_index other.now i) }
+    ensures { output.new ≡ xor_stream (slice_index other.now) 0 output.old }
 {
     for i in 0..output.len() {
         output[i] ^= other[i];

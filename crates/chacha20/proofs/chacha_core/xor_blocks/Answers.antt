@@ -1,7 +1,7 @@
-use Rattle.std.proofs.Common.{◌≡◌, ℕ, ◌*◌, ◌+◌, ◌-◌, ◌≤◌, ◌∙◌, ◌++◌, List, length, take, drop, ap, arith, bit_xor, length-drop, length-take-le}
+use Rattle.std.proofs.Common.{◌≡◌, ℕ, ◌*◌, ◌+◌, ◌-◌, ◌≤◌, ◌∙◌, ◌++◌, List, length, take, drop, ap, arith, slice_index, length-drop, length-take-le}
 use borrow.Rule.Slice.PartMut.{put_mid}
 use Rattle.chacha_base.specs.Keystream.{xor_stream}
-use Rattle.chacha_base.proofs.KeystreamLemmas.{xor_stream-more, xor_stream-whole, xor_stream-is}
+use Rattle.chacha_base.proofs.KeystreamLemmas.{xor_stream-more, xor_stream-whole, xor_stream-same}
 use Rattle.chacha20.specs.Blocks.{byte_of, xored_at}
 use Rattle.chacha20.proofs.BlocksLemmas.{byte_of_block}
 use Rattle.chacha20.proofs.chacha_core.xor_blocks.Goals as goal
@@ -35,9 +35,9 @@ loop-i-preserved c =
     let long = part_long c.args.first n c.args.data.now c.requires in
     xor_stream-more stream 0 (64 * i) (64 * i + 64 - 64 * i) (64 * (i + 1)) _ c.loop-i.part c.xor_bytes.new.output
     (omega arith) (omega (arith, long)) c.loop-i.invariant
-    (xor_stream-is stream (0 + 64 * i) _ _ (omega arith) (λ j less.
-    c.xor_bytes.ensures j less
-    ∙ ap (bit_xor _) (byte_of_block c.args.blocks.now (0 + 64 * i) i j (omega arith) (omega arith))))
+    (c.xor_bytes.ensures ∙ xor_stream-same _ stream 0 (0 + 64 * i) _ (λ j less.
+    let here : 0 + j ≡ j = omega arith in
+    ap (slice_index _) here ∙ byte_of_block c.args.blocks.now (0 + 64 * i) i j (omega arith) (omega arith)))
 
 pub returns : goal.returns
 returns c =

@@ -21,9 +21,9 @@ loop-i-preserved g c =
     let long : length (slice_index_or now i []) ≡ 64 = ap length same ∙ c.told-blocks i (omega arith) in
     record {
       done = one_more (combined modulus block first c.args.blocks.now) i now c.xor_bytes.new.output inside
-          (xor_stream-block modulus block (first + i) _ (slice_index_or now i []) _
-          (get_or_from_slice_get _ i _ [] (c.write_keystream_blocks.ensures.blocks i (omega arith)))
-          (omega arith) (omega arith) c.xor_bytes.ensures
+          (c.xor_bytes.ensures
+          ∙ xor_stream-block modulus block (first + i) _ (slice_index_or now i [])
+          (get_or_from_slice_get _ i _ [] (c.write_keystream_blocks.ensures.blocks i (omega arith))) (omega arith)
           ∙ ap (xor_stream (keystream modulus block) (64 * (first + i))) same)
           c.loop-i.invariant.done;
       rest = λ k above. let apart : k ≢ i = omega arith in get_or-set_other now i k c.xor_bytes.new.output [] apart

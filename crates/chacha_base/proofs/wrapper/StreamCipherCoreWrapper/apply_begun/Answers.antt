@@ -5,8 +5,8 @@ use Rattle.chacha_base.proofs.wrapper.StreamCipherCoreWrapper.apply_begun.Goals 
 
 pub returns-clause-bytes : goal.returns-clause-bytes
 returns-clause-bytes g c =
-    xor_stream-begun c.self.invariant (ap (λ v. v.position) c.self.view_is) _ c.requires c.xor_bytes.auto.output
     c.xor_bytes.ensures
+    ∙ xor_stream-begun c.self.invariant (ap (λ v. v.position) c.self.view_is) c.args.bytes.now c.requires
     ∙ ap (λ f. xor_stream (keystream g.C.Keystream.modulus (g.C.Keystream.block_at f)) c.args.self.now.position
     c.args.bytes.now) (ap (λ v. v.fixed) c.self.view_is)
 

@@ -8,8 +8,9 @@ pub returns-then-not-is_empty-clause-bytes : goal.returns-then-not-is_empty-clau
 returns-then-not-is_empty-clause-bytes g c =
     let begins = begins-not_empty _ (length c.args.bytes.now) c.is_empty.ensures c.if-not-is_empty.true c.requires.front
     c.requires.fits in
-    xor_stream-front c.self.invariant (ap (λ v. v.position) c.self.view_is) _ c.write_block_counted.ensures.block
-    begins (omega (arith, c.requires.part)) c.xor_bytes.auto.output c.xor_bytes.ensures
+    c.xor_bytes.ensures
+    ∙ xor_stream-front c.self.invariant (ap (λ v. v.position) c.self.view_is) c.args.bytes.now
+    c.write_block_counted.ensures.block begins (omega (arith, c.requires.part))
     ∙ ap (λ f. xor_stream (keystream g.C.Keystream.modulus (g.C.Keystream.block_at f)) c.args.self.now.position
     c.args.bytes.now) (ap (λ v. v.fixed) c.self.view_is)
 
