@@ -45,7 +45,7 @@ def item_at(text, place):
     lines, last = text.split("\n"), text.count("\n", 0, place)
     inside = None
     for number, line in enumerate(lines[: last + 1]):
-        head = re.match(r"(\s*)(?:pub )?(?:final )?(?:const )?(?:extern \"C\" )?fn (\w+)", line)
+        head = re.match(r"(\s*)(?:pub(?:\(\w+\))? )?(?:final )?(?:const )?(?:extern \"C\" )?fn (\w+)", line)
         if head and (inside is None or len(head[1]) <= len(inside[0])):
             inside = head[1], head[2]
         elif inside and number < last and line == f"{inside[0]}}}":

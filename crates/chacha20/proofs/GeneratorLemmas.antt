@@ -1,66 +1,20 @@
 -- The seed and the stream, read back from the words of a state, and the generator that they make with its counter.
 -- The proofs of construction, of `set_stream` and of `joined`, and the other lemma files on generators, cite these.
 -- Read `Unread` first.
-use Rattle.std.proofs.Common.{◌≡◌, ℕ, zero, suc, ◌+◌, ◌*◌, ◌-◌, ◌/◌, ◌%◌, ◌^◌, ◌<◌, List, [], ◌∷◌, ◌++◌, length, take, replicate, slice_index, arith, refl, sym, ap, ap₂, ◌∙◌, take_at, drop_at, length-append, length-take-le, bit_and, bit_or, slice_set}
+use Rattle.std.proofs.Common.{◌≡◌, ℕ, ◌+◌, ◌*◌, ◌-◌, ◌/◌, ◌%◌, ◌^◌, ◌<◌, List, [], ◌∷◌, ◌++◌, length, take, replicate, slice_index, arith, refl, sym, ap, ◌∙◌, take_at, drop_at, length-append, length-take-le, bit_and, bit_or, slice_set}
 use Rattle.std.proofs.lemmas.Grind.{or_after_shift}
-use Rattle.std.proofs.lemmas.Nat.{and_mask, from_le_bytes-to_le_bytes_4}
+use Rattle.std.proofs.lemmas.Nat.{and_mask}
 use Rattle.std.specs.Int.{w64, to_le_bytes, from_le_bytes}
-use Rattle.chacha_base.specs.Bytes.{word_bytes, bytes, words}
+use Rattle.chacha_base.specs.Bytes.{bytes, words}
 use Rattle.chacha_base.specs.Block.{constants, start}
 use Rattle.chacha_base.specs.Layout.{legacy}
 use Rattle.chacha_base.specs.State.{state_counter, state_at, fixed_words}
 use Rattle.chacha_base.proofs.StateLemmas.{length-state_at, fixed_words-start}
-use Rattle.chacha_base.proofs.BytesLemmas.{length-words}
+use Rattle.chacha_base.proofs.BytesLemmas.{Bytes, bytes-below, bytes-words, length-words, words-to_le_bytes, from_le_bytes-bytes}
 use Rattle.chacha_base.proofs.ListLemmas.{each}
 use Rattle.chacha20.specs.Generator.{GeneratorState}
-use Rattle.chacha20.specs.Unread.{seed_in, stream_in, IsStart, generator_of, IsUnread}
-
--- each byte is below 256
-abbrev pub Bytes : List ℕ → Type 0
-Bytes bs = (i : ℕ) → slice_index bs i < 256
-
-pub length-bytes : (ws : List ℕ) → length (bytes ws) ≡ 4 * length ws
-length-bytes [] = refl
-length-bytes (x ∷ xs) = let rest = length-bytes xs in omega (arith, rest)
-
-pub bytes-below : (ws : List ℕ) → Bytes (bytes ws)
-bytes-below [] i = omega arith
-bytes-below (x ∷ xs) zero = omega arith
-bytes-below (x ∷ xs) (suc zero) = omega arith
-bytes-below (x ∷ xs) (suc (suc zero)) = omega arith
-bytes-below (x ∷ xs) (suc (suc (suc zero))) = omega arith
-bytes-below (x ∷ xs) (suc (suc (suc (suc i)))) = bytes-below xs i
-
--- the four bytes of a word made of four
-bytes-word : (a b c d : ℕ) → a < 256 → b < 256 → c < 256 → d < 256
-    → word_bytes (a + 256 * b + 256 ^ 2 * c + 256 ^ 3 * d) ≡ a ∷ b ∷ c ∷ d ∷ []
-bytes-word a b c d ha hb hc hd =
-    let x = a + 256 * b + 256 ^ 2 * c + 256 ^ 3 * d in
-    let e0 : x % 256 ≡ a = omega arith in
-    let e1 : x / 256 % 256 ≡ b = omega arith in
-    let e2 : x / 256 ^ 2 % 256 ≡ c = omega arith in
-    let e3 : x / 256 ^ 3 % 256 ≡ d = omega arith in cc
-
-bytes-words : (n : ℕ) (bs : List ℕ) → length bs ≡ 4 * n → Bytes bs → bytes (words bs) ≡ bs
-bytes-words zero [] long fits = refl
-bytes-words (suc n) (a ∷ b ∷ c ∷ d ∷ bs) long fits =
-    ap₂ ◌++◌ (bytes-word a b c d (fits 0) (fits 1) (fits 2) (fits 3))
-    (bytes-words n bs (omega arith) (λ i. fits (suc (suc (suc (suc i))))))
-bytes-words n bs long fits = absurd (omega arith)
-
--- the two words of the 8 bytes of a number, and the number of two words
-words-to_le_bytes : (x : ℕ) → x < 2 ^ 64 → words (to_le_bytes w64 x) ≡ x % 2 ^ 32 ∷ x / 2 ^ 32 ∷ []
-words-to_le_bytes x fits =
-    let low : x % 256 + 256 * (x / 256 % 256) + 256 ^ 2 * (x / 256 ^ 2 % 256) + 256 ^ 3 * (x / 256 ^ 3 % 256)
-    ≡ x % 2 ^ 32 = omega arith in
-    let high : x / 256 ^ 4 % 256 + 256 * (x / 256 ^ 5 % 256) + 256 ^ 2 * (x / 256 ^ 6 % 256)
-    + 256 ^ 3 * (x / 256 ^ 7 % 256) ≡ x / 2 ^ 32 = omega arith in
-    ap₂ (λ l h. l ∷ h ∷ []) low high
-
-from_le_bytes-bytes : (low high : ℕ) → low < 2 ^ 32 → high < 2 ^ 32
-    → from_le_bytes w64 (bytes (low ∷ high ∷ [])) ≡ low + 2 ^ 32 * high
-from_le_bytes-bytes low high low_fits high_fits =
-    omega (arith, from_le_bytes-to_le_bytes_4 low low_fits, from_le_bytes-to_le_bytes_4 high high_fits)
+use Rattle.chacha20.specs.GeneratorCore.{seed_in, stream_in, IsStart}
+use Rattle.chacha20.specs.Unread.{generator_of, IsUnread}
 
 -- the last two words, written one after the other
 pub nonce_written : (s : List ℕ) (x : ℕ) → length s ≡ 16 → x < 2 ^ 64

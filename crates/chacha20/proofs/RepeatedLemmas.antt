@@ -7,9 +7,8 @@ use Rattle.chacha_base.specs.Bytes.{bytes}
 use Rattle.chacha_base.specs.Keystream.{stream_part}
 use Rattle.chacha_base.specs.Layout.{legacy}
 use Rattle.chacha_base.specs.Rounds.{mix}
-use Rattle.chacha_base.proofs.BytesLemmas.{bytes-append}
+use Rattle.chacha_base.proofs.BytesLemmas.{bytes-append, length-bytes}
 use Rattle.chacha_base.proofs.KeystreamLemmas.{length-stream_part, stream_part-same, stream_part-add}
-use Rattle.chacha20.proofs.GeneratorLemmas.{length-bytes}
 use Rattle.chacha20.specs.Generator.{GeneratorState, positions, at_word_pos, word, next_u32, fill, repeated}
 
 -- positions that are the same when they wrap have the same word

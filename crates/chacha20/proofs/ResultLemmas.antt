@@ -1,8 +1,13 @@
--- What holds of a call that is known to be accepted. For proofs of callers, where a clause has no `OnOk`.
-use Rattle.std.proofs.Common.{Result, Ok, Err, OnOk, IsOk}
+-- What holds of a call that is accepted. For proofs of callers, where a clause has no `OnOk` or another one.
+use Rattle.std.proofs.Common.{Result, Ok, Err, OnOk, IsOk, refl}
 use Rattle.std.proofs.lemmas.Bool.{false≢true}
 
 -- a call that is accepted has what it ensures on `Ok`
 pub on_ok-holds : {T E P : Type 0} (r : Result T E) → IsOk r → OnOk r P → P
 on_ok-holds (Ok x) accepted holds = holds
 on_ok-holds (Err e) accepted holds = elim (false≢true accepted) [ ]
+
+-- and what follows from that, where it is accepted
+pub on_ok_given : {T E P Q : Type 0} (r : Result T E) → (IsOk r → P → Q) → OnOk r P → OnOk r Q
+on_ok_given (Ok x) next holds = next refl holds
+on_ok_given (Err e) next holds = tt

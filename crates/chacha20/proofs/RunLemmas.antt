@@ -68,10 +68,6 @@ pub le-outcome-is : {E : Type 0} {r : Result (Unit {0}) E} {c : Cipher} {old : L
     → done_if (nat_le m n) c old p after ≡ left
 le-outcome-is m n = outcome-is _ (leb-Decides m n)
 
-pub on_ok_given : {T E P Q : Type 0} (r : Result T E) → (IsOk r → P → Q) → OnOk r P → OnOk r Q
-on_ok_given (Ok x) next holds = next refl holds
-on_ok_given (Err e) next holds = tt
-
 -- a call that answers and changes nothing
 abbrev answered : CipherAnswer → Cipher → List ℕ → CipherOutcome
 answered a c old = record { answer = a; cipher = c; bytes = old }

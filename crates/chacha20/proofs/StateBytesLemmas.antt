@@ -9,7 +9,8 @@ use borrow.Rule.Slice.PartMut.{put_mid}
 use Rattle.chacha20.proofs.PartLemmas.{put_mid-at}
 use Rattle.chacha20.specs.Generator.{GeneratorState, positions, at_word_pos}
 use Rattle.chacha20.specs.StateBytes.{state_bytes, of_state_bytes}
-use Rattle.chacha20.proofs.GeneratorLemmas.{Bytes, generator_is}
+use Rattle.chacha_base.proofs.BytesLemmas.{Bytes}
+use Rattle.chacha20.proofs.GeneratorLemmas.{generator_is}
 
 -- 49 zeros with two parts written, and with all four
 two_written : (seed stream : List ℕ) → length seed ≡ 32

@@ -19,4 +19,5 @@ pub mod GeneratorRuns
 pub mod Text
 -- What only clauses of inner functions use.
 pub mod Blocks
+pub mod GeneratorCore
 pub mod Unread

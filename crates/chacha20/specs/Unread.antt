@@ -1,24 +1,9 @@
 -- How a core and 64 words kept in a buffer stand for a generator (this crate).
-use Rattle.std.specs.Prelude.{ℕ, ◌+◌, ◌-◌, ◌*◌, ◌%◌, ◌≡◌, ◌≤◌, ◌<◌, List, ◌++◌, length, take, drop, slice_index}
-use Rattle.std.specs.Int.{w64, to_le_bytes, from_le_bytes}
-use Rattle.chacha_base.specs.Bytes.{bytes, words}
-use Rattle.chacha_base.specs.Block.{constants}
+use Rattle.std.specs.Prelude.{ℕ, ◌+◌, ◌-◌, ◌*◌, ◌%◌, ◌≡◌, ◌≤◌, ◌<◌, List, length, slice_index}
 use Rattle.chacha_base.specs.Layout.{legacy}
 use Rattle.chacha_base.specs.State.{state_counter, fixed_words}
 use Rattle.chacha20.specs.Generator.{GeneratorState, positions, word}
-
--- the seed that the fixed words of a core hold, which is its key
-abbrev pub seed_in : List ℕ → List ℕ
-seed_in fixed = bytes (take 8 (drop 4 fixed))
-
--- the stream that they hold, which is the number of its nonce, the low byte first
-abbrev pub stream_in : List ℕ → ℕ
-stream_in fixed = from_le_bytes w64 (bytes (drop 12 fixed))
-
--- they are the words of a start state, but for the counter
-abbrev pub IsStart : List ℕ → Type 0
-IsStart fixed =
-    fixed ≡ constants ++ words (seed_in fixed) ++ words (to_le_bytes w64 (stream_in fixed))
+use Rattle.chacha20.specs.GeneratorCore.{seed_in, stream_in, IsStart}
 
 -- the core is four blocks past the front of the buffer, of which so many words are used
 abbrev pub generator_of : List ℕ → ℕ → GeneratorState

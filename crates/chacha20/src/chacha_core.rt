@@ -1,25 +1,24 @@
-//! A state of sixteen words, and the engine that hands out its blocks.
+//! A state of sixteen words as a core: its counter, its blocks, and how a key and a nonce make it.
 
-ghost use Rattle.std.specs.Prelude.{◌≡◌, ◌≤◌, ◌<◌, ℕ, ◌+◌, ◌*◌, ◌/◌, ◌%◌, List, ◌++◌, length, replicate, min, Some};
+ghost use Rattle.std.specs.Prelude.{◌≡◌, ◌<◌, ℕ, ◌*◌, List, ◌++◌, replicate, Some};
 ghost use Rattle.chacha_base.specs.Layout.{ietf, legacy, modulus};
 ghost use Rattle.chacha_base.specs.Block.{constants, start, block};
 ghost use Rattle.chacha_base.specs.Bytes.{words};
-ghost use Rattle.chacha_base.specs.State.{state_counter, fixed_words, state_at, state_block, state_after, AreNextBlocks};
-ghost use Rattle.chacha_base.specs.Keystream.{xor_stream};
-ghost use Rattle.chacha_base.specs.Counts.{Grows, for_call, for_tail, for_whole_blocks};
-ghost use Rattle.chacha20.specs.Blocks.{xored_at, applied};
+ghost use Rattle.chacha_base.specs.State.{state_counter, fixed_words, state_at, state_block};
 ghost use Rattle.chacha20.specs.Text.{core_text};
 
-mod generator;
+mod engine;
+mod generator_core;
 
-use chacha_base::bytes::{read_words, xor_bytes};
+use chacha_base::bytes::read_words;
 use chacha_base::cipher::{
     BlockSizeUser, IvSizeUser, KeyIvInit, KeySizeUser, Keystream, ParBlocksSizeUser,
     StreamCipherBackend, StreamCipherCore, StreamCipherSeekCore,
 };
 use chacha_base::rounds::{R20, Rounds, Steps};
 use chacha_base::variants::{Ietf, Legacy, StreamCipherCounter, Variant};
-pub use generator::Generator;
+use engine::{apply_blocks, write_blocks};
+pub use generator_core::Generator;
 use std::fmt;
 use std::marker::{Model, PhantomData};
 use std::simd::prelude::*;
@@ -40,6 +39,7 @@ pub struct ChaChaCore<R: Rounds, V: Variant, B> {
     backend: PhantomData<B>,
 }
 
+// By hand, since a derive asks `Drop` of each parameter.
 impl<R: Rounds, V: Variant, B> Drop for ChaChaCore<R, V, B> {
     fn drop(self) {
         let ChaChaCore {
@@ -207,104 +207,6 @@ fn counter_of<V: Variant>(state: &[u32; 16]) -> V::Counter
     ensures below { state_counter V.layout state.now < modulus V.layout }
 {
     V::get_block_pos(&state[12..])
-}
-
-// Writes the blocks of a state, and moves its counter.
-fn write_blocks<R: Rounds, V: Variant, B: StreamCipherBackend<R, V>>(
-    state: &mut [u32; 16],
-    blocks: &mut [[u8; 64]],
-)
-    ensures blocks { AreNextBlocks R.COUNT V.layout state.old (length blocks.old) blocks.new }
-    ensures state { state.new ≡ state_after V.layout (length blocks.old) state.old }
-{
-    let mut steps = Steps::new();
-    let width = B::PAR_BLOCKS;
-    let mut done = 0;
-    'groups: while blocks.len() - done >= width {
-        B::gen_par_ks_blocks(state, &mut blocks[done..done + width], &mut steps);
-        done += width;
-    }
-    B::gen_tail_blocks(state, &mut blocks[done..], &mut steps);
-}
-
-// XORs bytes with whole blocks, from block `first` on.
-#[inline(always)]
-fn xor_blocks(data: &mut [u8], first: usize, blocks: &[[u8; 64]])
-    requires { 64 * (first + length blocks.now) ≤ length «data».old }
-    ensures { «data».new ≡ xored_at first blocks.now «data».old }
-{
-    let part = &mut data[64 * first..64 * (first + blocks.len())];
-    for i in 0..blocks.len() {
-        xor_bytes(&mut part[64 * i..64 * i + 64], &blocks[i]);
-    }
-}
-
-// Writes the blocks of a tail. A plain call in a function of its own, which is not marked to be inlined: so the compiler
-// first simplifies the tail itself, and then a tail of one block is small enough to be inlined there.
-fn gen_tail_apart<R: Rounds, V: Variant, B: StreamCipherBackend<R, V>>(
-    state: &mut [u32; 16],
-    blocks: &mut [[u8; 64]],
-    steps: &mut Steps,
-)
-    requires { length blocks.old < B.PAR_BLOCKS }
-    ensures blocks { AreNextBlocks R.COUNT V.layout state.old (length blocks.old) blocks.new }
-    ensures state { state.new ≡ state_after V.layout (length blocks.old) state.old }
-    ensures steps { Grows
-        (for_tail (B.ONE_STEPS * R.COUNT) (length blocks.old)) steps.old steps.new }
-{
-    B::gen_tail_blocks(state, blocks, steps);
-}
-
-// XORs bytes with whole blocks, which are made in `room`: in groups as a parallel call makes them, and then the rest.
-#[inline(always)]
-fn apply_through<R: Rounds, V: Variant, B: StreamCipherBackend<R, V>>(
-    state: &mut [u32; 16],
-    room: &mut [[u8; 64]],
-    data: &mut [u8],
-    steps: &mut Steps,
-)
-    requires whole { length «data».old % 64 ≡ 0 }
-    requires room { min B.PAR_BLOCKS (length «data».old / 64) ≤ length room.old }
-    ensures data { «data».new ≡ applied R.COUNT V.layout state.old «data».old }
-    ensures state { state.new ≡ state_after V.layout (length «data».old / 64) state.old }
-    ensures steps { Grows
-        (for_whole_blocks B.PAR_BLOCKS (B.PAR_STEPS * R.COUNT) (B.ONE_STEPS * R.COUNT)
-        (length «data».old / 64)) steps.old steps.new }
-{
-    let width = B::PAR_BLOCKS;
-    let count = data.len() / 64;
-    'groups: for group in 0..count / width {
-        let made = &mut room[..width];
-        B::gen_par_ks_blocks(state, made, steps);
-        xor_blocks(data, width * group, made);
-    }
-    let rest = count % width;
-    let made = &mut room[..rest];
-    gen_tail_apart::<R, V, B>(state, made, steps);
-    xor_blocks(data, count - rest, made);
-}
-
-// XORs bytes with whole blocks. The room for them is as wide as the backend needs, and a single block has its own.
-#[inline(always)]
-fn apply_blocks<R: Rounds, V: Variant, B: StreamCipherBackend<R, V>>(
-    state: &mut [u32; 16],
-    data: &mut [u8],
-    steps: &mut Steps,
-)
-    requires { length «data».old % 64 ≡ 0 }
-    ensures data { «data».new ≡ applied R.COUNT V.layout state.old «data».old }
-    ensures state { state.new ≡ state_after V.layout (length «data».old / 64) state.old }
-    ensures steps { Grows
-        (for_whole_blocks B.PAR_BLOCKS (B.PAR_STEPS * R.COUNT) (B.ONE_STEPS * R.COUNT)
-        (length «data».old / 64)) steps.old steps.new }
-{
-    if B::PAR_BLOCKS == 1 || data.len() == 64 {
-        apply_through::<R, V, B>(state, &mut [[0; 64]; 1], data, steps);
-    } else if B::PAR_BLOCKS <= 4 {
-        apply_through::<R, V, B>(state, &mut [[0; 64]; 4], data, steps);
-    } else {
-        apply_through::<R, V, B>(state, &mut [[0; 64]; 16], data, steps);
-    }
 }
 
 impl<R: Rounds, V: Variant, B: StreamCipherBackend<R, V>> StreamCipherCore for ChaChaCore<R, V, B> {

@@ -56,6 +56,7 @@ pub struct ChaChaRng<R: Rounds, B> {
     index: usize,
 }
 
+// By hand, since a derive asks `Drop` of each parameter.
 impl<R: Rounds, B> Drop for ChaChaRng<R, B> {
     fn drop(self) {
         let ChaChaRng {

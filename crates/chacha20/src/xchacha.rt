@@ -54,6 +54,7 @@ pub struct XChaChaCore<R: Rounds, B> {
     core: ChaChaCore<R, Ietf, B>,
 }
 
+// By hand, since a derive asks `Drop` of each parameter.
 impl<R: Rounds, B> Drop for XChaChaCore<R, B> {
     fn drop(self) {
         let XChaChaCore { core: _ } = self;

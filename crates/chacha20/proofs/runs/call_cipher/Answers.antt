@@ -1,6 +1,7 @@
 use Rattle.std.proofs.Common.{◌≡◌, ◌≤◌, ◌+◌, ◌-◌, ◌^◌, false, true, inl, inr, refl, ap, ◌∙◌, arith, rules, to_z-of_z, IsOk, SFits, w32}
 use Rattle.chacha20.specs.Runs.{setting}
-use Rattle.chacha20.proofs.RunLemmas.{length-part, outcome-is, le-outcome-is, on_ok_given, check-leaves, seek-leaves, seek_i32-is, put-leaves, both-Decides, pos-is, pos_i32-is}
+use Rattle.chacha20.proofs.ResultLemmas.{on_ok_given}
+use Rattle.chacha20.proofs.RunLemmas.{length-part, outcome-is, le-outcome-is, check-leaves, seek-leaves, seek_i32-is, put-leaves, both-Decides, pos-is, pos_i32-is}
 use Rattle.chacha20.proofs.runs.call_cipher.Goals as goal
 
 pub returns-in-CheckRemaining : goal.returns-in-CheckRemaining

@@ -1,8 +1,8 @@
 use Rattle.std.proofs.Common.{rules, ◌≡◌, length, replicate}
 use Rattle.chacha_base.specs.Layout.{legacy}
-use Rattle.chacha_base.proofs.BytesLemmas.{length-words}
 use Rattle.chacha_base.proofs.StateLemmas.{state_counter-start}
-use Rattle.chacha20.proofs.GeneratorLemmas.{Bytes, starts-new, unread-start, generator_of-start}
+use Rattle.chacha_base.proofs.BytesLemmas.{Bytes, length-words}
+use Rattle.chacha20.proofs.GeneratorLemmas.{starts-new, unread-start, generator_of-start}
 use Rattle.chacha20.proofs.rng.ChaChaRng.from_seed.Goals as goal
 
 pub invariant_of-result : goal.invariant_of-result

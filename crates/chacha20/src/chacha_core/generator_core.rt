@@ -1,4 +1,5 @@
-//! Cores with a counter of 64 bits, which make words, four blocks at a time.
+//! Cores as generators use them: made from a seed, with a stream, and a counter of 64 bits. They make words, four blocks
+//! at a time.
 
 ghost use Rattle.std.specs.Prelude.{◌≡◌, ℕ, List, ◌++◌, replicate, take};
 ghost use Rattle.std.specs.Int.{w64, to_le_bytes};
@@ -7,7 +8,7 @@ ghost use Rattle.chacha_base.specs.Bytes.{words};
 ghost use Rattle.chacha_base.specs.Layout.{legacy};
 ghost use Rattle.chacha_base.specs.Block.{start};
 ghost use Rattle.chacha_base.specs.State.{fixed_words, state_after, next_words};
-ghost use Rattle.chacha20.specs.Unread.{seed_in, stream_in};
+ghost use Rattle.chacha20.specs.GeneratorCore.{seed_in, stream_in};
 
 use super::{ChaChaCore, start_state};
 use chacha_base::bytes::write_bytes;

@@ -1,4 +1,4 @@
-use Rattle.chacha20.proofs.chacha_core.generator.ChaChaCoreLegacyGenerator.generate.Goals as goal
+use Rattle.chacha20.proofs.chacha_core.generator_core.ChaChaCoreLegacyGenerator.generate.Goals as goal
 
 pub returns-clause-output : goal.returns-clause-output
 returns-clause-output g c = rw (← c.self.view_is) c.gen_ks_blocks.ensures.words

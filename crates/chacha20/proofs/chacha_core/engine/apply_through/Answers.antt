@@ -7,7 +7,7 @@ use Rattle.chacha_base.proofs.StateLemmas.{state_after-zero}
 use Rattle.chacha_base.proofs.KeystreamLemmas.{xor_stream-whole}
 use Rattle.chacha20.specs.Blocks.{state_stream}
 use Rattle.chacha20.proofs.BlocksLemmas.{at-more}
-use Rattle.chacha20.proofs.chacha_core.apply_through.Goals as goal
+use Rattle.chacha20.proofs.chacha_core.engine.apply_through.Goals as goal
 
 -- of n bytes in groups of w blocks, group k; the room holds a group, or else all blocks
 record Group (w k n : ℕ) (room : List (List ℕ)) : Type 0 where

@@ -1,7 +1,7 @@
 use Rattle.std.proofs.Common.{◌≡◌, ◌+◌, ◌-◌, length, take, drop, sym, arith}
 use Rattle.chacha_base.proofs.ListLemmas.{part_long}
 use Rattle.chacha_base.proofs.StateLemmas.{state_after-zero, state_after-more, next_blocks-more}
-use Rattle.chacha20.proofs.chacha_core.write_blocks.Goals as goal
+use Rattle.chacha20.proofs.chacha_core.engine.write_blocks.Goals as goal
 
 pub groups-init : goal.groups-init
 groups-init g c = record {

@@ -1,6 +1,6 @@
 use Rattle.std.proofs.Common.{◌≡◌, ◌≤◌, ◌-◌, length}
 use Rattle.chacha_base.specs.State.{state_after, AreNextBlocks}
-use Rattle.chacha20.proofs.chacha_core.write_blocks.Given as goal
+use Rattle.chacha20.proofs.chacha_core.engine.write_blocks.Given as goal
 
 abbrev pub invariant-groups : goal.invariant-groups
 invariant-groups g l =

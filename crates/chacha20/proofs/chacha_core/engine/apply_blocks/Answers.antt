@@ -1,5 +1,5 @@
 use Rattle.std.proofs.Common.{inl, inr, arith}
-use Rattle.chacha20.proofs.chacha_core.apply_blocks.Goals as goal
+use Rattle.chacha20.proofs.chacha_core.engine.apply_blocks.Goals as goal
 
 -- the search finds these too, but not soon that a wrong body has none
 pub returns-then-data-eq64 : goal.returns-then-data-eq64

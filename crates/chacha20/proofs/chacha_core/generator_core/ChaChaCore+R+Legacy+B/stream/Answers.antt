@@ -1,6 +1,6 @@
 use Rattle.std.proofs.Common.{arith}
 use Rattle.chacha20.proofs.GeneratorLemmas.{stream_read}
-use Rattle.chacha20.proofs.chacha_core.generator.ChaChaCore+R+Legacy+B.stream.Goals as goal
+use Rattle.chacha20.proofs.chacha_core.generator_core.ChaChaCore+R+Legacy+B.stream.Goals as goal
 
 pub returns : goal.returns
 returns g c =

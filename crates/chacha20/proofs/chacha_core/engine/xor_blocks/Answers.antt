@@ -4,7 +4,7 @@ use Rattle.chacha_base.specs.Keystream.{xor_stream}
 use Rattle.chacha_base.proofs.KeystreamLemmas.{xor_stream-more, xor_stream-whole, xor_stream-same}
 use Rattle.chacha20.specs.Blocks.{byte_of, xored_at}
 use Rattle.chacha20.proofs.BlocksLemmas.{byte_of_block}
-use Rattle.chacha20.proofs.chacha_core.xor_blocks.Goals as goal
+use Rattle.chacha20.proofs.chacha_core.engine.xor_blocks.Goals as goal
 
 part_wide : (first n : ℕ) → 64 * (first + n) - 64 * first ≡ 64 * n
 part_wide first n = omega arith

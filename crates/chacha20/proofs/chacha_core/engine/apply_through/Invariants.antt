@@ -1,7 +1,7 @@
 use Rattle.std.proofs.Common.{◌*◌}
 use Rattle.chacha_base.specs.Counts.{Grows, for_call}
 use Rattle.chacha20.proofs.BlocksLemmas.{IsAt}
-use Rattle.chacha20.proofs.chacha_core.apply_through.Given as goal
+use Rattle.chacha20.proofs.chacha_core.engine.apply_through.Given as goal
 
 abbrev pub invariant-groups : goal.invariant-groups
 invariant-groups g l =

@@ -1,4 +1,0 @@
-use Rattle.chacha20.proofs.chacha_core.generator.ChaChaCoreLegacySeedableRng.seed_from_u64.Goals as goal
-
-pub returns : goal.returns
-returns g c = rw c.from_u64.ensures.value at c.from_seed.ensures
