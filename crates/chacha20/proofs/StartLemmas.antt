@@ -1,6 +1,6 @@
 -- Start states: written part by part, and the blocks from one on. The proofs of `new` of each core cite these. Read
 -- `start` of `Block` first.
-use Rattle.std.proofs.Common.{◌≡◌, ℕ, ◌*◌, List, [], ◌∷◌, ◌++◌, length, take, drop, replicate, refl, sym, ap, ◌∙◌}
+use Rattle.std.proofs.Common.{◌≡◌, ℕ, ◌*◌, List, ◌++◌, length, take, drop, replicate, refl, sym, ap, ◌∙◌}
 use Rattle.std.proofs.Math.Nat.{zero-mod}
 use Rattle.std.proofs.Math.Path.{fun_ext}
 use borrow.Rule.Slice.PartMut.{put_mid}
@@ -11,30 +11,18 @@ use Rattle.chacha_base.specs.Layout.{Layout, modulus}
 use Rattle.chacha_base.specs.Rounds.{mix}
 use Rattle.chacha_base.specs.State.{state_counter, state_block, fixed_words}
 use Rattle.chacha_base.proofs.BytesLemmas.{length-words}
-use Rattle.chacha_base.proofs.ListLemmas.{each}
+use Rattle.chacha_base.proofs.ListLemmas.{words_of, by_words}
 use Rattle.chacha_base.proofs.StateLemmas.{state_counter-start, fixed_words-start, start-wrapped, state_of-start}
 
--- the constants and twelve zeros, with a key of eight written over these
-abbrev keyed : List ℕ → List ℕ
-keyed key = put_mid 4 8 (constants ++ replicate 12 0) key
+-- the constants and twelve zeros, with a key of eight written over these, and then a row of four, as one vector
+abbrev Written : List ℕ → List ℕ → Type 0
+Written key row =
+    let keyed = put_mid 4 8 (constants ++ replicate 12 0) key in
+    put_mid 12 4 keyed (put_chunk 0 (take 4 (drop 12 keyed)) (chunk 0 4 row)) ≡ constants ++ key ++ row
 
--- and then a row of four, as one vector
-pub written : (key row : List ℕ) → length key ≡ 8 → length row ≡ 4
-    → put_mid 12 4 (keyed key) (put_chunk 0 (take 4 (drop 12 (keyed key))) (chunk 0 4 row)) ≡ constants ++ key ++ row
+pub written : (key row : List ℕ) → length key ≡ 8 → length row ≡ 4 → Written key row
 written key row eight four =
-    each 8 (λ k. put_mid 12 4 (keyed k) (put_chunk 0 (take 4 (drop 12 (keyed k))) (chunk 0 4 row))
-    ≡ constants ++ k ++ row)
-    (λ x0 x1 x2 x3 x4 x5 x6 x7.
-    let k = x0 ∷ x1 ∷ x2 ∷ x3 ∷ x4 ∷ x5 ∷ x6 ∷ x7 ∷ [] in
-    each 4 (λ r. put_mid 12 4 (keyed k) (put_chunk 0 (take 4 (drop 12 (keyed k))) (chunk 0 4 r)) ≡ constants ++ k ++ r)
-    (λ y0 y1 y2 y3. refl) row four) key eight
-
--- four zeros with their last three words written, or their last two
-pub row_written : (nonce : List ℕ) → length nonce ≡ 3 → put_mid 1 3 (replicate 4 0) nonce ≡ 0 ∷ nonce
-row_written = each 3 (λ ns. put_mid 1 3 (replicate 4 0) ns ≡ 0 ∷ ns) (λ y0 y1 y2. refl)
-
-pub legacy_row_written : (nonce : List ℕ) → length nonce ≡ 2 → put_mid 2 2 (replicate 4 0) nonce ≡ 0 ∷ 0 ∷ nonce
-legacy_row_written = each 2 (λ ns. put_mid 2 2 (replicate 4 0) ns ≡ 0 ∷ 0 ∷ ns) (λ y0 y1. refl)
+    by_words 8 (λ k. Written k row) key eight (by_words 4 (Written (words_of 8 key)) row four refl)
 
 -- the blocks of the start state of a key and a nonce
 pub blocks-of-start : (n : ℕ) (layout : Layout) (key nonce s : List ℕ) → length key ≡ 32 → s ≡ start layout key nonce 0

@@ -13,11 +13,10 @@ mod generator_core;
 use chacha_base::bytes::read_words;
 use chacha_base::cipher::{
     BlockSizeUser, IvSizeUser, KeyIvInit, KeySizeUser, Keystream, ParBlocksSizeUser,
-    StreamCipherBackend, StreamCipherCore, StreamCipherSeekCore,
+    StreamCipherBackend, StreamCipherSeekCore,
 };
-use chacha_base::rounds::{R20, Rounds, Steps};
+use chacha_base::rounds::{R20, Rounds};
 use chacha_base::variants::{Ietf, Legacy, StreamCipherCounter, Variant};
-use engine::{apply_blocks, write_blocks};
 pub use generator_core::Generator;
 use std::fmt;
 use std::marker::{Model, PhantomData};
@@ -207,36 +206,6 @@ fn counter_of<V: Variant>(state: &[u32; 16]) -> V::Counter
     ensures below { state_counter V.layout state.now < modulus V.layout }
 {
     V::get_block_pos(&state[12..])
-}
-
-impl<R: Rounds, V: Variant, B: StreamCipherBackend<R, V>> StreamCipherCore for ChaChaCore<R, V, B> {
-    ghost use Rattle.std.specs.Prelude.{refl};
-
-    ghost counter = { state_counter V.layout };
-
-    ghost par_cost = { B.PAR_STEPS * R.COUNT };
-
-    ghost one_cost = { B.ONE_STEPS * R.COUNT };
-
-    ghost block_size = { refl };
-
-    ghost position_is = { λ core. refl };
-
-    fn remaining_blocks(&self) -> Option<usize> {
-        V::remaining_blocks(counter_of::<V>(&self.state))
-    }
-
-    fn write_keystream_blocks(&mut self, blocks: &mut [[u8; 64]]) {
-        write_blocks::<R, V, B>(&mut self.state, blocks);
-    }
-
-    fn write_block_counted(&mut self, block: &mut [u8; 64], steps: &mut Steps) {
-        B::gen_ks_block(&mut self.state, block, steps);
-    }
-
-    fn apply_blocks_counted(&mut self, data: &mut [u8], steps: &mut Steps) {
-        apply_blocks::<R, V, B>(&mut self.state, data, steps);
-    }
 }
 
 impl<R: Rounds, V: Variant, B: StreamCipherBackend<R, V>> StreamCipherSeekCore

@@ -1,17 +1,19 @@
-//! The engine of a core: it calls the backend for whole blocks, and XORs bytes with them.
+//! The engine of a core: it calls the backend for whole blocks, and XORs bytes with them. `StreamCipherCore` is at the
+//! end.
 
 ghost use Rattle.std.specs.Prelude.{◌≡◌, ◌≤◌, ◌<◌, ◌+◌, ◌*◌, ◌/◌, ◌%◌, length, min};
-ghost use Rattle.chacha_base.specs.State.{state_after, AreNextBlocks};
+ghost use Rattle.chacha_base.specs.State.{state_counter, state_after, AreNextBlocks};
 ghost use Rattle.chacha_base.specs.Counts.{Grows, for_tail, for_whole_blocks};
 ghost use Rattle.chacha20.specs.Blocks.{xored_at, applied};
 
+use super::{ChaChaCore, counter_of};
 use chacha_base::bytes::xor_bytes;
-use chacha_base::cipher::StreamCipherBackend;
+use chacha_base::cipher::{StreamCipherBackend, StreamCipherCore};
 use chacha_base::rounds::{Rounds, Steps};
 use chacha_base::variants::Variant;
 
 // Writes the blocks of a state, and moves its counter.
-pub(super) fn write_blocks<R: Rounds, V: Variant, B: StreamCipherBackend<R, V>>(
+fn write_blocks<R: Rounds, V: Variant, B: StreamCipherBackend<R, V>>(
     state: &mut [u32; 16],
     blocks: &mut [[u8; 64]],
 )
@@ -87,7 +89,7 @@ fn apply_through<R: Rounds, V: Variant, B: StreamCipherBackend<R, V>>(
 
 // XORs bytes with whole blocks. The room for them is as wide as the backend needs, and a single block has its own.
 #[inline(always)]
-pub(super) fn apply_blocks<R: Rounds, V: Variant, B: StreamCipherBackend<R, V>>(
+fn apply_blocks<R: Rounds, V: Variant, B: StreamCipherBackend<R, V>>(
     state: &mut [u32; 16],
     data: &mut [u8],
     steps: &mut Steps,
@@ -105,5 +107,35 @@ pub(super) fn apply_blocks<R: Rounds, V: Variant, B: StreamCipherBackend<R, V>>(
         apply_through::<R, V, B>(state, &mut [[0; 64]; 4], data, steps);
     } else {
         apply_through::<R, V, B>(state, &mut [[0; 64]; 16], data, steps);
+    }
+}
+
+impl<R: Rounds, V: Variant, B: StreamCipherBackend<R, V>> StreamCipherCore for ChaChaCore<R, V, B> {
+    ghost use Rattle.std.specs.Prelude.{refl};
+
+    ghost counter = { state_counter V.layout };
+
+    ghost par_cost = { B.PAR_STEPS * R.COUNT };
+
+    ghost one_cost = { B.ONE_STEPS * R.COUNT };
+
+    ghost block_size = { refl };
+
+    ghost position_is = { λ core. refl };
+
+    fn remaining_blocks(&self) -> Option<usize> {
+        V::remaining_blocks(counter_of::<V>(&self.state))
+    }
+
+    fn write_keystream_blocks(&mut self, blocks: &mut [[u8; 64]]) {
+        write_blocks::<R, V, B>(&mut self.state, blocks);
+    }
+
+    fn write_block_counted(&mut self, block: &mut [u8; 64], steps: &mut Steps) {
+        B::gen_ks_block(&mut self.state, block, steps);
+    }
+
+    fn apply_blocks_counted(&mut self, data: &mut [u8], steps: &mut Steps) {
+        apply_blocks::<R, V, B>(&mut self.state, data, steps);
     }
 }

@@ -1,5 +1,6 @@
 use Rattle.std.proofs.Common.{replicate, arith, drop_at}
-use Rattle.chacha20.proofs.XChaChaLemmas.{length-row, rows_written}
+use Rattle.chacha_base.proofs.ListLemmas.{part_long}
+use Rattle.chacha20.proofs.XChaChaLemmas.{rows_written}
 use Rattle.chacha20.proofs.xchacha.hchacha.Goals as goal
 
 pub returns : goal.returns
@@ -8,9 +9,9 @@ returns g c =
     (rw (c.double_rounds.ensures.state, c.COUNT.ensures, c.start_state-state.ensures, c.read_words.ensures))
 
 pub write_bytes-requires : goal.write_bytes-requires
-write_bytes-requires g c = length-row 0 c.double_rounds.new.state c.double_rounds.array_long (omega arith)
+write_bytes-requires g c = omega (arith, part_long 0 4 c.double_rounds.new.state (omega arith))
 
 pub write_bytes-requires-2 : goal.write_bytes-requires-2
 write_bytes-requires-2 g c =
     rw (drop_at c.write_bytes.new.output (replicate 16 0) 16 (omega arith))
-    (length-row 12 c.double_rounds.new.state c.double_rounds.array_long (omega arith))
+    (omega (arith, part_long 12 4 c.double_rounds.new.state (omega arith)))

@@ -1,13 +1,10 @@
-use Rattle.std.proofs.Common.{◌∙◌, append_assoc}
+use Rattle.std.proofs.Common.{◌∙◌, append_assoc, append-nil}
 use Rattle.chacha_base.specs.Layout.{legacy}
-use Rattle.chacha_base.proofs.BytesLemmas.{length-words}
-use Rattle.chacha20.proofs.StartLemmas.{legacy_row_written, blocks-of-start, first-of-start}
+use Rattle.chacha20.proofs.StartLemmas.{blocks-of-start, first-of-start}
 use Rattle.chacha20.proofs.chacha_core.ChaChaCoreR20LegacyKeyIvInit.new.Goals as goal
 
 pub returns-clause-value : goal.returns-clause-value
-returns-clause-value g c =
-    let row = legacy_row_written _ (length-words 2 _ c.told-iv) in
-    rw (c.read_words.ensures, row) at c.start_state.ensures ∙ simp append_assoc
+returns-clause-value g c = rw c.read_words.ensures at c.start_state.ensures ∙ simp (append_assoc, append-nil)
 
 pub returns-clause-blocks : goal.returns-clause-blocks
 returns-clause-blocks g c =

@@ -1,5 +1,5 @@
 use Rattle.chacha_base.proofs.StateLemmas.{fixed_words-state_after, state_counter-state_after}
-use Rattle.chacha20.proofs.chacha_core.ChaChaCoreStreamCipherCore.apply_blocks_counted.Goals as goal
+use Rattle.chacha20.proofs.chacha_core.engine.ChaChaCoreStreamCipherCore.apply_blocks_counted.Goals as goal
 
 pub returns : goal.returns
 returns g c =

@@ -1,5 +1,5 @@
 use Rattle.chacha_base.proofs.StateLemmas.{fixed_words-state_after, state_counter-state_after}
-use Rattle.chacha20.proofs.chacha_core.ChaChaCoreStreamCipherCore.write_keystream_blocks.Goals as goal
+use Rattle.chacha20.proofs.chacha_core.engine.ChaChaCoreStreamCipherCore.write_keystream_blocks.Goals as goal
 
 pub returns-clause-fixed : goal.returns-clause-fixed
 returns-clause-fixed g c =

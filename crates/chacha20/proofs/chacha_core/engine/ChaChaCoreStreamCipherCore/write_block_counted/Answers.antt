@@ -1,6 +1,6 @@
 use Rattle.std.proofs.Common.{◌∙◌}
 use Rattle.chacha_base.proofs.StateLemmas.{fixed_words-state_after, state_counter-state_after, next_block-zero}
-use Rattle.chacha20.proofs.chacha_core.ChaChaCoreStreamCipherCore.write_block_counted.Goals as goal
+use Rattle.chacha20.proofs.chacha_core.engine.ChaChaCoreStreamCipherCore.write_block_counted.Goals as goal
 
 pub returns : goal.returns
 returns g c =
