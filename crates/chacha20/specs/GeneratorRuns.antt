@@ -40,7 +40,8 @@ rng_outcome n g bytes Serialize = outcome_with g bytes (State (state_bytes g))
 rng_outcome n g bytes Reload = outcome_done (of_state_bytes (state_bytes g)) bytes
 
 -- all answers, and the generator and the data after the last call
-abbrev pub rng_run : ℕ → GeneratorState → List ℕ → List RngCall → List RngAnswer × GeneratorState × List ℕ
+abbrev pub rng_run : ℕ → GeneratorState → List ℕ → List RngCall
+    → List RngAnswer × GeneratorState × List ℕ
 rng_run n g bytes [] = ([], g, bytes)
 rng_run n g bytes (k ∷ ks) =
     let a = rng_outcome n g bytes k in

@@ -18,6 +18,7 @@ use chacha_base::cipher::{
 use chacha_base::rounds::{R20, Rounds};
 use chacha_base::variants::{Ietf, Legacy, StreamCipherCounter, Variant};
 pub use generator_core::Generator;
+pub(crate) use generator_core::joined;
 use std::fmt;
 use std::marker::{Model, PhantomData};
 use std::simd::prelude::*;

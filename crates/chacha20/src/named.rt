@@ -37,8 +37,8 @@ fn ciphers()
     ensures xchacha20_starts { ⟦<XChaCha20 as Keystream>⟧.first_position ≡ 0 }
 {}
 
-// The words that a seed, a stream and a word position define, as all reads take them, and the texts of `Debug`, the same
-// for every seed, stream and position.
+// The words that a seed, a stream and a word position define, as all reads take them, and the texts of `Debug`, the
+// same for every seed, stream and position.
 fn generators()
     ensures chacha8_rng { ⟦<ChaCha8Rng as Rng>⟧.stream ≡ stream_of (reads 4) }
     ensures chacha12_rng { ⟦<ChaCha12Rng as Rng>⟧.stream ≡ stream_of (reads 6) }

@@ -11,7 +11,7 @@ ghost use Rattle.chacha20.specs.Generator.{at_word_pos, word, next_u32, next_u64
 ghost use Rattle.chacha20.specs.StateBytes.{state_bytes, of_state_bytes};
 ghost use Rattle.chacha20.specs.Unread.{generator_of, IsUnread};
 
-use crate::chacha_core::{ChaChaCore, Generator};
+use crate::chacha_core::{ChaChaCore, Generator, joined};
 use chacha_base::backends::Lanes8;
 use chacha_base::bytes::write_bytes;
 use chacha_base::cipher::RngBackend;
@@ -43,15 +43,15 @@ const POSITIONS: u128 = 1 << 68;
 
 /// A generator of random words.
 ///
-/// Clauses see it as a seed, a stream and a word position (`GeneratorState`). A block has 16 words. The word at position
-/// w is in the block with counter w div 16, at place w mod 16; the key of all blocks is the seed, and their nonce the
-/// stream's 8 bytes, the low byte first.
+/// Clauses see it as a seed, a stream and a word position (`GeneratorState`). A block has 16 words. The word at
+/// position w is in the block with counter w div 16, at place w mod 16; the key of all blocks is the seed, and their
+/// nonce the stream's 8 bytes, the low byte first.
 /// After the last of a stream's 2^68 words (1 ZiB) comes its first one again. A stream's number has 64 bits. `R` is the
 /// number of double rounds, `B` the backend that makes the words. No call is refused.
 pub struct ChaChaRng<R: Rounds, B> {
     core: ChaChaCore<R, Legacy, B>,
-    // While `index` is below 64, the buffer holds the words of the last four blocks that the core made, and those before
-    // `index` are used.
+    // While `index` is below 64, the buffer holds the words of the last four blocks that the core made, and those
+    // before `index` are used.
     buffer: [u32; 64],
     index: usize,
 }
@@ -252,14 +252,6 @@ impl<R: Rounds, B: RngBackend<R>> ChaChaRng<R, B> {
             done += count;
         }
     }
-}
-
-// The number whose halves are two words.
-#[inline(always)]
-fn joined(low: u32, high: u32) -> u64
-    ensures { result ≡ low + 2 ^ 32 * high }
-{
-    (u64::from(high) << 32) | u64::from(low)
 }
 
 // Fills the buffer where no words are left in it. In the reads only this test is inlined.

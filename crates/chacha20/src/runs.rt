@@ -1,5 +1,5 @@
-//! Lists of calls (this crate): one contract that speaks of any list of calls on a cipher, from any state on, and one that
-//! speaks of any list of calls on a generator.
+//! Lists of calls (this crate): one contract that speaks of any list of calls on a cipher, from any state on, and one
+//! that speaks of any list of calls on a generator.
 
 ghost use Rattle.std.specs.Prelude.{◌≡◌, ◌≤◌, ◌+◌, ℕ, List, [], ◌∷◌, All, length, sum, OnOk, OnErr};
 ghost use Rattle.chacha_base.specs.Keystream.{keystream};

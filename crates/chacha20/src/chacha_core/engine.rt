@@ -42,8 +42,8 @@ fn xor_blocks(data: &mut [u8], first: usize, blocks: &[[u8; 64]])
     }
 }
 
-// Writes the blocks of a tail. A plain call in a function of its own, which is not marked to be inlined: so the compiler
-// first simplifies the tail itself, and then a tail of one block is small enough to be inlined there.
+// Writes the blocks of a tail. A plain call in a function of its own, which is not marked to be inlined: so the
+// compiler first simplifies the tail itself, and then a tail of one block is small enough to be inlined there.
 fn gen_tail_apart<R: Rounds, V: Variant, B: StreamCipherBackend<R, V>>(
     state: &mut [u32; 16],
     blocks: &mut [[u8; 64]],

@@ -1,7 +1,7 @@
-//! Cores as generators use them: made from a seed, with a stream, and a counter of 64 bits. They make words, four blocks
-//! at a time.
+//! Cores as generators use them: made from a seed, with a stream, and a counter of 64 bits. They make words, four
+//! blocks at a time.
 
-ghost use Rattle.std.specs.Prelude.{◌≡◌, ℕ, List, ◌++◌, replicate, take};
+ghost use Rattle.std.specs.Prelude.{◌≡◌, ◌+◌, ◌*◌, ◌^◌, ℕ, List, ◌++◌, replicate, take};
 ghost use Rattle.std.specs.Int.{w64, to_le_bytes};
 ghost use Rattle.rand_core.specs.Pcg32Seed.{pcg32_seed};
 ghost use Rattle.chacha_base.specs.Bytes.{words};
@@ -87,7 +87,7 @@ impl<R: Rounds, B> ChaChaCore<R, Legacy, B> {
     pub(crate) fn stream(&self) -> u64
         ensures { result ≡ stream_in (fixed_words legacy self.now) }
     {
-        (u64::from(self.state[15]) << 32) | u64::from(self.state[14])
+        joined(self.state[14], self.state[15])
     }
 
     // Sets the nonce. The other words stay.
@@ -97,4 +97,12 @@ impl<R: Rounds, B> ChaChaCore<R, Legacy, B> {
         self.state[14] = (stream & 0xffff_ffff) as u32;
         self.state[15] = (stream >> 32) as u32;
     }
+}
+
+// The number whose halves are two words.
+#[inline(always)]
+pub(crate) fn joined(low: u32, high: u32) -> u64
+    ensures { result ≡ low + 2 ^ 32 * high }
+{
+    (u64::from(high) << 32) | u64::from(low)
 }

@@ -96,8 +96,8 @@ fn call_rng<R: Rounds, B: RngBackend<R>>(
 }
 
 /// Makes the calls in order, from the generator's state on, and writes the answer to each at its place, over what was
-/// there (this crate). No call is refused. The caller proves that all ranges lie in the data, and that there are as many
-/// answers as calls.
+/// there (this crate). No call is refused. The caller proves that all ranges lie in the data, and that there are as
+/// many answers as calls.
 pub fn run_rng<R: Rounds, B: RngBackend<R>>(
     rng: &mut ChaChaRng<R, B>,
     data: &mut [u8],

@@ -1,20 +1,15 @@
-use Rattle.std.proofs.Common.{rules, ◌≡◌, length, replicate}
-use Rattle.chacha_base.specs.Layout.{legacy}
-use Rattle.chacha_base.proofs.StateLemmas.{state_counter-start}
-use Rattle.chacha_base.proofs.BytesLemmas.{Bytes, length-words}
-use Rattle.chacha20.proofs.GeneratorLemmas.{starts-new, unread-start, generator_of-start}
+use Rattle.std.proofs.Common.{rules, arith}
+use Rattle.chacha20.proofs.GeneratorLemmas.{Starts, unread-start, generator_of-start}
 use Rattle.chacha20.proofs.rng.ChaChaRng.from_seed.Goals as goal
 
 pub invariant_of-result : goal.invariant_of-result
 invariant_of-result g c =
-    let long : length c.args.seed ≡ 32 = search rules in
-    let fits : Bytes c.args.seed = λ i. search rules in
-    unread-start g.R.Rounds.COUNT _ (starts-new long fits c.from_seed.ensures)
+    let is : Starts c.from_seed.result c.args.seed 0 =
+    record { long = search rules; fits = λ i. search rules; below = omega arith; state = c.from_seed.ensures } in
+    unread-start is g.R.Rounds.COUNT _
 
 pub returns : goal.returns
 returns g c =
-    let seed = c.args.seed in
-    let long : length seed ≡ 32 = search rules in
-    let fits : Bytes seed = λ i. search rules in
-    generator_of-start (starts-new long fits c.from_seed.ensures)
-    (rw c.from_seed.ensures (state_counter-start legacy seed (replicate 8 0) 0 (length-words 8 seed long)))
+    let is : Starts c.from_seed.result c.args.seed 0 =
+    record { long = search rules; fits = λ i. search rules; below = omega arith; state = c.from_seed.ensures } in
+    generator_of-start is
