@@ -16,6 +16,7 @@ use chacha_base::cipher::{
     StreamCipherBackend, StreamCipherSeekCore,
 };
 use chacha_base::rounds::{R20, Rounds};
+use chacha_base::state::{counter, set_counter};
 use chacha_base::variants::{Ietf, Legacy, StreamCipherCounter, Variant};
 pub use generator_core::Generator;
 pub(crate) use generator_core::joined;
@@ -63,7 +64,7 @@ impl<R: Rounds, V: Variant, B> ChaChaCore<R, V, B> {
         ensures value { V.Counter.value result ≡ state_counter V.layout self.now }
         ensures below { state_counter V.layout self.now < modulus V.layout }
     {
-        counter_of::<V>(&self.state)
+        counter::<V>(&self.state)
     }
 
     /// Sets the counter of the next block. No counter is refused.
@@ -72,7 +73,7 @@ impl<R: Rounds, V: Variant, B> ChaChaCore<R, V, B> {
         ensures fixed { fixed_words V.layout self.new ≡ fixed_words V.layout self.old }
         ensures counter { state_counter V.layout self.new ≡ V.Counter.value pos }
     {
-        V::set_block_pos(&mut self.state[12..], pos);
+        set_counter::<V>(&mut self.state, pos);
     }
 
     /// Sets all sixteen words to zero, the constants and the counter included (this crate). Nothing is claimed of other
@@ -199,14 +200,6 @@ pub(crate) fn start_state(key: &[u8; 32], last_row: &[u32; 4]) -> [u32; 16]
     read_words(key, &mut state[4..12]);
     u32x4::from_slice(last_row).copy_to_slice(&mut state[12..]);
     state
-}
-
-// The counter of a state.
-fn counter_of<V: Variant>(state: &[u32; 16]) -> V::Counter
-    ensures value { V.Counter.value result ≡ state_counter V.layout state.now }
-    ensures below { state_counter V.layout state.now < modulus V.layout }
-{
-    V::get_block_pos(&state[12..])
 }
 
 impl<R: Rounds, V: Variant, B: StreamCipherBackend<R, V>> StreamCipherSeekCore

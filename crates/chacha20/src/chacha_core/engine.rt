@@ -6,10 +6,11 @@ ghost use Rattle.chacha_base.specs.State.{state_counter, state_after, AreNextBlo
 ghost use Rattle.chacha_base.specs.Counts.{Grows, for_tail, for_whole_blocks};
 ghost use Rattle.chacha20.specs.Blocks.{xored_at, applied};
 
-use super::{ChaChaCore, counter_of};
+use super::ChaChaCore;
 use chacha_base::bytes::xor_bytes;
 use chacha_base::cipher::{StreamCipherBackend, StreamCipherCore};
 use chacha_base::rounds::{Rounds, Steps};
+use chacha_base::state::counter;
 use chacha_base::variants::Variant;
 
 // Writes the blocks of a state, and moves its counter.
@@ -124,7 +125,7 @@ impl<R: Rounds, V: Variant, B: StreamCipherBackend<R, V>> StreamCipherCore for C
     ghost position_is = { λ core. refl };
 
     fn remaining_blocks(&self) -> Option<usize> {
-        V::remaining_blocks(counter_of::<V>(&self.state))
+        V::remaining_blocks(counter::<V>(&self.state))
     }
 
     fn write_keystream_blocks(&mut self, blocks: &mut [[u8; 64]]) {
