@@ -7,7 +7,7 @@ use Rattle.chacha_base.specs.Bytes.{bytes, words}
 use Rattle.chacha_base.specs.Block.{constants, start}
 use Rattle.chacha_base.specs.Layout.{legacy}
 use Rattle.chacha_base.specs.State.{state_counter, state_at, fixed_words}
-use Rattle.chacha_base.proofs.StateLemmas.{fixed_words-start, state_of-start, state_counter-start}
+use Rattle.chacha_base.proofs.StateLemmas.{length-state_at, fixed_words-state_at, fixed_words-start, state_counter-start}
 use Rattle.chacha_base.proofs.BytesLemmas.{Bytes, bytes-below, bytes-words, length-words, words-to_le_bytes, from_le_bytes-bytes}
 use Rattle.chacha_base.proofs.ListLemmas.{by_words}
 use Rattle.chacha20.specs.Generator.{GeneratorState}
@@ -31,7 +31,13 @@ unread-none n core buffer long own = record {
   next = λ k less. absurd (omega arith);
 }
 
--- the core with another counter: the same seed and stream
+-- the core with another counter: none either, and the same seed and stream
+pub unread-recounted : {n used : ℕ} {core next buffer : List ℕ} (c : ℕ) (other : List ℕ) → IsUnread n core buffer used
+    → next ≡ state_at legacy c core → IsUnread n next other 64
+unread-recounted {core = core} c other held moved =
+    unread-none _ _ other (ap length moved ∙ length-state_at legacy c core held.sixteen)
+    (rw (moved, fixed_words-state_at legacy c core held.sixteen) held.start)
+
 pub generator_of-recounted : {c : ℕ} {g : GeneratorState} (core next : List ℕ) (used : ℕ)
     → fixed_words legacy next ≡ fixed_words legacy core → state_counter legacy next ≡ c → c < 2 ^ 64
     → generator_of core used ≡ g → generator_of next 64 ≡ record g { word_pos = 16 * c }

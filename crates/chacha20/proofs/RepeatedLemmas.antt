@@ -1,5 +1,5 @@
 -- Reads of a generator, one after another, for proofs about simulations that draw in parts.
-use Rattle.std.proofs.Common.{◌≡◌, ℕ, zero, suc, ◌+◌, ◌*◌, ◌/◌, ◌%◌, ◌<◌, List, [], ◌∷◌, ◌++◌, length, take, slice_index, arith, refl, ap, ap₂, ◌∙◌, take_all}
+use Rattle.std.proofs.Common.{◌≡◌, ℕ, zero, suc, ◌+◌, ◌*◌, ◌/◌, ◌%◌, ◌<◌, List, [], ◌∷◌, ◌++◌, length, take, slice_index, arith, refl, sym, ap, ap₂, ◌∙◌, take_all}
 use Rattle.std.proofs.Math.Seq.{take-append-add}
 use Rattle.std.specs.Int.{w64, to_le_bytes}
 use Rattle.chacha_base.specs.Block.{start}
@@ -94,3 +94,11 @@ fill-add n k len g =
     let after : (w + (k + m)) % positions ≡ ((w + k) % positions + m) % positions = omega arith in
     let again = words-same n g _ _ m wrapped in
     rw (none, count, whole, stream_part-add (word n g) w k m, bytes-append front behind, cut, again, after)
+
+-- the same of two calls, one after another
+pub fill-then : {h i : GeneratorState} {xs ys : List ℕ} (n k len : ℕ) (g : GeneratorState)
+    → (xs, h) ≡ fill n g (4 * k) → (ys, i) ≡ fill n h len → (xs ++ ys, i) ≡ fill n g (4 * k + len)
+fill-then {xs = xs} n k len g first then =
+    let both : List ℕ × GeneratorState → List ℕ × GeneratorState =
+    λ a. let rest = fill n a.1 len in (a.0 ++ rest.0, rest.1) in
+    ap (λ (a : List ℕ × GeneratorState). (xs ++ a.0, a.1)) then ∙ ap both first ∙ sym (fill-add n k len g)

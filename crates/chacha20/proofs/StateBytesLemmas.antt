@@ -1,56 +1,40 @@
 -- Generators as 49 bytes, written part by part and read back. The proofs of `serialize_state` and
 -- `deserialize_state` cite these, and those of the exports for C. Read `StateBytes` first.
-use Rattle.std.proofs.Common.{inl, inr, ◌≡◌, ℕ, ◌+◌, ◌*◌, ◌/◌, ◌%◌, ◌^◌, ◌<◌, ◌≤◌, List, [], ◌∷◌, ◌++◌, length, take, drop, slice_index, replicate, arith, refl, ap, ap₂, ◌∙◌, append_assoc, set, take-add, bit_or}
+use Rattle.std.proofs.Common.{inl, inr, ◌≡◌, ℕ, ◌+◌, ◌-◌, ◌*◌, ◌/◌, ◌%◌, ◌^◌, ◌<◌, ◌≤◌, List, [], ◌∷◌, ◌++◌, length, take, drop, slice_index, replicate, arith, refl, ap, ap₂, ◌∙◌, append_assoc, set, take-add, bit_and, bit_or}
 use Rattle.std.proofs.lemmas.Bool.{cases_lt}
 use Rattle.std.proofs.lemmas.List.{take_at, drop_at, set_at, length-append, length-drop, length-take, length-take-le, get_or-take, get_or-drop, get_or_past, drop-drop}
-use Rattle.std.proofs.lemmas.Nat.{or_shifted, le_bytes_8, from_le_bytes-to_le_bytes_8}
+use Rattle.std.proofs.lemmas.Nat.{and_mask, or_shifted, le_bytes_8, from_le_bytes-to_le_bytes_8}
 use Rattle.std.specs.Int.{w64, to_le_bytes, from_le_bytes}
 use borrow.Rule.Slice.PartMut.{put_mid}
 use Rattle.chacha20.proofs.PartLemmas.{put_mid-at}
 use Rattle.chacha20.specs.Generator.{GeneratorState, positions, at_word_pos}
 use Rattle.chacha20.specs.StateBytes.{state_bytes, of_state_bytes}
 use Rattle.chacha_base.proofs.BytesLemmas.{Bytes}
+use Rattle.chacha_base.proofs.ListLemmas.{by_words}
 use Rattle.chacha20.proofs.GeneratorLemmas.{generator_is}
 
--- 49 zeros with two parts written, and with all four
-two_written : (seed stream : List ℕ) → length seed ≡ 32
-    → put_mid 32 8 (seed ++ replicate 17 0) stream ≡ seed ++ (stream ++ replicate 9 0)
-two_written seed stream long = put_mid-at 32 8 seed (replicate 17 0) stream long
-
+-- 49 zeros with a seed and a stream written
 pub two_written_length : (seed stream : List ℕ) → length seed ≡ 32 → length stream ≡ 8
     → length (put_mid 32 8 (seed ++ replicate 17 0) stream) ≡ 49
 two_written_length seed stream long eight =
-    ap length (two_written seed stream long) ∙ simp length-append (omega arith)
+    ap length (put_mid-at 32 8 seed (replicate 17 0) stream long) ∙ simp length-append (omega arith)
 
--- the 8 zeros behind one part, and those behind two
-pub length-free : (seed : List ℕ) → length seed ≡ 32 → length (take 8 (drop 32 (seed ++ replicate 17 0))) ≡ 8
-length-free seed long = ap (λ t. length (take 8 t)) (drop_at seed (replicate 17 0) 32 long)
+-- what is written of a generator: the low half of its position w stands before what is above
+pub record IsWritten (g : GeneratorState) (s t l : List ℕ) (w : ℕ) : Type 0 where
+  pub long : length s ≡ 32
+  pub seed : s ≡ g.seed
+  pub stream : t ≡ to_le_bytes w64 g.stream
+  pub low : l ≡ to_le_bytes w64 (bit_and w (2 ^ 64 - 1))
+  pub position : w ≡ g.word_pos
 
-pub length-free-behind : (seed stream : List ℕ) → length seed ≡ 32 → length stream ≡ 8
-    → length (take 8 (drop 40 (put_mid 32 8 (seed ++ replicate 17 0) stream))) ≡ 8
-length-free-behind seed stream long eight =
-    let s = put_mid 32 8 (seed ++ replicate 17 0) stream in
-    length-take-le 8 (drop 40 s) (omega (arith, length-drop 40 s, two_written_length seed stream long eight))
-
-state_written : (seed stream low : List ℕ) (top : ℕ) → length seed ≡ 32 → length stream ≡ 8 → length low ≡ 8
-    → set (put_mid 40 8 (put_mid 32 8 (seed ++ replicate 17 0) stream) low) 48 top
-    ≡ seed ++ (stream ++ (low ++ top ∷ []))
-state_written seed stream low top long eight eight' =
-    let front : length (seed ++ stream) ≡ 40 = omega (arith, length-append seed stream) in
-    let all : length ((seed ++ stream) ++ low) ≡ 48 = omega (arith, length-append (seed ++ stream) low) in
-    let third = put_mid-at 40 8 (seed ++ stream) (replicate 9 0) low front in
-    let last = set_at ((seed ++ stream) ++ low) 0 [] top 48 all in
-    let join = append_assoc seed stream (replicate 9 0) in
-    rw (two_written seed stream long, ← join, third, ← append_assoc (seed ++ stream) low (0 ∷ []), last)
-    (simp append_assoc)
-
--- what is written of a generator
-pub state_is : (g : GeneratorState) (seed stream low : List ℕ) (s l w : ℕ) → length seed ≡ 32 → seed ≡ g.seed
-    → stream ≡ to_le_bytes w64 s → s ≡ g.stream → low ≡ to_le_bytes w64 l → l ≡ w % 2 ^ 64 → w ≡ g.word_pos
-    → set (put_mid 40 8 (put_mid 32 8 (seed ++ replicate 17 0) stream) low) 48 (w / 2 ^ 64) ≡ state_bytes g
-state_is g seed stream low s l w long seed_is stream_is s_is low_is l_is w_is =
-    state_written seed stream low (w / 2 ^ 64) long (ap length stream_is) (ap length low_is)
-    ∙ rw (seed_is, stream_is, s_is, low_is, l_is, w_is)
+pub state_is : {g : GeneratorState} {s t l : List ℕ} {w : ℕ} → IsWritten g s t l w
+    → set (put_mid 40 8 (put_mid 32 8 (s ++ replicate 17 0) t) l) 48 (w / 2 ^ 64) ≡ state_bytes g
+state_is {g} {s} {w = w} is =
+    rw (is.stream, is.low, and_mask w 64)
+    (by_words 32 (λ bs. set (put_mid 40 8 (put_mid 32 8 (bs ++ replicate 17 0) (to_le_bytes w64 g.stream))
+    (to_le_bytes w64 (w % 2 ^ 64))) 48 (w / 2 ^ 64)
+    ≡ state_bytes (record { seed = bs; stream = g.stream; word_pos = w })) s is.long refl
+    ∙ ap₂ (λ bs p. state_bytes (record { seed = bs; stream = g.stream; word_pos = p })) is.seed is.position)
 
 -- out and in again
 pub of_state_bytes-state_bytes : (g : GeneratorState) → length g.seed ≡ 32 → g.stream < 2 ^ 64 → g.word_pos < positions

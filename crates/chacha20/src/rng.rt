@@ -5,9 +5,7 @@ ghost use Rattle.std.specs.Prelude.{◌≡◌, ◌↔◌, ◌≤◌, ◌<◌, �
 ghost use Rattle.std.specs.Int.{w64, from_le_bytes};
 ghost use Rattle.rand_core.specs.Steps.{stream_of};
 ghost use Rattle.rand_core.specs.Pcg32Seed.{pcg32_seed};
-ghost use Rattle.chacha_base.specs.Bytes.{bytes};
-ghost use Rattle.chacha_base.specs.Keystream.{stream_part};
-ghost use Rattle.chacha20.specs.Generator.{at_word_pos, word, next_u32, next_u64, fill, reads, of_seed, same_generator};
+ghost use Rattle.chacha20.specs.Generator.{at_word_pos, next_u32, next_u64, fill, reads, of_seed, same_generator};
 ghost use Rattle.chacha20.specs.StateBytes.{state_bytes, of_state_bytes};
 ghost use Rattle.chacha20.specs.Unread.{generator_of, IsUnread};
 
@@ -192,6 +190,7 @@ impl<R: Rounds, B: RngBackend<R>> ChaChaRng<R, B> {
     }
 
     /// The state as 49 bytes, which give the generator again.
+    #[tactic(auto, using(crate::proofs::StateBytesLemmas::two_written_length))]
     pub fn serialize_state(&self) -> SerializedRngState
         ensures value { result ≡ state_bytes self.now }
         ensures restored { of_state_bytes result ≡ self.now }
@@ -236,9 +235,7 @@ impl<R: Rounds, B: RngBackend<R>> ChaChaRng<R, B> {
     // Fills a slice with whole words.
     fn fill_words(&mut self, dst: &mut [u8])
         requires { length dst.old % 4 ≡ 0 }
-        ensures dst { dst.new
-            ≡ bytes (stream_part (word R.COUNT self.old) self.old.word_pos (length dst.old / 4)) }
-        ensures moved { self.new ≡ at_word_pos self.old (self.old.word_pos + length dst.old / 4) }
+        ensures { (dst.new, self.new) ≡ fill R.COUNT self.old (length dst.old) }
     {
         let mut done = 0;
         'words: while 4 * done < dst.len() {
@@ -246,7 +243,7 @@ impl<R: Rounds, B: RngBackend<R>> ChaChaRng<R, B> {
             let count = (dst.len() / 4 - done).min(64 - self.index);
             write_bytes(
                 &self.buffer[self.index..self.index + count],
-                &mut dst[4 * done..4 * (done + count)],
+                &mut dst[4 * done..4 * done + 4 * count],
             );
             self.index += count;
             done += count;

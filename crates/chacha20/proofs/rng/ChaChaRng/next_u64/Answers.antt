@@ -1,5 +1,5 @@
 use Rattle.std.proofs.Common.{arith, refl}
-use Rattle.chacha20.proofs.ReadLemmas.{taken, two_unread}
+use Rattle.chacha20.proofs.ReadLemmas.{taken, two_read}
 use Rattle.chacha20.proofs.rng.ChaChaRng.next_u64.Goals as goal
 
 pub invariant_of-self : goal.invariant_of-self
@@ -7,4 +7,4 @@ invariant_of-self g c = taken c.self.invariant 2 _ refl (omega (arith, c.if-self
 
 pub returns-then-self-lt63-clause-value : goal.returns-then-self-lt63-clause-value
 returns-then-self-lt63-clause-value g c =
-    rw (← c.self.view_is, c.joined.ensures) (two_unread c.self.invariant (omega arith))
+    rw (← c.self.view_is, c.joined.ensures) (two_read c.self.invariant (omega arith))
