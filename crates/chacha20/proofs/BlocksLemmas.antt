@@ -1,22 +1,25 @@
--- Bytes XORed with blocks, group by group, as the engine does it. The proofs of `apply_through` and `xor_blocks`
--- cite these. Read `xored_at` and `applied` of `Blocks` first.
+-- Blocks written, and bytes XORed with blocks, group by group, as the engine does it. The proofs of `write_blocks`,
+-- `apply_through` and `xor_blocks` cite these. Read `xored_at` and `applied` of `Blocks` first.
 use Rattle.std.proofs.Common.{◌≡◌, ℕ, ◌+◌, ◌*◌, ◌/◌, ◌%◌, ◌<◌, ◌≤◌, Some, List, [], ◌++◌, length, take, drop, slice_get, slice_index, slice_index_or, arith, refl, ap, ap₂, ◌∙◌, length-drop, length-take-le}
-use borrow.Rule.Slice.PartMut.{same_len_mid}
+use borrow.Rule.Slice.PartMut.{put_mid, same_len_mid}
 use Rattle.std.proofs.lemmas.Option.{get_or_from_slice_get}
 use Rattle.chacha_base.specs.Layout.{Layout, modulus}
 use Rattle.chacha_base.specs.State.{state_counter, fixed_words, state_block, state_after, AreNextBlocks}
-use Rattle.chacha_base.proofs.StateLemmas.{fixed_words-state_after, state_counter-state_after, state_after-more}
+use Rattle.chacha_base.proofs.StateLemmas.{fixed_words-state_after, state_counter-state_after, state_after-more, next_blocks-more}
 use Rattle.chacha_base.specs.Keystream.{keystream, xor_stream}
 use Rattle.chacha_base.proofs.KeystreamLemmas.{xor_stream-same, xor_stream-more, keystream-wrapped, length-xor_stream}
+use Rattle.chacha_base.proofs.ListLemmas.{part_long}
 use Rattle.chacha20.specs.Blocks.{byte_of, xored_at, state_stream, applied}
 
--- byte j of block i
-pub byte_of_block : (blocks : List (List ℕ)) (p i j : ℕ) → p ≡ 64 * i → j < 64
-    → slice_index (slice_index_or blocks i []) j ≡ byte_of blocks (p + j)
-byte_of_block blocks p i j place inside =
+-- bytes XORed with block i
+pub xor_stream-one : (blocks : List (List ℕ)) (p i : ℕ) (xs : List ℕ) → p ≡ 64 * i → length xs ≤ 64
+    → xor_stream (slice_index (slice_index_or blocks i [])) 0 xs ≡ xor_stream (byte_of blocks) p xs
+xor_stream-one blocks p i xs place short =
+    xor_stream-same (slice_index (slice_index_or blocks i [])) (byte_of blocks) 0 p xs (λ j less.
     let which : (p + j) / 64 ≡ i = omega arith in
     let part : (p + j) % 64 ≡ j = omega arith in
-    rw (which, part) refl
+    let here : 0 + j ≡ j = omega arith in
+    rw (which, part, here) refl)
 
 -- blocks of a stream from a counter on
 xor_stream-blocks : (modulus : ℕ) (block : ℕ → List ℕ) (c : ℕ) (blocks : List (List ℕ)) (xs : List ℕ)
@@ -31,7 +34,28 @@ xor_stream-blocks modulus block c blocks xs whole made =
     rw (which, part, here)
     (ap (λ b. slice_index b (i % 64)) (get_or_from_slice_get blocks (i / 64) _ [] (made (i / 64) (omega arith)))))
 
--- the engine i blocks on from the state s and the bytes old
+-- blocks that are written: the first `a` from the state s on, and the state behind them
+pub record AreMade (n : ℕ) (layout : Layout) (s : List ℕ) (a : ℕ) (t : List ℕ) (now : List (List ℕ)) : Type 0 where
+  pub within : a ≤ length now
+  pub state : t ≡ state_after layout a s
+  pub done : AreNextBlocks n layout s a now
+
+-- and the next k, as a call made them
+pub made-more : {n : ℕ} {layout : Layout} {s t u : List ℕ} {a : ℕ} {now : List (List ℕ)} (k e : ℕ)
+    (part : List (List ℕ)) → length s ≡ 16 → AreMade n layout s a t now → a + k ≡ e → e ≤ length now
+    → (let l = length (take k (drop a now)) in
+    length part ≡ l → AreNextBlocks n layout t l part → u ≡ state_after layout l t
+    → AreMade n layout s e u (put_mid a k now part))
+made-more {n} {layout} {s} {t} {u} {a} {now} k e part sixteen held all room count made moved =
+    let long = part_long a k now (omega arith) in
+    record {
+      within = omega (arith, same_len_mid a k now part count);
+      state = state_after-more layout s t u a _ e sixteen held.state moved (omega (arith, long));
+      done = rw (← all) (next_blocks-more n layout s t a k now part sixteen held.state held.within (count ∙ long)
+          held.done (λ j less. made j (omega (arith, long))));
+    }
+
+-- bytes that are combined: i blocks on from the state s and the bytes old
 pub record IsAt (n : ℕ) (layout : Layout) (s old : List ℕ) (i : ℕ) (t now : List ℕ) : Type 0 where
   pub sixteen : length s ≡ 16
   pub long : length now ≡ length old

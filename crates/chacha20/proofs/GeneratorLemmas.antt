@@ -1,7 +1,7 @@
 -- The seed and the stream, read back from the words of a state, and the generator that they make with its counter.
 -- The proofs of construction and of `set_stream`, and the other lemma files on generators, cite these. Read
 -- `GeneratorCore` and `Unread` first.
-use Rattle.std.proofs.Common.{◌≡◌, ℕ, ◌+◌, ◌*◌, ◌/◌, ◌%◌, ◌^◌, ◌<◌, List, [], ◌∷◌, ◌++◌, length, take, replicate, arith, refl, ap, ◌∙◌, take_at, drop_at, length-append}
+use Rattle.std.proofs.Common.{◌≡◌, ℕ, ◌*◌, ◌/◌, ◌%◌, ◌^◌, ◌<◌, List, [], ◌∷◌, ◌++◌, length, take, arith, refl, ap, ◌∙◌, take_at, drop_at, length-append}
 use Rattle.std.specs.Int.{w64, to_le_bytes, from_le_bytes}
 use Rattle.chacha_base.specs.Bytes.{bytes, words}
 use Rattle.chacha_base.specs.Block.{constants, start}

@@ -4,7 +4,7 @@ use Rattle.std.proofs.Common.{◌≡◌, ℕ, ◌-◌, ◌*◌, ◌^◌, List, [
 use Rattle.chacha_base.specs.Keystream.{stream_part}
 use Rattle.chacha_base.specs.QuarterRound.{quarter}
 use Rattle.chacha_base.specs.Rounds.{columns, diagonals, rounds, add_states}
-use Rattle.chacha20.specs.Generator.{GeneratorState, next_u32, next_u64, fill, word, at_word_pos}
+use Rattle.chacha20.specs.Generator.{GeneratorState, of_seed, next_u32, next_u64, fill, word, at_word_pos}
 use Rattle.chacha20.specs.StateBytes.{state_bytes, of_state_bytes}
 
 -- the seed 01 to 20
@@ -13,28 +13,21 @@ seed =
     0x01 ∷ 0x02 ∷ 0x03 ∷ 0x04 ∷ 0x05 ∷ 0x06 ∷ 0x07 ∷ 0x08 ∷ 0x09 ∷ 0x0a ∷ 0x0b ∷ 0x0c ∷ 0x0d ∷ 0x0e ∷ 0x0f ∷ 0x10
     ∷ 0x11 ∷ 0x12 ∷ 0x13 ∷ 0x14 ∷ 0x15 ∷ 0x16 ∷ 0x17 ∷ 0x18 ∷ 0x19 ∷ 0x1a ∷ 0x1b ∷ 0x1c ∷ 0x1d ∷ 0x1e ∷ 0x1f ∷ 0x20 ∷ []
 
-abbrev pub of_seed : GeneratorState
-of_seed = record { seed = seed; stream = 0; word_pos = 0 }
+-- its generator so many words on, and that of a seed of zeros
+abbrev pub moved : ℕ → GeneratorState
+moved = at_word_pos (of_seed seed)
 
 abbrev pub of_zeros : GeneratorState
-of_zeros = record { seed = replicate 32 0; stream = 0; word_pos = 0 }
+of_zeros = of_seed (replicate 32 0)
 
 -- 13 bytes take four words
-pub first_fill : fill 10 of_seed 13
-    ≡ (
-      0xb1 ∷ 0x69 ∷ 0x7e ∷ 0x9f ∷ 0xc6 ∷ 0x46 ∷ 0x1e ∷ 0x19 ∷ 0x83 ∷ 0xd1 ∷ 0x31 ∷ 0xcf ∷ 0x69 ∷ [],
-      record of_seed
-          { word_pos = 4 },
-    )
+pub first_fill : fill 10 (of_seed seed) 13
+    ≡ (0xb1 ∷ 0x69 ∷ 0x7e ∷ 0x9f ∷ 0xc6 ∷ 0x46 ∷ 0x1e ∷ 0x19 ∷ 0x83 ∷ 0xd1 ∷ 0x31 ∷ 0xcf ∷ 0x69 ∷ [], moved 4)
 unfolding quarter columns diagonals rounds add_states
 first_fill = refl
 
-pub second_fill : fill 10 (at_word_pos of_seed 4) 13
-    ≡ (
-      0xa7 ∷ 0xa3 ∷ 0xfc ∷ 0x13 ∷ 0x4f ∷ 0x14 ∷ 0x98 ∷ 0x80 ∷ 0xe8 ∷ 0xbb ∷ 0x2b ∷ 0x5d ∷ 0x23 ∷ [],
-      record of_seed
-          { word_pos = 8 },
-    )
+pub second_fill : fill 10 (moved 4) 13
+    ≡ (0xa7 ∷ 0xa3 ∷ 0xfc ∷ 0x13 ∷ 0x4f ∷ 0x14 ∷ 0x98 ∷ 0x80 ∷ 0xe8 ∷ 0xbb ∷ 0x2b ∷ 0x5d ∷ 0x23 ∷ [], moved 8)
 unfolding quarter columns diagonals rounds add_states
 second_fill = refl
 

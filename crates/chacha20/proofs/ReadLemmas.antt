@@ -1,6 +1,6 @@
 -- Words that a generator reads out of its buffer, and the buffer that is filled again. The proofs of the reads and
 -- of `set_word_pos` cite these. Read `IsUnread` of `Unread` first, and then `RepeatedLemmas`.
-use Rattle.std.proofs.Common.{◌≡◌, ℕ, ◌+◌, ◌-◌, ◌*◌, ◌/◌, ◌%◌, ◌^◌, ◌<◌, ◌≤◌, List, ◌++◌, length, take, drop, slice_index, arith, refl, sym, ap, ap₂, ◌∙◌, length-drop, length-take-le, get_or-take, get_or-drop}
+use Rattle.std.proofs.Common.{◌≡◌, ℕ, ◌+◌, ◌*◌, ◌/◌, ◌%◌, ◌^◌, ◌<◌, ◌≤◌, List, ◌++◌, length, take, drop, slice_index, arith, refl, sym, ap, ap₂, ◌∙◌, get_or-take, get_or-drop}
 use Rattle.std.proofs.lemmas.Slice.{take-put_mid}
 use Rattle.std.specs.Int.{w64, to_le_bytes}
 use borrow.Rule.Slice.PartMut.{put_mid}
@@ -17,7 +17,7 @@ use Rattle.chacha_base.proofs.StateLemmas.{length-state_at, fixed_words-state_af
 use Rattle.chacha20.proofs.GeneratorLemmas.{length-seed_in, generator_is}
 use Rattle.chacha20.proofs.RepeatedLemmas.{word-same, fill-words, fill-then}
 use Rattle.chacha20.specs.Generator.{GeneratorState, positions, at_word_pos, word, next_u32, next_u64, fill}
-use Rattle.chacha20.specs.GeneratorCore.{seed_in, stream_in, IsStart}
+use Rattle.chacha20.specs.GeneratorCore.{seed_in, stream_in}
 use Rattle.chacha20.specs.Unread.{generator_of, IsUnread}
 
 -- j words more are used
@@ -71,9 +71,7 @@ next_unread : {n : ℕ} {core buffer : List ℕ} {i : ℕ} → IsUnread n core b
     → take k (drop i buffer) ≡ stream_part (word n (generator_of core i)) (generator_of core i).word_pos k
 next_unread {n} {core} {buffer} {i} held k room size =
     let g = generator_of core i in
-    let part = take k (drop i buffer) in
-    let long : length part ≡ k = length-take-le k (drop i buffer) (omega (arith, length-drop i buffer)) in
-    streamed_is (word n g) g.word_pos k part long
+    streamed_is (word n g) g.word_pos k (take k (drop i buffer)) (part_long i k buffer (omega arith))
     (λ j less. get_or-take k (drop i buffer) j 0 less ∙ get_or-drop i buffer j 0 ∙ held.next j (omega arith))
 
 -- the core has made the words of the buffer, and none is used

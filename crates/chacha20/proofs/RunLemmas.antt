@@ -1,12 +1,13 @@
 -- Runs of calls whose answers are written one after another, and the laws of runs: seeking back, and cutting
 -- anywhere. The proofs of `run_cipher`, `call_cipher` and `run_rng` cite these. Read `Runs` first.
-use Rattle.std.proofs.Common.{inl, inr, ◌≡◌, ℕ, ◌+◌, ◌-◌, ◌≤◌, List, [], ◌∷◌, ◌++◌, length, take, drop, arith, refl, sym, ap, subst, ◌∙◌, append_assoc, append-nil, length-drop, if◌then◌else◌, sum, nat_le, ◌==◌, ◌&&◌, ◌^◌, Bool, true, false, ℤ, pos, negsuc, ◌↔◌, Result, Ok, Err, Some, IsOk, OnOk, OnErr, IsSomeAnd, IfSome, drop-drop, length-take-le, take-add, Decides, to_z-of_z, to_z, of_z, w32}
+use Rattle.std.proofs.Common.{inl, inr, ◌≡◌, ℕ, ◌+◌, ◌-◌, ◌≤◌, List, [], ◌∷◌, ◌++◌, length, take, drop, arith, refl, sym, ap, subst, ◌∙◌, append_assoc, append-nil, if◌then◌else◌, sum, nat_le, ◌==◌, ◌&&◌, ◌^◌, Bool, true, false, ℤ, pos, negsuc, ◌↔◌, Result, Ok, Err, Some, IsOk, OnOk, OnErr, IsSomeAnd, IfSome, drop-drop, take-add, Decides, to_z-of_z, to_z, of_z, w32}
 use Rattle.std.specs.List.{AllByRecursion}
 use Rattle.std.proofs.lemmas.Slice.{take-put_mid, drop-put_mid, between-put_mid}
 use borrow.Rule.Slice.PartMut.{put_same, same_len_mid, take_put}
 use Rattle.std.proofs.lemmas.List.Sums.{sum_by-cons}
 use Rattle.std.proofs.lemmas.Bool.{le-leb, leb-true, cases_Bool, false≢true}
 use Rattle.std.proofs.lemmas.Bool.Decides.{Decides-and, Decides-eqb, Decides-like}
+use Rattle.chacha_base.proofs.ListLemmas.{part_long}
 use Rattle.chacha_base.specs.Cipher.{Cipher}
 use Rattle.chacha_base.specs.Keystream.{xor_stream}
 use Rattle.chacha_base.specs.SeekNum.{signed_position}
@@ -18,32 +19,24 @@ use Rattle.chacha20.specs.declared.runs.CipherAnswer.{CipherAnswer}
 use Rattle.chacha20.specs.declared.runs.CipherAnswer.TheVariants.{Done, Refused, Position, PositionI32, Overflow}
 use Rattle.chacha20.specs.Runs.{Setting, CipherOutcome, part, put, done_if, cipher_outcome, cipher_run, InSlices, pieces}
 
--- a range as its front and what follows
-part-add : (at len more : ℕ) (xs : List ℕ) → part at (len + more) xs ≡ part at len xs ++ part (at + len) more xs
-part-add at len more xs = rw (take-add len more (drop at xs), drop-drop len at xs)
+-- a range put in: it is read again, what lies behind it stays, and then the same range is put in or the next one
+module _ (at len : ℕ) (ys xs : List ℕ) (inside : at ≤ length xs) (size : length ys ≡ len) where
+  part-put : part at len (put at len ys xs) ≡ ys
+  part-put =
+      let width : at + len - at ≡ len = omega arith in
+      rw width at (between-put_mid at len xs ys (at + len) inside (omega arith))
 
-pub length-part : (at len : ℕ) (xs : List ℕ) → at + len ≤ length xs → length (part at len xs) ≡ len
-length-part at len xs inside = length-take-le len (drop at xs) (omega (arith, length-drop at xs))
+  drop-put : drop (at + len) (put at len ys xs) ≡ drop (at + len) xs
+  drop-put = drop-put_mid at len xs ys (at + len) (omega arith) inside size
 
--- a range put in, read again
-part-put : (at len : ℕ) (ys xs : List ℕ) → at ≤ length xs → length ys ≡ len → part at len (put at len ys xs) ≡ ys
-part-put at len ys xs inside size =
-    let width : at + len - at ≡ len = omega arith in
-    rw width at (between-put_mid at len xs ys (at + len) inside (omega arith))
+  put-put : (zs : List ℕ) → put at len zs (put at len ys xs) ≡ put at len zs xs
+  put-put zs =
+      rw (take_put at len xs ys inside, drop-drop len at (put at len ys xs), drop-put, drop-drop len at xs)
 
--- the same range put in again, and one behind it
-put-put : (at len : ℕ) (ys zs xs : List ℕ) → at ≤ length xs → length ys ≡ len
-    → put at len zs (put at len ys xs) ≡ put at len zs xs
-put-put at len ys zs xs inside size =
-    let behind = drop-put_mid at len xs ys (at + len) (omega arith) inside size in
-    rw (take_put at len xs ys inside, drop-drop len at (put at len ys xs), behind, drop-drop len at xs)
-
-put-next : (at len more : ℕ) (ys zs xs : List ℕ) → at ≤ length xs → length ys ≡ len
-    → put (at + len) more zs (put at len ys xs) ≡ put at (len + more) (ys ++ zs) xs
-put-next at len more ys zs xs inside size =
-    let front = take-put_mid at len xs ys (at + len) (omega arith) inside in
-    let behind = drop-put_mid at len xs ys (at + len) (omega arith) inside size in
-    rw (front, behind, ← drop-drop len at xs, drop-drop more len (drop at xs)) (simp append_assoc)
+  put-next : (more : ℕ) (zs : List ℕ) → put (at + len) more zs (put at len ys xs) ≡ put at (len + more) (ys ++ zs) xs
+  put-next more zs =
+      let front = take-put_mid at len xs ys (at + len) (omega arith) inside in
+      rw (front, drop-put, ← drop-drop len at xs, drop-drop more len (drop at xs)) (simp append_assoc)
 
 -- what a call on c and old bytes that may be refused leaves: if its result is `Ok`, position p and the data `after`
 pub record Leaves {E : Type 0} (r : Result (Unit {0}) E) (c : Cipher) (old : List ℕ) (p : ℕ) (after : List ℕ)
@@ -60,13 +53,10 @@ outcome-is {r = Ok x} false tells accepted is = absurd (false≢true (tells.1 (a
 outcome-is {r = Err e} true tells accepted is = absurd (false≢true (accepted.1 (tells.0 refl)))
 outcome-is {r = Err e} false tells accepted is = sym is.refused
 
-leb-Decides : (m n : ℕ) → Decides (nat_le m n) (m ≤ n)
-leb-Decides m n = (leb-true m n, le-leb m n)
-
 pub le-outcome-is : {E : Type 0} {r : Result (Unit {0}) E} {c : Cipher} {old : List ℕ} {p : ℕ} {after : List ℕ}
     {left : CipherOutcome} (m n : ℕ) → IsOk r ↔ (m ≤ n) → Leaves r c old p after left
     → done_if (nat_le m n) c old p after ≡ left
-le-outcome-is m n = outcome-is _ (leb-Decides m n)
+le-outcome-is m n = outcome-is _ (leb-true m n, le-leb m n)
 
 -- a call that answers and changes nothing
 abbrev answered : CipherAnswer → Cipher → List ℕ → CipherOutcome
@@ -141,7 +131,7 @@ seek_i32-is s c old (negsuc p) (Err e) said told = λ i. answered (sym told.refu
 pub both-Decides : (a b p limit : ℕ) → Decides ((a == b) && nat_le (p + b) limit) ((a ≡ b) × (p + a ≤ limit))
 both-Decides a b p limit =
     Decides-like _ (λ both. (both.0, omega (arith, both.0, both.1))) (λ both. (both.0, omega (arith, both.0, both.1)))
-    (Decides-and _ _ (Decides-eqb a b) (leb-Decides (p + b) limit))
+    (Decides-and _ _ (Decides-eqb a b) (leb-true (p + b) limit, le-leb (p + b) limit))
 
 -- a position that is told
 pub pos-is : {c : Cipher} {old : List ℕ} (p : ℕ) → Some p ≡ Some c.position
@@ -209,22 +199,22 @@ module _ (s : Setting) (c : Cipher) (bytes : List ℕ) (at len : ℕ) where
       let old = part at len bytes in
       let rest = part (at + len) more bytes in
       let ys = xor_stream stream p old in
-      let long : length old ≡ len = length-part at len bytes (omega arith) in
+      let long = part_long at len bytes (omega arith) in
       let size = length-xor_stream stream p old ∙ long in
       let place : p + len + more ≡ p + (len + more) = omega arith in
-      let behind : part (at + len) more (put at len ys bytes) ≡ rest =
-      ap (take more) (drop-put_mid at len bytes ys (at + len) (omega arith) (omega arith) size) in
-      let next = put-next at len more ys (xor_stream stream (p + len) rest) bytes (omega arith) size in
-      rw (place, behind, next, part-add at len more bytes, xor_stream-append stream p old rest, long)
+      let behind = ap (take more) (drop-put at len ys bytes (omega arith) size) in
+      let next = put-next at len ys bytes (omega arith) size more (xor_stream stream (p + len) rest) in
+      let parts = take-add len more (drop at bytes) in
+      rw (place, behind, next, parts, drop-drop len at bytes, xor_stream-append stream p old rest, long)
 
   applied-again : at + len ≤ length bytes → (applied s c (applied s c bytes at len).bytes at len).bytes ≡ bytes
   applied-again inside =
       let stream = s.stream c.fixed in
       let old = part at len bytes in
       let ys = xor_stream stream c.position old in
-      let size = length-xor_stream stream c.position old ∙ length-part at len bytes inside in
+      let size = length-xor_stream stream c.position old ∙ part_long at len bytes inside in
       let again = part-put at len ys bytes (omega arith) size in
-      rw (again, xor_stream-xor_stream stream c.position old, put-put at len ys old bytes (omega arith) size)
+      rw (again, xor_stream-xor_stream stream c.position old, put-put at len ys bytes (omega arith) size old)
       (put_same at len bytes)
 
   run-again : c.position + len ≤ s.limit

@@ -1,16 +1,17 @@
 -- Generators as 49 bytes, written part by part and read back. The proofs of `serialize_state` and
 -- `deserialize_state` cite these, and those of the exports for C. Read `StateBytes` first.
-use Rattle.std.proofs.Common.{inl, inr, ◌≡◌, ℕ, ◌+◌, ◌-◌, ◌*◌, ◌/◌, ◌%◌, ◌^◌, ◌<◌, ◌≤◌, List, [], ◌∷◌, ◌++◌, length, take, drop, slice_index, replicate, arith, refl, ap, ap₂, ◌∙◌, append_assoc, set, take-add, bit_and, bit_or}
+use Rattle.std.proofs.Common.{inl, inr, ◌≡◌, ℕ, ◌+◌, ◌-◌, ◌*◌, ◌/◌, ◌%◌, ◌^◌, ◌<◌, List, [], ◌∷◌, ◌++◌, length, take, drop, slice_index, replicate, arith, refl, ap, ap₂, ◌∙◌, append_assoc, set, take-add, bit_and, bit_or}
 use Rattle.std.proofs.lemmas.Bool.{cases_lt}
-use Rattle.std.proofs.lemmas.List.{take_at, drop_at, set_at, length-append, length-drop, length-take, length-take-le, get_or-take, get_or-drop, get_or_past, drop-drop}
-use Rattle.std.proofs.lemmas.Nat.{and_mask, or_shifted, le_bytes_8, from_le_bytes-to_le_bytes_8}
+use Rattle.std.proofs.lemmas.List.{take_at, drop_at, length-append, length-take, get_or-take, get_or-drop, get_or_past, drop-drop}
+use Rattle.std.proofs.lemmas.Grind.{or_after_shift}
+use Rattle.std.proofs.lemmas.Nat.{and_mask, le_bytes_8, from_le_bytes-to_le_bytes_8}
 use Rattle.std.specs.Int.{w64, to_le_bytes, from_le_bytes}
 use borrow.Rule.Slice.PartMut.{put_mid}
 use Rattle.chacha20.proofs.PartLemmas.{put_mid-at}
 use Rattle.chacha20.specs.Generator.{GeneratorState, positions, at_word_pos}
 use Rattle.chacha20.specs.StateBytes.{state_bytes, of_state_bytes}
 use Rattle.chacha_base.proofs.BytesLemmas.{Bytes}
-use Rattle.chacha_base.proofs.ListLemmas.{by_words}
+use Rattle.chacha_base.proofs.ListLemmas.{by_words, part_long}
 use Rattle.chacha20.proofs.GeneratorLemmas.{generator_is}
 
 -- 49 zeros with a seed and a stream written
@@ -71,9 +72,8 @@ pub read_back : {seed : List ℕ} {stream low : ℕ} (bs : List ℕ) → low < 2
     (bit_or (slice_index bs 48 * 2 ^ 64 % 2 ^ 128) low) ≡ of_state_bytes bs
 read_back {low = low} bs less small seed_is stream_is low_is =
     let top = slice_index bs 48 in
-    let whole : top * 2 ^ 64 % 2 ^ 128 ≡ top * 2 ^ 64 = omega arith in
     let joined : bit_or (top * 2 ^ 64 % 2 ^ 128) low ≡ low + 2 ^ 64 * top =
-    ap (λ t. bit_or t low) whole ∙ or_shifted top 64 low less ∙ omega arith in
+    or_after_shift top (2 ^ 64) (2 ^ 128) low refl less (omega arith) ∙ omega arith in
     generator_is _ _ seed_is stream_is (ap (λ w. w % positions) (joined ∙ ap (λ l. l + 2 ^ 64 * top) low_is))
 
 -- in and out again
@@ -87,9 +87,7 @@ state_bytes-of_state_bytes bs long fits =
     let less : from_le_bytes w64 low < 2 ^ 64 = from_le_bytes-below low (Bytes-part 40 8 bs fits) in
     let below : w % 2 ^ 64 ≡ from_le_bytes w64 low = omega arith in
     let above : w / 2 ^ 64 ≡ top % 16 = omega arith in
-    let eight = λ (i : ℕ) (room : i + 8 ≤ 49). length-take-le 8 (drop i bs)
-    (omega (arith, room, long, length-drop i bs)) in
-    let mid = le_bytes_8 stream (from_le_bytes w64 stream) (eight 32 (omega arith)) (Bytes-part 32 8 bs fits) refl in
-    let last = le_bytes_8 low (w % 2 ^ 64) (eight 40 (omega arith)) (Bytes-part 40 8 bs fits) below in
+    let mid = le_bytes_8 stream _ (part_long 32 8 bs (omega arith)) (Bytes-part 32 8 bs fits) refl in
+    let last = le_bytes_8 low (w % 2 ^ 64) (part_long 40 8 bs (omega arith)) (Bytes-part 40 8 bs fits) below in
     ap₂ (λ s l. take 32 bs ++ (s ++ (l ++ w / 2 ^ 64 ∷ []))) mid last
     ∙ rw (above, take-add 40 8 bs, take-add 32 8 bs) (simp append_assoc)

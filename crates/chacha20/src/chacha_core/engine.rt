@@ -37,7 +37,7 @@ fn xor_blocks(data: &mut [u8], first: usize, blocks: &[[u8; 64]])
     requires { 64 * (first + length blocks.now) ≤ length «data».old }
     ensures { «data».new ≡ xored_at first blocks.now «data».old }
 {
-    let part = &mut data[64 * first..64 * (first + blocks.len())];
+    let part = &mut data[64 * first..64 * first + 64 * blocks.len()];
     for i in 0..blocks.len() {
         xor_bytes(&mut part[64 * i..64 * i + 64], &blocks[i]);
     }

@@ -1,7 +1,8 @@
-use Rattle.std.proofs.Common.{◌≡◌, ◌≤◌, ◌+◌, ◌-◌, ◌^◌, false, true, inl, inr, refl, ap, ◌∙◌, arith, rules, to_z-of_z, IsOk, SFits, w32}
+use Rattle.std.proofs.Common.{◌≡◌, ◌≤◌, ◌+◌, ◌^◌, false, true, inl, inr, refl, ap, ◌∙◌, arith, rules, to_z-of_z, IsOk, SFits, w32}
+use Rattle.chacha_base.proofs.ListLemmas.{part_long, part-length}
 use Rattle.chacha20.specs.Runs.{setting}
 use Rattle.chacha20.proofs.ResultLemmas.{on_ok_given}
-use Rattle.chacha20.proofs.RunLemmas.{length-part, outcome-is, le-outcome-is, check-leaves, seek-leaves, seek_i32-is, put-leaves, both-Decides, pos-is, pos_i32-is}
+use Rattle.chacha20.proofs.RunLemmas.{outcome-is, le-outcome-is, check-leaves, seek-leaves, seek_i32-is, put-leaves, both-Decides, pos-is, pos_i32-is}
 use Rattle.chacha20.proofs.runs.call_cipher.Goals as goal
 
 pub returns-in-CheckRemaining : goal.returns-in-CheckRemaining
@@ -13,8 +14,8 @@ returns-in-CheckRemaining g c =
 pub returns-in-Apply : goal.returns-in-Apply
 returns-in-Apply g c =
     let range = c.in-Apply in
-    let width : range.at + range.len - range.at ≡ range.len = omega arith in
-    let size = length-part range.at range.len c.args.data.now (rw range.is at c.requires) in
+    let width = part-length range.at range.len in
+    let size = part_long range.at range.len c.args.data.now (rw range.is at c.requires) in
     let said = rw (width, size) at c.try_apply_keystream.ensures in
     rw (range.is, width)
     (le-outcome-is _ _ said.accepted (put-leaves range.at range.len _ _ _ said c.answer-in-Apply.ensures))
@@ -22,8 +23,8 @@ returns-in-Apply g c =
 pub returns-in-Write : goal.returns-in-Write
 returns-in-Write g c =
     let range = c.in-Write in
-    let width : range.at + range.len - range.at ≡ range.len = omega arith in
-    let size = length-part range.at range.len c.args.data.now (rw range.is at c.requires) in
+    let width = part-length range.at range.len in
+    let size = part_long range.at range.len c.args.data.now (rw range.is at c.requires) in
     let said = rw (width, size) at c.try_write_keystream.ensures in
     rw (range.is, width)
     (le-outcome-is _ _ said.accepted (put-leaves range.at range.len _ _ _ said c.answer-in-Write.ensures))
@@ -32,10 +33,10 @@ pub returns-in-ApplyFrom : goal.returns-in-ApplyFrom
 returns-in-ApplyFrom g c =
     let range = c.in-ApplyFrom in
     let inside = rw range.is at c.requires in
-    let width : range.at + range.len - range.at ≡ range.len = omega arith in
-    let from_width : range.from + range.from_len - range.from ≡ range.from_len = omega arith in
-    let size = length-part range.at range.len c.args.data.now inside.1 in
-    let from_size = length-part range.from range.from_len c.args.input.now inside.0 in
+    let width = part-length range.at range.len in
+    let from_width = part-length range.from range.from_len in
+    let size = part_long range.at range.len c.args.data.now inside.1 in
+    let from_size = part_long range.from range.from_len c.args.input.now inside.0 in
     let said = rw (width, from_width, size, from_size) at c.try_apply_keystream_b2b.ensures in
     let there = λ (ok : IsOk c.try_apply_keystream_b2b.result).
     ap (λ n. c.args.cipher.now.position + n) (said.accepted.0 ok).0 in

@@ -9,37 +9,31 @@ use Rattle.chacha20.specs.Blocks.{state_stream}
 use Rattle.chacha20.proofs.BlocksLemmas.{at-more}
 use Rattle.chacha20.proofs.chacha_core.engine.apply_through.Goals as goal
 
--- of n bytes in groups of w blocks, group k; the room holds a group, or else all blocks
-record Group (w k n : ℕ) (room : List (List ℕ)) : Type 0 where
-  long : length (take w room) ≡ w
-  next : w * k + w ≡ w * (k + 1)
-  inside : 64 * (w * (k + 1)) ≤ n
+-- of n bytes the l blocks from block i to block e, and the part of the room for them
+record Next (i l e n : ℕ) (room : List (List ℕ)) : Type 0 where
+  long : length (take l room) ≡ l
+  all : i + l ≡ e
+  inside : 64 * e ≤ n
 
+-- those of group k, and those behind the last group; the room holds a group, or else all blocks
 group : {w b r : ℕ} (k n : ℕ) (room : List (List ℕ)) → w ≡ b → length room ≡ r → min b (n / 64) ≤ r → k < n / 64 / w
-    → Group w k n room
+    → Next (w * k) w (w * (k + 1)) n room
 group {w} k n room same kept fits less =
     let end = column_fits w k w (n / 64 / w) less (omega arith) in
     record {
       long = length-take-le w room (omega (arith, end, mul-div-le (n / 64) w));
-      next = omega (arith, mul-add w k 1);
+      all = omega (arith, mul-add w k 1);
       inside = omega (arith, end, mul-add w k 1, mul-div-le (n / 64) w);
     }
 
--- and the blocks behind the last group
-record Rest (w m : ℕ) (room : List (List ℕ)) : Type 0 where
-  long : length (take (m % w) room) ≡ m % w
-  less : m % w < w
-  begins : w * (m / w) ≡ m - m % w
-  ends : m - m % w + m % w ≡ m
-
-rest : {w b r : ℕ} (m : ℕ) (room : List (List ℕ)) → w ≡ b → 1 ≤ b → length room ≡ r → min b m ≤ r → Rest w m room
-rest {w} m room same some kept fits =
-    let less : m % w < w = let one : 1 ≤ w = omega arith in mod-lt m one in
+rest : {w b r : ℕ} (n : ℕ) (room : List (List ℕ)) → w ≡ b → 1 ≤ b → length room ≡ r → min b (n / 64) ≤ r
+    → Next (n / 64 - n / 64 % w) (n / 64 % w) (n / 64) n room
+rest {w} n room same some kept fits =
+    let one : 1 ≤ w = omega arith in
     record {
-      long = length-take-le (m % w) room (omega (arith, less, mod-le m w));
-      less = less;
-      begins = omega (arith, div-add-mod m w);
-      ends = omega (arith, mod-le m w);
+      long = length-take-le (n / 64 % w) room (omega (arith, mod-lt (n / 64) one, mod-le (n / 64) w));
+      all = omega (arith, mod-le (n / 64) w);
+      inside = omega (arith, mul-div-le n 64);
     }
 
 pub groups-init : goal.groups-init
@@ -64,58 +58,56 @@ gen_par_ks_blocks-requires g c =
 
 pub xor_blocks-requires : goal.xor_blocks-requires
 xor_blocks-requires g c =
-    let it = group c.groups.group (length c.args.data.now) c.groups.room c.PAR_BLOCKS-width.ensures c.groups.auto.room
+    let next = group c.groups.group (length c.args.data.now) c.groups.room c.PAR_BLOCKS-width.ensures c.groups.auto.room
     c.requires.room c.groups-test.true in
-    rw (c.groups.auto.data, c.gen_par_ks_blocks.auto.blocks, it.long, it.next) it.inside
+    rw (c.groups.auto.data, c.gen_par_ks_blocks.auto.blocks, next.long, next.all) next.inside
 
 pub groups-preserved : goal.groups-preserved
 groups-preserved g c =
-    let it = group c.groups.group (length c.args.data.now) c.groups.room c.PAR_BLOCKS-width.ensures c.groups.auto.room
+    let next = group c.groups.group (length c.args.data.now) c.groups.room c.PAR_BLOCKS-width.ensures c.groups.auto.room
     c.requires.room c.groups-test.true in
     let made = c.gen_par_ks_blocks.ensures in
     record {
       engine = at-more c.gen_par_ks_blocks.new.blocks c.groups.invariant.engine c.gen_par_ks_blocks.auto.blocks
-          made.blocks made.state c.xor_blocks.ensures (rw it.long it.next) it.inside;
+          made.blocks made.state c.xor_blocks.ensures (rw next.long next.all) next.inside;
       steps = grows-group c.groups.invariant.steps made.steps;
     }
 
 pub slice_bounds-made-end-3 : goal.slice_bounds-made-end-3
 slice_bounds-made-end-3 g c =
-    sym (rest (length c.args.data.now / 64) c.groups.room c.PAR_BLOCKS-width.ensures
+    sym (rest (length c.args.data.now) c.groups.room c.PAR_BLOCKS-width.ensures
     g.B.ParBlocksSizeUser.par_blocks_at_least c.groups.auto.room c.requires.room).long
 
 pub gen_tail_apart-requires : goal.gen_tail_apart-requires
 gen_tail_apart-requires g c =
-    let it = rest (length c.args.data.now / 64) c.groups.room c.PAR_BLOCKS-width.ensures
+    let next = rest (length c.args.data.now) c.groups.room c.PAR_BLOCKS-width.ensures
     g.B.ParBlocksSizeUser.par_blocks_at_least c.groups.auto.room c.requires.room in
-    rw (it.long, ← c.PAR_BLOCKS-width.ensures) it.less
+    rw (next.long, c.PAR_BLOCKS-width.ensures) (mod-lt _ g.B.ParBlocksSizeUser.par_blocks_at_least)
 
 pub xor_blocks-requires-2 : goal.xor_blocks-requires-2
 xor_blocks-requires-2 g c =
-    let n = length c.args.data.now in
-    let it = rest (n / 64) c.groups.room c.PAR_BLOCKS-width.ensures g.B.ParBlocksSizeUser.par_blocks_at_least
-    c.groups.auto.room c.requires.room in
-    rw (c.groups.auto.data, c.gen_tail_apart.auto.blocks, it.long, it.ends) (mul-div-le n 64)
+    let next = rest (length c.args.data.now) c.groups.room c.PAR_BLOCKS-width.ensures
+    g.B.ParBlocksSizeUser.par_blocks_at_least c.groups.auto.room c.requires.room in
+    rw (c.groups.auto.data, c.gen_tail_apart.auto.blocks, next.long, next.all) next.inside
 
 pub returns : goal.returns
 returns g c =
-    let layout = g.V.Variant.layout in
-    let n = g.R.Rounds.COUNT in
     let s = c.args.state.now in
     let old = c.args.data.now in
     let m = length old / 64 in
-    let it = rest m c.groups.room c.PAR_BLOCKS-width.ensures g.B.ParBlocksSizeUser.par_blocks_at_least
+    let w = c.PAR_BLOCKS-width.result in
+    let next = rest (length old) c.groups.room c.PAR_BLOCKS-width.ensures g.B.ParBlocksSizeUser.par_blocks_at_least
     c.groups.auto.room c.requires.room in
     let made = c.gen_tail_apart.ensures in
-    let all : c.groups.group ≡ m / c.PAR_BLOCKS-width.result =
-    omega (arith, c.groups-test.false, c.groups.auto.group-end) in
-    let end = at-more c.gen_tail_apart.new.blocks (rw (all, it.begins) at c.groups.invariant.engine)
-    c.gen_tail_apart.auto.blocks made.blocks made.state c.xor_blocks-2.ensures (rw it.long it.ends)
-    (mul-div-le (length old) 64) in
+    let all : c.groups.group ≡ m / w = omega (arith, c.groups-test.false, c.groups.auto.group-end) in
+    let begins : w * (m / w) ≡ m - m % w = omega (arith, div-add-mod m w) in
+    let end = at-more c.gen_tail_apart.new.blocks (rw (all, begins) at c.groups.invariant.engine)
+    c.gen_tail_apart.auto.blocks made.blocks made.state c.xor_blocks-2.ensures (rw next.long next.all) next.inside in
     record {
       «data» = end.bytes
-          ∙ xor_stream-whole (state_stream n layout s) (64 * state_counter layout s) (64 * m) old (omega arith);
+          ∙ xor_stream-whole (state_stream g.R.Rounds.COUNT g.V.Variant.layout s)
+          (64 * state_counter g.V.Variant.layout s) (64 * m) old (omega arith);
       state = end.state;
-      steps = rw (← c.PAR_BLOCKS-width.ensures) (grows-blocks c.PAR_BLOCKS-width.result _ _ m
-          (rw all at c.groups.invariant.steps) (rw it.long at made.steps));
+      steps = rw (← c.PAR_BLOCKS-width.ensures) (grows-blocks w _ _ m (rw all at c.groups.invariant.steps)
+          (rw next.long at made.steps));
     }

@@ -40,8 +40,9 @@ returns-then-not-is_empty-clause-value g c =
     let whole : words ≡ 4 * (words / 4) = omega (arith, split.front_len) in
     let all : 4 * (words / 4) + r ≡ length c.args.dst.now = omega (arith, split.front_len, split.back_len) in
     let fills = fill g.R.Rounds.COUNT c.args.self.now in
-    filled-over _ (words / 4) r c.args.self.now (omega (arith, split.back_len, some)) (c.fill_words.ensures ∙ ap fills whole)
-    c.next_u32.ensures.value (c.copy_from_slice.ensures.after ∙ ap (take r) c.to_le_bytes-word.ensures)
+    filled-over _ (words / 4) r c.args.self.now (omega (arith, split.back_len, some))
+    (c.fill_words.ensures ∙ ap fills whole) c.next_u32.ensures.value
+    (c.copy_from_slice.ensures.after ∙ ap (take r) c.to_le_bytes-word.ensures)
     ∙ ap fills all
 
 pub returns-else-not-is_empty-clause-value : goal.returns-else-not-is_empty-clause-value

@@ -1,4 +1,4 @@
-use Rattle.std.proofs.Common.{◌≡◌, ℕ, List, [], ◌≤◌, ◌<◌, ◌+◌, ◌-◌, ◌*◌, ◌/◌, ◌%◌, ◌∙◌, min, length, take, drop, ap, sym, arith, take_all}
+use Rattle.std.proofs.Common.{◌≡◌, ℕ, List, [], ◌≤◌, ◌<◌, ◌+◌, ◌-◌, ◌*◌, ◌/◌, ◌%◌, ◌∙◌, min, length, take, ap, arith, take_all}
 use borrow.Rule.Slice.PartMut.{mid_of}
 use Rattle.chacha_base.proofs.ListLemmas.{part_long}
 use Rattle.chacha20.specs.Generator.{GeneratorState, fill}
@@ -28,12 +28,13 @@ words-init g c = record {
 
 pub words-preserved : goal.words-preserved
 words-preserved g c =
+    let n = g.R.Rounds.COUNT in
     let kept = c.words.invariant.filled in
     let i = c.refill.new.index in
     let k = c.min-count.result in
     let whole : i + k - i ≡ k = omega arith in
     let again = c.refill.ensures in
-    let now : FilledTo g.R.Rounds.COUNT c.args.self.now c.words.done c.refill.new.core c.refill.new.buffer i c.words.dst =
+    let now : FilledTo n c.args.self.now c.words.done c.refill.new.core c.refill.new.buffer i c.words.dst =
     record {
       unread = again.unread;
       long = again.long;

@@ -7,14 +7,17 @@ use Rattle.chacha20.proofs.rng.ChaChaRng.serialize_state.Goals as goal
 pub returns : goal.returns
 returns g c =
     let w = c.get_word_pos-word_pos.result in
-    let mask = bit_and w in
     let seed = c.copy_from_slice.ensures.after ∙ c.get_seed.ensures in
-    let is : IsWritten c.args.self.now c.copy_from_slice.new.self c.copy_from_slice-2.new.self c.copy_from_slice-3.new.self w =
+    let is : IsWritten c.args.self.now _ _ _ w =
     record {
       long = c.copy_from_slice.ensures.len;
       seed = seed;
-      stream = c.copy_from_slice-2.ensures.after ∙ c.to_le_bytes-stream.ensures ∙ ap (to_le_bytes w64) c.get_stream.ensures;
-      low = c.copy_from_slice-3.ensures.after ∙ c.to_le_bytes-low.ensures ∙ ap (λ m. to_le_bytes w64 (mask m)) c.from.ensures;
+      stream = c.copy_from_slice-2.ensures.after
+          ∙ c.to_le_bytes-stream.ensures
+          ∙ ap (to_le_bytes w64) c.get_stream.ensures;
+      low = c.copy_from_slice-3.ensures.after
+          ∙ c.to_le_bytes-low.ensures
+          ∙ ap (λ m. to_le_bytes w64 (bit_and w m)) c.from.ensures;
       position = c.get_word_pos-word_pos.ensures.value;
     } in
     record {

@@ -1,4 +1,4 @@
-use Rattle.std.proofs.Common.{◌+◌, ◌/◌, ◌%◌, ◌∙◌, ap, arith}
+use Rattle.std.proofs.Common.{◌+◌, ◌%◌, ◌∙◌, ap, arith}
 use Rattle.chacha20.specs.Generator.{GeneratorState, at_word_pos, positions}
 use Rattle.chacha20.proofs.GeneratorLemmas.{unread-recounted, generator_of-recounted}
 use Rattle.chacha20.proofs.ReadLemmas.{taken, generator_of-taken, refilled, generator_of-refilled}
@@ -18,7 +18,8 @@ returns-clause-value g c =
     generator_of-taken c.generate.new.self 0 (position % 16) _ (omega arith)
     ∙ ap (λ (h : GeneratorState). at_word_pos h (h.word_pos + position % 16))
     (generator_of-refilled c.set_block_pos.new.self _ moved.sixteen c.generate.ensures.moved
-    ∙ generator_of-recounted c.self.inside.core _ c.self.inside.index set.fixed set.counter (omega arith) c.self.view_is)
+    ∙ generator_of-recounted c.self.inside.core _ c.self.inside.index set.fixed set.counter (omega arith)
+    c.self.view_is)
     ∙ at-same c.args.self.now _ _ (omega arith)
 
 pub returns-clause-position : goal.returns-clause-position

@@ -1,5 +1,5 @@
 use Rattle.std.proofs.Math.Bool.{and_assoc}
-use Rattle.chacha20.proofs.GeneratorEquality.{same-answer}
+use Rattle.chacha20.proofs.GeneratorEquality.{same-Decides}
 use Rattle.chacha20.proofs.rng.ChaChaRngPartialEq.eq.Goals as goal
 
 pub returns-clause-value : goal.returns-clause-value
@@ -8,4 +8,4 @@ returns-clause-value g c =
     (rw (c.eq.ensures, c.get_seed.ensures, c.get_seed-2.ensures, and_assoc))
 
 pub returns-clause-same : goal.returns-clause-same
-returns-clause-same g c = same-answer _ _ _ (returns-clause-value g c)
+returns-clause-same g c = rw (returns-clause-value g c) (same-Decides c.args.self.now c.args.other.now)

@@ -3,7 +3,7 @@ use Rattle.std.proofs.lemmas.List.{take_all, take_more_set, drop_all, drop_more}
 use Rattle.std.proofs.lemmas.List.Elements.{All-get_or}
 use Rattle.chacha20.specs.GeneratorRuns.{RngOutcome, rng_run, InData}
 use Rattle.chacha20.proofs.RunLemmas.{behind, run-more, run-all}
-use Rattle.chacha20.proofs.GeneratorEquality.{same-is}
+use Rattle.chacha20.proofs.GeneratorEquality.{same-Decides}
 use Rattle.chacha20.proofs.runs.rng.run_rng.Goals as goal
 
 pub calls-init : goal.calls-init
@@ -30,4 +30,4 @@ returns g c =
     let run =
     run-all (rng_run n c.calls.rng c.calls.data) (take c.calls.i c.calls.answers) refl c.calls.invariant
     (drop_all c.calls.i c.args.calls.now (omega arith)) (take_all c.calls.i c.calls.answers (omega arith)) in
-    record { run = run; equality = λ other equal. rw (← same-is c.args.rng.now other equal) run }
+    record { run = run; equality = λ other equal. rw (← (same-Decides c.args.rng.now other).0 equal) run }

@@ -1,4 +1,4 @@
-use Rattle.std.proofs.Common.{◌≡◌, ◌+◌, ◌/◌, ◌%◌, ◌^◌, [], ◌∷◌, ◌++◌, take, slice_set, arith, refl}
+use Rattle.std.proofs.Common.{◌≡◌, ◌/◌, ◌%◌, ◌^◌, [], ◌∷◌, ◌++◌, take, slice_set, arith, refl}
 use Rattle.std.proofs.lemmas.Nat.{and_mask}
 use Rattle.chacha_base.proofs.BytesLemmas.{words-to_le_bytes}
 use Rattle.chacha_base.proofs.ListLemmas.{by_words}
