@@ -13,9 +13,7 @@ returns c =
       long = c.copy_from_slice.ensures.len;
       seed = c.copy_from_slice.ensures.after;
       stream = c.copy_from_slice-2.ensures.after ∙ c.to_le_bytes.ensures;
-      low = c.copy_from_slice-3.ensures.after
-          ∙ c.to_le_bytes-low.ensures
-          ∙ ap (λ m. to_le_bytes w64 (bit_and w m)) c.from.ensures;
+      low = rw c.from.ensures at (c.copy_from_slice-3.ensures.after ∙ c.to_le_bytes-low.ensures);
       position = refl;
     } in
     let value = ap of_state_bytes (state_is is) ∙ of_state_bytes-state_bytes _ c.told-seed (omega arith) (omega arith) in

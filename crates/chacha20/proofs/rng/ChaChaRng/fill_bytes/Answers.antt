@@ -1,4 +1,5 @@
-use Rattle.std.proofs.Common.{◌≡◌, ℕ, List, Bool, true, false, ◌<◌, ◌≤◌, ◌+◌, ◌*◌, ◌/◌, ◌∙◌, length, take, sym, ap, arith, ◌==◌}
+use Rattle.std.proofs.Common.{◌≡◌, ℕ, List, Bool, false, ◌<◌, ◌≤◌, ◌+◌, ◌*◌, ◌/◌, ◌∙◌, length, take, sym, ap, arith, ◌==◌}
+use Rattle.std.proofs.lemmas.Bool.Decides.{Decides-eqb}
 use Rattle.std.proofs.lemmas.Grind.{common_steps}
 use Rattle.std.proofs.lemmas.List.{append-nil, nil_from_length, length-take-le}
 use Rattle.chacha20.specs.Generator.{fill}
@@ -8,9 +9,6 @@ use Rattle.chacha20.proofs.rng.ChaChaRng.fill_bytes.Goals as goal
 -- of a slice of len bytes, the r behind whole words
 some_left : (r : ℕ) (empty : Bool) → empty ≡ (r == 0) → empty ≡ false → 0 < r
 some_left r empty test part = grind (arith, common_steps)
-
-none_left : (r : ℕ) (empty : Bool) → empty ≡ (r == 0) → empty ≡ true → r ≡ 0
-none_left r empty test whole = grind (arith, common_steps)
 
 part_inside : (len r : ℕ) (word : List ℕ) → r + len / 4 * 4 ≡ len → length word ≡ 4 → r ≤ length word
 part_inside len r word rest four = omega arith
@@ -49,7 +47,7 @@ pub returns-else-not-is_empty-clause-value : goal.returns-else-not-is_empty-clau
 returns-else-not-is_empty-clause-value g c =
     let split = c.split_at_mut-words.ensures in
     let last = c.split_at_mut-words.result.1.now in
-    let none = none_left (length last) _ c.is_empty.ensures c.if-not-is_empty.false in
+    let none = (Decides-eqb (length last) 0).0 (sym c.is_empty.ensures ∙ c.if-not-is_empty.false) in
     let all : length c.split_at_mut-words.result.0.now ≡ length c.args.dst.now =
     omega (arith, split.front_len, split.back_len, none) in
     rw (nil_from_length last none, append-nil c.fill_words.new.dst) (c.fill_words.ensures

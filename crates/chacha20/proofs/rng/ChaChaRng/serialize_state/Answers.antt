@@ -12,12 +12,8 @@ returns g c =
     record {
       long = c.copy_from_slice.ensures.len;
       seed = seed;
-      stream = c.copy_from_slice-2.ensures.after
-          ∙ c.to_le_bytes-stream.ensures
-          ∙ ap (to_le_bytes w64) c.get_stream.ensures;
-      low = c.copy_from_slice-3.ensures.after
-          ∙ c.to_le_bytes-low.ensures
-          ∙ ap (λ m. to_le_bytes w64 (bit_and w m)) c.from.ensures;
+      stream = rw c.get_stream.ensures at (c.copy_from_slice-2.ensures.after ∙ c.to_le_bytes-stream.ensures);
+      low = rw c.from.ensures at (c.copy_from_slice-3.ensures.after ∙ c.to_le_bytes-low.ensures);
       position = c.get_word_pos-word_pos.ensures.value;
     } in
     record {
