@@ -1,5 +1,5 @@
-//! Bytes as words, the low byte first (RFC 8439, section 2.3), and the XOR of bytes. `chacha20` does not export these
-//! functions. None of them refuses: the caller proves that the lengths fit.
+//! Bytes as words, the low byte first (RFC 8439, section 2.3), and the XOR of bytes. Nothing is refused: the caller
+//! proves that the lengths fit.
 
 ghost use Rattle.std.specs.Prelude.{◌≡◌, ◌*◌, length, slice_index};
 ghost use Rattle.chacha_base.specs.Bytes.{bytes, words};

@@ -143,7 +143,7 @@ fn diagonal_round(state: &mut [u32; 16], steps: &mut Steps)
 }
 
 /// `count` double rounds on a state, each of the columns and then of the diagonals (RFC 8439, section 2.3). Each counts
-/// as eight quarter rounds. Nothing is refused. `chacha20` does not export it.
+/// as eight quarter rounds. Nothing is refused.
 #[inline(always)]
 #[tactic(auto, unfolding(crate::specs::Rounds::rounds))]
 pub fn double_rounds(count: usize, state: &mut [u32; 16], steps: &mut Steps)

@@ -1,5 +1,4 @@
-//! The counter of a state of sixteen words, read, set and moved on (RFC 8439, section 2.3). `chacha20` does not export
-//! these functions. None of them refuses.
+//! The counter of a state of sixteen words, read, set and moved on (RFC 8439, section 2.3). Nothing is refused.
 
 ghost use Rattle.std.specs.Prelude.{◌≡◌, ◌<◌};
 ghost use Rattle.chacha_base.specs.Layout.{modulus};

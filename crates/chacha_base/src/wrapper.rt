@@ -21,7 +21,7 @@ use std::marker::Model;
 /// the one with the greatest counter (RFC 8439, section 2.3).
 #[derive(Drop)]
 pub struct StreamCipherCoreWrapper<C: StreamCipherSeekCore> {
-    // Its counter is that of the first block that begins at the position or after it, or 0 again where there is none.
+    // Its counter is ceil(position / 64), modulo the number of counters.
     core: C,
     // If the position is inside a block, that block.
     buffer: [u8; 64],

@@ -76,16 +76,17 @@ fn transposed<V: ColumnVector>(w0: V, w1: V, w2: V, w3: V) -> FourVectors<V>
     FourVectors(first, second, third, fourth)
 }
 
-// The same blocks in rows: the first result has blocks 0, 4, 8 and so on, the second 1, 5 and 9.
+// Blocks in rows: the first part has blocks 0, 4, 8 and so on, the second 1, 5 and 9.
+type FourRows<V> = (
+    FourVectors<V>,
+    FourVectors<V>,
+    FourVectors<V>,
+    FourVectors<V>,
+);
+
+// The same blocks in rows.
 #[inline(always)]
-fn in_rows<V: ColumnVector>(
-    states: Columns<V>,
-) -> (
-    FourVectors<V>,
-    FourVectors<V>,
-    FourVectors<V>,
-    FourVectors<V>,
-)
+fn in_rows<V: ColumnVector>(states: Columns<V>) -> FourRows<V>
     ensures first { (g : ℕ) → g < V.FOURS
         → block_in_rows V.lane result.0 g ≡ block_in_columns V.lane states (4 * g) }
     ensures second { (g : ℕ) → g < V.FOURS
@@ -110,16 +111,7 @@ fn in_rows<V: ColumnVector>(
 
 // Writes block g of each of four.
 #[inline(always)]
-fn write_four<V: Vector, B: BlockBuffer>(
-    rows: (
-        FourVectors<V>,
-        FourVectors<V>,
-        FourVectors<V>,
-        FourVectors<V>,
-    ),
-    g: usize,
-    four: &mut [B],
-)
+fn write_four<V: Vector, B: BlockBuffer>(rows: FourRows<V>, g: usize, four: &mut [B])
     requires within { g < V.FOURS }
     requires room { length four.old ≡ 4 }
     ensures { four.new ≡ B.of_words (block_in_rows V.lane rows.0 g)

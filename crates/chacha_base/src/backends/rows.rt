@@ -15,6 +15,7 @@ use std::alloc::AllocError;
 /// quarter round needs first and writes last, the turns wait for nothing.
 pub struct Rows<V, const STAYS: usize>(FourVectors<V>);
 
+// By hand, as a copy: what a derive writes clones each field.
 impl<V: Copy, const STAYS: usize> Clone for Rows<V, STAYS> {
     ghost is_clone = { λ x y. y ≡ x };
 

@@ -80,15 +80,15 @@ impl<R: Rounds, V: Variant> StreamCipherBackend<R, V> for Soft {
         advance::<V>(state, 1);
     }
 
-    // A parallel call makes one block, so a tail has none, and the counter moves on by none.
-    fn gen_tail_blocks(state: &mut [u32; 16], _blocks: &mut [[u8; 64]], _steps: &mut Steps)
-        requires { length _blocks.old < 1 }
-        ensures blocks { AreNextBlocks R.COUNT V.layout state.old (length _blocks.old) _blocks.new }
-        ensures state { state.new ≡ state_after V.layout (length _blocks.old) state.old }
-        ensures steps { Grows (for_tail (8 * R.COUNT) (length _blocks.old)) _steps.old _steps.new }
-        ensures rounds { _steps.new.rounds ≡ _steps.old.rounds + length _blocks.old * 8 * R.COUNT }
+    // A parallel call makes one block, so a tail has none, and takes no steps.
+    fn gen_tail_blocks(state: &mut [u32; 16], blocks: &mut [[u8; 64]], steps: &mut Steps)
+        requires { length blocks.old < 1 }
+        ensures blocks { AreNextBlocks R.COUNT V.layout state.old (length blocks.old) blocks.new }
+        ensures state { state.new ≡ state_after V.layout (length blocks.old) state.old }
+        ensures steps { Grows (for_tail (8 * R.COUNT) (length blocks.old)) steps.old steps.new }
+        ensures rounds { steps.new.rounds ≡ steps.old.rounds + length blocks.old * 8 * R.COUNT }
     {
-        advance::<V>(state, 0);
+        advance::<V>(state, blocks.len());
     }
 }
 

@@ -17,7 +17,7 @@ pub trait Keystream {
     // The position of the next byte, in bytes from the first one.
     ghost position: { Self → ℕ };
 
-    // The position of what `new` makes: 0 of a cipher, and anything of a core.
+    // Where `new` starts. 0 for a cipher; a core may start anywhere.
     ghost first_position: { ℕ };
 }
 
