@@ -1,9 +1,9 @@
 -- Lists of known length, and elements that are written one after another. All other lemma files and the proofs of
 -- loops cite these.
-use Rattle.std.proofs.Common.{◌≡◌, inl, inr, Bool, ℕ, zero, suc, ◌+◌, ◌-◌, ◌*◌, ◌<◌, ◌≤◌, List, [], ◌∷◌, ◌++◌, length, map, take, drop, slice_index, slice_index_or, refl, sym, ap, ap₂, subst, ◌∙◌, append_assoc, length-append, length-drop, length-set, arith, below_more, set, slice_get, Some, nat_lt, if◌then◌else◌, lt-ltb, le-ltb, length-take-le, get_or-drop, get_or-take, get_or-set_same, get_or-set_other, take_at, drop_at, drop-drop, append-nil}
+use Rattle.std.proofs.Common.{◌≡◌, inl, inr, Bool, ℕ, zero, suc, ◌+◌, ◌-◌, ◌<◌, ◌≤◌, List, [], ◌∷◌, ◌++◌, length, map, take, drop, slice_index, slice_index_or, refl, sym, ap, subst, ◌∙◌, length-append, length-drop, length-set, arith, below_more, set, slice_get, Some, nat_lt, if◌then◌else◌, lt-ltb, le-ltb, length-take-le, get_or-drop, get_or-take, get_or-set_same, get_or-set_other, append-nil}
 use Rattle.std.specs.List.{range_with_len}
 use Rattle.std.proofs.lemmas.Bool.{cases_lt}
-use Rattle.std.proofs.lemmas.List.{drop_all, get_or_append_left, get_or-append_right}
+use Rattle.std.proofs.lemmas.List.{get_or_append_left, get_or-append_right}
 use Rattle.std.proofs.lemmas.List.FromFn.{fill_by_all}
 use Rattle.std.proofs.lemmas.Option.{slice_get_read, slice_get_within, get_or_from_slice_get}
 use Rattle.std.proofs.lemmas.Slice.{drop-put_mid}
@@ -125,30 +125,6 @@ four_joined ea eb ec ed = cc
 pub four_listed : {X : Type 0} {a b c d p q r s : X} → a ≡ p → b ≡ q → c ≡ r → d ≡ s
     → a ∷ b ∷ c ∷ d ∷ [] ≡ p ∷ q ∷ r ∷ s ∷ []
 four_listed ea eb ec ed = cc
-
--- a write of k elements behind a part that is written
-put_mid-behind : {X : Type 0} (a k : ℕ) (p q ys : List X) → length p ≡ a
-    → put_mid a k (p ++ q) ys ≡ (p ++ ys) ++ drop k q
-put_mid-behind a k p q ys h =
-    ap₂ (λ u v. u ++ (ys ++ drop k v)) (take_at p q a h) (drop_at p q a h) ∙ sym (append_assoc p ys (drop k q))
-
--- a list that is written in four parts of n elements
-pub four_written : {X : Type 0} {n : ℕ} (s a b c d : List X) → length s ≡ 4 * n
-    → (length a ≡ n) × (length b ≡ n) × (length c ≡ n)
-    → put_mid (3 * n) n (put_mid (2 * n) n (put_mid n n (put_mid 0 n s a) b) c) d ≡ a ++ b ++ c ++ d
-four_written {n = n} s a b c d long same =
-    let r1 = drop n s in
-    let r2 = drop n r1 in
-    let r3 = drop n r2 in
-    let ab : length (a ++ b) ≡ 2 * n = omega (arith, length-append a b) in
-    let abc : length ((a ++ b) ++ c) ≡ 3 * n = omega (arith, length-append (a ++ b) c) in
-    let none : drop n r3 ≡ [] =
-    drop-drop n n r2 ∙ drop-drop (n + n) n r1 ∙ drop-drop (n + (n + n)) n s ∙ drop_all _ s (omega arith) in
-    ap (λ t. put_mid (3 * n) n (put_mid (2 * n) n t c) d) (put_mid-behind n n a r1 b same.0)
-    ∙ ap (λ t. put_mid (3 * n) n t d) (put_mid-behind (2 * n) n (a ++ b) r2 c ab)
-    ∙ put_mid-behind (3 * n) n ((a ++ b) ++ c) r3 d abc
-    ∙ ap (λ t. (((a ++ b) ++ c) ++ d) ++ t) none
-    ∙ append-nil _
 
 -- the next part of a list, of k elements from element a on
 pub part-length : (a k : ℕ) → a + k - a ≡ k

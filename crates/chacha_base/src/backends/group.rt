@@ -149,10 +149,13 @@ impl BlockBuffer for [u8; 64] {
 
     #[inline(always)]
     fn write_rows(&mut self, rows: FourVectors<u32x4>) {
-        write_row(rows.0, &mut self[0..16]);
-        write_row(rows.1, &mut self[16..32]);
-        write_row(rows.2, &mut self[32..48]);
-        write_row(rows.3, &mut self[48..64]);
+        let (front, back) = self.split_at_mut(32);
+        let (a, b) = front.split_at_mut(16);
+        let (c, d) = back.split_at_mut(16);
+        write_row(rows.0, a);
+        write_row(rows.1, b);
+        write_row(rows.2, c);
+        write_row(rows.3, d);
     }
 }
 
