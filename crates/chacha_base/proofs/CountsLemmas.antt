@@ -103,7 +103,7 @@ grows-bytes {len} {a = a} {b = b} w par one p rest cut all grows =
     subst (λ n. Grows (for_blocks w par one (n / 64) (min 1 (n % 64))) a b) after grows
 
 -- so many quarter rounds more
-abbrev plus_rounds : ℕ → Counts → Counts
+abbrev pub plus_rounds : ℕ → Counts → Counts
 plus_rounds n s = record s { rounds = s.rounds + n }
 
 -- a tail of some blocks: one other call, and the quarter rounds of a single block
@@ -133,7 +133,16 @@ grows-of-16 one n k grows rounds =
       rounds_to = omega (arith, rounds, greatest);
     }
 
--- two rounds more, of so many quarter rounds each
+-- none, one more, and two rounds more, of so many quarter rounds each
+pub counted-none : (one : ℕ) (a : Counts) → a ≡ plus_rounds (0 * one) a
+counted-none one a = let none : a.rounds ≡ a.rounds + 0 * one = omega arith in ap (λ k. record a { rounds = k }) none
+
+pub counted-more : (one n : ℕ) (a : Counts) {b c : Counts} → b ≡ plus_rounds (n * one) a → c ≡ plus_rounds one b
+    → c ≡ plus_rounds ((n + 1) * one) a
+counted-more one n a before next =
+    let more : a.rounds + n * one + one ≡ a.rounds + (n + 1) * one = omega arith in
+    next ∙ ap (plus_rounds one) before ∙ ap (λ k. record a { rounds = k }) more
+
 pub counted-double_round : (one n : ℕ) (a : Counts) {b c d : Counts} → b ≡ plus_rounds (2 * one * n) a
     → c ≡ plus_rounds one b → d ≡ plus_rounds one c → d ≡ plus_rounds (2 * one * (n + 1)) a
 counted-double_round one n a before first second =

@@ -31,8 +31,8 @@ pub trait Group: Copy {
         ensures blocks { (g : ℕ) → g < BLOCKS → words_of result g ≡ diagonals (words_of self g) }
         ensures steps { steps.new ≡ record steps.old { rounds = steps.old.rounds + ROUND_STEPS } };
 
-    /// `count` double rounds of each state (RFC 8439, section 2.3). Of columns, sixteen vectors, a state is the sixteen words
-    /// in one lane.
+    /// `count` double rounds of each state (RFC 8439, section 2.3). Of columns, sixteen vectors, a state is the sixteen
+    /// words in one lane.
     #[inline(always)]
     final fn double_rounds(self, count: usize, steps: &mut Steps) -> Self
         ensures blocks { (g : ℕ) → g < BLOCKS

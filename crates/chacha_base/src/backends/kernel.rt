@@ -87,8 +87,8 @@ pub fn write_one<R: Rounds, V: Variant, G: Group, const W: usize>(
     advance::<V>(state, 1);
 }
 
-/// Writes the next blocks, exactly as many as a group has, each at once where it lies, as one parallel call. The counter
-/// moves on past them.
+/// Writes the next blocks, exactly as many as a group has, each at once where it lies, as one parallel call. The
+/// counter moves on past them.
 #[inline(always)]
 pub fn write_group<R: Rounds, V: Variant, G: Group, const W: usize>(
     state: &mut [u32; 16],

@@ -3,22 +3,15 @@ use Rattle.chacha_base.specs.Lanes.{interleaved_low, interleaved_high}
 use Rattle.chacha_base.proofs.backends.columns.transposed.Goals as goal
 
 -- answered for speed
-pub returns-clause-first : goal.returns-clause-first
-returns-clause-first g c h less =
-    c.interleaved-first.ensures.low h less
-    ∙ ap₂ interleaved_low (c.interleaved-low_02.ensures.low h less) (c.interleaved-low_13.ensures.low h less)
-
-pub returns-clause-second : goal.returns-clause-second
-returns-clause-second g c h less =
-    c.interleaved-first.ensures.high h less
-    ∙ ap₂ interleaved_high (c.interleaved-low_02.ensures.low h less) (c.interleaved-low_13.ensures.low h less)
-
-pub returns-clause-third : goal.returns-clause-third
-returns-clause-third g c h less =
-    c.interleaved-third.ensures.low h less
-    ∙ ap₂ interleaved_low (c.interleaved-low_02.ensures.high h less) (c.interleaved-low_13.ensures.high h less)
-
-pub returns-clause-fourth : goal.returns-clause-fourth
-returns-clause-fourth g c h less =
-    c.interleaved-third.ensures.high h less
-    ∙ ap₂ interleaved_high (c.interleaved-low_02.ensures.high h less) (c.interleaved-low_13.ensures.high h less)
+pub returns : goal.returns
+returns g c =
+    let even = c.interleaved-low_02.ensures in
+    let odd = c.interleaved-low_13.ensures in
+    let front = c.interleaved-first.ensures in
+    let back = c.interleaved-third.ensures in
+    record {
+      first = λ h less. front.low h less ∙ ap₂ interleaved_low (even.low h less) (odd.low h less);
+      second = λ h less. front.high h less ∙ ap₂ interleaved_high (even.low h less) (odd.low h less);
+      third = λ h less. back.low h less ∙ ap₂ interleaved_low (even.high h less) (odd.high h less);
+      fourth = λ h less. back.high h less ∙ ap₂ interleaved_high (even.high h less) (odd.high h less);
+    }

@@ -3,11 +3,8 @@ use Rattle.chacha_base.proofs.CountsLemmas.{grows-par}
 use Rattle.chacha_base.proofs.backends.lanes4.Lanes4StreamCipherBackend.gen_par_ks_blocks.Goals as goal
 
 -- answered for speed
-pub returns-clause-blocks : goal.returns-clause-blocks
-returns-clause-blocks g c = c.write_group.ensures.blocks
-
-pub returns-clause-state : goal.returns-clause-state
-returns-clause-state g c = c.write_group.ensures.state
-
-pub returns-clause-steps : goal.returns-clause-steps
-returns-clause-steps g c = grows-par (8 * g.R.Rounds.COUNT) c.args.steps.now c.write_group.ensures.steps
+pub returns : goal.returns
+returns g c =
+    let made = c.write_group.ensures in
+    let steps = grows-par (8 * g.R.Rounds.COUNT) c.args.steps.now made.steps in
+    record { blocks = made.blocks; state = made.state; steps = steps }

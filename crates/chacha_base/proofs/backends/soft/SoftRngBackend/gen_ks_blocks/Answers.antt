@@ -1,6 +1,6 @@
-use Rattle.std.proofs.Common.{◌≡◌, ◌+◌, ◌*◌, ◌-◌, refl, sym, ap, ◌∙◌, arith, rules}
+use Rattle.std.proofs.Common.{◌≡◌, ◌+◌, ◌*◌, ◌-◌, sym, ap, ◌∙◌, arith, rules}
 use Rattle.std.proofs.lemmas.Slice.{overwrites}
-use Rattle.chacha_base.specs.Counts.{Counts}
+use Rattle.chacha_base.proofs.CountsLemmas.{counted-none, counted-more}
 use Rattle.chacha_base.specs.Layout.{legacy}
 use Rattle.chacha_base.specs.State.{state_after}
 use Rattle.chacha_base.proofs.StateLemmas.{state_after-zero, state_after-state_after, next_words-more, next_words-are}
@@ -11,9 +11,7 @@ four-init g c = record {
   long = c.told-buffer;
   done = λ k less. absurd (omega arith);
   state = sym (state_after-zero legacy _ c.told-state c.fits-state);
-  par = refl;
-  other = refl;
-  rounds = omega arith;
+  steps = counted-none (8 * g.R.Rounds.COUNT) c.args.steps.now;
 }
 
 pub four-preserved : goal.four-preserved
@@ -22,19 +20,14 @@ four-preserved g c =
     let i = c.four.i in
     let before = c.four.invariant in
     let here : 16 * i + 16 - 16 * i ≡ 16 = omega arith in
-    let more : (i + 1) * (8 * n) ≡ i * (8 * n) + 8 * n = omega arith in
     let made = c.copy_from_slice.ensures.after ∙ c.block_words.ensures.words in
-    let steps = c.block_words.ensures.steps in
-    let rounds = ap (λ (s : Counts). s.rounds) steps in
     record {
       long = search (rules, overwrites);
       done = rw here (λ k less. next_words-more n legacy c.args.state.now c.four.state i c.four.buffer _ before.state
           made (omega (arith, before.long)) before.done k (omega arith));
       state = c.advance.ensures ∙ ap (state_after legacy 1) before.state
           ∙ state_after-state_after legacy i 1 c.args.state.now c.told-state;
-      par = ap (λ s. s.par) steps ∙ before.par;
-      other = ap (λ s. s.other) steps ∙ before.other;
-      rounds = omega (arith, rounds, more, before.rounds);
+      steps = counted-more (8 * n) i c.args.steps.now before.steps c.block_words.ensures.steps;
     }
 
 pub returns-clause-words : goal.returns-clause-words

@@ -1,6 +1,7 @@
-use Rattle.std.proofs.Common.{◌≡◌, ℕ, ◌+◌, ◌*◌, ◌<◌, length, slice_get, Some}
+use Rattle.std.proofs.Common.{◌≡◌, ℕ, ◌*◌, ◌<◌, length, slice_get, Some}
 use Rattle.chacha_base.specs.Layout.{legacy}
 use Rattle.chacha_base.specs.State.{state_after, next_word}
+use Rattle.chacha_base.proofs.CountsLemmas.{plus_rounds}
 use Rattle.chacha_base.proofs.backends.soft.SoftRngBackend.gen_ks_blocks.Given as goal
 
 abbrev pub invariant-four : goal.invariant-four
@@ -8,7 +9,5 @@ invariant-four g l = record {
   long : length l.buffer ≡ 64;
   done : (k : ℕ) → k < 16 * l.i → slice_get l.buffer k ≡ Some (next_word g.R.Rounds.COUNT legacy l.fn.state k);
   state : l.state ≡ state_after legacy l.i l.fn.state;
-  par : l.steps.par ≡ l.fn.steps.par;
-  other : l.steps.other ≡ l.fn.steps.other;
-  rounds : l.steps.rounds ≡ l.fn.steps.rounds + l.i * (8 * g.R.Rounds.COUNT);
+  steps : l.steps ≡ plus_rounds (l.i * (8 * g.R.Rounds.COUNT)) l.fn.steps;
 }

@@ -6,8 +6,8 @@ use Rattle.chacha_base.proofs.backends.vector.U32x16ColumnVector.interleaved.Goa
 
 pub returns : goal.returns
 returns c = record {
-  low = λ g h. rows-picked (alternating 16 4 0) 16 interleaved_low c.args.self c.args.other c.fits-self.0 c.fits-other.0
-      (below_four _ refl refl refl refl) g (omega arith);
-  high = λ g h. rows-picked (alternating 16 4 2) 16 interleaved_high c.args.self c.args.other c.fits-self.0 c.fits-other.0
-      (below_four _ refl refl refl refl) g (omega arith);
+  low = λ g h. rows-picked (alternating 16 4 0) 16 interleaved_low c.args.self c.args.other c.fits-self.0
+      c.fits-other.0 (below_four _ refl refl refl refl) g (omega arith);
+  high = λ g h. rows-picked (alternating 16 4 2) 16 interleaved_high c.args.self c.args.other c.fits-self.0
+      c.fits-other.0 (below_four _ refl refl refl refl) g (omega arith);
 }

@@ -6,8 +6,8 @@ use Rattle.chacha_base.proofs.backends.vector.U32x4ColumnVector.interleaved.Goal
 
 pub returns : goal.returns
 returns c = record {
-  low = λ g h. rows-picked (alternating 4 1 0) 4 interleaved_low c.args.self c.args.other c.fits-self.0 c.fits-other.0
-      (below_four _ refl refl refl refl) g (omega arith);
-  high = λ g h. rows-picked (alternating 4 1 2) 4 interleaved_high c.args.self c.args.other c.fits-self.0 c.fits-other.0
-      (below_four _ refl refl refl refl) g (omega arith);
+  low = λ g h. rows-picked (alternating 4 1 0) 4 interleaved_low c.args.self c.args.other c.fits-self.0
+      c.fits-other.0 (below_four _ refl refl refl refl) g (omega arith);
+  high = λ g h. rows-picked (alternating 4 1 2) 4 interleaved_high c.args.self c.args.other c.fits-self.0
+      c.fits-other.0 (below_four _ refl refl refl refl) g (omega arith);
 }

@@ -11,7 +11,8 @@ returns c g h =
     let self = c.args.self in
     let long = c.fits-self.0 in
     elim c.match-by-rem4.branch [
-      | in-0 w ↦ ap (λ v. row (slice_index v) g) w.result-is ∙ sym (turned-rest by 0 (row (slice_index self) g) w.in-0.is)
+      | in-0 w ↦
+          ap (λ v. row (slice_index v) g) w.result-is ∙ sym (turned-rest by 0 (row (slice_index self) g) w.in-0.is)
       | in-1 w ↦ rows-turned 1 by 1 self w.result-is w.in-1.is long (below_four _ refl refl refl refl) g (omega arith)
       | in-2 w ↦ rows-turned 1 by 2 self w.result-is w.in-2.is long (below_four _ refl refl refl refl) g (omega arith)
       | in_default w ↦
