@@ -1,8 +1,6 @@
 -- Blocks in the rows of vectors: set, moved, summed and stored. The proofs of `rows`, `group`, `rounds` and the kernel
 -- cite these. Read `Lanes` and `Vectors` first.
-use Rattle.std.proofs.Common.{◌≡◌, ℕ, ◌<◌, ◌≤◌, ◌≢◌, ◌+◌, ◌-◌, ◌*◌, ◌%◌, Bool, true, false, List, [], ◌∷◌, ◌++◌, length, drop, slice_index, refl, ap, ◌∙◌, arith, set, length-set, get_or-set_same, get_or-set_other, if◌then◌else◌, slice_index_or, zero, suc}
-use Rattle.std.specs.List.{flat_map}
-use Rattle.std.proofs.lemmas.List.{get_or_append_left, get_or-append_right}
+use Rattle.std.proofs.Common.{◌≡◌, ℕ, ◌<◌, ◌≤◌, ◌≢◌, ◌+◌, ◌-◌, ◌*◌, ◌%◌, Bool, true, false, List, [], ◌∷◌, ◌++◌, length, drop, slice_index, refl, ap, ◌∙◌, arith, set, length-set, get_or-set_same, get_or-set_other, if◌then◌else◌}
 use Rattle.chacha_base.specs.declared.backends.vector.FourVectors.{FourVectors}
 use Rattle.chacha_base.specs.Layout.{Layout, row_at}
 use Rattle.chacha_base.specs.Lanes.{row, state_row, with_last_row}
@@ -74,22 +72,23 @@ words-written s p q long within apart =
     (get_or-set_other v p.3 p.2 q.3 0 apart.5 ∙ get_or-set_same u p.2 q.2 0 (rw lu within.2))
     (get_or-set_same v p.3 q.3 0 (rw lv within.3))
 
--- a row of rows that stand one after another
-pub row-flattened : (rows : List (List ℕ)) (h : ℕ) → h < length rows
-    → ((i : ℕ) → i < length rows → length (slice_index_or rows i []) ≡ 4)
-    → row (slice_index (flat_map (λ x. x) rows)) h ≡ row (slice_index (slice_index_or rows h [])) 0
-row-flattened [] h less long = absurd (omega arith)
-row-flattened (r ∷ rs) zero less long =
-    row-same _ (slice_index r) 0 (λ j from to.
-    get_or_append_left r (flat_map (λ x. x) rs) 0 j (omega (arith, long 0 (omega arith))))
-row-flattened (r ∷ rs) (suc h) less long =
-    let rest = flat_map (λ (x : List ℕ). x) rs in
-    let word : (i j : ℕ) → i ≡ 4 + j → slice_index (r ++ rest) i ≡ slice_index rest j = λ i j place.
-    let back : i - 4 ≡ j = omega arith in
-    get_or-append_right r rest 4 i 0 (long 0 (omega arith)) (omega arith) ∙ ap (slice_index rest) back in
-    four_listed (word (4 * suc h) (4 * h) (omega arith)) (word (4 * suc h + 1) (4 * h + 1) (omega arith))
-    (word (4 * suc h + 2) (4 * h + 2) (omega arith)) (word (4 * suc h + 3) (4 * h + 3) (omega arith))
-    ∙ row-flattened rs h (omega arith) (λ i inside. long (suc i) (omega arith))
+-- the words of a state after a row is written: those of the row, and those of another
+abbrev row_places : ℕ → ℕ × ℕ × ℕ × ℕ
+row_places g = (4 * g, 4 * g + 1, 4 * g + 2, 4 * g + 3)
+
+pub row-written : (s : List ℕ) (g : ℕ) (q : ℕ × ℕ × ℕ × ℕ) → 4 * g + 3 < length s
+    → row (slice_index (set_four s (row_places g) q)) g ≡ q.0 ∷ q.1 ∷ q.2 ∷ q.3 ∷ []
+row-written s g q inside =
+    ap (λ c. c.0 ∷ c.1 ∷ c.2 ∷ c.3 ∷ []) (words-written s (row_places g) q refl
+    (omega arith, omega arith, omega arith, inside)
+    (omega arith, omega arith, omega arith, omega arith, omega arith, omega arith))
+
+pub row-elsewhere : (s : List ℕ) (g : ℕ) (q : ℕ × ℕ × ℕ × ℕ) (h : ℕ) → h ≢ g
+    → row (slice_index (set_four s (row_places g) q)) h ≡ row (slice_index s) h
+row-elsewhere s g q h apart =
+    row-same (slice_index (set_four s (row_places g) q)) (slice_index s) h (λ i from to.
+    get_or-set_other _ (4 * g + 3) i q.3 0 (omega arith) ∙ get_or-set_other _ (4 * g + 2) i q.2 0 (omega arith)
+    ∙ get_or-set_other _ (4 * g + 1) i q.1 0 (omega arith) ∙ get_or-set_other s (4 * g) i q.0 0 (omega arith))
 
 -- the quarter round of each lane is a round of the columns of each block
 pub columns-of-lanes : {V : Type 0} (n : ℕ) (lane : V → ℕ → ℕ) (x y : FourVectors V)

@@ -1,8 +1,7 @@
 -- States of sixteen words: the counter, the words that stay, and the blocks from a state on. The proofs of the
 -- kernel, of cores and of generators cite these; proofs of your own backend find them in `BackendLaws`. Read `State`
 -- first.
-use Rattle.std.proofs.Common.{◌≡◌, ℕ, ◌+◌, ◌*◌, ◌/◌, ◌%◌, ◌^◌, ◌<◌, ◌≤◌, List, ◌++◌, length, take, drop, slice_index, arith, refl, ap, ap₂, ◌∙◌, set, mod-eq_of_lt, take_at, drop_at, slice_get, Some, [], ◌∷◌, slice_index_or}
-use Rattle.std.specs.List.{flat_map}
+use Rattle.std.proofs.Common.{◌≡◌, ℕ, ◌+◌, ◌*◌, ◌/◌, ◌%◌, ◌^◌, ◌<◌, ◌≤◌, List, ◌++◌, length, take, drop, slice_index, arith, refl, ap, ap₂, ◌∙◌, set, mod-eq_of_lt, take_at, drop_at, slice_get, Some}
 use Rattle.std.proofs.Math.Nat.{mod-add-mod, mod-mod}
 use Rattle.std.proofs.lemmas.List.FromFn.{length-map-range_with_len, get_or-map-range_with_len, fill_by_all}
 use Rattle.std.proofs.lemmas.Option.{slice_get-get_or, get_or_from_slice_get}
@@ -201,16 +200,6 @@ module _ (n : ℕ) (layout : Layout) (s : List ℕ) where
   unfolding next_words
   next_words-are now long made =
       fill_by_all (next_word n layout s) now 64 0 long (λ k less. get_or_from_slice_get now k _ 0 (made k less))
-
-  -- the words of four blocks
-  pub next_words-joined : (four : List (List ℕ)) → length four ≡ 4
-      → ((g : ℕ) → g < 4 → slice_index_or four g [] ≡ mix n (state_after layout g s))
-      → flat_map (λ x. x) four ≡ next_words n layout s
-  unfolding next_words add_states
-  next_words-joined (a ∷ b ∷ c ∷ d ∷ []) long made =
-      ap₂ ◌++◌ (made 0 (omega arith)) (ap₂ ◌++◌ (made 1 (omega arith)) (ap₂ ◌++◌ (made 2 (omega arith))
-      (ap₂ ◌++◌ (made 3 (omega arith)) refl)))
-  next_words-joined _ long made = absurd (omega arith)
 
   pub next_words-at : (i : ℕ) → i < 64 → slice_index (next_words n layout s) i ≡ next_word n layout s i
   unfolding next_words

@@ -153,6 +153,8 @@ pub fn write_buffer<R: Rounds, G: Group>(
         ≡ record steps.old { rounds = steps.old.rounds + 2 * G.ROUND_STEPS * R.COUNT } }
 {
     let words = mixed_words::<R, Legacy, G, 4>(state, steps);
-    buffer.copy_from_slice(words.as_flattened());
+    'four: for i in 0..4usize {
+        buffer[16 * i..16 * i + 16].copy_from_slice(&words[i]);
+    }
     advance::<Legacy>(state, 4);
 }

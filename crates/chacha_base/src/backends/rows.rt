@@ -1,7 +1,7 @@
 //! Groups of blocks with a vector for each row of a state, as many states as a vector has fours.
 
 ghost use Rattle.std.specs.Prelude.{◌≡◌, ◌<◌, ℕ, ◌*◌, ⊤, [], ◌∷◌, slice_index};
-ghost use Rattle.chacha_base.specs.Lanes.{row};
+ghost use Rattle.chacha_base.specs.Lanes.{row, state_row};
 ghost use Rattle.chacha_base.specs.Diagonalized.{rows_turned};
 ghost use Rattle.chacha_base.specs.Vectors.{block_in_rows};
 
@@ -36,6 +36,20 @@ fn repeated<V: Vector>(w0: u32, w1: u32, w2: u32, w3: u32) -> V
     V::from_words(&[
         w0, w1, w2, w3, w0, w1, w2, w3, w0, w1, w2, w3, w0, w1, w2, w3,
     ])
+}
+
+// Writes the row of one block.
+#[inline(always)]
+fn set_row(words: &mut [u32; 16], g: usize, values: &[u32; 4])
+    requires { g < 4 }
+    ensures here { state_row words.new g ≡ state_row values.now 0 }
+    ensures elsewhere { (h : ℕ) → h < 4 → ¬ (h ≡ g)
+        → state_row words.new h ≡ state_row words.old h }
+{
+    words[4 * g] = values[0];
+    words[4 * g + 1] = values[1];
+    words[4 * g + 2] = values[2];
+    words[4 * g + 3] = values[3];
 }
 
 // Turns the rows of each block to the left, each by its own number of places.
@@ -82,11 +96,15 @@ impl<V: Vector, const STAYS: usize> Group for Rows<V, STAYS> {
     #[inline(always)]
     fn start(state: &[u32; 16], last_rows: &[[u32; 4]]) -> Rows<V, STAYS> {
         let [w0, w1, w2, w3, w4, w5, w6, w7, w8, w9, w10, w11, _, _, _, _] = *state;
+        let mut d = [0; 16];
+        'each: for g in 0..V::FOURS {
+            set_row(&mut d, g, &last_rows[g]);
+        }
         Rows(FourVectors(
             repeated(w0, w1, w2, w3),
             repeated(w4, w5, w6, w7),
             repeated(w8, w9, w10, w11),
-            V::from_words(last_rows.as_flattened()),
+            V::from_words(&d),
         ))
     }
 

@@ -1,6 +1,6 @@
 //! Vectors of words, and the quarter round of four of them.
 
-ghost use Rattle.std.specs.Prelude.{◌≡◌, ◌≤◌, ◌<◌, ℕ, ◌+◌, ◌*◌, ⊤, length, bit_xor, slice_index};
+ghost use Rattle.std.specs.Prelude.{◌≡◌, ◌≤◌, ◌<◌, ℕ, ◌+◌, ◌*◌, ⊤, bit_xor, slice_index};
 ghost use Rattle.chacha_base.specs.Words.{add, rotl};
 ghost use Rattle.chacha_base.specs.QuarterRound.{quarter};
 ghost use Rattle.chacha_base.specs.Lanes.{row, interleaved_low, interleaved_high, turned};
@@ -21,8 +21,7 @@ pub trait Vector: Copy {
     const FOURS: usize;
 
     /// The vector of the first of these words, as many as it has lanes.
-    fn from_words(words: &[u32]) -> Self
-        requires { 4 * FOURS ≤ length words.now }
+    fn from_words(words: &[u32; 16]) -> Self
         ensures { (j : ℕ) → j < 4 * FOURS → lane result j ≡ slice_index words.now j };
 
     /// The sums of the words in each lane.
@@ -175,7 +174,7 @@ impl Vector for u32x4 {
     ghost fours_at_most = { lit≤ tt };
 
     #[inline(always)]
-    fn from_words(words: &[u32]) -> u32x4 {
+    fn from_words(words: &[u32; 16]) -> u32x4 {
         Simd::from_slice(words)
     }
 
@@ -232,7 +231,7 @@ impl Vector for u32x8 {
     ghost fours_at_most = { lit≤ tt };
 
     #[inline(always)]
-    fn from_words(words: &[u32]) -> u32x8 {
+    fn from_words(words: &[u32; 16]) -> u32x8 {
         Simd::from_slice(words)
     }
 
@@ -277,7 +276,7 @@ impl Vector for u32x16 {
     ghost fours_at_most = { lit≤ tt };
 
     #[inline(always)]
-    fn from_words(words: &[u32]) -> u32x16 {
+    fn from_words(words: &[u32; 16]) -> u32x16 {
         Simd::from_slice(words)
     }
 
