@@ -9,17 +9,7 @@ use Rattle.std.proofs.lemmas.Option.{slice_get_read, slice_get_within, get_or_fr
 use Rattle.std.proofs.lemmas.Slice.{drop-put_mid}
 use borrow.Rule.Slice.PartMut.{put_mid}
 
--- what holds of each list of n numbers, said number by number
-abbrev pub Each : ℕ → (List ℕ → Type 0) → Type 0
-Each zero P = P []
-Each (suc n) P = (x : ℕ) → Each n (λ xs. P (x ∷ xs))
-
-pub each : (n : ℕ) (P : List ℕ → Type 0) → Each n P → (xs : List ℕ) → length xs ≡ n → P xs
-each zero P p [] h = p
-each (suc n) P p (x ∷ xs) h = each n (λ ys. P (x ∷ ys)) (p x) xs (omega arith)
-each _ P p _ h = absurd (omega arith)
-
--- the same, where n is a numeral: what holds of the n words in a row
+-- what holds of the n words in a row, where n is a numeral, holds of each list of n words
 abbrev pub words_of : ℕ → List ℕ → List ℕ
 words_of n xs = map (slice_index xs) (range_with_len 0 n)
 
@@ -125,7 +115,3 @@ four_joined ea eb ec ed = cc
 pub four_listed : {X : Type 0} {a b c d p q r s : X} → a ≡ p → b ≡ q → c ≡ r → d ≡ s
     → a ∷ b ∷ c ∷ d ∷ [] ≡ p ∷ q ∷ r ∷ s ∷ []
 four_listed ea eb ec ed = cc
-
--- the next part of a list, of k elements from element a on
-pub part-length : (a k : ℕ) → a + k - a ≡ k
-part-length a k = omega arith

@@ -3,7 +3,7 @@
 use Rattle.std.proofs.Common.{◌≡◌, ℕ, min, ◌+◌, ◌-◌, ◌≤◌, List, ◌++◌, length, take, drop, arith, sym, ap, ap₂, ◌∙◌, take-add, drop-drop, length-take-le}
 use Rattle.std.proofs.lemmas.Slice.{take-put_mid, drop-put_mid}
 use borrow.Rule.Slice.PartMut.{put_mid}
-use Rattle.chacha_base.proofs.ListLemmas.{part_long, part-length}
+use Rattle.chacha_base.proofs.ListLemmas.{part_long}
 use Rattle.chacha_base.proofs.KeystreamLemmas.{xor_stream-append, stream_part-add}
 use Rattle.chacha_base.specs.Keystream.{xor_stream, stream_part}
 
@@ -25,8 +25,9 @@ pub xor_stream-written : (stream : ℕ → ℕ) (p done n k : ℕ) (input output
 xor_stream-written stream p done n k input output piece inside room size before made =
     let front = take done input in
     let next = take n (drop done input) in
+    let wide : done + n - done ≡ n = omega arith in
     take-put_mid done k output piece (done + n) (omega arith) room
-    ∙ ap₂ ◌++◌ before (made ∙ ap (λ m. xor_stream stream (p + done) (take m (drop done input))) (part-length done n))
+    ∙ ap₂ ◌++◌ before (made ∙ ap (λ m. xor_stream stream (p + done) (take m (drop done input))) wide)
     ∙ sym (ap (xor_stream stream p) (take-add done n input)
     ∙ xor_stream-append stream p front next
     ∙ ap (λ m. xor_stream stream p front ++ xor_stream stream (p + m) next) (length-take-le done input inside))
@@ -45,7 +46,7 @@ piece-within most len done n cut inside = omega arith
 pub piece-long : {X : Type 0} (done n : ℕ) (xs : List X) → done + n ≤ length xs
     → length (take (done + n - done) (drop done xs)) ≡ n
 piece-long done n xs inside =
-    ap (λ m. length (take m (drop done xs))) (part-length done n) ∙ part_long done n xs inside
+    let wide : done + n - done ≡ n = omega arith in part_long done (done + n - done) xs (omega arith) ∙ wide
 
 pub piece-fits : (now p done n size len limit : ℕ) → now ≡ p + done → size ≡ n → done + n ≤ len → p + len ≤ limit
     → now + size ≤ limit
