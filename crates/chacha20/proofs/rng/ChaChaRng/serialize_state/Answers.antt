@@ -1,5 +1,4 @@
-use Rattle.std.proofs.Common.{length, sym, ap, arith, ◌∙◌, bit_and}
-use Rattle.std.specs.Int.{w64, to_le_bytes}
+use Rattle.std.proofs.Common.{length, sym, ap, arith, ◌∙◌}
 use Rattle.chacha20.specs.StateBytes.{of_state_bytes}
 use Rattle.chacha20.proofs.StateBytesLemmas.{IsWritten, state_is, of_state_bytes-state_bytes}
 use Rattle.chacha20.proofs.rng.ChaChaRng.serialize_state.Goals as goal
@@ -7,11 +6,10 @@ use Rattle.chacha20.proofs.rng.ChaChaRng.serialize_state.Goals as goal
 pub returns : goal.returns
 returns g c =
     let w = c.get_word_pos-word_pos.result in
-    let seed = c.copy_from_slice.ensures.after ∙ c.get_seed.ensures in
     let is : IsWritten c.args.self.now _ _ _ w =
     record {
       long = c.copy_from_slice.ensures.len;
-      seed = seed;
+      seed = c.copy_from_slice.ensures.after ∙ c.get_seed.ensures;
       stream = rw c.get_stream.ensures at (c.copy_from_slice-2.ensures.after ∙ c.to_le_bytes-stream.ensures);
       low = rw c.from.ensures at (c.copy_from_slice-3.ensures.after ∙ c.to_le_bytes-low.ensures);
       position = c.get_word_pos-word_pos.ensures.value;
@@ -19,5 +17,5 @@ returns g c =
     record {
       value = state_is is;
       restored = ap of_state_bytes (state_is is)
-          ∙ of_state_bytes-state_bytes c.args.self.now (sym (ap length seed) ∙ is.long) (omega arith) (omega arith);
+          ∙ of_state_bytes-state_bytes c.args.self.now (sym (ap length is.seed) ∙ is.long) (omega arith) (omega arith);
     }
