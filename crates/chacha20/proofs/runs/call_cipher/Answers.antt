@@ -1,5 +1,5 @@
-use Rattle.std.proofs.Common.{◌≡◌, ◌≤◌, ◌+◌, ◌^◌, false, true, inl, inr, refl, ap, ◌∙◌, arith, rules, to_z-of_z, IsOk, SFits, w32}
-use Rattle.chacha_base.proofs.ListLemmas.{part_long, part-length}
+use Rattle.std.proofs.Common.{◌≡◌, ◌≤◌, ◌+◌, ◌-◌, ◌^◌, false, true, inl, inr, refl, ap, ◌∙◌, arith, rules, to_z-of_z, IsOk, SFits, w32}
+use Rattle.chacha_base.proofs.ListLemmas.{part_long}
 use Rattle.chacha20.specs.Runs.{setting}
 use Rattle.chacha20.proofs.ResultLemmas.{on_ok_given}
 use Rattle.chacha20.proofs.RunLemmas.{outcome-is, le-outcome-is, check-leaves, seek-leaves, seek_i32-is, put-leaves, both-Decides, pos-is, pos_i32-is}
@@ -14,7 +14,7 @@ returns-in-CheckRemaining g c =
 pub returns-in-Apply : goal.returns-in-Apply
 returns-in-Apply g c =
     let range = c.in-Apply in
-    let width = part-length range.at range.len in
+    let width : range.at + range.len - range.at ≡ range.len = omega arith in
     let size = part_long range.at range.len c.args.data.now (rw range.is at c.requires) in
     let said = rw (width, size) at c.try_apply_keystream.ensures in
     rw (range.is, width)
@@ -23,7 +23,7 @@ returns-in-Apply g c =
 pub returns-in-Write : goal.returns-in-Write
 returns-in-Write g c =
     let range = c.in-Write in
-    let width = part-length range.at range.len in
+    let width : range.at + range.len - range.at ≡ range.len = omega arith in
     let size = part_long range.at range.len c.args.data.now (rw range.is at c.requires) in
     let said = rw (width, size) at c.try_write_keystream.ensures in
     rw (range.is, width)
@@ -33,8 +33,8 @@ pub returns-in-ApplyFrom : goal.returns-in-ApplyFrom
 returns-in-ApplyFrom g c =
     let range = c.in-ApplyFrom in
     let inside = rw range.is at c.requires in
-    let width = part-length range.at range.len in
-    let from_width = part-length range.from range.from_len in
+    let width : range.at + range.len - range.at ≡ range.len = omega arith in
+    let from_width : range.from + range.from_len - range.from ≡ range.from_len = omega arith in
     let size = part_long range.at range.len c.args.data.now inside.1 in
     let from_size = part_long range.from range.from_len c.args.input.now inside.0 in
     let said = rw (width, from_width, size, from_size) at c.try_apply_keystream_b2b.ensures in
