@@ -1,7 +1,13 @@
 -- Tables of what fails in rows, by the row's number: nothing where no part of a row is entered yet,
 -- and else the first failure of its parts, if there is one.
-use Rattle.std.specs.Prelude.{ℕ, ◌≡◌, ◌<◌, List, Option, None, IsSome, All, slice_index_or}
-use Rattle.std.specs.Option.{option_flatten}
+use Rattle.std.specs.Prelude.{ℕ, ◌≡◌, ◌<◌, List, Option, None, Some, IsNone, IsSome, All, slice_set, slice_index_or}
+use Rattle.std.specs.Option.{option_flatten, option_or}
+
+-- a table in which what failed in a row, or in a part of it, is entered: an earlier failure stays
+abbrev pub with_entry : {Failure : Type 0} → List (Option (Option Failure)) → ℕ × Option Failure
+    → List (Option (Option Failure))
+with_entry table (number, failed) = slice_set table number
+    (Some (option_or (option_flatten (slice_index_or table number None)) failed))
 
 -- rows with these numbers are entered
 pub record AreEntered {Failure : Type 0} (numbers : List ℕ) (table : List (Option (Option Failure)))
@@ -20,3 +26,9 @@ pub record Keeps {Failure : Type 0} (before after : List (Option (Option Failure
       → IsSome (slice_index_or after number None)
   pub failures : (number : ℕ) → IsSome (option_flatten (slice_index_or before number None))
       → slice_index_or after number None ≡ slice_index_or before number None
+
+-- no wrong entry is lost: a row in which nothing failed has right entries alone
+pub record AreRightIn {Entry Failure : Type 0} (number : Entry → ℕ) (is_right : Entry → Type 0)
+    (entries : List Entry) (table : List (Option (Option Failure))) : Type 0 where
+  pub each : All (λ entry. number entry < 24
+      → IsNone (option_flatten (slice_index_or table (number entry) None)) → is_right entry) entries

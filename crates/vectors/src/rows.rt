@@ -1,9 +1,10 @@
 //! Worked rows: published calls with their answers, for any core and generator of their kind, and for the cipher over any
 //! core. A row is right if each call answers as published.
 
-ghost use Rattle.std.specs.Prelude.{◌≡◌, ◌↔◌, ◌<◌, ◌∷◌, [], All, IfSome, IsNone, IsSome, IsTrue, None, Some, SomeIndex, false, true, slice_index_or, slice_set};
-ghost use Rattle.std.specs.Option.{option_flatten, option_or};
-ghost use Rattle.vectors.specs.Rows.{AreEntered, AreEnteredBy, Keeps};
+ghost use Rattle.std.specs.Prelude.{◌≡◌, ◌↔◌, ◌<◌, ◌∷◌, [], All, IfSome, IsNone, IsSome, IsTrue, None, Some, SomeIndex, false, true, slice_index_or};
+ghost use Rattle.std.specs.Option.{option_flatten};
+ghost use Rattle.std.specs.List.{fold};
+ghost use Rattle.vectors.specs.Rows.{AreEntered, AreEnteredBy, Keeps, with_entry};
 
 pub mod ciphers;
 pub mod cores;
@@ -102,8 +103,7 @@ pub type Verdicts = [Option<Verdict>; 24];
 
 /// Enters what fails in a row, or in a part of it. What failed in another part stays.
 pub fn enter(verdicts: &mut Verdicts, number: usize, failed: Verdict)
-    ensures table { verdicts.new ≡ slice_set verdicts.old number
-        (Some (option_or (option_flatten (slice_index_or verdicts.old number None)) failed)) }
+    ensures table { verdicts.new ≡ with_entry verdicts.old (number, failed) }
     ensures kept { Keeps verdicts.old verdicts.new }
     ensures entered { number < 24 → IsSome (slice_index_or verdicts.new number None) }
 {
@@ -114,6 +114,7 @@ pub fn enter(verdicts: &mut Verdicts, number: usize, failed: Verdict)
 
 /// Enters several verdicts, each with its row's number.
 pub fn enter_all(verdicts: &mut Verdicts, rows: &[(usize, Verdict)])
+    ensures table { verdicts.new ≡ fold with_entry verdicts.old rows.now }
     ensures kept { Keeps verdicts.old verdicts.new }
     ensures entered { AreEnteredBy (λ row. row.0) rows.now verdicts.new }
 {

@@ -1,6 +1,6 @@
 //! Rows of ciphers.
 
-ghost use Rattle.std.specs.Prelude.{◌≡◌, ◌≤◌, ◌<◌, ◌+◌, ◌^◌, ◌∷◌, [], length};
+ghost use Rattle.std.specs.Prelude.{◌≡◌, ◌↔◌, ◌≤◌, ◌<◌, ◌+◌, ◌^◌, ◌∷◌, [], IfSome, IsNone, IsTrue, Some, length};
 ghost use Rattle.chacha20.specs.Keystream.{keystream, xor_stream};
 ghost use Rattle.chacha20.specs.Limit.{limit_of};
 ghost use Rattle.vectors.specs.Rows.{AreEntered, AreEnteredBy, Keeps};
@@ -432,6 +432,14 @@ fn row_18<C: KeyIvInit<Key = Key, Iv = Nonce> + StreamCipherSeek + Drop>() -> Ve
 }
 
 /// Whether a cipher returns this position; for `None`, whether it returns that the type can't represent it.
-pub fn is_at<C: StreamCipherSeek, T: SeekNum + PartialEq>(cipher: &C, place: Option<T>) -> bool {
-    cipher.try_current_pos::<T>().ok() == place
+pub fn is_at<C: StreamCipherSeek, T: SeekNum>(cipher: &C, place: Option<T>) -> bool
+    ensures none { IsNone place → IsTrue result ↔ (T.greatest < C.position cipher.now) }
+    ensures some { IfSome place (λ number. IsTrue result ↔ ((C.position cipher.now ≤ T.greatest)
+        × (T.position number ≡ Some (C.position cipher.now)))) }
+{
+    match (cipher.try_current_pos::<T>(), place) {
+        (Ok(number), Some(place)) => number.to_position() == place.to_position(),
+        (Err(_), None) => true,
+        _ => false,
+    }
 }

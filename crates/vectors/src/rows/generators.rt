@@ -1,7 +1,9 @@
 //! Rows of generators.
 
-ghost use Rattle.std.specs.Prelude.{◌∷◌, []};
-ghost use Rattle.vectors.specs.Rows.{AreEntered, AreEnteredBy, Keeps};
+ghost use Rattle.std.specs.Prelude.{◌↔◌, ◌∷◌, [], IsNone};
+ghost use Rattle.chacha20.specs.Generator.{of_seed};
+ghost use Rattle.vectors.specs.Draws.{AreDrawn};
+ghost use Rattle.vectors.specs.Rows.{AreEntered, AreEnteredBy, AreRightIn, Keeps};
 
 use super::lists::{RngList, wrong_draw};
 use super::{FROM_1, Verdict, Verdicts, enter, enter_all, failed};
@@ -32,6 +34,9 @@ type NumberedTable = (usize, Seed, &'static [RngList]);
 fn enter_tables<B: RngBackend<R20>>(verdicts: &mut Verdicts, tables: &[NumberedTable])
     ensures kept { Keeps verdicts.old verdicts.new }
     ensures entered { AreEnteredBy (λ row. row.0) tables.now verdicts.new }
+    ensures right { AreRightIn (λ row. row.0)
+        (λ row. AreDrawn ⟦<RngAnswer as PartialEq>⟧.eq 10 (of_seed row.1) row.2.now)
+        tables.now verdicts.new }
 {
     'each: for i in 0..tables.len() {
         let (number, seed, lists) = tables[i];
@@ -283,7 +288,9 @@ static TABLES: [NumberedTable; 7] = [
 ];
 
 /// The name of the first list that differs on a new generator of a seed, of lists that are run one after another.
-pub fn wrong_table<B: RngBackend<R20>>(seed: Seed, lists: &[RngList]) -> Verdict {
+pub fn wrong_table<B: RngBackend<R20>>(seed: Seed, lists: &[RngList]) -> Verdict
+    ensures { IsNone result ↔ AreDrawn ⟦<RngAnswer as PartialEq>⟧.eq 10 (of_seed seed) lists.now }
+{
     wrong_draw(&mut ChaChaRng::<R20, B>::from_seed(seed), lists)
 }
 

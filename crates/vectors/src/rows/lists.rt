@@ -1,9 +1,10 @@
 //! Tables of lists of calls with their answers. An entry of a `static` costs a proof a millisecond in each
 //! function that names it, and a call in code half a second.
 
-ghost use Rattle.std.specs.Prelude.{◌≤◌, ◌+◌, ◌↔◌, IsTrue, All, length};
+ghost use Rattle.std.specs.Prelude.{◌≡◌, ◌≤◌, ◌+◌, ◌↔◌, IsNone, IsTrue, All, length};
 ghost use Rattle.chacha20.specs.Runs.{InSlices};
 ghost use Rattle.chacha20.specs.GeneratorRuns.{InData};
+ghost use Rattle.vectors.specs.Draws.{HasRoom, AreListed, drawn, IsDrawn, AreDrawn};
 
 use super::{Verdict, failed_check};
 use chacha20::cipher::{RngBackend, StreamCipherSeekCore};
@@ -145,26 +146,48 @@ pub fn wrong_list<C: Listed>(cipher: &mut C, lists: &[CipherList]) -> Verdict {
     None
 }
 
-fn draws_as<R: Rounds, B: RngBackend<R>>(rng: &mut ChaChaRng<R, B>, list: &RngList) -> bool {
-    let mut buffer = [0; 256];
-    let mut answers = [RngAnswer::U32(7); 128];
-    let data = &mut buffer[..list.len.min(256)];
-    let answers = &mut answers[..list.calls.len().min(128)];
-    if answers.len() != list.calls.len() || !all_in_data(list.calls, data.len()) {
+// Whether a list's calls can be made.
+fn has_room(list: &RngList) -> bool
+    ensures { IsTrue result ↔ HasRoom list.now }
+{
+    (list.calls.len() <= 128) & (list.len <= 256) & all_in_data(list.calls, list.len)
+}
+
+// Whether a list has these answers and bytes.
+fn are_listed(list: &RngList, answers: &[RngAnswer], data: &[u8]) -> bool
+    ensures { IsTrue result
+        ↔ AreListed ⟦<RngAnswer as PartialEq>⟧.eq list.now answers.now «data».now }
+{
+    answers.ends_with(list.answers) & data.starts_with(list.first) & data.ends_with(list.last)
+}
+
+// Whether a list's calls give what it says.
+fn draws_as<R: Rounds, B: RngBackend<R>>(rng: &mut ChaChaRng<R, B>, list: &RngList) -> bool
+    ensures right { IsTrue result
+        ↔ IsDrawn ⟦<RngAnswer as PartialEq>⟧.eq R.COUNT rng.old list.now }
+    ensures rng { IsTrue result → rng.new ≡ (drawn R.COUNT rng.old list.now).1 }
+{
+    if !has_room(list) {
         return false;
     }
+    let mut buffer = [0; 256];
+    let mut answers = [RngAnswer::U32(7); 128];
+    let data = &mut buffer[..list.len];
+    let answers = &mut answers[..list.calls.len()];
     run_rng(rng, data, list.calls, answers);
-    answers.ends_with(list.answers) && data.starts_with(list.first) && data.ends_with(list.last)
+    are_listed(list, answers, data)
 }
 
 /// The same for a generator.
 pub fn wrong_draw<R: Rounds, B: RngBackend<R>>(
     rng: &mut ChaChaRng<R, B>,
     lists: &[RngList],
-) -> Verdict {
-    for list in lists {
-        if !draws_as(rng, list) {
-            return failed_check(list.name);
+) -> Verdict
+    ensures { IsNone result ↔ AreDrawn ⟦<RngAnswer as PartialEq>⟧.eq R.COUNT rng.old lists.now }
+{
+    'lists: for i in 0..lists.len() {
+        if !draws_as(rng, &lists[i]) {
+            return failed_check(lists[i].name);
         }
     }
     None
