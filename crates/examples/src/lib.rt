@@ -2,6 +2,7 @@
 //! contracts, definitions and lemmas of `chacha20`. `docs/GUIDE.md` has the steps to copy a file.
 #![tactic(auto)]
 
+pub mod backend;
 pub mod file;
 pub mod frames;
 pub mod message;

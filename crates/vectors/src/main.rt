@@ -2,38 +2,65 @@
 //! nothing. The status is 0 if each line says ok and could be written, and else 1.
 #![tactic(auto)]
 
+ghost use Rattle.std.specs.Prelude.{◌≡◌, ◌↔◌, All, IsNone, IsTrue};
+ghost use Rattle.std.specs.Option.{option_flatten};
+ghost use Rattle.std.specs.Process.{exit_status};
+
 mod rows;
 #[cfg(test)]
 mod tests;
 
 use rows::{Verdicts, first_wrong_row};
-use std::io;
+use std::fmt::{self, Display, Formatter};
 use std::process::ExitCode;
 
-fn print_bytes(rt: &impl Print, bytes: &[u8]) -> io::Result<()> {
-    for byte in bytes {
-        print!(rt; "{byte:02x}")?;
-    }
-    println!(rt; "")
+// The lines that the program prints.
+#[derive(Drop)]
+struct Lines<'a> {
+    ciphertext: &'a [u8; 16],
+    verdicts: &'a Verdicts,
 }
 
-// Prints a line for each row.
-fn print_rows(rt: &impl Print, verdicts: &Verdicts) -> io::Result<()> {
-    for (number, verdict) in verdicts.iter().enumerate() {
-        if let Some(failed) = *verdict {
-            let word = if failed.is_none() { "ok" } else { "bad" };
-            println!(rt; "row {number} {word}")?;
+impl Display for Lines<'_> {
+    fn fmt<W: fmt::Write>(&self, f: &mut Formatter<W>) -> fmt::Result {
+        for byte in self.ciphertext {
+            write!(f, "{byte:02x}")?;
         }
+        writeln!(f)?;
+        for (number, verdict) in self.verdicts.iter().enumerate() {
+            if let Some(failed) = *verdict {
+                let word = if failed.is_none() { "ok" } else { "bad" };
+                writeln!(f, "row {number} {word}")?;
+            }
+        }
+        Ok(())
     }
-    Ok(())
 }
 
-fn main(rt: HostRuntime) -> ExitCode {
-    let (ciphertext, verdicts) = rows::worked();
-    let printed = print_bytes(&rt, &ciphertext).is_ok() && print_rows(&rt, &verdicts).is_ok();
-    if printed && first_wrong_row(&verdicts).is_none() {
+// The status: success exactly where the lines could be printed, and no row is bad.
+fn status(printed: bool, verdicts: &Verdicts) -> ExitCode
+    ensures { exit_status result ≡ 0
+        ↔ (IsTrue printed × All (λ row. IsNone (option_flatten row)) verdicts.now) }
+{
+    if printed && first_wrong_row(verdicts).is_none() {
         ExitCode::SUCCESS
     } else {
         ExitCode::FAILURE
     }
+}
+
+// Prints what was found, and answers the status.
+fn report(rt: &impl Print, ciphertext: &[u8; 16], verdicts: &Verdicts) -> ExitCode
+    ensures { exit_status result ≡ 0 → All (λ row. IsNone (option_flatten row)) verdicts.now }
+{
+    let lines = Lines {
+        ciphertext,
+        verdicts,
+    };
+    status(print!(rt; "{lines}").is_ok(), verdicts)
+}
+
+fn main(rt: HostRuntime) -> ExitCode {
+    let (ciphertext, verdicts) = rows::worked();
+    report(&rt, &ciphertext, &verdicts)
 }

@@ -7,11 +7,13 @@ mod derived;
 mod direct;
 mod ends;
 mod everywhere;
+mod faults;
 mod generator_runs;
 mod generator_traits;
 mod generators;
 mod odd_cuts;
 mod positions;
+mod report;
 mod rfc8439;
 mod runs;
 mod streams;
@@ -20,11 +22,15 @@ mod toy_cipher;
 mod width3;
 mod wraps;
 
+ghost use Rattle.std.specs.Prelude.{All, IsNone};
+
 use crate::rows::Verdict;
 use std::process::Abort;
 
 // Stops the test at the first of these that fails: what is named first, a backend or a type, and then the check.
-fn all_right(rt: &impl Abort, verdicts: &[(&'static str, Verdict)]) {
+fn all_right(rt: &impl Abort, verdicts: &[(&'static str, Verdict)])
+    ensures { All (λ it. IsNone it.1) verdicts.now }
+{
     for (subject, verdict) in verdicts {
         if let Some(failure) = *verdict {
             panic!(rt; "{subject}: {}, {}", failure.check, failure.number);

@@ -85,8 +85,8 @@ where
     enter_table::<C>(verdicts, &FROM_1, &LEGACY_NONCE, &LEGACY_ROWS);
 }
 
-// Rows, or parts of them, that are lists of calls on a new cipher alone.
-fn enter_table<C: KeyIvInit + Listed + Drop>(
+/// Enters rows, or parts of them, that are lists of calls on a new cipher alone.
+pub fn enter_table<C: KeyIvInit + Listed + Drop>(
     verdicts: &mut Verdicts,
     key: &C::Key,
     nonce: &C::Iv,

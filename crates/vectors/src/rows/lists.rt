@@ -14,6 +14,7 @@ use chacha20::{
 };
 
 /// At most 32 calls on a cipher, over at most 400 bytes of data.
+#[derive(Drop)]
 pub struct CipherList {
     pub name: &'static str,
     pub input: &'static [u8],
@@ -26,6 +27,7 @@ pub struct CipherList {
 }
 
 /// At most 128 calls on a generator, over at most 256 bytes of data, which are zeros at first.
+#[derive(Drop)]
 pub struct RngList {
     pub name: &'static str,
     pub len: usize,

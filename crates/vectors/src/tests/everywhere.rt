@@ -6,7 +6,6 @@ ghost use Rattle.chacha20.specs.Limit.{limit_of};
 use super::beside::wrong_beside;
 use super::direct::{Directly, Fresh, stream_ends};
 use super::streams::{X_KEY, X_NONCE, XCHACHA_FROM_64, legacy_stream};
-use super::width3::Width3;
 use super::{
     all_right, backends, beside, core_calls, derived, ends, generator_runs, generator_traits,
     generators, odd_cuts, positions, rfc8439, runs, streams, wraps,
@@ -28,11 +27,12 @@ use chacha20::{
     ChaChaCore, ChaChaRng, Key, LegacyNonce, Nonce, R8, R12, R20, Rounds, Seed,
     StreamCipherCoreWrapper, XChaChaCore, XNonce,
 };
+use examples::backend::Width3;
 
 type Cipher<K> = StreamCipherCoreWrapper<K>;
 
-// Lists on a new cipher: called directly, and as lists.
-fn wrong_lists<N, C: Fresh<N>>(key: &Key, nonce: &N, lists: &[CipherList]) -> Verdict {
+/// What is wrong with lists on a new cipher: called directly, and as lists.
+pub fn wrong_lists<N, C: Fresh<N>>(key: &Key, nonce: &N, lists: &[CipherList]) -> Verdict {
     let direct = wrong_list(&mut Directly(&mut C::fresh(key, nonce)), lists);
     if direct.is_some() {
         return direct;
@@ -40,7 +40,8 @@ fn wrong_lists<N, C: Fresh<N>>(key: &Key, nonce: &N, lists: &[CipherList]) -> Ve
     wrong_list(&mut C::fresh(key, nonce), lists)
 }
 
-fn wrong_rows<N, C: Fresh<N>>(key: &Key, nonce: &N, rows: &[NumberedLists]) -> Verdict {
+/// The same of rows.
+pub fn wrong_rows<N, C: Fresh<N>>(key: &Key, nonce: &N, rows: &[NumberedLists]) -> Verdict {
     for (_, lists) in rows {
         let wrong = wrong_lists::<N, C>(key, nonce, *lists);
         if wrong.is_some() {

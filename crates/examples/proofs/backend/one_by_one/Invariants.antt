@@ -1,6 +1,6 @@
 use Rattle.std.proofs.Common.{◌≡◌}
 use Rattle.chacha20.specs.State.{state_after, AreNextBlocks}
-use Rattle.vectors.proofs.tests.width3.one_by_one.Given as goal
+use Rattle.examples.proofs.backend.one_by_one.Given as goal
 
 abbrev pub invariant-each : goal.invariant-each
 invariant-each g l = record {

@@ -1,6 +1,6 @@
 use Rattle.std.proofs.Common.{arith, refl, sym}
 use Rattle.chacha20.proofs.BackendLaws.{state_after-zero, state_after-more, next_block-more}
-use Rattle.vectors.proofs.tests.width3.one_by_one.Goals as goal
+use Rattle.examples.proofs.backend.one_by_one.Goals as goal
 
 pub each-init : goal.each-init
 each-init g c = record {
