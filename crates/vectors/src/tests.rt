@@ -19,7 +19,6 @@ mod runs;
 mod streams;
 mod toy;
 mod toy_cipher;
-mod width3;
 mod wraps;
 
 ghost use Rattle.std.specs.Prelude.{All, IsNone};

@@ -1,6 +1,7 @@
-//! The texts that `Debug` writes: of cores and generators over each backend, among them those of the named types; and
-//! of types that derive it.
+//! The texts that `Debug` writes: of cores and generators over each backend and a user's own, among them those of the
+//! named types; and of types that derive it.
 
+use crate::backend::Width3;
 use chacha20::cipher::{KeyIvInit, OverflowError, RngBackend, StreamCipherError};
 use chacha20::{
     ChaChaCore, ChaChaRng, CipherAnswer, CipherCall, Ietf, Lanes4, Lanes8, Lanes16, Legacy, R8,
@@ -58,8 +59,9 @@ fn over_each_backend(rt: HostRuntime) {
         texts::<Lanes8>(rt.alloc()),
         texts::<Rows8>(rt.alloc()),
         texts::<Lanes16>(rt.alloc()),
+        texts::<Width3>(rt.alloc()),
     ];
-    assert_eq!(rt; found, [[[true; 3]; 2]; 5]);
+    assert_eq!(rt; found, [[[true; 3]; 2]; 6]);
 }
 
 #[test]
