@@ -1,11 +1,11 @@
--- Lists of calls on a generator. The proofs of `draws_as` and `wrong_draw` cite these. Read `Draws` first.
-use Rattle.std.proofs.Common.{◌≡◌, ℕ, ◌≤◌, ◌+◌, Bool, List, [], ◌∷◌, All, length, replicate, drop, get_or, refl, sym, ◌∙◌, ap, subst}
+-- Lists of calls on a generator. The proof of `draws_as` cites these. Read `Draws` first.
+use Rattle.std.proofs.Common.{◌≡◌, ℕ, Bool, List, replicate, sym, ◌∙◌, ap, subst}
 use Rattle.std.specs.Prelude.{◌↔◌}
 use Rattle.chacha20.specs.Generator.{GeneratorState}
 use Rattle.chacha20.specs.GeneratorRuns.{rng_run}
 use Rattle.chacha20.specs.declared.runs.rng.RngAnswer.{RngAnswer}
 use Rattle.vectors.specs.declared.rows.lists.RngList.{RngList}
-use Rattle.vectors.specs.Draws.{HasRoom, AreListed, drawn, IsDrawn, AreDrawn}
+use Rattle.vectors.specs.Draws.{HasRoom, AreListed, drawn, IsDrawn}
 
 -- a run over zeros is that of the list
 pub run-drawn : (n : ℕ) (g : GeneratorState) (list : RngList) (old : List ℕ) (answers : List RngAnswer)

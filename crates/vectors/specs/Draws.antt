@@ -1,6 +1,6 @@
 -- What tables of lists ask of a generator. A list's data are zeros at first; the next list goes on
 -- with the generator that it leaves.
-use Rattle.std.specs.Prelude.{ℕ, ◌≡◌, ◌≤◌, Bool, eqb, IsTrue, List, [], ◌∷◌, All, length, replicate}
+use Rattle.std.specs.Prelude.{ℕ, ◌≤◌, Bool, eqb, IsTrue, List, [], ◌∷◌, All, length, replicate}
 use Rattle.std.specs.List.{starts_with, ends_with}
 use Rattle.chacha20.specs.Generator.{GeneratorState}
 use Rattle.chacha20.specs.GeneratorRuns.{rng_run, InData}
@@ -30,7 +30,7 @@ pub record IsDrawn (same : RngAnswer → RngAnswer → Bool) (n : ℕ) (g : Gene
   pub room : HasRoom list
   pub given : AreListed same list (drawn n g list).0 (drawn n g list).2
 
--- so do those of these lists, one after another
+-- the calls of several lists, one after another, give what these say
 abbrev pub AreDrawn : (RngAnswer → RngAnswer → Bool) → ℕ → GeneratorState → List RngList → Type 0
 AreDrawn same n g [] = Unit {0}
 AreDrawn same n g (list ∷ lists) =

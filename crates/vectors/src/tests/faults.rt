@@ -1,5 +1,5 @@
-//! Checkers that are given known faults: each must find the list, the draw, the row or the byte that is wrong, at the front,
-//! in the middle and at the end, and nothing where all are right.
+//! Checkers that are given known faults: each must find the list, the draw, the row or the byte that is wrong, at the
+//! front, in the middle and at the end, and nothing where all are right.
 
 use super::direct::{Direct, Fresh};
 use super::everywhere::{wrong_lists, wrong_rows};
@@ -14,8 +14,8 @@ use chacha20::{
     ChaChaCore, CipherAnswer, CipherCall, Key, Nonce, RngAnswer, RngCall, StreamCipherCoreWrapper,
 };
 
-// In the place of a cipher: call k after a seek answers position k, and sets byte k of the data to k. One of the two ways
-// to call it may fail.
+// In the place of a cipher: call k after a seek answers position k, and sets byte k of the data to k. One of the two
+// ways to call it may fail.
 #[derive(Drop)]
 struct Counting {
     made: u8,
