@@ -1,7 +1,7 @@
 //! Calls on a cipher that is made for each of them, over any core, with answers as C has them: 0 where a call is accepted,
 //! and 1 where it is refused. A position has 128 bits, so that it reaches the end of each stream.
 
-ghost use Rattle.std.specs.Prelude.{◌≡◌, ◌↔◌, ◌≤◌, ◌+◌, length, IsOk, OnOk, OnErr};
+ghost use Rattle.std.specs.Prelude.{◌≡◌, ◌↔◌, ◌≤◌, ◌+◌, cond, length, is_ok, IsOk, OnOk, OnErr};
 ghost use Rattle.chacha20.specs.Keystream.{keystream, stream_part, xor_stream};
 ghost use Rattle.chacha20.specs.Limit.{limit_of};
 ghost use Rattle.chacha20_c.specs.Answers.{Checked, Written, Xored, XoredInto};
@@ -21,10 +21,7 @@ pub(crate) fn xor_in_place<K: KeyIvInit + StreamCipherSeekCore + Drop>(
     ensures { Xored (limit_of K.modulus) (keystream K.modulus (K.blocks_of key.now nonce.now))
         position result «data».old «data».new }
 {
-    match try_xor_in_place::<K>(key, nonce, position, data) {
-        Ok(()) => 0,
-        Err(_) => 1,
-    }
+    answer(try_xor_in_place::<K>(key, nonce, position, data))
 }
 
 fn try_xor_in_place<K: KeyIvInit + StreamCipherSeekCore + Drop>(
@@ -54,10 +51,7 @@ pub(crate) fn xor_between<K: KeyIvInit + StreamCipherSeekCore + Drop>(
     ensures { XoredInto (limit_of K.modulus) (keystream K.modulus (K.blocks_of key.now nonce.now))
         position result input.now output.old output.new }
 {
-    match try_xor_between::<K>(key, nonce, position, input, output) {
-        Ok(()) => 0,
-        Err(_) => 1,
-    }
+    answer(try_xor_between::<K>(key, nonce, position, input, output))
 }
 
 fn try_xor_between<K: KeyIvInit + StreamCipherSeekCore + Drop>(
@@ -88,10 +82,7 @@ pub(crate) fn write_keystream<K: KeyIvInit + StreamCipherSeekCore + Drop>(
     ensures { Written (limit_of K.modulus) (keystream K.modulus (K.blocks_of key.now nonce.now))
         position result output.old output.new }
 {
-    match try_write_keystream::<K>(key, nonce, position, output) {
-        Ok(()) => 0,
-        Err(_) => 1,
-    }
+    answer(try_write_keystream::<K>(key, nonce, position, output))
 }
 
 fn try_write_keystream<K: KeyIvInit + StreamCipherSeekCore + Drop>(
@@ -109,6 +100,16 @@ fn try_write_keystream<K: KeyIvInit + StreamCipherSeekCore + Drop>(
     let mut cipher = StreamCipherCoreWrapper::<K>::new(key, nonce);
     cipher.try_seek(position)?;
     cipher.try_write_keystream(output)
+}
+
+// 0 for a call that was accepted, and 1 for one that was refused.
+fn answer(outcome: Result<(), StreamCipherError>) -> u32
+    ensures { result ≡ cond (is_ok outcome) 0 1 }
+{
+    match outcome {
+        Ok(()) => 0,
+        Err(_) => 1,
+    }
 }
 
 /// Whether so many bytes from a position on end at a limit or before it.
