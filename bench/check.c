@@ -159,9 +159,9 @@ static uint32_t combine_part(struct run *run, enum layout layout, int at_rounds,
             return cipher->xor(key, nonce, at.block, at.offset, len ? part : NULL, len ? input + from : NULL, len);
         case 2:
             memset(part, 0x55, len);
-            return cipher->xor_between(key, nonce, at.block, at.offset, input + from, len, part, len);
+            return cipher->xor_between(key, nonce, at.block, at.offset, part, len, input + from, len);
         case 3:
-            if (cipher->write_keystream(key, nonce, at.block, at.offset, keystream, len) != CHACHA20_OK) return 1;
+            if (cipher->keystream_raw(key, nonce, at.block, at.offset, keystream, len) != CHACHA20_OK) return 1;
             return combine_by_keystream(input + from, part, len);
         case 4:
             if (cipher->keystream(key, nonce, at.block, at.offset, len ? keystream : NULL, len) != CHACHA20_OK) {
@@ -259,7 +259,7 @@ static void one_generator(struct run *run) {
                     library->fill[at_rounds](state, len ? made + 4 * done : NULL, len);
                     if (len == 0) state[48] &= 15;
                 } else {
-                    library->fill_bytes[at_rounds](state, made + 4 * done, len);
+                    library->fill_raw[at_rounds](state, made + 4 * done, len);
                 }
                 /* What is left of the last word is lost. */
                 for (; len % 4; len++) made[4 * done + len] = right[4 * done + len];
@@ -344,9 +344,9 @@ static void one_refusal(struct run *run) {
     random_bytes(run, input, 300);
     memcpy(made, input, 300);
     holds(run, cipher->xor_in_place(key, nonce, at.block, at.offset, made, len) == 1, "taken past the end");
-    holds(run, cipher->xor_between(key, nonce, at.block, at.offset, expected, len, made, len) == 1,
+    holds(run, cipher->xor_between(key, nonce, at.block, at.offset, made, len, expected, len) == 1,
           "taken past the end between buffers");
-    holds(run, cipher->write_keystream(key, nonce, at.block, at.offset, made, len) == 1,
+    holds(run, cipher->keystream_raw(key, nonce, at.block, at.offset, made, len) == 1,
           "a keystream past the end");
     holds(run, cipher->xor(key, nonce, at.block, at.offset, made, made, len) == 1 &&
                    cipher->xor(key, nonce, at.block, at.offset, made, expected, len) == 1 &&
@@ -356,20 +356,20 @@ static void one_refusal(struct run *run) {
     holds(run, library->check[layout](last.block, last.offset, len) == 0, "a check up to the end");
     holds(run, library->check[layout](ends.block, ends.offset, 0) == 0, "a check of nothing at the end");
     holds(run, cipher->xor_in_place(key, nonce, ends.block, ends.offset, made, 0) == 0 &&
-                   cipher->xor_between(key, nonce, ends.block, ends.offset, expected, 0, made, 0) == 0 &&
-                   cipher->write_keystream(key, nonce, ends.block, ends.offset, made, 0) == 0 &&
+                   cipher->xor_between(key, nonce, ends.block, ends.offset, made, 0, expected, 0) == 0 &&
+                   cipher->keystream_raw(key, nonce, ends.block, ends.offset, made, 0) == 0 &&
                    cipher->xor(key, nonce, ends.block, ends.offset, NULL, NULL, 0) == 0 &&
                    cipher->keystream(key, nonce, ends.block, ends.offset, NULL, 0) == 0,
           "nothing at the end was refused");
     holds(run, cipher->xor_in_place(key, nonce, beyond.block, beyond.offset, made, 0) == 1 &&
-                   cipher->xor_between(key, nonce, beyond.block, beyond.offset, expected, 0, made, 0) == 1 &&
-                   cipher->write_keystream(key, nonce, beyond.block, beyond.offset, made, 0) == 1 &&
+                   cipher->xor_between(key, nonce, beyond.block, beyond.offset, made, 0, expected, 0) == 1 &&
+                   cipher->keystream_raw(key, nonce, beyond.block, beyond.offset, made, 0) == 1 &&
                    cipher->xor(key, nonce, beyond.block, beyond.offset, NULL, NULL, 0) == 1 &&
                    cipher->keystream(key, nonce, beyond.block, beyond.offset, NULL, 0) == 1 &&
                    library->check[layout](beyond.block, beyond.offset, 0) == 1,
           "nothing past the end was taken");
     if (other_len != len) {
-        holds(run, cipher->xor_between(key, nonce, 0, 0, expected, len, made, other_len) == 1, "unequal lengths");
+        holds(run, cipher->xor_between(key, nonce, 0, 0, made, other_len, expected, len) == 1, "unequal lengths");
     }
     size_t apart = below(run, 2) ? 1 + below(run, len) : len - 1, both = len + apart;
     if (apart > 0 && apart < len && both <= 300) {
@@ -442,11 +442,11 @@ static void cipher_at_edges(struct run *run, const struct cipher *cipher, const 
     holds(run, cipher->xor_in_place(key, nonce, position / 64, position % 64, output, len) == 0, "an answer, in place");
     same_bytes(run, output, right, len, "bytes at an edge, in place");
     memset(output, 0x55, len);
-    holds(run, cipher->xor_between(key, nonce, position / 64, position % 64, from, len, output, len) == 0,
+    holds(run, cipher->xor_between(key, nonce, position / 64, position % 64, output, len, from, len) == 0,
           "an answer, between buffers");
     same_bytes(run, output, right, len, "bytes at an edge, between buffers");
     memset(output, 0x55, len);
-    holds(run, cipher->write_keystream(key, nonce, position / 64, position % 64, output, len) == 0,
+    holds(run, cipher->keystream_raw(key, nonce, position / 64, position % 64, output, len) == 0,
           "an answer, keystream");
     for (size_t i = 0; i < len; i++) output[i] ^= from[i];
     same_bytes(run, output, right, len, "a keystream at an edge");
@@ -462,7 +462,7 @@ static void generator_at_edges(struct run *run, const struct library *library, i
     memset(made, 0, len + 24);
     const uint8_t *right =
         by_other(&plain_c, LEGACY, rounds_of[at_rounds], key, stream_0, 0, made, len + 24, expected);
-    library->fill_bytes[at_rounds](state, output, len);
+    library->fill_raw[at_rounds](state, output, len);
     same_bytes(run, output, right + 12, len, "words at an edge");
     library->set_word_pos(state, 1, 16);
     holds(run, library->next_u32[at_rounds](state) ==

@@ -12,12 +12,12 @@
         return NAME##_xor_in_place(key, nonce, PLACE, data, len);                                                 \
     }                                                                                                             \
     static uint32_t NAME##_2(const uint8_t *key, const uint8_t *nonce, uint64_t block, uint64_t offset,           \
-                             const uint8_t *input, size_t input_len, uint8_t *output, size_t output_len) {        \
-        return NAME##_xor_between(key, nonce, PLACE, input, input_len, output, output_len);                       \
+                             uint8_t *output, size_t output_len, const uint8_t *input, size_t input_len) {        \
+        return NAME##_xor_between(key, nonce, PLACE, output, output_len, input, input_len);                       \
     }                                                                                                             \
     static uint32_t NAME##_3(const uint8_t *key, const uint8_t *nonce, uint64_t block, uint64_t offset,           \
                              uint8_t *output, size_t len) {                                                       \
-        return NAME##_write_keystream(key, nonce, PLACE, output, len);                                            \
+        return NAME##_keystream_raw(key, nonce, PLACE, output, len);                                            \
     }                                                                                                             \
     static uint32_t NAME##_4(const uint8_t *key, const uint8_t *nonce, uint64_t block, uint64_t offset,           \
                              uint8_t *output, const uint8_t *input, size_t len) {                                 \
@@ -54,7 +54,7 @@ const struct library LIBRARY = {
     .hchacha = {hchacha8, hchacha12, hchacha20},
     .next_u32 = {chacha8_rng_next_u32, chacha12_rng_next_u32, chacha20_rng_next_u32},
     .next_u64 = {chacha8_rng_next_u64, chacha12_rng_next_u64, chacha20_rng_next_u64},
-    .fill_bytes = {chacha8_rng_fill_bytes, chacha12_rng_fill_bytes, chacha20_rng_fill_bytes},
+    .fill_raw = {chacha8_rng_fill_raw, chacha12_rng_fill_raw, chacha20_rng_fill_raw},
     .fill = {chacha8_rng_fill, chacha12_rng_fill, chacha20_rng_fill},
     .buffer_begin = chacha_rng_buffer_begin,
     .buffer_end = chacha_rng_buffer_end,

@@ -18,8 +18,8 @@ struct cipher {
     uint32_t (*xor_in_place)(const uint8_t *key, const uint8_t *nonce, uint64_t block, uint64_t offset, uint8_t *data,
                              size_t len);
     uint32_t (*xor_between)(const uint8_t *key, const uint8_t *nonce, uint64_t block, uint64_t offset,
-                            const uint8_t *input, size_t input_len, uint8_t *output, size_t output_len);
-    uint32_t (*write_keystream)(const uint8_t *key, const uint8_t *nonce, uint64_t block, uint64_t offset,
+                            uint8_t *output, size_t output_len, const uint8_t *input, size_t input_len);
+    uint32_t (*keystream_raw)(const uint8_t *key, const uint8_t *nonce, uint64_t block, uint64_t offset,
                                 uint8_t *output, size_t len);
     uint32_t (*xor)(const uint8_t *key, const uint8_t *nonce, uint64_t block, uint64_t offset, uint8_t *output,
                     const uint8_t *input, size_t len);
@@ -34,7 +34,7 @@ struct library {
     void (*hchacha[ROUNDS])(const uint8_t *key, const uint8_t *input, uint8_t *subkey);
     uint32_t (*next_u32[ROUNDS])(uint8_t *state);
     uint64_t (*next_u64[ROUNDS])(uint8_t *state);
-    void (*fill_bytes[ROUNDS])(uint8_t *state, uint8_t *output, size_t len);
+    void (*fill_raw[ROUNDS])(uint8_t *state, uint8_t *output, size_t len);
     void (*fill[ROUNDS])(uint8_t *state, uint8_t *output, size_t len);
     void (*buffer_begin)(struct chacha_rng_buffer *buffer, const uint8_t *state);
     void (*buffer_end)(const struct chacha_rng_buffer *buffer, uint8_t *state);

@@ -28,9 +28,9 @@ uint32_t misuse(void) {
 #elif CASE == 3 /* gcc clang g++ clang++: a length past the end of the data */
     answer = xchacha20_xor_in_place(key, nonce, 0, data, sizeof data + 1);
 #elif CASE == 4 /* gcc clang g++ clang++: a length past the end of the input */
-    answer = xchacha20_xor_between(key, nonce, 0, data, 101, output, sizeof output);
+    answer = xchacha20_xor_between(key, nonce, 0, output, sizeof output, data, 101);
 #elif CASE == 5 /* gcc clang g++ clang++: a length past the end of the output */
-    answer = xchacha20_xor_between(key, nonce, 0, data, sizeof data, output, 101);
+    answer = xchacha20_xor_between(key, nonce, 0, output, 101, data, sizeof data);
 #elif CASE == 6 /* gcc clang g++ clang++: the same for a function that the header defines */
     answer = xchacha20_xor(key, nonce, 0, output, data, 101);
 #elif CASE == 7 /* gcc clang g++ clang++: a nonce of 12 bytes for XChaCha20 */
@@ -56,7 +56,7 @@ uint32_t misuse(void) {
 #elif CASE == 17 /* gcc clang g++ clang++: null data with a length, for a function that the header defines */
     answer = xchacha20_xor(key, nonce, 0, NULL, data, sizeof data);
 #elif CASE == 18 /* gcc clang g++ clang++: random bytes past the end of a buffer */
-    chacha20_rng_fill_bytes(state, data, sizeof data + 1);
+    chacha20_rng_fill_raw(state, data, sizeof data + 1);
 #elif CASE == 19 /* gcc clang g++ clang++: both halves of a position in one place */
     chacha_rng_get_word_pos(state, &low, &low);
 #elif CASE == 20 /* gcc clang g++ clang++: a state without room for it */
@@ -65,7 +65,7 @@ uint32_t misuse(void) {
     answer = xchacha20_xor(key, nonce, 0, none, none, 0);
     answer |= xchacha20_xor_in_place(key, nonce, 0, data + sizeof data, 0);
     answer |= chacha20_xor_in_place(key, &nonce[0], 0, data, sizeof data);
-    answer |= chacha20_xor_between(key, nonce_of_another, 0, data, sizeof data, output, sizeof output);
+    answer |= chacha20_xor_between(key, nonce_of_another, 0, output, sizeof output, data, sizeof data);
     chacha20_rng_fill(state, none, 0);
 #endif
     return answer + short_key[0] + nonce_12[0] + nonce_of_another[0] + output[0] + (none == 0) + (uint32_t)low;

@@ -31,8 +31,8 @@ static void all_secret(void) {
 static void by_cipher(const struct cipher *cipher, uint64_t position, size_t len) {
     uint64_t block = position / 64, offset = position % 64;
     done(cipher->xor_in_place(key, nonce, block, offset, output, len));
-    done(cipher->xor_between(key, nonce, block, offset, input, len, output, len));
-    done(cipher->write_keystream(key, nonce, block, offset, output, len));
+    done(cipher->xor_between(key, nonce, block, offset, output, len, input, len));
+    done(cipher->keystream_raw(key, nonce, block, offset, output, len));
     done(cipher->xor(key, nonce, block, offset, output, output, len));
     done(cipher->xor(key, nonce, block, offset, output, input, len));
     done(cipher->keystream(key, nonce, block, offset, output, len));
@@ -45,7 +45,7 @@ static void by_generator(const struct library *library, int at_rounds, uint64_t 
     library->set_stream(state, 5);
     (void)VALGRIND_MAKE_MEM_UNDEFINED(state, 40);
     library->set_word_pos(state, position, 1);
-    library->fill_bytes[at_rounds](state, output, len);
+    library->fill_raw[at_rounds](state, output, len);
     library->fill[at_rounds](state, output, len);
     (void)library->next_u32[at_rounds](state);
     (void)library->next_u64[at_rounds](state);

@@ -31,8 +31,8 @@ static __attribute__((noinline)) void one_call(void) {
     uint64_t low, high;
     switch (kind) {
         case 0: answer = cipher->xor_in_place(key, nonce, 7, 5, output, len); break;
-        case 1: answer = cipher->xor_between(key, nonce, 7, 5, input, len, output, len); break;
-        case 2: answer = cipher->write_keystream(key, nonce, 7, 5, output, len); break;
+        case 1: answer = cipher->xor_between(key, nonce, 7, 5, output, len, input, len); break;
+        case 2: answer = cipher->keystream_raw(key, nonce, 7, 5, output, len); break;
         case 3: answer = library->check[layout](7, 5, len); break;
         case 4: library->hchacha[at_rounds](key, nonce, output); break;
         case 5: library->from_seed(key, state); break;
@@ -44,7 +44,7 @@ static __attribute__((noinline)) void one_call(void) {
         case 11: answer = library->next_u32[at_rounds](state); break;
         case 12: answer = (uint32_t)library->next_u64[at_rounds](state); break;
         case 13: answer = (uint32_t)library->buffered_u64[at_rounds](&buffer); break;
-        default: library->fill_bytes[at_rounds](state, output, len);
+        default: library->fill_raw[at_rounds](state, output, len);
     }
 }
 

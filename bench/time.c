@@ -200,7 +200,7 @@ static void buffered_words(const struct library *library, uint8_t *data) {
 }
 
 static void filled_words(const struct library *library, uint8_t *data) {
-    library->fill_bytes[2](data, data + 64, 256);
+    library->fill_raw[2](data, data + 64, 256);
 }
 
 static void time_small(const struct machine *machine, uint8_t *data, int turns) {
@@ -211,7 +211,7 @@ static void time_small(const struct machine *machine, uint8_t *data, int turns) 
     } all[] = {{"a piece of 16 bytes of a stream", pieces, 64},
                {"a word by next_u32", single_words, 64},
                {"a word by a buffer, with its begin and end", buffered_words, 64},
-               {"a word of fill_bytes of 256 bytes", filled_words, 64}};
+               {"a word of fill_raw of 256 bytes", filled_words, 64}};
     const char *names[MOST_BUILDS];
     for (int i = 0; i < machine->build_count; i++) names[i] = machine->builds[i]->level;
     print_head("nanoseconds", names, machine->build_count);

@@ -9,6 +9,7 @@
    one is made. */
 
 #include "../include/chacha20.h"
+#include "../include/chacha20_compiler.h"
 #include "processor.h"
 
 static int level = 1;
@@ -45,10 +46,10 @@ __attribute__((constructor)) static void choose(void) {
             (KEY, const uint8_t nonce[CHACHA20_MIN(NONCE)], PLACE, uint8_t *restrict data, size_t len), \
             (key, nonce, PLACE_ARGUMENTS, data, len))                                                  \
     ANSWERS(uint32_t, NAME##_xor_between,                                                              \
-            (KEY, const uint8_t nonce[CHACHA20_MIN(NONCE)], PLACE, const uint8_t *input,               \
-             size_t input_len, uint8_t *restrict output, size_t output_len),                           \
-            (key, nonce, PLACE_ARGUMENTS, input, input_len, output, output_len))                       \
-    ANSWERS(uint32_t, NAME##_write_keystream,                                                          \
+            (KEY, const uint8_t nonce[CHACHA20_MIN(NONCE)], PLACE, uint8_t *restrict output,           \
+             size_t output_len, const uint8_t *input, size_t input_len),                               \
+            (key, nonce, PLACE_ARGUMENTS, output, output_len, input, input_len))                       \
+    ANSWERS(uint32_t, NAME##_keystream_raw,                                                          \
             (KEY, const uint8_t nonce[CHACHA20_MIN(NONCE)], PLACE, uint8_t *restrict output,           \
              size_t len),                                                                              \
             (key, nonce, PLACE_ARGUMENTS, output, len))
@@ -80,7 +81,7 @@ SUBKEY(hchacha8)
 #define GENERATOR(NAME)                                                                                \
     ANSWERS(uint32_t, NAME##_next_u32, (STATE), (state))                                               \
     ANSWERS(uint64_t, NAME##_next_u64, (STATE), (state))                                               \
-    WRITES(NAME##_fill_bytes,                                                                          \
+    WRITES(NAME##_fill_raw,                                                                          \
            (uint8_t state[CHACHA20_MIN_APART(49)], uint8_t *restrict output, size_t len),              \
            (state, output, len))
 

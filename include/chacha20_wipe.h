@@ -7,7 +7,7 @@
        chacha20_wipe_stack();
 
    Call it from the function that made the calls, so that it begins where they began. The library's
-   calls of 0.5.0 go CHACHA20_DEEPEST bytes deep at most (make -C bench stack measures it); the rest
+   calls of 0.6.0 go CHACHA20_DEEPEST bytes deep at most (make -C bench stack measures it); the rest
    is for what a compiler puts between. It reaches no registers, no copies that your own functions
    made, and none that the system made of the stack, as in a core file or a signal's frame. */
 
@@ -15,6 +15,7 @@
 #define CHACHA20_WIPE_H
 
 #include "chacha20.h"
+#include "chacha20_compiler.h"
 
 #define CHACHA20_DEEPEST 4608
 #define CHACHA20_WIPE_BYTES 8192
@@ -36,5 +37,7 @@ static void chacha20_wipe_stack(void) CHACHA20_NOEXCEPT {
 #ifdef __cplusplus
 }
 #endif
+
+#include "chacha20_compiler.h"
 
 #endif

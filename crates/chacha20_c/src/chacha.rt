@@ -27,13 +27,13 @@ fn xor_between<R: Rounds>(
     key: &Key,
     nonce: &Nonce,
     position: u64,
-    input: &[u8],
     output: &mut [u8],
+    input: &[u8],
 ) -> u32
     ensures { XoredInto (limit_of (modulus ietf)) (keystream (modulus ietf)
         (block R.COUNT ietf key.now nonce.now)) position result input.now output.old output.new }
 {
-    stateless::xor_between::<Core<R>>(key, nonce, u128::from(position), input, output)
+    stateless::xor_between::<Core<R>>(key, nonce, u128::from(position), output, input)
 }
 
 fn write_keystream<R: Rounds>(key: &Key, nonce: &Nonce, position: u64, output: &mut [u8]) -> u32
@@ -67,20 +67,20 @@ pub extern "C" fn chacha8_xor_between(
     key: &Key,
     nonce: &Nonce,
     position: u64,
-    input: &[u8],
     output: &mut [u8],
+    input: &[u8],
 ) -> u32
     ensures { XoredInto (limit_of (modulus ietf)) (keystream (modulus ietf)
         (block 4 ietf key.now nonce.now)) position result input.now output.old output.new }
 {
-    xor_between::<R8>(key, nonce, position, input, output)
+    xor_between::<R8>(key, nonce, position, output, input)
 }
 
 /// The keystream of `chacha8_xor_in_place`: writes its bytes over `output`, whatever was there.
 /// Answers 0, or 1 where the bytes would pass the end of the stream, and then nothing is written.
 /// `output` overlaps no other argument.
 #[unsafe(no_mangle)]
-pub extern "C" fn chacha8_write_keystream(
+pub extern "C" fn chacha8_keystream_raw(
     key: &Key,
     nonce: &Nonce,
     position: u64,
@@ -116,20 +116,20 @@ pub extern "C" fn chacha12_xor_between(
     key: &Key,
     nonce: &Nonce,
     position: u64,
-    input: &[u8],
     output: &mut [u8],
+    input: &[u8],
 ) -> u32
     ensures { XoredInto (limit_of (modulus ietf)) (keystream (modulus ietf)
         (block 6 ietf key.now nonce.now)) position result input.now output.old output.new }
 {
-    xor_between::<R12>(key, nonce, position, input, output)
+    xor_between::<R12>(key, nonce, position, output, input)
 }
 
 /// The keystream of `chacha12_xor_in_place`: writes its bytes over `output`, whatever was there.
 /// Answers 0, or 1 where the bytes would pass the end of the stream, and then nothing is written.
 /// `output` overlaps no other argument.
 #[unsafe(no_mangle)]
-pub extern "C" fn chacha12_write_keystream(
+pub extern "C" fn chacha12_keystream_raw(
     key: &Key,
     nonce: &Nonce,
     position: u64,
@@ -165,20 +165,20 @@ pub extern "C" fn chacha20_xor_between(
     key: &Key,
     nonce: &Nonce,
     position: u64,
-    input: &[u8],
     output: &mut [u8],
+    input: &[u8],
 ) -> u32
     ensures { XoredInto (limit_of (modulus ietf)) (keystream (modulus ietf)
         (block 10 ietf key.now nonce.now)) position result input.now output.old output.new }
 {
-    xor_between::<R20>(key, nonce, position, input, output)
+    xor_between::<R20>(key, nonce, position, output, input)
 }
 
 /// The keystream of `chacha20_xor_in_place`: writes its bytes over `output`, whatever was there.
 /// Answers 0, or 1 where the bytes would pass the end of the stream, and then nothing is written.
 /// `output` overlaps no other argument.
 #[unsafe(no_mangle)]
-pub extern "C" fn chacha20_write_keystream(
+pub extern "C" fn chacha20_keystream_raw(
     key: &Key,
     nonce: &Nonce,
     position: u64,

@@ -110,7 +110,7 @@ pub extern "C" fn chacha8_rng_next_u64(state: &mut SerializedRngState) -> u64
 /// crate). The bytes of the last word that `output` has no room for are lost; no bytes take no word. `output` and
 /// `state` do not overlap.
 #[unsafe(no_mangle)]
-pub extern "C" fn chacha8_rng_fill_bytes(state: &mut SerializedRngState, output: &mut [u8])
+pub extern "C" fn chacha8_rng_fill_raw(state: &mut SerializedRngState, output: &mut [u8])
     ensures bytes { output.new ≡ (fill 4 (of_state_bytes state.old) (length output.old)).0 }
     ensures moved { of_state_bytes state.new
         ≡ (fill 4 (of_state_bytes state.old) (length output.old)).1 }
@@ -143,7 +143,7 @@ pub extern "C" fn chacha12_rng_next_u64(state: &mut SerializedRngState) -> u64
 /// crate). The bytes of the last word that `output` has no room for are lost; no bytes take no word. `output` and
 /// `state` do not overlap.
 #[unsafe(no_mangle)]
-pub extern "C" fn chacha12_rng_fill_bytes(state: &mut SerializedRngState, output: &mut [u8])
+pub extern "C" fn chacha12_rng_fill_raw(state: &mut SerializedRngState, output: &mut [u8])
     ensures bytes { output.new ≡ (fill 6 (of_state_bytes state.old) (length output.old)).0 }
     ensures moved { of_state_bytes state.new
         ≡ (fill 6 (of_state_bytes state.old) (length output.old)).1 }
@@ -176,7 +176,7 @@ pub extern "C" fn chacha20_rng_next_u64(state: &mut SerializedRngState) -> u64
 /// crate). The bytes of the last word that `output` has no room for are lost; no bytes take no word. `output` and
 /// `state` do not overlap.
 #[unsafe(no_mangle)]
-pub extern "C" fn chacha20_rng_fill_bytes(state: &mut SerializedRngState, output: &mut [u8])
+pub extern "C" fn chacha20_rng_fill_raw(state: &mut SerializedRngState, output: &mut [u8])
     ensures bytes { output.new ≡ (fill 10 (of_state_bytes state.old) (length output.old)).0 }
     ensures moved { of_state_bytes state.new
         ≡ (fill 10 (of_state_bytes state.old) (length output.old)).1 }

@@ -42,8 +42,8 @@ pub extern "C" fn chacha20_legacy_xor_between(
     nonce: &LegacyNonce,
     block_pos: u64,
     offset: u64,
-    input: &[u8],
     output: &mut [u8],
+    input: &[u8],
 ) -> u32
     ensures { XoredInto (limit_of (modulus legacy)) (keystream (modulus legacy)
         (block 10 legacy key.now nonce.now))
@@ -53,8 +53,8 @@ pub extern "C" fn chacha20_legacy_xor_between(
         key,
         nonce,
         position(block_pos, offset),
-        input,
         output,
+        input,
     )
 }
 
@@ -62,7 +62,7 @@ pub extern "C" fn chacha20_legacy_xor_between(
 /// Answers 0, or 1 where the bytes would pass the end of the stream, and then nothing is written.
 /// `output` overlaps no other argument.
 #[unsafe(no_mangle)]
-pub extern "C" fn chacha20_legacy_write_keystream(
+pub extern "C" fn chacha20_legacy_keystream_raw(
     key: &Key,
     nonce: &LegacyNonce,
     block_pos: u64,

@@ -45,21 +45,21 @@ pub(crate) fn xor_between<K: KeyIvInit + StreamCipherSeekCore + Drop>(
     key: &K::Key,
     nonce: &K::Iv,
     position: u128,
-    input: &[u8],
     output: &mut [u8],
+    input: &[u8],
 ) -> u32
     ensures { XoredInto (limit_of K.modulus) (keystream K.modulus (K.blocks_of key.now nonce.now))
         position result input.now output.old output.new }
 {
-    answer(try_xor_between::<K>(key, nonce, position, input, output))
+    answer(try_xor_between::<K>(key, nonce, position, output, input))
 }
 
 fn try_xor_between<K: KeyIvInit + StreamCipherSeekCore + Drop>(
     key: &K::Key,
     nonce: &K::Iv,
     position: u128,
-    input: &[u8],
     output: &mut [u8],
+    input: &[u8],
 ) -> Result<(), StreamCipherError>
     ensures accepted { IsOk result ↔ ((length input.now ≡ length output.old)
         × (position + length input.now ≤ limit_of K.modulus)) }

@@ -27,14 +27,14 @@ fn xor_between<R: Rounds>(
     key: &Key,
     nonce: &XNonce,
     position: u64,
-    input: &[u8],
     output: &mut [u8],
+    input: &[u8],
 ) -> u32
     ensures { XoredInto (limit_of (modulus ietf)) (keystream (modulus ietf)
         (block R.COUNT ietf (subkey R.COUNT key.now nonce.now) (subnonce nonce.now)))
         position result input.now output.old output.new }
 {
-    stateless::xor_between::<Core<R>>(key, nonce, u128::from(position), input, output)
+    stateless::xor_between::<Core<R>>(key, nonce, u128::from(position), output, input)
 }
 
 fn write_keystream<R: Rounds>(key: &Key, nonce: &XNonce, position: u64, output: &mut [u8]) -> u32
@@ -70,21 +70,21 @@ pub extern "C" fn xchacha8_xor_between(
     key: &Key,
     nonce: &XNonce,
     position: u64,
-    input: &[u8],
     output: &mut [u8],
+    input: &[u8],
 ) -> u32
     ensures { XoredInto (limit_of (modulus ietf)) (keystream (modulus ietf)
         (block 4 ietf (subkey 4 key.now nonce.now) (subnonce nonce.now)))
         position result input.now output.old output.new }
 {
-    xor_between::<R8>(key, nonce, position, input, output)
+    xor_between::<R8>(key, nonce, position, output, input)
 }
 
 /// The keystream of `xchacha8_xor_in_place`: writes its bytes over `output`, whatever was there.
 /// Answers 0, or 1 where the bytes would pass the end of the stream, and then nothing is written.
 /// `output` overlaps no other argument.
 #[unsafe(no_mangle)]
-pub extern "C" fn xchacha8_write_keystream(
+pub extern "C" fn xchacha8_keystream_raw(
     key: &Key,
     nonce: &XNonce,
     position: u64,
@@ -122,21 +122,21 @@ pub extern "C" fn xchacha12_xor_between(
     key: &Key,
     nonce: &XNonce,
     position: u64,
-    input: &[u8],
     output: &mut [u8],
+    input: &[u8],
 ) -> u32
     ensures { XoredInto (limit_of (modulus ietf)) (keystream (modulus ietf)
         (block 6 ietf (subkey 6 key.now nonce.now) (subnonce nonce.now)))
         position result input.now output.old output.new }
 {
-    xor_between::<R12>(key, nonce, position, input, output)
+    xor_between::<R12>(key, nonce, position, output, input)
 }
 
 /// The keystream of `xchacha12_xor_in_place`: writes its bytes over `output`, whatever was there.
 /// Answers 0, or 1 where the bytes would pass the end of the stream, and then nothing is written.
 /// `output` overlaps no other argument.
 #[unsafe(no_mangle)]
-pub extern "C" fn xchacha12_write_keystream(
+pub extern "C" fn xchacha12_keystream_raw(
     key: &Key,
     nonce: &XNonce,
     position: u64,
@@ -174,21 +174,21 @@ pub extern "C" fn xchacha20_xor_between(
     key: &Key,
     nonce: &XNonce,
     position: u64,
-    input: &[u8],
     output: &mut [u8],
+    input: &[u8],
 ) -> u32
     ensures { XoredInto (limit_of (modulus ietf)) (keystream (modulus ietf)
         (block 10 ietf (subkey 10 key.now nonce.now) (subnonce nonce.now)))
         position result input.now output.old output.new }
 {
-    xor_between::<R20>(key, nonce, position, input, output)
+    xor_between::<R20>(key, nonce, position, output, input)
 }
 
 /// The keystream of `xchacha20_xor_in_place`: writes its bytes over `output`, whatever was there.
 /// Answers 0, or 1 where the bytes would pass the end of the stream, and then nothing is written.
 /// `output` overlaps no other argument.
 #[unsafe(no_mangle)]
-pub extern "C" fn xchacha20_write_keystream(
+pub extern "C" fn xchacha20_keystream_raw(
     key: &Key,
     nonce: &XNonce,
     position: u64,

@@ -5,26 +5,24 @@
 
 use super::{COUNTING, NONCE, X_NONCE, ZEROS};
 use crate::chacha::{
-    chacha8_write_keystream, chacha8_xor_between, chacha8_xor_in_place, chacha12_write_keystream,
-    chacha12_xor_between, chacha12_xor_in_place, chacha20_check, chacha20_write_keystream,
+    chacha8_keystream_raw, chacha8_xor_between, chacha8_xor_in_place, chacha12_keystream_raw,
+    chacha12_xor_between, chacha12_xor_in_place, chacha20_check, chacha20_keystream_raw,
     chacha20_xor_between, chacha20_xor_in_place,
 };
 use crate::generators::{
     chacha_rng_from_seed, chacha_rng_get_block_pos, chacha_rng_get_stream, chacha_rng_get_word_pos,
-    chacha_rng_set_block_pos, chacha_rng_set_stream, chacha_rng_set_word_pos,
-    chacha8_rng_fill_bytes, chacha8_rng_next_u32, chacha8_rng_next_u64, chacha12_rng_fill_bytes,
-    chacha12_rng_next_u32, chacha12_rng_next_u64, chacha20_rng_fill_bytes, chacha20_rng_next_u32,
-    chacha20_rng_next_u64,
+    chacha_rng_set_block_pos, chacha_rng_set_stream, chacha_rng_set_word_pos, chacha8_rng_fill_raw,
+    chacha8_rng_next_u32, chacha8_rng_next_u64, chacha12_rng_fill_raw, chacha12_rng_next_u32,
+    chacha12_rng_next_u64, chacha20_rng_fill_raw, chacha20_rng_next_u32, chacha20_rng_next_u64,
 };
 use crate::legacy::{
-    chacha20_legacy_check, chacha20_legacy_write_keystream, chacha20_legacy_xor_between,
+    chacha20_legacy_check, chacha20_legacy_keystream_raw, chacha20_legacy_xor_between,
     chacha20_legacy_xor_in_place,
 };
 use crate::xchacha::{
-    hchacha8, hchacha12, hchacha20, xchacha8_write_keystream, xchacha8_xor_between,
-    xchacha8_xor_in_place, xchacha12_write_keystream, xchacha12_xor_between,
-    xchacha12_xor_in_place, xchacha20_write_keystream, xchacha20_xor_between,
-    xchacha20_xor_in_place,
+    hchacha8, hchacha12, hchacha20, xchacha8_keystream_raw, xchacha8_xor_between,
+    xchacha8_xor_in_place, xchacha12_keystream_raw, xchacha12_xor_between, xchacha12_xor_in_place,
+    xchacha20_keystream_raw, xchacha20_xor_between, xchacha20_xor_in_place,
 };
 use chacha20::{Key, Nonce, R8, R12, R20, SerializedRngState, hchacha};
 
@@ -42,20 +40,20 @@ fn in_place(rounds: u32, key: &Key, nonce: &Nonce, position: u64, data: &mut [u8
 }
 
 // With a key and a nonce of zeros, from byte 8 on.
-fn between(rounds: u32, input: &[u8], output: &mut [u8]) -> u32 {
+fn between(rounds: u32, output: &mut [u8], input: &[u8]) -> u32 {
     match rounds {
-        8 => chacha8_xor_between(&ZEROS, &[0; 12], 8, input, output),
-        12 => chacha12_xor_between(&ZEROS, &[0; 12], 8, input, output),
-        20 => chacha20_xor_between(&ZEROS, &[0; 12], 8, input, output),
-        _ => chacha20_legacy_xor_between(&ZEROS, &[0; 8], 0, 8, input, output),
+        8 => chacha8_xor_between(&ZEROS, &[0; 12], 8, output, input),
+        12 => chacha12_xor_between(&ZEROS, &[0; 12], 8, output, input),
+        20 => chacha20_xor_between(&ZEROS, &[0; 12], 8, output, input),
+        _ => chacha20_legacy_xor_between(&ZEROS, &[0; 8], 0, 8, output, input),
     }
 }
 
 fn keystream(rounds: u32, output: &mut [u8]) -> u32 {
     match rounds {
-        8 => chacha8_write_keystream(&ZEROS, &[0; 12], 8, output),
-        12 => chacha12_write_keystream(&ZEROS, &[0; 12], 8, output),
-        20 => chacha20_write_keystream(&ZEROS, &[0; 12], 8, output),
+        8 => chacha8_keystream_raw(&ZEROS, &[0; 12], 8, output),
+        12 => chacha12_keystream_raw(&ZEROS, &[0; 12], 8, output),
+        20 => chacha20_keystream_raw(&ZEROS, &[0; 12], 8, output),
         _ => legacy_keystream(0, 8, output),
     }
 }
@@ -66,7 +64,7 @@ fn legacy_in_place(block_pos: u64, offset: u64, data: &mut [u8]) -> u32 {
 }
 
 fn legacy_keystream(block_pos: u64, offset: u64, output: &mut [u8]) -> u32 {
-    chacha20_legacy_write_keystream(&ZEROS, &[0; 8], block_pos, offset, output)
+    chacha20_legacy_keystream_raw(&ZEROS, &[0; 8], block_pos, offset, output)
 }
 
 // A number of rounds, what an output holds before the call, and the first bytes for a key and a nonce of zeros
@@ -97,7 +95,7 @@ fn begins(rounds: u32, stream: &[u8; 16]) -> bool {
 // The second half of a stream, combined with the stream, leaves zeros.
 fn cancels(rounds: u32, before: u8, stream: &[u8; 16]) -> bool {
     let mut bytes = [before; 8];
-    between(rounds, &stream[8..], &mut bytes) == 0 && bytes == [0; 8]
+    between(rounds, &mut bytes, &stream[8..]) == 0 && bytes == [0; 8]
 }
 
 // The keystream goes over whatever was there.
@@ -158,19 +156,19 @@ fn extended_in_place(rounds: u32, position: u64, data: &mut [u8]) -> u32 {
     }
 }
 
-fn extended_between(rounds: u32, input: &[u8], output: &mut [u8]) -> u32 {
+fn extended_between(rounds: u32, output: &mut [u8], input: &[u8]) -> u32 {
     match rounds {
-        8 => xchacha8_xor_between(&COUNTING, &X_NONCE, 9, input, output),
-        12 => xchacha12_xor_between(&COUNTING, &X_NONCE, 9, input, output),
-        _ => xchacha20_xor_between(&COUNTING, &X_NONCE, 9, input, output),
+        8 => xchacha8_xor_between(&COUNTING, &X_NONCE, 9, output, input),
+        12 => xchacha12_xor_between(&COUNTING, &X_NONCE, 9, output, input),
+        _ => xchacha20_xor_between(&COUNTING, &X_NONCE, 9, output, input),
     }
 }
 
 fn extended_keystream(rounds: u32, output: &mut [u8]) -> u32 {
     match rounds {
-        8 => xchacha8_write_keystream(&COUNTING, &X_NONCE, 9, output),
-        12 => xchacha12_write_keystream(&COUNTING, &X_NONCE, 9, output),
-        _ => xchacha20_write_keystream(&COUNTING, &X_NONCE, 9, output),
+        8 => xchacha8_keystream_raw(&COUNTING, &X_NONCE, 9, output),
+        12 => xchacha12_keystream_raw(&COUNTING, &X_NONCE, 9, output),
+        _ => xchacha20_keystream_raw(&COUNTING, &X_NONCE, 9, output),
     }
 }
 
@@ -194,7 +192,7 @@ fn extends(rounds: u32) -> bool {
 fn extended_agree(rounds: u32) -> bool {
     let (mut written, mut combined, mut first) = ([b'x'; 5], [b'x'; 5], [0; 14]);
     extended_keystream(rounds, &mut written) == 0
-        && extended_between(rounds, &[0; 5], &mut combined) == 0
+        && extended_between(rounds, &mut combined, &[0; 5]) == 0
         && extended_in_place(rounds, 0, &mut first) == 0
         && written == combined
         && first.ends_with(&written)
@@ -235,7 +233,7 @@ fn refuses() -> bool {
     let mut kept = [7; 2];
     legacy_in_place(u64::MAX, 63, &mut kept) == 1
         && in_place(20, &ZEROS, &[0; 12], u64::MAX, &mut kept) == 1
-        && xchacha20_xor_between(&ZEROS, &X_NONCE, 0, b"Hello", &mut kept) == 1
+        && xchacha20_xor_between(&ZEROS, &X_NONCE, 0, &mut kept, b"Hello") == 1
         && kept == [7; 2]
 }
 
@@ -266,9 +264,9 @@ fn two_words(rounds: u32, state: &mut SerializedRngState) -> u64 {
 
 fn fill(rounds: u32, state: &mut SerializedRngState, output: &mut [u8]) {
     match rounds {
-        8 => chacha8_rng_fill_bytes(state, output),
-        12 => chacha12_rng_fill_bytes(state, output),
-        _ => chacha20_rng_fill_bytes(state, output),
+        8 => chacha8_rng_fill_raw(state, output),
+        12 => chacha12_rng_fill_raw(state, output),
+        _ => chacha20_rng_fill_raw(state, output),
     }
 }
 
