@@ -12,13 +12,13 @@ uint32_t misuse(void);
 uint32_t misuse(void) {
     static const uint8_t nonce_of_another[CHACHA20_NONCE_BYTES] = {1};
     uint8_t key[CHACHA20_KEY_BYTES], nonce[XCHACHA20_NONCE_BYTES], short_key[16], nonce_12[CHACHA20_NONCE_BYTES];
-    uint8_t data[100], output[100], seed[CHACHA_RNG_SEED_BYTES], state[CHACHA_RNG_STATE_BYTES];
+    uint8_t data[100], output[100], seed[CHACHA_RNG_SEED_BYTES], state[CHACHA_RNG_STATE_BYTES], key_31[31], nonce_13[13];
     uint64_t low = 0, high = 0;
     uint32_t answer = 0;
     uint8_t *none = 0;
     memset(nonce, 1, sizeof nonce), memset(key, 2, sizeof key), memset(short_key, 3, sizeof short_key);
     memset(nonce_12, 4, sizeof nonce_12), memset(data, 5, sizeof data), memset(output, 6, sizeof output);
-    memset(seed, 7, sizeof seed);
+    memset(seed, 7, sizeof seed), memset(key_31, 8, sizeof key_31), memset(nonce_13, 9, sizeof nonce_13);
     chacha_rng_from_seed(seed, state);
     chacha_rng_get_word_pos(state, &low, &high);
 #if CASE == 1 /* gcc clang g++ clang++: a null key */
@@ -56,11 +56,19 @@ uint32_t misuse(void) {
 #elif CASE == 17 /* gcc clang g++ clang++: null data with a length, for a function that the header defines */
     answer = xchacha20_xor(key, nonce, 0, NULL, data, sizeof data);
 #elif CASE == 18 /* gcc clang g++ clang++: random bytes past the end of a buffer */
-    chacha20_rng_fill_raw(state, data, sizeof data + 1);
+    chacha20_rng_fill(state, data, sizeof data + 1);
 #elif CASE == 19 /* gcc clang g++ clang++: both halves of a position in one place */
     chacha_rng_get_word_pos(state, &low, &low);
 #elif CASE == 20 /* gcc clang g++ clang++: a state without room for it */
     chacha_rng_from_seed(seed, key);
+#elif CASE == 21 /* gcc clang g++ clang++: a key of 31 bytes */
+    answer = chacha20_xor(key_31, nonce_12, 0, output, data, sizeof data);
+#elif CASE == 22 /* g++ clang++: a nonce of 13 bytes */
+    answer = chacha20_xor(key, nonce_13, 0, output, data, sizeof data);
+#elif CASE == 23 /* gcc clang g++ clang++: a seed of 31 bytes */
+    chacha_rng_from_seed(key_31, state);
+#elif CASE == 24 /* gcc clang g++ clang++: an input of HChaCha of 13 bytes */
+    hchacha20(key, nonce_13, seed);
 #else /* What is right: nothing of a null buffer, the end of an array, a longer array through a pointer. */
     answer = xchacha20_xor(key, nonce, 0, none, none, 0);
     answer |= xchacha20_xor_in_place(key, nonce, 0, data + sizeof data, 0);
@@ -68,5 +76,5 @@ uint32_t misuse(void) {
     answer |= chacha20_xor_between(key, nonce_of_another, 0, output, sizeof output, data, sizeof data);
     chacha20_rng_fill(state, none, 0);
 #endif
-    return answer + short_key[0] + nonce_12[0] + nonce_of_another[0] + output[0] + (none == 0) + (uint32_t)low;
+    return answer + short_key[0] + nonce_12[0] + key_31[0] + nonce_13[0] + nonce_of_another[0] + output[0] + (none == 0) + (uint32_t)low;
 }

@@ -375,11 +375,11 @@ CHACHA20_INLINE uint64_t chacha20_block_position(uint64_t block) CHACHA20_NOEXCE
     return block > UINT64_MAX / 64 ? UINT64_MAX : 64 * block;
 }
 
-/* Whether two buffers of one length that begin at two places have a byte in common. */
+/* Whether an output and an input of one length have a byte in common. */
 CHACHA20_INLINE int chacha20_overlap(
-    const uint8_t *one, const uint8_t *other, size_t len) CHACHA20_NOEXCEPT {
-    uintptr_t at = CHACHA20_ADDRESS(one), from = CHACHA20_ADDRESS(other);
-    return (at < from ? from - at : at - from) < len;
+    const uint8_t *output, const uint8_t *input, size_t len) CHACHA20_NOEXCEPT {
+    uintptr_t to = CHACHA20_ADDRESS(output), from = CHACHA20_ADDRESS(input);
+    return (to < from ? from - to : to - from) < len;
 }
 
 #define CHACHA20_DEFINE(NAME, NONCE_BYTES)                                                      \
