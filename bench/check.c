@@ -7,10 +7,14 @@
 #define _DEFAULT_SOURCE
 
 #include <inttypes.h>
+#include <signal.h>
 #include <stdio.h>
 #include <stdlib.h>
 #include <string.h>
 #include <sys/mman.h>
+#include <sys/resource.h>
+#include <sys/wait.h>
+#include <unistd.h>
 
 #include "bench.h"
 
@@ -327,6 +331,37 @@ static void one_buffer(struct run *run) {
     run->buffers++;
 }
 
+/* Whether a process that reads a buffer of such bytes, or that ends it, is stopped before it is done. */
+static int is_stopped(const struct library *library, int content, int ends) {
+    static struct chacha_rng_buffer buffer;
+    const struct rlimit no_core = {0, 0};
+    uint8_t state[CHACHA_RNG_STATE_BYTES];
+    int status = 0;
+    fflush(stdout);
+    pid_t child = fork();
+    if (child == 0) {
+        setrlimit(RLIMIT_CORE, &no_core);
+        signal(SIGILL, SIG_DFL), signal(SIGTRAP, SIG_DFL);
+        memset(&buffer, content, sizeof buffer);
+        if (ends) {
+            library->buffer_end(&buffer, state);
+        } else {
+            (void)library->buffered_u32[2](&buffer);
+        }
+        _exit(0);
+    }
+    return child > 0 && waitpid(child, &status, 0) == child && WIFSIGNALED(status);
+}
+
+/* No word comes out of a buffer that was not begun, whatever was in memory. */
+static void not_begun(struct run *run, const struct library *library) {
+    static const int contents[] = {0, 1, 0x40, 0xaa, 0xff};
+    for (size_t i = 0; i < sizeof contents / sizeof contents[0]; i++) {
+        holds(run, is_stopped(library, contents[i], 0), "a word of a buffer that was not begun");
+        holds(run, is_stopped(library, contents[i], 1), "a buffer that was not begun was ended");
+    }
+}
+
 /* A refusal leaves what was there. */
 static void one_refusal(struct run *run) {
     enum layout layout = (enum layout)below(run, LAYOUTS);
@@ -544,8 +579,12 @@ int check(const struct machine *machine, uint64_t seed, uint64_t bytes) {
     random_bytes(&run, input, sizeof input);
     int controlled = control(machine, ONE_BIT, "one bit turned");
     controlled &= control(machine, ONE_POSITION, "a position one byte away");
-    for (int i = 0; i < machine->build_count; i++) at_edges(&run, machine->builds[i]);
-    printf("buffers at the ends of mapped pages: %" PRIu64 " differences\n", run.differences);
+    for (int i = 0; i < machine->build_count; i++) {
+        at_edges(&run, machine->builds[i]);
+        not_begun(&run, machine->builds[i]);
+    }
+    printf("buffers at the ends of mapped pages, and buffers of words that were not begun: %" PRIu64 " differences\n",
+           run.differences);
     while ((machine->other_count > 0 ? run.bytes_beside_found : run.bytes_beside_plain) < bytes) {
         one_message(&run);
         if (run.messages % 4 == 0) one_generator(&run);

@@ -27,6 +27,16 @@ static void is(const char *name, const uint8_t *found, const char *hex) {
     wrong++;
 }
 
+/* Each counter of the RFC has a position; where 64 times a block doesn't fit, the position is refused. */
+static void positions(void) {
+    uint64_t past = (uint64_t)1 << 32;
+    wrong += chacha20_block_position(past - 1) != CHACHA20_STREAM_BYTES - 64;
+    wrong += chacha20_check(chacha20_block_position(past), 0) != CHACHA20_OK;
+    wrong += chacha20_check(chacha20_block_position(past), 1) != CHACHA20_REFUSED;
+    wrong += chacha20_check(chacha20_block_position((uint64_t)1 << 58), 0) != CHACHA20_REFUSED;
+    wrong += chacha20_check(chacha20_block_position(UINT64_MAX), 0) != CHACHA20_REFUSED;
+}
+
 static void counting(uint8_t *bytes, size_t len, int first) {
     for (size_t i = 0; i < len; i++) bytes[i] = (uint8_t)(first + (int)i);
 }
@@ -66,12 +76,12 @@ static void ietf(void) {
     uint32_t answers = 0;
     for (size_t i = 0; i < sizeof all / sizeof all[0]; i++) {
         from_hex(all[i].key, key), from_hex(all[i].nonce, nonce);
-        answers |= chacha20_keystream_raw(key, nonce, 64 * all[i].counter, made, 64);
+        answers |= chacha20_keystream(key, nonce, chacha20_block_position(all[i].counter), made, 64);
         is(all[i].name, made, all[i].block);
     }
     counting(key, 32, 0);
     from_hex("000000000000004a00000000", nonce);
-    answers |= chacha20_xor(key, nonce, 64, made, (const uint8_t *)text, 114);
+    answers |= chacha20_xor(key, nonce, chacha20_block_position(1), made, (const uint8_t *)text, 114);
     is("RFC 8439, 2.4.2", made,
        "6e2e359a2568f98041ba0728dd0d6981e97e7aec1d4360c20a27afccfd9fae0bf91b65c5524733ab8f593dabcd62b3571639d624e65152ab"
        "8f530c359f0861d807ca0dbf500d6a6156a38e088a22b65e52bc514d16ccf806818ce91ab77937365af90bbf74a35be6b40b8eedf2785e42"
@@ -88,7 +98,7 @@ static void xchacha(void) {
     is("HChaCha20", made, "82413b4227b27bfed30e42508a877d73a0f9e4d58a74a853c12ec41326d3ecdc");
     counting(key, 32, 0x80), counting(nonce, 24, 0x40);
     nonce[23] = 0x58;
-    wrong += xchacha20_keystream_raw(key, nonce, 64, made, 32) != CHACHA20_OK;
+    wrong += xchacha20_keystream(key, nonce, 64, made, 32) != CHACHA20_OK;
     is("XChaCha20", made, "29624b4b1b140ace53740e405b2168540fd7d630c1f536fecd722fc3cddba7f4");
 }
 
@@ -97,21 +107,21 @@ static void legacy_and_generators(void) {
     uint8_t key[32], nonce[MOST], made[MOST], state[CHACHA_RNG_STATE_BYTES];
     counting(key, 32, 1);
     from_hex("0301040105090206", nonce);
-    wrong += chacha20_legacy_keystream_raw(key, nonce, 0, 0, made, 64) != CHACHA20_OK;
+    wrong += chacha20_legacy_keystream(key, nonce, 0, 0, made, 64) != CHACHA20_OK;
     is("the layout from before the RFC", made,
        "deeb6b9d06dff3e091bf3ad4f4d492b6dd98246f69691802e466e03bad2357870f1c6c010b6c2e650c4bf58d2d35c72ab639437069a384e0"
        "3100078cc1d735a0");
     chacha_rng_from_seed(key, state);
-    chacha20_rng_fill_raw(state, made, 13);
+    chacha20_rng_fill(state, made, 13);
     is("a generator's bytes", made, "b1697e9fc6461e1983d131cf69");
-    chacha20_rng_fill_raw(state, made, 13);
+    chacha20_rng_fill(state, made, 13);
     is("a generator's next bytes", made, "a7a3fc134f149880e8bb2b5d23");
     memset(key, 0, sizeof key);
     chacha_rng_from_seed(key, state);
     chacha_rng_set_block_pos(state, UINT64_MAX);
-    chacha20_rng_fill_raw(state, made, 64);
+    chacha20_rng_fill(state, made, 64);
     is("a generator's last block", made, "d7918cd8620cf832532652c04c01a553");
-    chacha20_rng_fill_raw(state, made, 8);
+    chacha20_rng_fill(state, made, 8);
     is("and the first again", made, "76b8e0ada0f13d90");
     chacha_rng_set_stream(state, 0x0200000000000000);
     vectors++;
@@ -119,6 +129,7 @@ static void legacy_and_generators(void) {
 }
 
 int main(void) {
+    positions();
     ietf();
     xchacha();
     legacy_and_generators();
