@@ -18,9 +18,9 @@
      null where the length is 0.
    - A length of 0 reads and writes nothing. The pointer may then be any, for instance one past the
      end of a buffer.
-   - What a function writes may not overlap anything else that it is given. So a key can't be
-     encrypted under itself. What a function only reads may overlap: a key and a nonce may be parts
-     of one buffer.
+   - What a function writes may not overlap anything else that it is given, except that the output
+     of NAME_xor may be its input. So a key can't be encrypted under itself. What a function only
+     reads may overlap: a key and a nonce may be parts of one buffer.
    - Bytes need no alignment. The two uint64_t of chacha_rng_get_word_pos are aligned as C has them.
    - No function keeps anything between calls, allocates, takes a lock or throws. Threads and signal
      handlers may call each function at any time, as long as none writes memory that another uses.
@@ -82,7 +82,8 @@ typedef char chacha20_size_t_has_64_bits[sizeof(size_t) == 8 ? 1 : -1];
 
    A call names a key, a nonce and the position of its first byte, counted from the first byte of
    the keystream. To decrypt is the same call. A message may be cut anywhere, and its parts may come
-   in any order: the bytes are those of one call from position 0 on.
+   in any order: the bytes are those of one call from position 0 on. A part that begins or ends
+   within a block takes as long as the whole block.
 
    Never use a nonce twice under one key: the XOR of the two messages would show. Nothing here
    authenticates a message: whoever can change it can flip any bit, so add a MAC.
@@ -157,8 +158,8 @@ CHACHA20_MUST_USE uint32_t chacha20_legacy_check(
     uint64_t block, uint64_t offset, size_t len) CHACHA20_NOEXCEPT;
 
 /* HChaCha20 (draft-irtf-cfrg-xchacha, section 2.2): writes the 32 bytes that it makes of a key and
-   of 16 bytes more, which stand where a nonce would. 12 and 8 rounds are not the draft's. Nothing
-   is refused.
+   of 16 bytes more, which take the place of a nonce. 12 and 8 rounds are not the draft's. It
+   refuses nothing.
 
    Each call of a cipher makes the cipher anew. For a nonce of 24 bytes that takes one block more.
    To pay for it once, derive yourself: `subkey` of the key and the first 16 bytes of the nonce is
