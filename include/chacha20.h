@@ -68,7 +68,7 @@
 #define CHACHA20_OK 0
 #define CHACHA20_REFUSED 1
 
-/* Defines the words in capitals that stand in declarations below. */
+/* The macros of the declarations below, which tell compilers what to check. */
 #include "chacha20_compiler.h"
 
 #ifdef __cplusplus

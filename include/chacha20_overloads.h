@@ -1,21 +1,22 @@
 /* SPDX-License-Identifier: Apache-2.0 OR MIT
 
-   Deleted overloads, so that a call with an array of the wrong size does not compile in C++11 and
-   later. chacha20.h includes this file, unless CHACHA20_NO_OVERLOADS is defined before. Refused is
+   Deleted overloads: in C++11 and later, these calls do not compile.
 
-   - a key, a nonce, a seed or an input of HChaCha that is an array of any other size, as long as
-     the array isn't constant; an input of HChaCha may have 24 bytes too, the size of a nonce;
-   - a constant array of 8, 12, 16 or 24 bytes where a nonce has another of these sizes, and one of
-     16 bytes as a key, because it makes the call ambiguous;
-   - an array of 32 bytes, which is a seed, as a state; one of 16 bytes as a subkey.
+   - A key, a nonce, a seed or an input of HChaCha is an array of any other size, and not constant.
+     HChaCha also takes the 24 bytes of a nonce.
+   - A nonce is a constant array of 8, 12, 16 or 24 bytes, and the cipher takes another of these
+     sizes. A key or a seed is a constant array of 16 bytes. These calls are ambiguous.
+   - A state is an array of 32 bytes, the size of a seed. A subkey is an array of 16 bytes.
 
    Pointers are not checked, such as data() of std::array: for the front of a longer array write
-   &array[0]. The names are overloaded, so auto and decltype can't take them. */
+   &array[0]. The names are overloaded, so auto and decltype can't take them.
+
+   chacha20.h includes this file unless CHACHA20_NO_OVERLOADS is defined before. */
 
 #ifndef CHACHA20_OVERLOADS_H
 #define CHACHA20_OVERLOADS_H
 
-/* Also where a program includes chacha20.h within extern "C". */
+/* A program may include chacha20.h within extern "C", where nothing can be overloaded. */
 extern "C++" {
 
 namespace chacha20_overloads {
@@ -28,7 +29,7 @@ template <> struct only_if<true> {
 #define CHACHA20_ANY_SIZE_BUT(BYTES) \
     template <size_t SIZE, typename chacha20_overloads::only_if<SIZE != BYTES>::type = 0>
 
-/* REFUSE is a prefix of each declaration: nothing, or a template. PLACE is a position. */
+/* PREFIX is nothing, or begins a template. The rest is the position: one number, or two. */
 #define CHACHA20_REFUSE(PREFIX, NAME, KEY, NONCE, ...)                                             \
     PREFIX uint32_t NAME##_xor(                                                                    \
         KEY, NONCE, __VA_ARGS__, uint8_t *, const uint8_t *, size_t) = delete;                     \
