@@ -247,7 +247,7 @@ void chacha_rng_set_stream(uint8_t state[CHACHA20_MIN(49)], uint64_t stream) CHA
 struct chacha_rng_buffer {
     uint8_t state[CHACHA_RNG_STATE_BYTES]; /* past the words */
     uint8_t words[256];
-    uint64_t left; /* how many bytes of words are to come, XORed with a constant that begin knows */
+    uint64_t used; /* bytes of words that came, plus a constant by which a begun buffer is known */
 };
 
 CHACHA20_INLINE void chacha_rng_buffer_begin(
@@ -425,23 +425,25 @@ CHACHA20_INLINE uint32_t chacha20_legacy_keystream(
     return chacha20_legacy_keystream_raw(key, nonce, block, offset, output, len);
 }
 
-/* Any number that memory is unlikely to hold by accident. */
-#define CHACHA20_BEGUN UINT64_C(0xb7e151628aed2a6a)
+/* Any number that memory is unlikely to hold by accident. One below 2^31 fits into instructions. */
+#define CHACHA20_BEGUN UINT64_C(0x37e15162)
 
 CHACHA20_INLINE void chacha_rng_buffer_begin(
     struct chacha_rng_buffer *buffer, const uint8_t state[CHACHA20_MIN(49)]) CHACHA20_NOEXCEPT {
     size_t i;
     for (i = 0; i < sizeof buffer->state; i++) buffer->state[i] = state[i];
-    buffer->left = CHACHA20_BEGUN;
+    buffer->used = CHACHA20_BEGUN + sizeof buffer->words;
 }
 CHACHA20_INLINE void chacha_rng_buffer_end(
     const struct chacha_rng_buffer *buffer, uint8_t state[CHACHA20_MIN(49)]) CHACHA20_NOEXCEPT {
-    uint64_t low, high, left = buffer->left ^ CHACHA20_BEGUN;
+    uint64_t low, high, left;
     size_t i;
-    if (left > sizeof buffer->words) CHACHA20_TRAP();
+    if (buffer->used < CHACHA20_BEGUN || buffer->used > CHACHA20_BEGUN + sizeof buffer->words) {
+        CHACHA20_TRAP();
+    }
     for (i = 0; i < sizeof buffer->state; i++) state[i] = buffer->state[i];
     chacha_rng_get_word_pos(state, &low, &high);
-    left /= 4;
+    left = (CHACHA20_BEGUN + sizeof buffer->words - buffer->used) / 4;
     if (low < left) {
         high = (high + 15) % 16;
         low += UINT64_MAX - left + 1;
@@ -460,16 +462,18 @@ CHACHA20_INLINE void chacha_rng_buffer_end(
     }                                                                                           \
     CHACHA20_INLINE uint32_t NAME##_buffered_u32(                                               \
         struct chacha_rng_buffer *buffer) CHACHA20_NOEXCEPT {                                   \
-        uint64_t left = buffer->left ^ CHACHA20_BEGUN;                                          \
+        uint64_t used = buffer->used;                                                           \
         const uint8_t *word;                                                                    \
         uint32_t a, b, c, d;                                                                    \
-        if (left == 0 || left > sizeof buffer->words) {                                         \
-            if (left != 0) CHACHA20_TRAP();                                                     \
-            left = sizeof buffer->words - 4u * (buffer->state[40] & 15u);                       \
-            NAME##_fill_raw(buffer->state, buffer->words + (sizeof buffer->words - left), left); \
+        if (used < CHACHA20_BEGUN || used >= CHACHA20_BEGUN + sizeof buffer->words) {           \
+            if (used != CHACHA20_BEGUN + sizeof buffer->words) CHACHA20_TRAP();                 \
+            used = 4u * (buffer->state[40] & 15u);                                              \
+            NAME##_fill_raw(                                                                    \
+                buffer->state, buffer->words + used, sizeof buffer->words - used);              \
+            used += CHACHA20_BEGUN;                                                             \
         }                                                                                       \
-        word = buffer->words + (sizeof buffer->words - left);                                   \
-        buffer->left = (left - 4) ^ CHACHA20_BEGUN;                                             \
+        word = buffer->words + (used - CHACHA20_BEGUN);                                         \
+        buffer->used = used + 4;                                                                \
         a = word[0], b = word[1], c = word[2], d = word[3];                                     \
         return a | b << 8 | c << 16 | d << 24;                                                  \
     }                                                                                           \
