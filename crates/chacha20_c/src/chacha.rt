@@ -6,15 +6,15 @@ ghost use Rattle.chacha20.specs.Layout.{ietf, modulus};
 ghost use Rattle.chacha20.specs.Limit.{limit_of};
 ghost use Rattle.chacha20_c.specs.Answers.{Checked, Written, Xored, XoredInto};
 
+use crate::backend::Chosen;
 use crate::stateless;
-use chacha20::backends::Lanes16;
 use chacha20::{ChaChaCore, Ietf, Key, Nonce, R8, R12, R20, Rounds};
 
 // Where the streams of 2^32 blocks end.
 const LIMIT: u128 = 64 << 32;
 
 // The core of `ChaCha8`, `ChaCha12` and `ChaCha20`. The calls are proved once, for any number of rounds.
-type Core<R> = ChaChaCore<R, Ietf, Lanes16>;
+type Core<R> = ChaChaCore<R, Ietf, Chosen>;
 
 fn xor_in_place<R: Rounds>(key: &Key, nonce: &Nonce, position: u64, data: &mut [u8]) -> u32
     ensures { Xored (limit_of (modulus ietf)) (keystream (modulus ietf)

@@ -8,8 +8,12 @@ ghost use Rattle.chacha20.specs.Layout.{legacy, modulus};
 ghost use Rattle.chacha20.specs.Limit.{limit_of};
 ghost use Rattle.chacha20_c.specs.Answers.{Checked, Written, Xored, XoredInto};
 
+use crate::backend::Chosen;
 use crate::stateless;
-use chacha20::{ChaCha20LegacyCore, Key, LegacyNonce};
+use chacha20::{ChaChaCore, Key, Legacy, LegacyNonce, R20};
+
+// The core of `ChaCha20Legacy`.
+type Core = ChaChaCore<R20, Legacy, Chosen>;
 
 // Where the stream of 2^64 blocks ends.
 const LIMIT: u128 = 64 << 64;
@@ -31,7 +35,7 @@ pub extern "C" fn chacha20_legacy_xor_in_place(
         (block 10 legacy key.now nonce.now))
         (64 * block_pos + offset) result «data».old «data».new }
 {
-    stateless::xor_in_place::<ChaCha20LegacyCore>(key, nonce, position(block_pos, offset), data)
+    stateless::xor_in_place::<Core>(key, nonce, position(block_pos, offset), data)
 }
 
 /// `chacha20_legacy_xor_in_place` from `input` to `output`, which overlaps no other argument.
@@ -49,13 +53,7 @@ pub extern "C" fn chacha20_legacy_xor_between(
         (block 10 legacy key.now nonce.now))
         (64 * block_pos + offset) result input.now output.old output.new }
 {
-    stateless::xor_between::<ChaCha20LegacyCore>(
-        key,
-        nonce,
-        position(block_pos, offset),
-        output,
-        input,
-    )
+    stateless::xor_between::<Core>(key, nonce, position(block_pos, offset), output, input)
 }
 
 /// The keystream of `chacha20_legacy_xor_in_place`: writes its bytes over `output`, whatever was there.
@@ -73,12 +71,7 @@ pub extern "C" fn chacha20_legacy_keystream_raw(
         (block 10 legacy key.now nonce.now))
         (64 * block_pos + offset) result output.old output.new }
 {
-    stateless::write_keystream::<ChaCha20LegacyCore>(
-        key,
-        nonce,
-        position(block_pos, offset),
-        output,
-    )
+    stateless::write_keystream::<Core>(key, nonce, position(block_pos, offset), output)
 }
 
 /// Whether the legacy cipher takes `len` bytes from byte 64 * `block_pos` + `offset` on (this crate). That sum does not

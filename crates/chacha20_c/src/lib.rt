@@ -10,6 +10,7 @@
 //! on. The state of a generator is 49 bytes of the caller's, which fit any number of rounds: each read names its own.
 #![tactic(auto)]
 
+mod backend;
 mod chacha;
 mod generators;
 mod legacy;
