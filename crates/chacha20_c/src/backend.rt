@@ -1,4 +1,6 @@
-//! The backend of the ciphers. No contract of an export names it.
+//! The backend of the ciphers, and where a call is cut in two for it. No contract of an export names them.
+
+ghost use Rattle.std.specs.Prelude.{◌≤◌};
 
 use chacha20::backends::{Lanes4, Lanes16};
 use chacha20::cipher::{ParBlocksSizeUser, StreamCipherBackend};
@@ -60,3 +62,20 @@ impl<R: Rounds, V: Variant> StreamCipherBackend<R, V> for Narrow {
 /// The backend of the level that the library is built for. `c/Makefile` puts `Lanes16` in the place of `Narrow` for levels
 /// with vectors of 256 bits.
 pub(crate) type Chosen = Narrow;
+
+/// How many of so many bytes from a position on are combined first, so that a tail of more than eight blocks becomes eight
+/// and the rest: the rows of eight blocks fit into the registers of 256 bits, and those of sixteen don't. All of them
+/// where there is no such tail.
+pub(crate) fn first_part<B: ParBlocksSizeUser>(position: u128, len: usize) -> usize
+    ensures { result ≤ len }
+{
+    if B::PAR_BLOCKS <= 8 || len < 576 {
+        return len;
+    }
+    let rest = len - (64 - (position % 64) as usize) % 64;
+    if rest % 1024 < 576 {
+        len
+    } else {
+        len - rest % 512
+    }
+}

@@ -6,6 +6,7 @@ ghost use Rattle.chacha20.specs.Keystream.{keystream, stream_part, xor_stream};
 ghost use Rattle.chacha20.specs.Limit.{limit_of};
 ghost use Rattle.chacha20_c.specs.Answers.{Checked, Written, Xored, XoredInto};
 
+use crate::backend::first_part;
 use chacha20::StreamCipherCoreWrapper;
 use chacha20::cipher::{
     KeyIvInit, StreamCipher, StreamCipherError, StreamCipherSeek, StreamCipherSeekCore,
@@ -37,7 +38,15 @@ fn try_xor_in_place<K: KeyIvInit + StreamCipherSeekCore + Drop>(
 {
     let mut cipher = StreamCipherCoreWrapper::<K>::new(key, nonce);
     cipher.try_seek(position)?;
-    cipher.try_apply_keystream(data)
+    let first = first_part::<K>(position, data.len());
+    if first == data.len() {
+        return cipher.try_apply_keystream(data);
+    }
+    cipher.check_remaining(data.len())?;
+    let (front, rest) = data.split_at_mut(first);
+    cipher.apply_keystream(front);
+    cipher.apply_keystream(rest);
+    Ok(())
 }
 
 /// Combines an input with the keystream from a position on into an output.
@@ -69,7 +78,16 @@ fn try_xor_between<K: KeyIvInit + StreamCipherSeekCore + Drop>(
 {
     let mut cipher = StreamCipherCoreWrapper::<K>::new(key, nonce);
     cipher.try_seek(position)?;
-    cipher.try_apply_keystream_b2b(input, output)
+    let first = first_part::<K>(position, input.len());
+    if first == input.len() || input.len() != output.len() {
+        return cipher.try_apply_keystream_b2b(input, output);
+    }
+    cipher.check_remaining(input.len())?;
+    let (input_front, input_rest) = input.split_at(first);
+    let (front, rest) = output.split_at_mut(first);
+    cipher.apply_keystream_b2b(input_front, front);
+    cipher.apply_keystream_b2b(input_rest, rest);
+    Ok(())
 }
 
 /// Writes the keystream from a position on.
@@ -99,7 +117,15 @@ fn try_write_keystream<K: KeyIvInit + StreamCipherSeekCore + Drop>(
 {
     let mut cipher = StreamCipherCoreWrapper::<K>::new(key, nonce);
     cipher.try_seek(position)?;
-    cipher.try_write_keystream(output)
+    let first = first_part::<K>(position, output.len());
+    if first == output.len() {
+        return cipher.try_write_keystream(output);
+    }
+    cipher.check_remaining(output.len())?;
+    let (front, rest) = output.split_at_mut(first);
+    cipher.write_keystream(front);
+    cipher.write_keystream(rest);
+    Ok(())
 }
 
 // 0 for a call that was accepted, and 1 for one that was refused.
