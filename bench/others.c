@@ -35,12 +35,13 @@ static int (*evp_init)(void *, void *, void *, const uint8_t *, const uint8_t *)
 static int (*evp_update)(void *, uint8_t *, int *, const uint8_t *, int);
 static void *evp_context;
 
-static void openssl_xor(const uint8_t *key, const uint8_t iv[16], uint8_t *data, size_t len) {
+static void openssl_xor(const uint8_t *key, const uint8_t iv[16], uint8_t *output, const uint8_t *input, size_t len) {
     int done = evp_init(evp_context, NULL, NULL, key, iv);
     while (done && len > 0) {
         int part = len < 1 << 30 ? (int)len : 1 << 30, out = 0;
-        done = evp_update(evp_context, data, &out, data, part) && out == part;
-        data += part;
+        done = evp_update(evp_context, output, &out, input, part) && out == part;
+        output += part;
+        input += part;
         len -= (size_t)part;
     }
     if (!done) {
@@ -55,7 +56,14 @@ static void openssl_ietf(int rounds, const uint8_t *key, const uint8_t *nonce, u
     (void)rounds;
     store_le(iv, block, 4);
     memcpy(iv + 4, nonce, 12);
-    openssl_xor(key, iv, data, len);
+    openssl_xor(key, iv, data, data, len);
+}
+
+static void openssl_between(const uint8_t *key, const uint8_t *nonce, uint8_t *output, const uint8_t *input,
+                            size_t len) {
+    uint8_t iv[16] = {0};
+    memcpy(iv + 4, nonce, 12);
+    openssl_xor(key, iv, output, input, len);
 }
 
 static void openssl_legacy(int rounds, const uint8_t *key, const uint8_t *nonce, uint64_t block, uint8_t *data,
@@ -64,7 +72,7 @@ static void openssl_legacy(int rounds, const uint8_t *key, const uint8_t *nonce,
     (void)rounds;
     store_le(iv, block, 8);
     memcpy(iv + 8, nonce, 8);
-    openssl_xor(key, iv, data, len);
+    openssl_xor(key, iv, data, data, len);
 }
 
 int find_openssl(struct other *found) {
@@ -84,7 +92,8 @@ int find_openssl(struct other *found) {
     }
     printf("found: %s\n", version(0));
     *found = (struct other){.name = "OpenSSL",
-                            .xor_from_block = {[IETF] = openssl_ietf, [LEGACY] = openssl_legacy}};
+                            .xor_from_block = {[IETF] = openssl_ietf, [LEGACY] = openssl_legacy},
+                            .xor_between = openssl_between};
     return 1;
 }
 
@@ -102,6 +111,11 @@ static void sodium_ietf(int rounds, const uint8_t *key, const uint8_t *nonce, ui
                         size_t len) {
     (void)rounds;
     sodium_ietf_ic(data, data, len, nonce, (uint32_t)block, key);
+}
+
+static void sodium_between(const uint8_t *key, const uint8_t *nonce, uint8_t *output, const uint8_t *input,
+                           size_t len) {
+    sodium_ietf_ic(output, input, len, nonce, 0, key);
 }
 
 static void sodium_xchacha(int rounds, const uint8_t *key, const uint8_t *nonce, uint64_t block, uint8_t *data,
@@ -138,6 +152,7 @@ static int find_sodium(struct other *found) {
     *found = (struct other){
         .name = "libsodium",
         .xor_from_block = {[IETF] = sodium_ietf, [XCHACHA] = sodium_xchacha, [LEGACY] = sodium_legacy},
+        .xor_between = sodium_between,
         .hchacha = sodium_hchacha20};
     return 1;
 }

@@ -1,6 +1,7 @@
 /* SPDX-License-Identifier: Apache-2.0 OR MIT
 
-   Other implementations, as they are found on the machine, behind one form: from a block on, in place. */
+   Other implementations, as they are found on the machine, behind one form: from a block on, in place. What is timed
+   also goes from one buffer to another. */
 
 #ifndef OTHERS_H
 #define OTHERS_H
@@ -15,6 +16,8 @@ struct other {
     /* NULL where it has no such layout; 20 rounds alone, but for plain C. */
     void (*xor_from_block[LAYOUTS])(int rounds, const uint8_t *key, const uint8_t *nonce, uint64_t block,
                                     uint8_t *data, size_t len);
+    /* From block 0 on, in the layout IETF, to an output that does not overlap the input. */
+    void (*xor_between)(const uint8_t *key, const uint8_t *nonce, uint8_t *output, const uint8_t *input, size_t len);
     void (*hchacha)(int rounds, const uint8_t *key, const uint8_t *input, uint8_t *subkey);
 };
 

@@ -1,8 +1,10 @@
 /* SPDX-License-Identifier: Apache-2.0 OR MIT
 
-   Times, all contestants by turns, the making of the cipher included. The figure is the least of the turns, in processor
-   time, so that what else runs on the machine disturbs it least. OpenSSL runs once more in another process, which hides
-   AVX from it, since it looks at the processor when it is loaded. */
+   Times, all contestants by turns, the making of the cipher included. The figure is the least of the turns, in
+   processor time, so that what else runs on the machine disturbs it least. A call's time also depends on where its
+   stack and its buffers lie modulo 4096. So each turn has another place, and a second table has the median and the most
+   of the places. OpenSSL runs once more in another process, which hides AVX from it, since it looks at the processor
+   when it is loaded. */
 
 #define _POSIX_C_SOURCE 200809L
 
@@ -15,10 +17,27 @@
 
 #include "bench.h"
 
-enum { MOST_CONTESTANTS = MOST_BUILDS + MOST_OTHERS + 1, SIZES = 4, PASSES = 30 };
+enum { MOST_CONTESTANTS = MOST_BUILDS + MOST_OTHERS + 1, TASKS = 9, PASSES = 30, PLACES = 64, PAGE = 4096 };
 
-static const char *const sizes_in_words[SIZES] = {"64 bytes", "1500 bytes", "64 KiB", "64 MiB"};
-static const size_t sizes[SIZES] = {64, 1500, 64 << 10, 64 << 20};
+/* What is timed: so many bytes in place, or from one buffer to another. */
+static const struct task {
+    const char *name;
+    size_t len;
+    int is_between;
+} tasks[TASKS] = {{"64 bytes", 64, 0},
+                  {"512 bytes", 512, 0},
+                  {"576 bytes", 576, 0},
+                  {"1500 bytes", 1500, 0},
+                  {"64 KiB", 64 << 10, 0},
+                  {"64 MiB", 64 << 20, 0},
+                  {"1500 bytes, two buffers", 1500, 1},
+                  {"64 KiB, two buffers", 64 << 10, 1},
+                  {"1 MiB, two buffers", 1 << 20, 1}};
+
+/* The most bytes in place and between buffers, and a page to move them in. */
+enum { OUTPUT_ROOM = (64 << 20) + PAGE, INPUT_ROOM = (1 << 20) + PAGE };
+
+static uint8_t *output_room, *input_room;
 
 /* A build of the library, another implementation, or the process where AVX is hidden. */
 struct contestant {
@@ -36,25 +55,41 @@ static double seconds(void) {
     return (double)now.tv_sec + 1e-9 * (double)now.tv_nsec;
 }
 
-static void call(const struct contestant *it, uint8_t *data, size_t len) {
-    if (it->other) {
-        it->other->xor_from_block[IETF](20, key, nonce, 0, data, len);
+static int has_room(void) {
+    output_room = aligned_alloc(PAGE, OUTPUT_ROOM), input_room = aligned_alloc(PAGE, INPUT_ROOM);
+    if (!output_room || !input_room) return 0;
+    memset(output_room, 0, OUTPUT_ROOM), memset(input_room, 0, INPUT_ROOM);
+    return 1;
+}
+
+static void call(const struct contestant *it, const struct task *task, uint8_t *output, const uint8_t *input) {
+    if (it->other && task->is_between) {
+        it->other->xor_between(key, nonce, output, input, task->len);
+    } else if (it->other) {
+        it->other->xor_from_block[IETF](20, key, nonce, 0, output, task->len);
     } else {
-        if (it->library->ciphers[IETF][2].xor_in_place(key, nonce, 0, 0, data, len) != CHACHA20_OK) abort();
+        const struct cipher *cipher = &it->library->ciphers[IETF][2];
+        uint32_t answer = task->is_between ? cipher->xor_between(key, nonce, 0, 0, output, task->len, input, task->len)
+                                           : cipher->xor_in_place(key, nonce, 0, 0, output, task->len);
+        if (answer != CHACHA20_OK) abort();
     }
 }
 
-static double calls_here(const struct contestant *it, uint8_t *data, size_t len, int calls) {
+/* The time of a call at a place, which moves the stack and each buffer by its own multiple of 64 bytes. */
+static double calls_here(const struct contestant *it, const struct task *task, int place, int calls) {
+    volatile uint8_t moved[64 * place + 1];
+    uint8_t *output = output_room + 64 * (30 * place % PLACES);
+    const uint8_t *input = input_room + 64 * (44 * place % PLACES);
+    moved[0] = 0;
     double begin = seconds();
-    for (int i = 0; i < calls; i++) call(it, data, len);
-    return (seconds() - begin) * 1e9 / calls;
+    for (int i = 0; i < calls; i++) call(it, task, output, input);
+    return (seconds() - begin) * 1e9 / calls + moved[0];
 }
 
-/* The process where AVX is hidden: it answers a length and a number of calls with nanoseconds a call. */
+/* The process where AVX is hidden: it answers a request with nanoseconds a call. */
 
 struct request {
-    size_t len;
-    int calls;
+    int task, place, calls;
 };
 
 static int to_hidden = -1, from_hidden = -1;
@@ -64,13 +99,11 @@ static int to_hidden = -1, from_hidden = -1;
 static void serve(int from, int to) {
     struct other found[MOST_OTHERS];
     struct request request;
-    uint8_t *data = aligned_alloc(64, sizes[SIZES - 1]);
     setenv("OPENSSL_ia32cap", "~0x1000000000000000", 1);
-    if (!data || !find_openssl(found)) _exit(1);
-    memset(data, 0, sizes[SIZES - 1]);
+    if (!has_room() || !find_openssl(found)) _exit(1);
     struct contestant it = {.other = found};
     while (read(from, &request, sizeof request) == (ssize_t)sizeof request) {
-        double answer = calls_here(&it, data, request.len, request.calls);
+        double answer = calls_here(&it, &tasks[request.task], request.place, request.calls);
         if (write(to, &answer, sizeof answer) != (ssize_t)sizeof answer) break;
     }
     _exit(0);
@@ -97,8 +130,8 @@ void hide_avx(void) {}
 
 #endif
 
-static double calls_hidden(size_t len, int calls) {
-    struct request request = {len, calls};
+static double calls_hidden(int task, int place, int calls) {
+    struct request request = {task, place, calls};
     double answer;
     if (write(to_hidden, &request, sizeof request) != (ssize_t)sizeof request ||
         read(from_hidden, &answer, sizeof answer) != (ssize_t)sizeof answer) {
@@ -108,24 +141,43 @@ static double calls_hidden(size_t len, int calls) {
     return answer;
 }
 
-static double nanoseconds_a_call(const struct contestant *it, uint8_t *data, size_t len, int calls) {
-    return it->is_hidden ? calls_hidden(len, calls) : calls_here(it, data, len, calls);
+static double nanoseconds_a_call(const struct contestant *it, int task, int place, int calls) {
+    return it->is_hidden ? calls_hidden(task, place, calls) : calls_here(it, &tasks[task], place, calls);
 }
 
-/* Lowers the least time of each contestant, of whom each turn begins with another. */
-static void least_times(const struct contestant *all, int count, uint8_t *data, size_t len, int turns, double *least) {
+/* The least time of each contestant at each place; 0 for a place that no turn had. */
+static double times[TASKS][MOST_CONTESTANTS][PLACES];
+
+/* Turns of a task, of which each begins with another contestant and has the next place. */
+static void take_turns(const struct contestant *all, int count, int task, int first_turn, int turns) {
     int calls[MOST_CONTESTANTS];
     for (int i = 0; i < count; i++) {
-        nanoseconds_a_call(&all[i], data, len, 1);
-        calls[i] = (int)(1 + 4e5 / (1 + nanoseconds_a_call(&all[i], data, len, 1)));
+        nanoseconds_a_call(&all[i], task, 0, 1);
+        calls[i] = (int)(1 + 4e5 / (1 + nanoseconds_a_call(&all[i], task, 0, 1)));
     }
-    for (int turn = 0; turn < turns; turn++) {
+    for (int turn = first_turn; turn < first_turn + turns; turn++) {
         for (int i = 0; i < count; i++) {
             int at = (turn + i) % count;
-            double time = nanoseconds_a_call(&all[at], data, len, calls[at]);
-            if (time < least[at]) least[at] = time;
+            double *least = &times[task][at][turn % PLACES];
+            double time = nanoseconds_a_call(&all[at], task, turn % PLACES, calls[at]);
+            if (*least == 0 || time < *least) *least = time;
         }
     }
+}
+
+static int is_less(const void *one, const void *other) {
+    double x = *(const double *)one, y = *(const double *)other;
+    return (x > y) - (x < y);
+}
+
+/* Puts the times of the places that had turns in order, and answers how many they are. */
+static int sort_places(double places[PLACES]) {
+    int count = 0;
+    for (int i = 0; i < PLACES; i++) {
+        if (places[i] > 0) places[count++] = places[i];
+    }
+    qsort(places, (size_t)count, sizeof places[0], is_less);
+    return count;
 }
 
 static void print_head(const char *first, const char *const *rest, int count) {
@@ -136,13 +188,9 @@ static void print_head(const char *first, const char *const *rest, int count) {
     putchar('\n');
 }
 
-/* The library at each level and the others: nanoseconds a call, and the library's time divided by the other's. */
-static void time_calls(const struct machine *machine, uint8_t *data, int turns) {
-    struct contestant all[MOST_CONTESTANTS];
-    const char *names[MOST_CONTESTANTS];
-    double least[SIZES][MOST_CONTESTANTS];
-    int count = 0, ours = machine->build_count, share = (turns + PASSES - 1) / PASSES;
-    for (int i = 0; i < ours; i++) {
+static int gather(const struct machine *machine, struct contestant *all) {
+    int count = 0;
+    for (int i = 0; i < machine->build_count; i++) {
         all[count] = (struct contestant){.library = machine->builds[i]};
         snprintf(all[count++].name, sizeof all[0].name, "%s", machine->builds[i]->level);
     }
@@ -151,31 +199,57 @@ static void time_calls(const struct machine *machine, uint8_t *data, int turns) 
         snprintf(all[count++].name, sizeof all[0].name, "%s", machine->others[i].name);
     }
     if (to_hidden >= 0) all[count++] = (struct contestant){.name = "OpenSSL without AVX", .is_hidden = 1};
+    return count;
+}
+
+/* Three tables: the least time of a call; the median and the most of the places; the library's least time divided by
+   the other's. */
+static void print_times(const struct contestant *all, int count, int ours) {
+    const char *names[MOST_CONTESTANTS], *of_tasks[TASKS];
+    int places[TASKS];
     for (int i = 0; i < count; i++) names[i] = all[i].name;
-    for (int i = 0; i < SIZES * MOST_CONTESTANTS; i++) least[i / MOST_CONTESTANTS][i % MOST_CONTESTANTS] = 1e18;
-    /* A size has its turns over the whole time, so that a minute in which the machine is busy isn't that of one size. */
-    for (int pass = 0; pass < PASSES; pass++) {
-        for (int size = 0; size < SIZES; size++) {
-            least_times(all, count, data, sizes[size], sizes[size] > 1 << 20 ? (share + 9) / 10 : share, least[size]);
-        }
+    for (int task = 0; task < TASKS; task++) {
+        of_tasks[task] = tasks[task].name;
+        for (int i = 0; i < count; i++) places[task] = sort_places(times[task][i]);
     }
-    printf("\nChaCha20 in place, nanoseconds a call, the least of %d turns, of %d for 64 MiB:\n", share * PASSES,
-           (share + 9) / 10 * PASSES);
     print_head("nanoseconds a call", names, count);
-    for (int size = 0; size < SIZES; size++) {
-        printf("| %s |", sizes_in_words[size]);
-        for (int i = 0; i < count; i++) printf(" %.0f |", least[size][i]);
+    for (int task = 0; task < TASKS; task++) {
+        printf("| %s |", of_tasks[task]);
+        for (int i = 0; i < count; i++) printf(" %.0f |", times[task][i][0]);
         putchar('\n');
-        fflush(stdout);
     }
-    print_head("time divided by", sizes_in_words, SIZES);
+    print_head("median and most of the places, divided by the least", names, count);
+    for (int task = 0; task < TASKS; task++) {
+        printf("| %s |", of_tasks[task]);
+        for (int i = 0; i < count; i++) {
+            const double *it = times[task][i];
+            printf(" %.2f, %.2f |", it[places[task] / 2] / it[0], it[places[task] - 1] / it[0]);
+        }
+        putchar('\n');
+    }
+    print_head("time divided by", of_tasks, TASKS);
     for (int i = 0; i < ours; i++) {
         for (int j = ours; j < count; j++) {
             printf("| %s / %s |", names[i], names[j]);
-            for (int size = 0; size < SIZES; size++) printf(" %.2f |", least[size][i] / least[size][j]);
+            for (int task = 0; task < TASKS; task++) printf(" %.2f |", times[task][i][0] / times[task][j][0]);
             putchar('\n');
         }
     }
+}
+
+static void time_calls(const struct machine *machine, int turns) {
+    struct contestant all[MOST_CONTESTANTS];
+    int count = gather(machine, all), share = (turns + PASSES - 1) / PASSES, few = (share + 9) / 10;
+    /* A task has its turns over the whole time, so that a minute in which the machine is busy isn't that of one task. */
+    for (int pass = 0; pass < PASSES; pass++) {
+        for (int task = 0; task < TASKS; task++) {
+            int part = tasks[task].len > 1 << 20 ? few : share;
+            take_turns(all, count, task, pass * part, part);
+        }
+    }
+    printf("\nChaCha20, in place but where two buffers are named: the least of %d turns, of %d for 64 MiB, at %d places\n",
+           share * PASSES, few * PASSES, PLACES);
+    print_times(all, count, machine->build_count);
 }
 
 /* What pieces of a stream cost, and words of a generator. */
@@ -244,13 +318,11 @@ static void print_processor(void) {
 }
 
 int time_all(const struct machine *machine, int turns) {
-    uint8_t *data = aligned_alloc(64, sizes[SIZES - 1]);
-    if (!data || turns < 1) return 2;
-    memset(data, 0, sizes[SIZES - 1]);
+    if (turns < 1 || !has_room()) return 2;
     print_processor();
-    time_calls(machine, data, turns);
-    time_small(machine, data, turns);
-    free(data);
+    time_calls(machine, turns);
+    time_small(machine, output_room, turns);
+    free(output_room), free(input_room);
     if (to_hidden >= 0) close(to_hidden), close(from_hidden);
     while (wait(NULL) > 0) {}
     return 0;
