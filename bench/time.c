@@ -75,9 +75,9 @@ static void call(const struct contestant *it, const struct task *task, uint8_t *
     }
 }
 
-/* The time of a call at a place, which moves the stack and each buffer by its own multiple of 64 bytes. */
+/* The time of a call at a place, which moves the stack by a multiple of 16 bytes and each buffer by one of 64. */
 static double calls_here(const struct contestant *it, const struct task *task, int place, int calls) {
-    volatile uint8_t moved[64 * place + 1];
+    volatile uint8_t moved[80 * place + 1];
     uint8_t *output = output_room + 64 * (30 * place % PLACES);
     const uint8_t *input = input_room + 64 * (44 * place % PLACES);
     moved[0] = 0;

@@ -42,6 +42,24 @@ fn try_xor_in_place<K: KeyIvInit + StreamCipherSeekCore + Drop>(
     if first == data.len() {
         return cipher.try_apply_keystream(data);
     }
+    try_apply_in_two(&mut cipher, data, first)
+}
+
+// Combines bytes with the keystream in two parts. Apart from its callers, so that they need no registers for it.
+#[inline(never)]
+fn try_apply_in_two<C: StreamCipher>(
+    cipher: &mut C,
+    data: &mut [u8],
+    first: usize,
+) -> Result<(), StreamCipherError>
+    requires { first ≤ length «data».old }
+    ensures accepted { IsOk result
+        ↔ (C.position cipher.old + length «data».old ≤ limit_of C.modulus) }
+    ensures bytes { OnOk result («data».new
+        ≡ xor_stream (keystream C.modulus (C.block_at (C.fixed cipher.old)))
+        (C.position cipher.old) «data».old) }
+    ensures refused { OnErr result («data».new ≡ «data».old) }
+{
     cipher.check_remaining(data.len())?;
     let (front, rest) = data.split_at_mut(first);
     cipher.apply_keystream(front);
@@ -82,6 +100,26 @@ fn try_xor_between<K: KeyIvInit + StreamCipherSeekCore + Drop>(
     if first == input.len() || input.len() != output.len() {
         return cipher.try_apply_keystream_b2b(input, output);
     }
+    try_apply_between_in_two(&mut cipher, output, input, first)
+}
+
+// `try_apply_in_two` between buffers of one length.
+#[inline(never)]
+fn try_apply_between_in_two<C: StreamCipher>(
+    cipher: &mut C,
+    output: &mut [u8],
+    input: &[u8],
+    first: usize,
+) -> Result<(), StreamCipherError>
+    requires within { first ≤ length input.now }
+    requires same { length input.now ≡ length output.old }
+    ensures accepted { IsOk result
+        ↔ (C.position cipher.old + length input.now ≤ limit_of C.modulus) }
+    ensures bytes { OnOk result (output.new
+        ≡ xor_stream (keystream C.modulus (C.block_at (C.fixed cipher.old)))
+        (C.position cipher.old) input.now) }
+    ensures refused { OnErr result (output.new ≡ output.old) }
+{
     cipher.check_remaining(input.len())?;
     let (input_front, input_rest) = input.split_at(first);
     let (front, rest) = output.split_at_mut(first);
@@ -121,6 +159,24 @@ fn try_write_keystream<K: KeyIvInit + StreamCipherSeekCore + Drop>(
     if first == output.len() {
         return cipher.try_write_keystream(output);
     }
+    try_write_in_two(&mut cipher, output, first)
+}
+
+// `try_apply_in_two` for the keystream alone.
+#[inline(never)]
+fn try_write_in_two<C: StreamCipher>(
+    cipher: &mut C,
+    output: &mut [u8],
+    first: usize,
+) -> Result<(), StreamCipherError>
+    requires { first ≤ length output.old }
+    ensures accepted { IsOk result
+        ↔ (C.position cipher.old + length output.old ≤ limit_of C.modulus) }
+    ensures bytes { OnOk result (output.new
+        ≡ stream_part (keystream C.modulus (C.block_at (C.fixed cipher.old)))
+        (C.position cipher.old) (length output.old)) }
+    ensures refused { OnErr result (output.new ≡ output.old) }
+{
     cipher.check_remaining(output.len())?;
     let (front, rest) = output.split_at_mut(first);
     cipher.write_keystream(front);
