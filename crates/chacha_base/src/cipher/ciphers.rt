@@ -12,7 +12,7 @@ use crate::rounds::Steps;
 
 // How many bytes are filled or copied before the keystream goes over them: few enough to stay in a near cache, so that
 // memory is passed once.
-const PIECE: usize = 0x1_0000;
+const PIECE: usize = 0x2000;
 
 /// A cipher that XORs (exclusive or) bytes with a keystream, from its position on, and moves on past them. Positions
 /// and lengths are in bytes; the limit is the greatest position. The keystream is the blocks of the cipher's fixed

@@ -12,7 +12,7 @@ pieces-preserved g c =
     let done = c.pieces.done in
     let n = c.min.result in
     let before = c.pieces.invariant in
-    let inside = piece-within 65536 (length c.args.input.now) done n c.min.ensures before.within in
+    let inside = piece-within _ (length c.args.input.now) done n c.min.ensures before.within in
     let size : length c.copy_from_slice.new.self ≡ n =
     ap length c.copy_from_slice.ensures.after ∙ piece-long done n c.args.input.now inside in
     record {

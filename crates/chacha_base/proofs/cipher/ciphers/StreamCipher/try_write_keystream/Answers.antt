@@ -15,7 +15,7 @@ pieces-preserved g c =
     let n = c.min.result in
     let before = c.pieces.invariant in
     let front : done ≤ length c.pieces.buf = subst (λ m. done ≤ m) (sym c.pieces.auto.buf) before.within in
-    let inside = piece-within 65536 (length c.pieces.buf) done n c.min.ensures front in
+    let inside = piece-within _ (length c.pieces.buf) done n c.min.ensures front in
     let size : length c.fill.new.self ≡ n = c.fill.ensures.len ∙ piece-long done n c.pieces.buf inside in
     let filled : c.fill.new.self ≡ replicate (length (take (done + n - done) (drop done c.pieces.buf))) 0 =
     c.fill.ensures.after (λ y h. h) in
