@@ -79,3 +79,15 @@ pub(crate) fn first_part<B: ParBlocksSizeUser>(position: u128, len: usize) -> us
         len - rest % 512
     }
 }
+
+/// The same for a call that fills or copies its bytes in pieces: a long one is cut where the first block begins, since
+/// else each piece would end inside a block, which is then made apart.
+pub(crate) fn first_part_in_pieces<B: ParBlocksSizeUser>(position: u128, len: usize) -> usize
+    ensures { result ≤ len }
+{
+    if B::PAR_BLOCKS > 8 && len > 0x4000 && position % 64 > 0 {
+        64 - (position % 64) as usize
+    } else {
+        first_part::<B>(position, len)
+    }
+}

@@ -6,7 +6,7 @@ ghost use Rattle.chacha20.specs.Keystream.{keystream, stream_part, xor_stream};
 ghost use Rattle.chacha20.specs.Limit.{limit_of};
 ghost use Rattle.chacha20_c.specs.Answers.{Checked, Written, Xored, XoredInto};
 
-use crate::backend::first_part;
+use crate::backend::{first_part, first_part_in_pieces};
 use chacha20::StreamCipherCoreWrapper;
 use chacha20::cipher::{
     KeyIvInit, StreamCipher, StreamCipherError, StreamCipherSeek, StreamCipherSeekCore,
@@ -96,7 +96,7 @@ fn try_xor_between<K: KeyIvInit + StreamCipherSeekCore + Drop>(
 {
     let mut cipher = StreamCipherCoreWrapper::<K>::new(key, nonce);
     cipher.try_seek(position)?;
-    let first = first_part::<K>(position, input.len());
+    let first = first_part_in_pieces::<K>(position, input.len());
     if first == input.len() || input.len() != output.len() {
         return cipher.try_apply_keystream_b2b(input, output);
     }
@@ -155,7 +155,7 @@ fn try_write_keystream<K: KeyIvInit + StreamCipherSeekCore + Drop>(
 {
     let mut cipher = StreamCipherCoreWrapper::<K>::new(key, nonce);
     cipher.try_seek(position)?;
-    let first = first_part::<K>(position, output.len());
+    let first = first_part_in_pieces::<K>(position, output.len());
     if first == output.len() {
         return cipher.try_write_keystream(output);
     }
