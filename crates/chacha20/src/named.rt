@@ -1,22 +1,26 @@
 //! Facts on the named ciphers and generators, which hold by computation. A named type with a wrong number of rounds,
 //! layout, size or text would break one of them.
 
-ghost use Rattle.std.specs.Prelude.{◌≡◌, length, Some, codes};
+ghost use Rattle.std.specs.Prelude.{◌≡◌, length, replicate, Some, codes};
 ghost use Rattle.rand_core.specs.Steps.{stream_of};
-ghost use Rattle.chacha_base.specs.Block.{block};
+ghost use Rattle.rand_core.specs.Pcg32Seed.{pcg32_seed};
+ghost use Rattle.chacha_base.specs.Block.{block, start};
 ghost use Rattle.chacha_base.specs.Layout.{ietf, legacy};
-ghost use Rattle.chacha20.specs.Generator.{reads};
+ghost use Rattle.chacha20.specs.Generator.{of_seed, reads};
 ghost use Rattle.chacha20.specs.XChaCha.{subkey, subnonce};
 
 use crate::chacha::{ChaCha8, ChaCha12, ChaCha20};
+use crate::chacha_core::ChaChaCore;
 use crate::legacy::ChaCha20Legacy;
-use crate::rng::{ChaCha8Rng, ChaCha12Rng, ChaCha20Rng};
+use crate::rng::{ChaCha8Rng, ChaCha12Rng, ChaCha20Rng, ChaChaRng};
 use crate::xchacha::{XChaCha8, XChaCha12, XChaCha20};
-use chacha_base::cipher::{IvSizeUser, KeyIvInit, KeySizeUser, Keystream};
-use rand_core::Rng;
+use chacha_base::cipher::{IvSizeUser, KeyIvInit, KeySizeUser, RngBackend};
+use chacha_base::rounds::{R8, R12, R20, Rounds};
+use chacha_base::variants::{Ietf, Legacy};
+use rand_core::{Rng, SeedableRng};
 use std::fmt;
 
-// The blocks that a key and a nonce define, and the position of what `new` makes.
+// The blocks that a key and a nonce define.
 fn ciphers()
     ensures chacha8 { ⟦<ChaCha8 as KeyIvInit>⟧.blocks_of ≡ block 4 ietf }
     ensures chacha12 { ⟦<ChaCha12 as KeyIvInit>⟧.blocks_of ≡ block 6 ietf }
@@ -28,13 +32,6 @@ fn ciphers()
         ≡ (λ key nonce. block 6 ietf (subkey 6 key nonce) (subnonce nonce)) }
     ensures xchacha20 { ⟦<XChaCha20 as KeyIvInit>⟧.blocks_of
         ≡ (λ key nonce. block 10 ietf (subkey 10 key nonce) (subnonce nonce)) }
-    ensures chacha8_starts { ⟦<ChaCha8 as Keystream>⟧.first_position ≡ 0 }
-    ensures chacha12_starts { ⟦<ChaCha12 as Keystream>⟧.first_position ≡ 0 }
-    ensures chacha20_starts { ⟦<ChaCha20 as Keystream>⟧.first_position ≡ 0 }
-    ensures chacha20_legacy_starts { ⟦<ChaCha20Legacy as Keystream>⟧.first_position ≡ 0 }
-    ensures xchacha8_starts { ⟦<XChaCha8 as Keystream>⟧.first_position ≡ 0 }
-    ensures xchacha12_starts { ⟦<XChaCha12 as Keystream>⟧.first_position ≡ 0 }
-    ensures xchacha20_starts { ⟦<XChaCha20 as Keystream>⟧.first_position ≡ 0 }
 {}
 
 // The words that a seed, a stream and a word position define, as all reads take them, and the texts of `Debug`, the
@@ -49,6 +46,32 @@ fn generators()
         ≡ (λ _. Some (codes "ChaCha12Rng { ... }")) }
     ensures chacha20_rng_text { ⟦<ChaCha20Rng as fmt::Debug>⟧.debug_output
         ≡ (λ _. Some (codes "ChaCha20Rng { ... }")) }
+{}
+
+// The start of a seed and the seed of a number, of every generator and of its core.
+fn seeds<R: Rounds, B: RngBackend<R>>()
+    ensures rng { ⟦<ChaChaRng<R, B> as SeedableRng>⟧.of_seed ≡ of_seed }
+    ensures rng_number { ⟦<ChaChaRng<R, B> as SeedableRng>⟧.seed_of_u64 ≡ pcg32_seed 32 }
+    ensures core { ⟦<ChaChaCore<R, Legacy, B> as SeedableRng>⟧.of_seed
+        ≡ (λ seed. start legacy seed (replicate 8 0) 0) }
+    ensures core_number { ⟦<ChaChaCore<R, Legacy, B> as SeedableRng>⟧.seed_of_u64
+        ≡ pcg32_seed 32 }
+{}
+
+// The texts of `Debug` of the cores, the same for every state. The last is of `ChaCha20Legacy` and of `ChaCha20Rng`.
+fn core_texts<B>()
+    ensures chacha8 { ⟦<ChaChaCore<R8, Ietf, B> as fmt::Debug>⟧.debug_output
+        ≡ (λ _. Some (codes "ChaChaCore<R: 4, V: 32-bit)> { ... }")) }
+    ensures chacha12 { ⟦<ChaChaCore<R12, Ietf, B> as fmt::Debug>⟧.debug_output
+        ≡ (λ _. Some (codes "ChaChaCore<R: 6, V: 32-bit)> { ... }")) }
+    ensures chacha20 { ⟦<ChaChaCore<R20, Ietf, B> as fmt::Debug>⟧.debug_output
+        ≡ (λ _. Some (codes "ChaChaCore<R: 10, V: 32-bit)> { ... }")) }
+    ensures chacha8_rng { ⟦<ChaChaCore<R8, Legacy, B> as fmt::Debug>⟧.debug_output
+        ≡ (λ _. Some (codes "ChaChaCore<R: 4, V: 64-bit)> { ... }")) }
+    ensures chacha12_rng { ⟦<ChaChaCore<R12, Legacy, B> as fmt::Debug>⟧.debug_output
+        ≡ (λ _. Some (codes "ChaChaCore<R: 6, V: 64-bit)> { ... }")) }
+    ensures chacha20_legacy { ⟦<ChaChaCore<R20, Legacy, B> as fmt::Debug>⟧.debug_output
+        ≡ (λ _. Some (codes "ChaChaCore<R: 10, V: 64-bit)> { ... }")) }
 {}
 
 // The sizes that the types name, and the types of keys and nonces.

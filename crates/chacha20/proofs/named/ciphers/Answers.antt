@@ -11,11 +11,4 @@ returns c = record {
   xchacha8 = refl;
   xchacha12 = refl;
   xchacha20 = refl;
-  chacha8_starts = refl;
-  chacha12_starts = refl;
-  chacha20_starts = refl;
-  chacha20_legacy_starts = refl;
-  xchacha8_starts = refl;
-  xchacha12_starts = refl;
-  xchacha20_starts = refl;
 }
