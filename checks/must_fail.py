@@ -4,14 +4,10 @@ import glob
 import os
 import re
 
-TOP = os.path.dirname(os.path.dirname(os.path.abspath(__file__)))
+from common import TOP, text_of
+
 # A proof that names what an edit took away, and what cites that proof: it says nothing of a contract.
 LOST = re.compile(r"has no field|is not in scope|has no `|was not admitted|was not checked")
-
-
-def text_of(path):
-    with open(path, encoding="utf-8") as it:
-        return it.read()
 
 
 def edits():

@@ -1,0 +1,62 @@
+"""What the scripts of this folder share: reading and changing files of the repository, and checking crates on a copy."""
+
+import contextlib
+import os
+import re
+import shutil
+import subprocess
+import sys
+import tempfile
+
+if sys.version_info < (3, 9):
+    sys.exit(f"{sys.argv[0]} needs Python 3.9 or later")
+TOP = os.path.dirname(os.path.dirname(os.path.abspath(__file__)))
+
+
+def text_of(path):
+    """The text of a file, whose path may be relative to the top of the repository."""
+    with open(os.path.join(TOP, path), encoding="utf-8") as it:
+        return it.read()
+
+
+def write(path, text):
+    with open(os.path.join(TOP, path), "w", encoding="utf-8") as it:
+        it.write(text)
+
+
+def change(path, made):
+    """Writes made(text) in place of a file's text, and says whether they differ."""
+    old = text_of(path)
+    new = made(old)
+    if new != old:
+        write(path, new)
+    return new != old
+
+
+def without_comments(text):
+    """The text of an .rt or .antt file without its comments."""
+    return re.sub(r"(?m)(?:^|(?<=\s))(?:--|//).*", "", text)
+
+
+def tracked(*endings):
+    """The files of the repository, without those that git ignores."""
+    said = subprocess.run(["git", "ls-files", "-co", "--exclude-standard"], cwd=TOP, stdout=subprocess.PIPE, text=True, check=True).stdout
+    return [it for it in said.split("\n") if it.endswith(endings) and os.path.isfile(f"{TOP}/{it}")]
+
+
+@contextlib.contextmanager
+def copied(*crates):
+    """A copy of these crates, or of all, with their lines of crates.txt. It is deleted where the `with` block ends."""
+    with tempfile.TemporaryDirectory(prefix="checks-") as room:
+        lines = [it for it in text_of("crates.txt").split("\n") if not crates or re.match(r"\w*", it)[0] in crates]
+        write(f"{room}/crates.txt", "".join(f"{it}\n" for it in lines if it))
+        shutil.copy(f"{TOP}/HANDLES", room)
+        for it in crates or os.listdir(f"{TOP}/crates"):
+            shutil.copytree(f"{TOP}/crates/{it}", f"{room}/crates/{it}", ignore=shutil.ignore_patterns("out"))
+        yield room
+
+
+def checked(crate, *words):
+    """The status of `rt check` in the folder of a crate, and what it said."""
+    ran = subprocess.run(["rt", "check", *words], cwd=crate, stdout=subprocess.PIPE, stderr=subprocess.STDOUT, text=True)
+    return ran.returncode, ran.stdout
