@@ -1,4 +1,4 @@
-"""What checks/edit and checks/edits share: reading a must-fail edit, and the goal that refuses it from what the prover printed."""
+"""Must-fail edits: where they are, what they make of their files, and the goal that refuses one in what the prover printed."""
 
 import glob
 import os
@@ -17,9 +17,8 @@ def edits():
 
 
 def applied(edit, folder):
-    """The texts of the files that an edit changes, by their paths in the crate, and where its first change is: path and place. It
-    raises ValueError where a text isn't there once."""
-    path, old, texts, first = "", "", {}, None
+    """The texts of the files that an edit changes, by their paths in the crate. It raises ValueError where a text isn't there once."""
+    path, old, texts = "", "", {}
     for line in text_of(edit).split("\n"):
         if line.startswith("file: "):
             path = line[len("file: ") :].strip()
@@ -29,27 +28,23 @@ def applied(edit, folder):
             text = texts.setdefault(path, text_of(f"{folder}/{path}"))
             if text.count(old) != 1:
                 raise ValueError(f"{old!r} stands in {path} {text.count(old)} times, and not once")
-            first = first or (path, text.index(old))
             texts[path] = text.replace(old, line[len("new:") :].removeprefix(" "))
-    if not first:
+    if not texts:
         raise ValueError("it has no lines 'file:', 'old:' and 'new:'")
-    return texts, first
+    return texts
 
 
-def item_at(text, place):
-    """The function around a place of a text, else the item that is declared there."""
-    lines, last = text.split("\n"), text.count("\n", 0, place)
-    inside = None
-    for number, line in enumerate(lines[: last + 1]):
-        head = re.match(r"(\s*)(?:pub(?:\(\w+\))? )?(?:final )?(?:const )?(?:extern \"C\" )?fn (\w+)", line)
+def function_at(path, number):
+    """The function that a line of a source is in, else the item that is declared there."""
+    lines, inside = text_of(path).split("\n")[:number], None
+    for at, line in enumerate(lines, 1):
+        head = re.match(r"(\s*)(?:pub )?(?:final )?(?:const )?(?:extern \"C\" )?fn (\w+)", line)
         if head and (inside is None or len(head[1]) <= len(inside[0])):
             inside = head[1], head[2]
-        elif inside and number < last and line == f"{inside[0]}}}":
+        elif inside and at < number and line == f"{inside[0]}}}":
             inside = None
-    if inside:
-        return inside[1]
-    found = re.match(r"\s*(?:pub )?(?:ghost |const |type |struct )*(\w+)", lines[last])
-    return found[1] if found else "?"
+    found = re.match(r"\s*(?:pub )?(?:ghost |const |type |struct )*(\w+)", lines[-1])
+    return inside[1] if inside else found[1] if found else "?"
 
 
 def goal_of(said, folder):
@@ -59,7 +54,4 @@ def goal_of(said, folder):
     if answer and not LOST.search(said):
         return answer[1], answer[2]
     search = re.match(r"(?:note: )?(?:\./)?(src/\S+?):(\d+):\d+: it is not proved .*?\(`([^`]+)`\)", said)
-    if search:
-        lines = text_of(f"{folder}/{search[1]}").split("\n")
-        return item_at("\n".join(lines), len("\n".join(lines[: int(search[2]) - 1])) + 1), search[3]
-    return None
+    return (function_at(f"{folder}/{search[1]}", int(search[2])), search[3]) if search else None
