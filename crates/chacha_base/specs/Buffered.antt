@@ -6,8 +6,8 @@ use Rattle.chacha_base.specs.Limit.{limit_of}
 abbrev pub left_at : ℕ → ℕ
 left_at p = (64 - p % 64) % 64
 
--- The core has made every block that begins before the position. Its counter is the number of these
--- blocks, or 0 again after the last one. If the position is inside a block, the buffer holds it.
+-- The counter of the core is the number of blocks that begin before the position, or 0 again after
+-- the last one. If the position is inside a block, the buffer holds that block.
 pub record IsBuffered (modulus : ℕ) (block : ℕ → List ℕ) (counter : ℕ) (buffer : List ℕ)
     (position : ℕ) : Type 0 where
   pub within : position ≤ limit_of modulus
