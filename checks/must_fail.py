@@ -38,7 +38,7 @@ def function_at(path, number):
     """The function that a line of a source is in, else the item that is declared there."""
     lines, inside = text_of(path).split("\n")[:number], None
     for at, line in enumerate(lines, 1):
-        head = re.match(r"(\s*)(?:pub )?(?:final )?(?:const )?(?:extern \"C\" )?fn (\w+)", line)
+        head = re.match(r"(\s*)(?:pub(?:\(\w+\))? )?(?:final )?(?:const )?(?:extern \"C\" )?fn (\w+)", line)
         if head and (inside is None or len(head[1]) <= len(inside[0])):
             inside = head[1], head[2]
         elif inside and at < number and line == f"{inside[0]}}}":
