@@ -4,7 +4,7 @@ import glob
 import os
 import re
 
-from common import TOP, text_of
+from common import FUNCTION, TOP, text_of
 
 # A proof that names what an edit took away, and what cites that proof: it says nothing of a contract.
 LOST = re.compile(r"has no field|is not in scope|has no `|was not admitted|was not checked")
@@ -38,9 +38,9 @@ def function_at(path, number):
     """The function that a line of a source is in, else the item that is declared there."""
     lines, inside = text_of(path).split("\n")[:number], None
     for at, line in enumerate(lines, 1):
-        head = re.match(r"(\s*)(?:pub(?:\(\w+\))? )?(?:final )?(?:const )?(?:extern \"C\" )?fn (\w+)", line)
+        head = FUNCTION.match(line)
         if head and (inside is None or len(head[1]) <= len(inside[0])):
-            inside = head[1], head[2]
+            inside = head[1], head[3]
         elif inside and at < number and line == f"{inside[0]}}}":
             inside = None
     found = re.match(r"\s*(?:pub )?(?:ghost |const |type |struct )*(\w+)", lines[-1])
