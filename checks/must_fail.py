@@ -10,9 +10,9 @@ from common import FUNCTION, TOP, text_of
 LOST = re.compile(r"has no field|is not in scope|has no `|was not admitted|was not checked")
 
 
-def edits():
-    """The crate, the name and the path of each edit."""
-    found = sorted(glob.glob(f"{TOP}/crates/*/must-fail/*.edit"))
+def edits(folder="must-fail"):
+    """The crate, the name and the path of each edit, or of each twin in the folder twins."""
+    found = sorted(glob.glob(f"{TOP}/crates/*/{folder}/*.edit"))
     return [(it.split("/")[-3], os.path.basename(it)[:-5], it) for it in found]
 
 
