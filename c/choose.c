@@ -1,6 +1,6 @@
 /* SPDX-License-Identifier: Apache-2.0 OR MIT
 
-   The 42 functions of chacha20.h, each as one call of the same function of the build for x86-64,
+   The functions of chacha20.h, each as one call of the same function of the build for x86-64,
    x86-64-v2 or x86-64-v3. Not proved: the proofs are of what is called here.
 
    The choice is made once, before main or when the shared library is loaded, and so before a second
