@@ -48,7 +48,7 @@ fn generators()
         ≡ (λ _. Some (codes "ChaCha20Rng { ... }")) }
 {}
 
-// The start of a seed and the seed of a number, of every generator and of its core.
+// Where every generator and its core start for a seed, and which seed they take for a number.
 fn seeds<R: Rounds, B: RngBackend<R>>()
     ensures rng { ⟦<ChaChaRng<R, B> as SeedableRng>⟧.of_seed ≡ of_seed }
     ensures rng_number { ⟦<ChaChaRng<R, B> as SeedableRng>⟧.seed_of_u64 ≡ pcg32_seed 32 }
@@ -74,7 +74,7 @@ fn core_texts<B>()
         ≡ (λ _. Some (codes "ChaChaCore<R: 10, V: 64-bit)> { ... }")) }
 {}
 
-// The sizes that the types name, and the types of keys and nonces.
+// The constants for sizes are those of the types of keys and nonces.
 fn sizes(
     key: &<ChaCha20 as KeyIvInit>::Key,
     nonce: &<ChaCha20 as KeyIvInit>::Iv,

@@ -1,4 +1,4 @@
-//! The backend of the ciphers, and where a call is cut in two for it. No contract of an export names them.
+//! The backend of the ciphers, and where a call is cut in two for it. No contract of an export names either.
 
 ghost use Rattle.std.specs.Prelude.{◌≤◌};
 
@@ -6,8 +6,8 @@ use chacha20::backends::{Lanes4, Lanes16};
 use chacha20::cipher::{ParBlocksSizeUser, StreamCipherBackend};
 use chacha20::{Rounds, Steps, Variant};
 
-/// For vectors of 128 bits: groups of four blocks by `Lanes4`, and one block or two by `Lanes16`, which makes no more than
-/// these. It counts nothing.
+/// For vectors of 128 bits: three or four blocks by `Lanes4`, and one or two by `Lanes16`, which makes only those where
+/// `Lanes4` makes four. It counts nothing.
 pub(crate) struct Narrow;
 
 impl ParBlocksSizeUser for Narrow {
@@ -59,13 +59,13 @@ impl<R: Rounds, V: Variant> StreamCipherBackend<R, V> for Narrow {
     }
 }
 
-/// The backend of the level that the library is built for. `c/Makefile` puts `Lanes16` in the place of `Narrow` for levels
-/// with vectors of 256 bits.
+/// The backend of the level that the library is built for. `c/Makefile` puts `Lanes16` in the place of `Narrow` for
+/// levels with vectors of 256 bits.
 pub(crate) type Chosen = Narrow;
 
-/// How many of so many bytes from a position on are combined first, so that a tail of more than eight blocks becomes eight
-/// and the rest: the rows of eight blocks fit into the registers of 256 bits, and those of sixteen don't. All of them
-/// where there is no such tail.
+/// How many of `len` bytes, from a position on, the first of two applications takes. It cuts a tail of nine to fifteen
+/// blocks into eight and the rest: the rows of eight blocks fit into the registers of 256 bits, and those of sixteen
+/// don't. Where there is no such tail, one application takes all.
 pub(crate) fn first_part<B: ParBlocksSizeUser>(position: u128, len: usize) -> usize
     ensures { result ≤ len }
 {
@@ -80,8 +80,8 @@ pub(crate) fn first_part<B: ParBlocksSizeUser>(position: u128, len: usize) -> us
     }
 }
 
-/// The same for a call that fills or copies its bytes in pieces: a long one is cut where the first block begins, since
-/// else each piece would end inside a block, which is then made apart.
+/// The same for a call that fills or copies its bytes in pieces. A long one that starts inside a block is cut at the end
+/// of that block. Otherwise each piece would end inside a block, which takes a backend call of its own.
 pub(crate) fn first_part_in_pieces<B: ParBlocksSizeUser>(position: u128, len: usize) -> usize
     ensures { result ≤ len }
 {

@@ -1,5 +1,5 @@
-//! Calls on a cipher that is made for each of them, over any core, with answers as C has them: 0 where a call is accepted,
-//! and 1 where it is refused. A position has 128 bits, so that it reaches the end of each stream.
+//! Calls that each make a cipher of their own, over any core. They return what C gets: 0 where a call is accepted, and 1
+//! where it is refused. A position has 128 bits, so that it reaches the end of each stream.
 
 ghost use Rattle.std.specs.Prelude.{◌≡◌, ◌↔◌, ◌≤◌, ◌+◌, cond, length, is_ok, IsOk, OnOk, OnErr};
 ghost use Rattle.chacha20.specs.Keystream.{keystream, stream_part, xor_stream};
@@ -12,7 +12,7 @@ use chacha20::cipher::{
     KeyIvInit, StreamCipher, StreamCipherError, StreamCipherSeek, StreamCipherSeekCore,
 };
 
-/// Combines bytes with the keystream from a position on.
+/// XORs bytes with the keystream from a position on.
 pub(crate) fn xor_in_place<K: KeyIvInit + StreamCipherSeekCore + Drop>(
     key: &K::Key,
     nonce: &K::Iv,
@@ -45,7 +45,7 @@ fn try_xor_in_place<K: KeyIvInit + StreamCipherSeekCore + Drop>(
     try_apply_in_two(&mut cipher, data, first)
 }
 
-// Combines bytes with the keystream in two parts. Apart from its callers, so that they need no registers for it.
+// XORs bytes with the keystream in two parts. It isn't inlined, so that its callers need no registers for it.
 #[inline(never)]
 fn try_apply_in_two<C: StreamCipher>(
     cipher: &mut C,
@@ -67,7 +67,7 @@ fn try_apply_in_two<C: StreamCipher>(
     Ok(())
 }
 
-/// Combines an input with the keystream from a position on into an output.
+/// Writes an input, XORed with the keystream from a position on, into an output.
 pub(crate) fn xor_between<K: KeyIvInit + StreamCipherSeekCore + Drop>(
     key: &K::Key,
     nonce: &K::Iv,
@@ -103,7 +103,7 @@ fn try_xor_between<K: KeyIvInit + StreamCipherSeekCore + Drop>(
     try_apply_between_in_two(&mut cipher, output, input, first)
 }
 
-// `try_apply_in_two` between buffers of one length.
+// As `try_apply_in_two`, from one buffer into another of the same length.
 #[inline(never)]
 fn try_apply_between_in_two<C: StreamCipher>(
     cipher: &mut C,
@@ -162,7 +162,7 @@ fn try_write_keystream<K: KeyIvInit + StreamCipherSeekCore + Drop>(
     try_write_in_two(&mut cipher, output, first)
 }
 
-// `try_apply_in_two` for the keystream alone.
+// As `try_apply_in_two`, and writes the keystream itself.
 #[inline(never)]
 fn try_write_in_two<C: StreamCipher>(
     cipher: &mut C,
@@ -194,7 +194,7 @@ fn answer(outcome: Result<(), StreamCipherError>) -> u32
     }
 }
 
-/// Whether so many bytes from a position on end at a limit or before it.
+/// 0 where `len` bytes from a position on end at a limit or before it, and else 1.
 pub(crate) fn check(position: u128, len: usize, limit: u128) -> u32
     ensures { Checked limit position len result }
 {

@@ -1,4 +1,4 @@
-//! The counter of a state of sixteen words, read, set and moved on (RFC 8439, section 2.3). Nothing is refused.
+//! Reads, sets and advances the counter of a state of sixteen words (RFC 8439, section 2.3). Nothing is refused.
 
 ghost use Rattle.std.specs.Prelude.{◌≡◌, ◌<◌};
 ghost use Rattle.chacha_base.specs.Layout.{modulus};
@@ -25,8 +25,8 @@ pub fn set_counter<V: Variant>(state: &mut [u32; 16], pos: V::Counter)
     V::set_block_pos(&mut state[12..], pos);
 }
 
-/// Moves the counter of a state on by so many blocks. It wraps, at 2^32 or 2^64 as the variant says. The other words
-/// stay.
+/// Advances the counter of a state by a number of blocks. It wraps at 2^32 or 2^64, as the variant says. The other
+/// words stay.
 #[inline(always)]
 pub fn advance<V: Variant>(state: &mut [u32; 16], blocks: usize)
     ensures { state.new ≡ state_after V.layout blocks state.old }

@@ -1,5 +1,4 @@
-//! A backend of a user's own, over the public names of `chacha20` alone. The tests of `vectors` run rows and streams over
-//! it.
+//! A backend of a user's own, over the public names of `chacha20` alone. The tests of `vectors` run over it too.
 
 ghost use Rattle.std.specs.Prelude.{◌≡◌, length};
 ghost use Rattle.chacha20.specs.State.{state_after, AreNextBlocks};
@@ -9,7 +8,7 @@ use chacha20::cipher::{ParBlocksSizeUser, RngBackend, StreamCipherBackend};
 use chacha20::variants::Variant;
 use chacha20::{Rounds, Steps};
 
-/// Three blocks in a parallel call, made one by one. It counts nothing: the blocks are made with `Steps` of its own (this
+/// Three blocks in a parallel call, made one by one. It makes them with `Steps` of its own, and so counts nothing (this
 /// crate).
 pub struct Width3;
 

@@ -37,7 +37,7 @@ impl Display for Lines<'_> {
     }
 }
 
-// The status: success exactly where the lines could be printed, and no row is bad.
+// Success exactly where the lines could be printed and no row is bad.
 fn status(printed: bool, verdicts: &Verdicts) -> ExitCode
     ensures { exit_status result ≡ 0
         ↔ (IsTrue printed × All (λ row. IsNone (option_flatten row)) verdicts.now) }
@@ -49,7 +49,7 @@ fn status(printed: bool, verdicts: &Verdicts) -> ExitCode
     }
 }
 
-// Prints what was found, and answers the status.
+// Prints the lines, and returns the status.
 fn report(rt: &impl Print, ciphertext: &[u8; 16], verdicts: &Verdicts) -> ExitCode
     ensures { exit_status result ≡ 0 → All (λ row. IsNone (option_flatten row)) verdicts.now }
 {

@@ -1,5 +1,5 @@
-//! Worked rows: published calls with their answers, for any core and generator of their kind, and for the cipher over any
-//! core. A row is right if each call answers as published.
+//! Worked rows: calls with the answers that they must give, published or worked out by hand. A row runs on any cipher,
+//! core or generator of its kind.
 
 ghost use Rattle.std.specs.Prelude.{◌≡◌, ◌↔◌, ◌<◌, ◌∷◌, [], All, IfSome, IsNone, IsSome, IsTrue, None, Some, SomeIndex, false, true, slice_index_or};
 ghost use Rattle.std.specs.Option.{option_flatten};
@@ -40,7 +40,7 @@ impl Rounds for R0 {
     const COUNT: usize = 0;
 }
 
-/// A check that fails: its name, and in a loop the number for which it does, else the place of the part that fails.
+/// A check that fails: its name, and the number for which a loop found that, or the place of the part that fails.
 #[derive(Clone, Copy)]
 pub struct Failure {
     pub check: &'static str,

@@ -1,5 +1,4 @@
-//! The engine of a core: it calls the backend for whole blocks, and XORs bytes with them. `StreamCipherCore` is at the
-//! end.
+//! The engine of a core: it calls the backend for whole blocks, and XORs bytes with them.
 
 ghost use Rattle.std.specs.Prelude.{◌≡◌, ◌≤◌, ◌<◌, ◌+◌, ◌*◌, ◌/◌, ◌%◌, length, min};
 ghost use Rattle.chacha_base.specs.State.{state_counter, state_after, AreNextBlocks};
@@ -59,7 +58,7 @@ fn gen_tail_apart<R: Rounds, V: Variant, B: StreamCipherBackend<R, V>>(
     B::gen_tail_blocks(state, blocks, steps);
 }
 
-// XORs bytes with whole blocks, which are made in `room`: in groups as a parallel call makes them, and then the rest.
+// XORs bytes with whole blocks, which are made in `room`: groups by parallel calls, and then the tail.
 #[inline(always)]
 fn apply_through<R: Rounds, V: Variant, B: StreamCipherBackend<R, V>>(
     state: &mut [u32; 16],

@@ -18,7 +18,7 @@ use chacha_base::variants::Legacy;
 use rand_core::SeedableRng;
 use std::marker::PhantomData;
 
-/// What makes its output one buffer at a time (this crate).
+/// Makes its output one buffer at a time (this crate).
 pub trait Generator {
     /// What one call makes.
     type Output;
@@ -28,7 +28,7 @@ pub trait Generator {
 
     ghost after: { Self → Self };
 
-    /// Makes the next output, over what stood there. Nothing is refused.
+    /// Writes the next output over the old one. Nothing is refused.
     fn generate(&mut self, output: &mut Self::Output)
         ensures output { output.new ≡ generated self.old }
         ensures moved { self.new ≡ after self.old };
@@ -43,7 +43,7 @@ impl<R: Rounds, B: RngBackend<R>> Generator for ChaChaCore<R, Legacy, B> {
 
     ghost after = { state_after legacy 4 };
 
-    // Not inlined: the reads of a generator hold a test and this call.
+    // Not inlined, so that a read that is inlined has only a test and this call.
     #[inline(never)]
     fn generate(&mut self, output: &mut [u32; 64]) {
         B::gen_ks_blocks(&mut self.state, output, &mut Steps::new());

@@ -72,7 +72,7 @@ impl<R: Rounds> RngBackend<R> for Lanes4 {
     }
 }
 
-// The numbers of this backend. A change of one in the code and in its clauses breaks a clause here.
+// The numbers of this backend, stated once more: a change of one in the code and in its own clauses fails here.
 fn lanes4_numbers<R: Rounds, V: Variant>(
     state: &mut [u32; 16],
     blocks: &mut [[u8; 64]],

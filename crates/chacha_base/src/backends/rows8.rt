@@ -73,7 +73,7 @@ impl<R: Rounds> RngBackend<R> for Rows8 {
     }
 }
 
-// The numbers of this backend. A change of one in the code and in its clauses breaks a clause here.
+// The numbers of this backend, stated once more: a change of one in the code and in its own clauses fails here.
 fn rows8_numbers<R: Rounds, V: Variant>(
     state: &mut [u32; 16],
     blocks: &mut [[u8; 64]],

@@ -105,7 +105,7 @@ impl<R: Rounds> RngBackend<R> for Soft {
     }
 }
 
-// The numbers of this backend. A change of one in the code and in its clauses breaks a clause here.
+// The numbers of this backend, stated once more: a change of one in the code and in its own clauses fails here.
 fn soft_numbers<R: Rounds, V: Variant>(
     state: &mut [u32; 16],
     blocks: &mut [[u8; 64]],

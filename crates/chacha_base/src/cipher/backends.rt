@@ -10,7 +10,7 @@ use crate::rounds::{Rounds, Steps};
 use crate::variants::Variant;
 
 /// Makes the blocks of a state one after another (RFC 8439, section 2.3), 64 bytes each. The functions have no
-/// receiver, so that a backend is a marker.
+/// receiver, so a backend is an empty type.
 ///
 /// A call makes the block of the state's counter, or that one and those of the counters after it, in order. It moves
 /// the counter past them and keeps the other words of the state. Counters wrap, at 2^32 or 2^64 as the variant says.
@@ -39,7 +39,7 @@ pub trait StreamCipherBackend<R: Rounds, V: Variant>: ParBlocksSizeUser {
         ensures state { state.new ≡ state_after V.layout (length blocks.old) state.old }
         ensures steps { Grows (for_group (PAR_STEPS * R.COUNT)) steps.old steps.new };
 
-    /// As many of the next blocks as there is room for: fewer than `PAR_BLOCKS`, also none.
+    /// The next blocks, as many as there is room for: fewer than `PAR_BLOCKS`, or none.
     fn gen_tail_blocks(state: &mut [u32; 16], blocks: &mut [[u8; 64]], steps: &mut Steps)
         requires { length blocks.old < Self.PAR_BLOCKS }
         ensures blocks { AreNextBlocks R.COUNT V.layout state.old (length blocks.old) blocks.new }
@@ -56,7 +56,7 @@ pub trait StreamCipherBackend<R: Rounds, V: Variant>: ParBlocksSizeUser {
 pub trait RngBackend<R: Rounds> {
     ghost RNG_STEPS: { ℕ };
 
-    /// Quarter rounds of a call, for each double round.
+    /// Quarter rounds of a call, for each double round (this crate).
     const RNG_STEPS: usize;
 
     /// The words of the next four blocks.

@@ -11,7 +11,7 @@ use crate::cipher::seek_num::SeekNum;
 use crate::rounds::Steps;
 
 // How many bytes are filled or copied before the keystream goes over them: few enough to stay in a near cache, so that
-// memory is passed once.
+// they come from memory once.
 const PIECE: usize = 0x2000;
 
 /// A cipher that XORs (exclusive or) bytes with a keystream, from its position on, and moves on past them. Positions

@@ -22,8 +22,8 @@ pub trait StreamCipherCore: Keystream + BlockSizeUser + ParBlocksSizeUser {
 
     ghost one_cost: { ℕ };
 
-    /// How many blocks come from the counter on, up to the one with the greatest counter. `None` where a `usize` cannot
-    /// represent that number: only at counter 0 of 64 bits.
+    /// How many blocks are left, from that of the counter to the one with the greatest counter. `None` where a `usize`
+    /// cannot represent that number: only where a counter of 64 bits is 0.
     fn remaining_blocks(&self) -> Option<usize>
         ensures remaining { result ≡ remaining Self.modulus (counter self.now) }
         ensures below { counter self.now < Self.modulus };
@@ -85,7 +85,7 @@ pub trait StreamCipherCore: Keystream + BlockSizeUser + ParBlocksSizeUser {
         ensures counter { counter self.new ≡ (counter self.old + 1) % Self.modulus }
         ensures steps { Grows (for_single one_cost) steps.old steps.new };
 
-    /// XORs whole blocks of bytes, so a multiple of 64 bytes, with the next blocks, and counts the steps (this crate).
+    /// XORs bytes, a multiple of 64 of them, with the next blocks, and counts the steps (this crate).
     fn apply_blocks_counted(&mut self, data: &mut [u8], steps: &mut Steps)
         requires { length «data».old % 64 ≡ 0 }
         ensures data { «data».new
