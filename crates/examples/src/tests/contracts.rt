@@ -82,8 +82,8 @@ fn same_tail<R: Rounds, V: Variant, A: StreamCipherBackend<R, V>, B: StreamCiphe
     B::gen_tail_blocks(other_state, other_blocks, steps);
 }
 
-// Cores over two backends, whatever their widths: the same blocks, and after them the same fixed part and counter. Clauses
-// of a core's calls speak of nothing else.
+// Cores over two backends, whatever their widths: the same blocks, and after them the same fixed part and counter.
+// Clauses of a core's calls speak of nothing else.
 fn same_blocks<R: Rounds, V: Variant, A: StreamCipherBackend<R, V>, B: StreamCipherBackend<R, V>>(
     core: &mut ChaChaCore<R, V, A>,
     blocks: &mut [[u8; 64]],

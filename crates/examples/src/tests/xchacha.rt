@@ -1,5 +1,5 @@
-//! HChaCha without rounds, and XChaCha ciphers compared with those that they are made of. `vectors` compares their bytes
-//! with published ones.
+//! HChaCha without rounds, and XChaCha ciphers compared with those that they are made of. `vectors` compares their
+//! bytes with published ones.
 
 ghost use Rattle.std.specs.Prelude.{◌≡◌};
 ghost use Rattle.chacha20.specs.XChaCha.{subnonce};

@@ -22,8 +22,8 @@ static PLAINTEXT: [u8; 16] = [0, 1, 2, 3, 4, 5, 6, 7, 8, 9, 10, 11, 12, 13, 14, 
 
 static CIPHERTEXT: [u8; 16] = *b"\xe4\x05\x62\x6e\x4f\x12\x36\xb3\x67\x0e\xe4\x28\x33\x2e\xa2\x0e";
 
-// Named ciphers come in as their cores: to show a cipher's traits for a core of any kind costs a proof a third of what they
-// cost for a named one.
+// These functions take a core as a type, and not its cipher: to prove a cipher's traits over any core costs a third of
+// proving them for a named cipher.
 
 /// The first row's ciphertext. Enters each row of the cipher of RFC 8439 over a core.
 pub fn enter_ietf_rows<K>(verdicts: &mut Verdicts) -> [u8; 16]
@@ -35,7 +35,7 @@ where
     enter_rows_of_ietf::<StreamCipherCoreWrapper<K>>(verdicts)
 }
 
-/// Enters each row of the cipher in the layout before it over a core.
+/// Enters each row of the cipher in the older layout over a core.
 pub fn enter_legacy_rows<K>(verdicts: &mut Verdicts)
 where
     K: KeyIvInit<Key = Key, Iv = LegacyNonce> + StreamCipherSeekCore<Counter = u64> + Drop,
@@ -385,7 +385,7 @@ fn row_11<C: KeyIvInit<Key = Key, Iv = Nonce> + StreamCipherSeek + Drop>() -> Ve
     )
 }
 
-// Positions that a type can't say.
+// Positions that a type can't represent.
 fn row_12<C: KeyIvInit<Key = Key, Iv = Nonce> + StreamCipherSeek + Drop>() -> Verdict
     requires { 2 ^ 32 ≤ limit_of C.modulus }
 {

@@ -39,11 +39,11 @@ pub struct RngList {
     pub last: &'static [u8],
 }
 
-/// A cipher that is called by lists. It promises nothing, so that a proof of a row or of a test meets the contract of a list
-/// once, here.
+/// A cipher that is called by lists. It has no contract, so that the proofs of rows and tests don't carry that of
+/// `run_cipher`.
 pub trait Listed {
-    /// Makes the calls and writes their answers. Answers false where nothing is done: where a range lies past its slice, or
-    /// there are not as many answers as calls.
+    /// Makes the calls, writes their answers and returns true. Where a range lies past its slice, or there are not as
+    /// many answers as calls, it does nothing and returns false.
     fn runs(
         &mut self,
         input: &[u8],
@@ -54,7 +54,7 @@ pub trait Listed {
 }
 
 impl<K: StreamCipherSeekCore> Listed for StreamCipherCoreWrapper<K> {
-    // Compiled once for a cipher, and not into each row or test.
+    // Compiled once for each cipher, and not into each row or test.
     #[inline(never)]
     fn runs(
         &mut self,
@@ -138,7 +138,7 @@ fn is_right<C: Listed>(cipher: &mut C, list: &CipherList) -> bool {
     answers_are(cipher, list.input, data, list.calls, list.answers) && data.ends_with(list.after)
 }
 
-/// Runs lists one after another on a cipher. The name of the first whose answers or bytes differ; `None` if none does.
+/// Runs lists one after another on a cipher. Returns the name of the first whose answers or bytes differ, or `None`.
 pub fn wrong_list<C: Listed>(cipher: &mut C, lists: &[CipherList]) -> Verdict {
     for list in lists {
         if !is_right(cipher, list) {
@@ -163,7 +163,7 @@ fn are_listed(list: &RngList, answers: &[RngAnswer], data: &[u8]) -> bool
     answers.ends_with(list.answers) & data.starts_with(list.first) & data.ends_with(list.last)
 }
 
-// Whether a list's calls give what it says.
+// Whether the calls of a list give its answers and its bytes.
 fn draws_as<R: Rounds, B: RngBackend<R>>(rng: &mut ChaChaRng<R, B>, list: &RngList) -> bool
     ensures right { IsTrue result
         ↔ IsDrawn ⟦<RngAnswer as PartialEq>⟧.eq R.COUNT rng.old list.now }
@@ -180,7 +180,7 @@ fn draws_as<R: Rounds, B: RngBackend<R>>(rng: &mut ChaChaRng<R, B>, list: &RngLi
     are_listed(list, answers, data)
 }
 
-/// The same for a generator.
+/// Runs lists one after another on a generator, as `wrong_list` does on a cipher.
 pub fn wrong_draw<R: Rounds, B: RngBackend<R>>(
     rng: &mut ChaChaRng<R, B>,
     lists: &[RngList],

@@ -8,8 +8,8 @@ use crate::rows::{COUNTING, Verdict, failed_for};
 use chacha20::rand_core::{Rng, SeedableRng};
 use chacha20::{CipherCall, Seed};
 
-// Whether one cipher takes back what the other gives, over ten blocks and a last part of 63 bytes, of which both take so
-// many bytes at first.
+// Whether one cipher decrypts what the other encrypts: ten blocks and a last part of 63 bytes, by two calls each, the
+// first of so many bytes.
 fn takes_back<A: Listed, B: Listed>(cipher: &mut A, other: &mut B, first: usize) -> bool
     requires { first ≤ 703 }
 {

@@ -138,8 +138,8 @@ pub static ZERO_ENDS: [CipherList; 7] = [
     },
 ];
 
-/// Of a new cipher with a counter of 32 bits. Numbers below 0, and the greatest of two types, are no positions: the cipher
-/// stays where it is.
+/// Of a new cipher with a counter of 32 bits. Numbers below 0, and the greatest of two types, are no positions: the
+/// cipher stays where it is.
 pub static IETF_ENDS: [CipherList; 5] = [
     CipherList {
         name: "no calls",
@@ -604,8 +604,8 @@ where
     )
 }
 
-// Last blocks as OpenSSL 3.0.19 makes them: `openssl enc -chacha20` of zeros, under the key 00 to 1f with the iv ffffffff
-// and twelve zeros, and under the key 01 to 20 with the iv ffffffffffffffff and the legacy nonce.
+// Last blocks as OpenSSL 3.0.19 makes them: `openssl enc -chacha20` of zeros, under the key 00 to 1f with the iv
+// ffffffff and twelve zeros, and under the key 01 to 20 with the iv ffffffffffffffff and the legacy nonce.
 const LAST_BLOCK: &[u8; 64] = b"\
     \x1c\xe0\xde\xb8\x92\x5f\xcc\xea\x2d\x55\x87\xe8\x50\x05\x45\x59\
     \xed\xcb\xbe\xb1\xa6\xc8\xe1\xc0\x2c\x1e\x89\xab\xba\x08\xb0\x1c\

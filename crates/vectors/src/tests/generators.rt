@@ -4,7 +4,7 @@ use crate::rows::{R0, Verdict, failed};
 use chacha20::cipher::RngBackend;
 use chacha20::{ChaCha8Rng, ChaCha12Rng, ChaCha20Rng, ChaChaRng};
 
-/// What is wrong with the worked reads of a generator without rounds, whose words are those of its start state, doubled.
+/// What is wrong with reads of a generator without rounds, whose words are those of its start state, doubled.
 pub fn wrong_reads<B: RngBackend<R0>>() -> Verdict {
     let mut rng = ChaChaRng::<R0, B>::from_seed([0; 32]);
     let word = rng.next_u32();

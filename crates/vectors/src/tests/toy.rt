@@ -1,4 +1,4 @@
-//! A core that only tests use: byte i of its block with counter c is (seed + 100 * c + i) mod 256. Its `new` makes it at
+//! A core that only tests use: byte i of its block with counter c is (seed + 100 * c + i) mod 256. Its `new` starts at
 //! block 5, where a cipher does not begin.
 
 ghost use Rattle.std.specs.Prelude.{◌≡◌, ◌<◌, ◌+◌, ◌*◌, ◌%◌};

@@ -1,5 +1,5 @@
-//! Counters and positions that wrap, and states of any bytes, over each backend. Nothing here makes rounds, so that words
-//! can be computed by hand.
+//! Counters and positions that wrap, and states of any bytes, over each backend. Nothing here makes rounds, so that
+//! words can be computed by hand.
 
 use crate::rows::cores::last_row;
 use crate::rows::{R0, Verdict, failed, failed_for, first_failure};
