@@ -179,8 +179,8 @@ void hchacha8(
 
    A generator is 49 bytes, which the caller keeps, copies and stores as any other: 32 of seed, 8 of
    the stream's number, 9 of the word position, each number with the low byte first. Any 49 bytes
-   are a state. The upper half of the last one says nothing; a call that writes the state writes it
-   as 0.
+   are a state. The upper four bits of the last byte count for nothing; a call that writes the state
+   writes 0 there.
 
    The words of a stream are those of the blocks of ChaCha in the layout with a counter of 64 bits,
    whose key is the seed and whose nonce is the stream: 2^68 words, and then the first again. The
@@ -425,7 +425,7 @@ CHACHA20_INLINE uint32_t chacha20_legacy_keystream(
     return chacha20_legacy_keystream_raw(key, nonce, block, offset, output, len);
 }
 
-/* Any number that memory is unlikely to hold by accident. One below 2^31 fits into instructions. */
+/* A number that memory is unlikely to hold by accident; below 2^31 it fits into an instruction. */
 #define CHACHA20_BEGUN UINT64_C(0x37e15162)
 
 CHACHA20_INLINE void chacha_rng_buffer_begin(
@@ -453,8 +453,8 @@ CHACHA20_INLINE void chacha_rng_buffer_end(
     chacha_rng_set_word_pos(state, low, high);
 }
 
-/* The words that are left of the block that the state is in come first, so that the next refill
-   begins with a block. */
+/* The first refill takes what is left of the state's block and three blocks more, so that later ones
+   begin with a block. */
 #define CHACHA20_DEFINE(NAME)                                                                   \
     CHACHA20_INLINE void NAME##_fill(                                                           \
         uint8_t state[CHACHA20_MIN(49)], uint8_t *output, size_t len) CHACHA20_NOEXCEPT {       \

@@ -5,8 +5,11 @@
    - A key, a nonce, a seed or an input of HChaCha is an array of any other size, and not constant.
      HChaCha also takes the 24 bytes of a nonce.
    - A nonce is a constant array of 8, 12, 16 or 24 bytes, and the cipher takes another of these
-     sizes. A key or a seed is a constant array of 16 bytes. These calls are ambiguous.
-   - A state is an array of 32 bytes, the size of a seed. A subkey is an array of 16 bytes.
+     sizes. An input of HChaCha is a constant array of 8 or 12 bytes, a key or a seed one of 16.
+     These calls are ambiguous.
+   - A state of a read, a fill, chacha_rng_from_seed or a buffer is an array of 32 bytes, the size
+     of a seed; for chacha_rng_buffer_begin also of any other size, and not constant. A subkey is an
+     array of 16 bytes.
 
    Pointers are not checked, such as data() of std::array: for the front of a longer array write
    &array[0]. The names are overloaded, so auto and decltype can't take them.
