@@ -453,8 +453,8 @@ CHACHA20_INLINE void chacha_rng_buffer_end(
     chacha_rng_set_word_pos(state, low, high);
 }
 
-/* The first refill takes what is left of the state's block and three blocks more, so that later ones
-   begin with a block. */
+/* The first refill takes what is left of the state's block and three blocks more, so that
+   later ones begin with a block. */
 #define CHACHA20_DEFINE(NAME)                                                                   \
     CHACHA20_INLINE void NAME##_fill(                                                           \
         uint8_t state[CHACHA20_MIN(49)], uint8_t *output, size_t len) CHACHA20_NOEXCEPT {       \

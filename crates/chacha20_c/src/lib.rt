@@ -1,13 +1,14 @@
 //! The ciphers and generators of `chacha20` for C, and for what can call C, as a static library. `include/chacha20.h`
 //! declares each function.
 //!
-//! A slice crosses as a pointer and then its length, an array as a pointer. No pointer is null, also where a length is
-//! 0, and what a call writes overlaps nothing else that it is given. Arguments come in the order key, nonce, position,
-//! output, input. Of an export whose name ends in `_raw` the header defines a form that takes null with length 0.
+//! A slice is passed as a pointer and then its length, an array as a pointer. No pointer is null, even where a length
+//! is 0, and what a call writes overlaps nothing else that it is given. Arguments come in the order key, nonce,
+//! position, output, input. For each export whose name ends in `_raw` the header defines a form that takes null with
+//! length 0.
 //!
 //! A cipher has no state here: each call names its key, its nonce and a position, which is a number of bytes from the
 //! first of the keystream. The legacy cipher's is the number of a block of 64 bytes, and a number of bytes from there
-//! on. The state of a generator is 49 bytes of the caller's, which fit any number of rounds: each read names its own.
+//! on. The state of a generator is 49 bytes of the caller's, for any number of rounds: each read names its own.
 #![tactic(auto)]
 
 mod backend;

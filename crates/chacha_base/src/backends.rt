@@ -1,4 +1,4 @@
-//! Backends: markers whose functions make the blocks of a state.
+//! Backends: empty types whose functions make the blocks of a state.
 
 mod columns;
 mod group;

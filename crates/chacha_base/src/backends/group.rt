@@ -118,7 +118,7 @@ impl<G: Group> Group for Twice<G> {
     }
 }
 
-/// What takes the words of a block, as words or as bytes.
+/// Takes the words of a block, as words or as bytes.
 pub trait BlockBuffer {
     // The buffer that holds these words.
     ghost of_words: { List ℕ → Self };

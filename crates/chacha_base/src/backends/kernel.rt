@@ -63,7 +63,7 @@ fn mixed_words<R: Rounds, V: Variant, G: Group, const W: usize>(
     words
 }
 
-/// Writes the next block, as one other call. The counter moves on by one, whatever else the group makes.
+/// Writes the next block, and counts one other call. The counter moves by one, whatever else the group makes.
 #[inline(always)]
 pub fn write_one<R: Rounds, V: Variant, G: Group, const W: usize>(
     state: &mut [u32; 16],
@@ -87,8 +87,8 @@ pub fn write_one<R: Rounds, V: Variant, G: Group, const W: usize>(
     advance::<V>(state, 1);
 }
 
-/// Writes the next blocks, exactly as many as a group has, each at once where it lies, as one parallel call. The
-/// counter moves on past them.
+/// Writes the next blocks, exactly as many as a group has, each straight into its place, and counts one parallel call.
+/// The counter moves past them.
 #[inline(always)]
 pub fn write_group<R: Rounds, V: Variant, G: Group, const W: usize>(
     state: &mut [u32; 16],
@@ -110,8 +110,8 @@ pub fn write_group<R: Rounds, V: Variant, G: Group, const W: usize>(
     advance::<V>(state, W);
 }
 
-/// Writes at most as many blocks as a group has, also none. Where there are any, the group is made once, and counts as
-/// one other call; where there are none, nothing is made.
+/// Writes at most as many blocks as a group has. Where there are any, the group is made once, and counts as one other
+/// call. Where there are none, nothing is made.
 #[inline(always)]
 pub fn write_tail<R: Rounds, V: Variant, G: Group, const W: usize>(
     state: &mut [u32; 16],
@@ -139,7 +139,7 @@ pub fn write_tail<R: Rounds, V: Variant, G: Group, const W: usize>(
     }
 }
 
-/// Writes the words of the next four blocks, in the layout with a counter of 64 bits. The counter moves on past them.
+/// Writes the words of the next four blocks, in the layout with a counter of 64 bits. The counter moves past them.
 #[inline(always)]
 pub fn write_buffer<R: Rounds, G: Group>(
     state: &mut [u32; 16],
