@@ -80,8 +80,8 @@ pub(crate) fn first_part<B: ParBlocksSizeUser>(position: u128, len: usize) -> us
     }
 }
 
-/// The same for a call that fills or copies its bytes in pieces. A long one that starts inside a block is cut at the end
-/// of that block. Otherwise each piece would end inside a block, which takes a backend call of its own.
+/// The same for a call that fills or copies its bytes in pieces. A long one that starts inside a block is cut at the
+/// end of that block. Otherwise each piece would end inside a block, which takes a backend call of its own.
 pub(crate) fn first_part_in_pieces<B: ParBlocksSizeUser>(position: u128, len: usize) -> usize
     ensures { result ≤ len }
 {

@@ -44,8 +44,8 @@ fn write_keystream<R: Rounds>(key: &Key, nonce: &Nonce, position: u64, output: &
 }
 
 /// ChaCha with 8 rounds (this crate):
-/// combines `data` in place, by exclusive or, with the keystream from byte `position` on.
-/// Answers 0, or 1 where the bytes would pass the end of the stream, and then nothing is written.
+/// XORs `data` in place with the keystream from byte `position` on.
+/// Returns 0. Where the bytes would pass the end of the stream, it returns 1 and writes nothing.
 /// `data` overlaps no other argument.
 #[unsafe(no_mangle)]
 pub extern "C" fn chacha8_xor_in_place(
@@ -61,7 +61,7 @@ pub extern "C" fn chacha8_xor_in_place(
 }
 
 /// `chacha8_xor_in_place` from `input` to `output`, which overlaps no other argument.
-/// Answers 0, or 1 where the lengths differ, too, and then nothing is written.
+/// Returns 0. Where the lengths differ or the bytes would pass the end of the stream, it returns 1 and writes nothing.
 #[unsafe(no_mangle)]
 pub extern "C" fn chacha8_xor_between(
     key: &Key,
@@ -76,8 +76,8 @@ pub extern "C" fn chacha8_xor_between(
     xor_between::<R8>(key, nonce, position, output, input)
 }
 
-/// The keystream of `chacha8_xor_in_place`: writes its bytes over `output`, whatever was there.
-/// Answers 0, or 1 where the bytes would pass the end of the stream, and then nothing is written.
+/// The keystream of `chacha8_xor_in_place`: writes its bytes over `output`.
+/// Returns 0. Where the bytes would pass the end of the stream, it returns 1 and writes nothing.
 /// `output` overlaps no other argument.
 #[unsafe(no_mangle)]
 pub extern "C" fn chacha8_keystream_raw(
@@ -93,8 +93,8 @@ pub extern "C" fn chacha8_keystream_raw(
 }
 
 /// ChaCha with 12 rounds (this crate):
-/// combines `data` in place, by exclusive or, with the keystream from byte `position` on.
-/// Answers 0, or 1 where the bytes would pass the end of the stream, and then nothing is written.
+/// XORs `data` in place with the keystream from byte `position` on.
+/// Returns 0. Where the bytes would pass the end of the stream, it returns 1 and writes nothing.
 /// `data` overlaps no other argument.
 #[unsafe(no_mangle)]
 pub extern "C" fn chacha12_xor_in_place(
@@ -110,7 +110,7 @@ pub extern "C" fn chacha12_xor_in_place(
 }
 
 /// `chacha12_xor_in_place` from `input` to `output`, which overlaps no other argument.
-/// Answers 0, or 1 where the lengths differ, too, and then nothing is written.
+/// Returns 0. Where the lengths differ or the bytes would pass the end of the stream, it returns 1 and writes nothing.
 #[unsafe(no_mangle)]
 pub extern "C" fn chacha12_xor_between(
     key: &Key,
@@ -125,8 +125,8 @@ pub extern "C" fn chacha12_xor_between(
     xor_between::<R12>(key, nonce, position, output, input)
 }
 
-/// The keystream of `chacha12_xor_in_place`: writes its bytes over `output`, whatever was there.
-/// Answers 0, or 1 where the bytes would pass the end of the stream, and then nothing is written.
+/// The keystream of `chacha12_xor_in_place`: writes its bytes over `output`.
+/// Returns 0. Where the bytes would pass the end of the stream, it returns 1 and writes nothing.
 /// `output` overlaps no other argument.
 #[unsafe(no_mangle)]
 pub extern "C" fn chacha12_keystream_raw(
@@ -142,8 +142,8 @@ pub extern "C" fn chacha12_keystream_raw(
 }
 
 /// ChaCha20 (RFC 8439, section 2.4):
-/// combines `data` in place, by exclusive or, with the keystream from byte `position` on.
-/// Answers 0, or 1 where the bytes would pass the end of the stream, and then nothing is written.
+/// XORs `data` in place with the keystream from byte `position` on.
+/// Returns 0. Where the bytes would pass the end of the stream, it returns 1 and writes nothing.
 /// `data` overlaps no other argument.
 #[unsafe(no_mangle)]
 pub extern "C" fn chacha20_xor_in_place(
@@ -159,7 +159,7 @@ pub extern "C" fn chacha20_xor_in_place(
 }
 
 /// `chacha20_xor_in_place` from `input` to `output`, which overlaps no other argument.
-/// Answers 0, or 1 where the lengths differ, too, and then nothing is written.
+/// Returns 0. Where the lengths differ or the bytes would pass the end of the stream, it returns 1 and writes nothing.
 #[unsafe(no_mangle)]
 pub extern "C" fn chacha20_xor_between(
     key: &Key,
@@ -174,8 +174,8 @@ pub extern "C" fn chacha20_xor_between(
     xor_between::<R20>(key, nonce, position, output, input)
 }
 
-/// The keystream of `chacha20_xor_in_place`: writes its bytes over `output`, whatever was there.
-/// Answers 0, or 1 where the bytes would pass the end of the stream, and then nothing is written.
+/// The keystream of `chacha20_xor_in_place`: writes its bytes over `output`.
+/// Returns 0. Where the bytes would pass the end of the stream, it returns 1 and writes nothing.
 /// `output` overlaps no other argument.
 #[unsafe(no_mangle)]
 pub extern "C" fn chacha20_keystream_raw(
@@ -191,7 +191,7 @@ pub extern "C" fn chacha20_keystream_raw(
 }
 
 /// Whether the ciphers with a nonce of 12 or of 24 bytes take `len` bytes from byte `position` on, whatever the number
-/// of rounds (this crate). Answers 0, or 1 where the bytes would pass the end of the stream.
+/// of rounds (this crate). Returns 0, or 1 where the bytes would pass the end of the stream.
 #[unsafe(no_mangle)]
 pub extern "C" fn chacha20_check(position: u64, len: usize) -> u32
     ensures { Checked (limit_of (modulus ietf)) position len result }

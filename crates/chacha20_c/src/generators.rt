@@ -96,7 +96,7 @@ pub extern "C" fn chacha8_rng_next_u32(state: &mut SerializedRngState) -> u32
     next_u32(ChaCha8Rng::deserialize_state(state), state)
 }
 
-/// Takes the next two words of the generator with 8 rounds; the first is the low half of the answer (this crate).
+/// Takes the next two words of the generator with 8 rounds; the first is the low half of the result (this crate).
 #[unsafe(no_mangle)]
 pub extern "C" fn chacha8_rng_next_u64(state: &mut SerializedRngState) -> u64
     ensures words { result ≡ (next_u64 4 (of_state_bytes state.old)).0 }
@@ -129,7 +129,7 @@ pub extern "C" fn chacha12_rng_next_u32(state: &mut SerializedRngState) -> u32
     next_u32(ChaCha12Rng::deserialize_state(state), state)
 }
 
-/// Takes the next two words of the generator with 12 rounds; the first is the low half of the answer (this crate).
+/// Takes the next two words of the generator with 12 rounds; the first is the low half of the result (this crate).
 #[unsafe(no_mangle)]
 pub extern "C" fn chacha12_rng_next_u64(state: &mut SerializedRngState) -> u64
     ensures words { result ≡ (next_u64 6 (of_state_bytes state.old)).0 }
@@ -162,7 +162,7 @@ pub extern "C" fn chacha20_rng_next_u32(state: &mut SerializedRngState) -> u32
     next_u32(ChaCha20Rng::deserialize_state(state), state)
 }
 
-/// Takes the next two words of the generator with 20 rounds; the first is the low half of the answer (this crate).
+/// Takes the next two words of the generator with 20 rounds; the first is the low half of the result (this crate).
 #[unsafe(no_mangle)]
 pub extern "C" fn chacha20_rng_next_u64(state: &mut SerializedRngState) -> u64
     ensures words { result ≡ (next_u64 10 (of_state_bytes state.old)).0 }

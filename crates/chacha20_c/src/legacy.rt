@@ -19,9 +19,8 @@ type Core = ChaChaCore<R20, Legacy, Chosen>;
 const LIMIT: u128 = 64 << 64;
 
 /// ChaCha20 as it was before RFC 8439:
-/// combines `data` in place, by exclusive or, with the keystream from byte 64 * `block_pos` + `offset` on, a sum that
-/// does not wrap.
-/// Answers 0, or 1 where the bytes would pass the end of the stream, and then nothing is written.
+/// XORs `data` in place with the keystream from byte 64 * `block_pos` + `offset` on, a sum that does not wrap.
+/// Returns 0. Where the bytes would pass the end of the stream, it returns 1 and writes nothing.
 /// `data` overlaps no other argument.
 #[unsafe(no_mangle)]
 pub extern "C" fn chacha20_legacy_xor_in_place(
@@ -39,7 +38,7 @@ pub extern "C" fn chacha20_legacy_xor_in_place(
 }
 
 /// `chacha20_legacy_xor_in_place` from `input` to `output`, which overlaps no other argument.
-/// Answers 0, or 1 where the lengths differ, too, and then nothing is written.
+/// Returns 0. Where the lengths differ or the bytes would pass the end of the stream, it returns 1 and writes nothing.
 #[unsafe(no_mangle)]
 pub extern "C" fn chacha20_legacy_xor_between(
     key: &Key,
@@ -56,8 +55,8 @@ pub extern "C" fn chacha20_legacy_xor_between(
     stateless::xor_between::<Core>(key, nonce, position(block_pos, offset), output, input)
 }
 
-/// The keystream of `chacha20_legacy_xor_in_place`: writes its bytes over `output`, whatever was there.
-/// Answers 0, or 1 where the bytes would pass the end of the stream, and then nothing is written.
+/// The keystream of `chacha20_legacy_xor_in_place`: writes its bytes over `output`.
+/// Returns 0. Where the bytes would pass the end of the stream, it returns 1 and writes nothing.
 /// `output` overlaps no other argument.
 #[unsafe(no_mangle)]
 pub extern "C" fn chacha20_legacy_keystream_raw(
@@ -75,7 +74,7 @@ pub extern "C" fn chacha20_legacy_keystream_raw(
 }
 
 /// Whether the legacy cipher takes `len` bytes from byte 64 * `block_pos` + `offset` on (this crate). That sum does not
-/// wrap. Answers 0, or 1 where the bytes would pass the end of the stream.
+/// wrap. Returns 0, or 1 where the bytes would pass the end of the stream.
 #[unsafe(no_mangle)]
 pub extern "C" fn chacha20_legacy_check(block_pos: u64, offset: u64, len: usize) -> u32
     ensures { Checked (limit_of (modulus legacy)) (64 * block_pos + offset) len result }
@@ -83,7 +82,7 @@ pub extern "C" fn chacha20_legacy_check(block_pos: u64, offset: u64, len: usize)
     stateless::check(position(block_pos, offset), len, LIMIT)
 }
 
-// The number of bytes before the one that lies so many bytes past the front of a block.
+// The position of the byte `offset` bytes past the front of block `block_pos`.
 fn position(block_pos: u64, offset: u64) -> u128
     ensures { result ≡ 64 * block_pos + offset }
 {

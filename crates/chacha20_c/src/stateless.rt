@@ -1,5 +1,5 @@
-//! Calls that each make a cipher of their own, over any core. They return what C gets: 0 where a call is accepted, and 1
-//! where it is refused. A position has 128 bits, so that it reaches the end of each stream.
+//! Calls that each make a cipher of their own, over any core. They return what C gets: 0 where a call is accepted, and
+//! 1 where it is refused. A position has 128 bits, so that it reaches the end of each stream.
 
 ghost use Rattle.std.specs.Prelude.{◌≡◌, ◌↔◌, ◌≤◌, ◌+◌, cond, length, is_ok, IsOk, OnOk, OnErr};
 ghost use Rattle.chacha20.specs.Keystream.{keystream, stream_part, xor_stream};

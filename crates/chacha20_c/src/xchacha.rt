@@ -46,8 +46,8 @@ fn write_keystream<R: Rounds>(key: &Key, nonce: &XNonce, position: u64, output: 
 }
 
 /// XChaCha with 8 rounds (this crate):
-/// combines `data` in place, by exclusive or, with the keystream from byte `position` on.
-/// Answers 0, or 1 where the bytes would pass the end of the stream, and then nothing is written.
+/// XORs `data` in place with the keystream from byte `position` on.
+/// Returns 0. Where the bytes would pass the end of the stream, it returns 1 and writes nothing.
 /// `data` overlaps no other argument.
 #[unsafe(no_mangle)]
 pub extern "C" fn xchacha8_xor_in_place(
@@ -64,7 +64,7 @@ pub extern "C" fn xchacha8_xor_in_place(
 }
 
 /// `xchacha8_xor_in_place` from `input` to `output`, which overlaps no other argument.
-/// Answers 0, or 1 where the lengths differ, too, and then nothing is written.
+/// Returns 0. Where the lengths differ or the bytes would pass the end of the stream, it returns 1 and writes nothing.
 #[unsafe(no_mangle)]
 pub extern "C" fn xchacha8_xor_between(
     key: &Key,
@@ -80,8 +80,8 @@ pub extern "C" fn xchacha8_xor_between(
     xor_between::<R8>(key, nonce, position, output, input)
 }
 
-/// The keystream of `xchacha8_xor_in_place`: writes its bytes over `output`, whatever was there.
-/// Answers 0, or 1 where the bytes would pass the end of the stream, and then nothing is written.
+/// The keystream of `xchacha8_xor_in_place`: writes its bytes over `output`.
+/// Returns 0. Where the bytes would pass the end of the stream, it returns 1 and writes nothing.
 /// `output` overlaps no other argument.
 #[unsafe(no_mangle)]
 pub extern "C" fn xchacha8_keystream_raw(
@@ -98,8 +98,8 @@ pub extern "C" fn xchacha8_keystream_raw(
 }
 
 /// XChaCha with 12 rounds (this crate):
-/// combines `data` in place, by exclusive or, with the keystream from byte `position` on.
-/// Answers 0, or 1 where the bytes would pass the end of the stream, and then nothing is written.
+/// XORs `data` in place with the keystream from byte `position` on.
+/// Returns 0. Where the bytes would pass the end of the stream, it returns 1 and writes nothing.
 /// `data` overlaps no other argument.
 #[unsafe(no_mangle)]
 pub extern "C" fn xchacha12_xor_in_place(
@@ -116,7 +116,7 @@ pub extern "C" fn xchacha12_xor_in_place(
 }
 
 /// `xchacha12_xor_in_place` from `input` to `output`, which overlaps no other argument.
-/// Answers 0, or 1 where the lengths differ, too, and then nothing is written.
+/// Returns 0. Where the lengths differ or the bytes would pass the end of the stream, it returns 1 and writes nothing.
 #[unsafe(no_mangle)]
 pub extern "C" fn xchacha12_xor_between(
     key: &Key,
@@ -132,8 +132,8 @@ pub extern "C" fn xchacha12_xor_between(
     xor_between::<R12>(key, nonce, position, output, input)
 }
 
-/// The keystream of `xchacha12_xor_in_place`: writes its bytes over `output`, whatever was there.
-/// Answers 0, or 1 where the bytes would pass the end of the stream, and then nothing is written.
+/// The keystream of `xchacha12_xor_in_place`: writes its bytes over `output`.
+/// Returns 0. Where the bytes would pass the end of the stream, it returns 1 and writes nothing.
 /// `output` overlaps no other argument.
 #[unsafe(no_mangle)]
 pub extern "C" fn xchacha12_keystream_raw(
@@ -150,8 +150,8 @@ pub extern "C" fn xchacha12_keystream_raw(
 }
 
 /// XChaCha20 (draft-irtf-cfrg-xchacha, section 2.3):
-/// combines `data` in place, by exclusive or, with the keystream from byte `position` on.
-/// Answers 0, or 1 where the bytes would pass the end of the stream, and then nothing is written.
+/// XORs `data` in place with the keystream from byte `position` on.
+/// Returns 0. Where the bytes would pass the end of the stream, it returns 1 and writes nothing.
 /// `data` overlaps no other argument.
 #[unsafe(no_mangle)]
 pub extern "C" fn xchacha20_xor_in_place(
@@ -168,7 +168,7 @@ pub extern "C" fn xchacha20_xor_in_place(
 }
 
 /// `xchacha20_xor_in_place` from `input` to `output`, which overlaps no other argument.
-/// Answers 0, or 1 where the lengths differ, too, and then nothing is written.
+/// Returns 0. Where the lengths differ or the bytes would pass the end of the stream, it returns 1 and writes nothing.
 #[unsafe(no_mangle)]
 pub extern "C" fn xchacha20_xor_between(
     key: &Key,
@@ -184,8 +184,8 @@ pub extern "C" fn xchacha20_xor_between(
     xor_between::<R20>(key, nonce, position, output, input)
 }
 
-/// The keystream of `xchacha20_xor_in_place`: writes its bytes over `output`, whatever was there.
-/// Answers 0, or 1 where the bytes would pass the end of the stream, and then nothing is written.
+/// The keystream of `xchacha20_xor_in_place`: writes its bytes over `output`.
+/// Returns 0. Where the bytes would pass the end of the stream, it returns 1 and writes nothing.
 /// `output` overlaps no other argument.
 #[unsafe(no_mangle)]
 pub extern "C" fn xchacha20_keystream_raw(

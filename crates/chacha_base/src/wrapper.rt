@@ -146,7 +146,7 @@ impl<C: StreamCipherSeekCore> StreamCipherCoreWrapper<C> {
         64 * (u128::from(C::Counter::last()) + 1)
     }
 
-    // How many of so many bytes are left of the block that the position is in.
+    // How many of `len` bytes belong to the block that the position is in.
     fn begun(&self, len: usize) -> usize
         ensures { result ≡ min len (left_at self.now.position) }
     {

@@ -18,10 +18,10 @@ const PIECE: usize = 0x2000;
 /// and lengths are in bytes; the limit is the greatest position. The keystream is the blocks of the cipher's fixed
 /// part in order of counter; `KeyIvInit` ties them to a key and a nonce.
 pub trait StreamCipher: Keystream {
-    // What an application from a position on to so many bytes may count.
+    // What an application may count, for its position and its number of bytes.
     ghost cost: { ℕ → ℕ → Bounds };
 
-    /// Whether the cipher can take so many more bytes: `Err` exactly where they would pass the limit.
+    /// Whether the cipher can take `len` more bytes: `Err` exactly where they would pass the limit.
     fn check_remaining(&self, len: usize) -> Result<(), StreamCipherError>
         ensures accepted { IsOk result ↔ (Self.position self.now + len ≤ limit_of Self.modulus) }
         ensures within { Self.position self.now ≤ limit_of Self.modulus };

@@ -31,9 +31,9 @@ impl<C: Direct> Listed for Directly<'_, C> {
     }
 }
 
-/// A cipher that is called directly. It promises nothing, as `Listed`.
+/// A cipher that is called directly. It has no contract, as `Listed` has none.
 pub trait Direct {
-    /// Makes a call. Answers `Overflow` where a range lies past its slice.
+    /// Makes a call. Where a range lies past its slice, it returns `Overflow` and does nothing.
     fn answers(&mut self, input: &[u8], data: &mut [u8], call: CipherCall) -> CipherAnswer;
 }
 

@@ -10,7 +10,7 @@ use chacha20::cipher::RngBackend;
 use chacha20::{ChaChaRng, CipherCall, Key, Nonce, R20, RngAnswer, RngCall, Seed, XNonce};
 
 /// Four blocks with a nonce of 8 bytes, between any three places that are multiples of so many bytes, in two parts; the
-/// second part also ends with the last byte. It answers the first places between which the stream is wrong.
+/// second part also ends with the last byte. It returns the first places between which the stream is wrong.
 pub fn legacy_stream<C: Listed>(cipher: &mut C, step: usize) -> Option<[usize; 3]> {
     legacy_stream_from(cipher, 0, 256, step)
 }
