@@ -100,7 +100,7 @@ impl<R: Rounds, B: RngBackend<R>> ChaChaRng<R, B> {
         word
     }
 
-    /// Takes the next two words; the first is the low half of the answer.
+    /// Takes the next two words; the first is the low half of the result.
     #[inline]
     pub fn next_u64(&mut self) -> u64
         ensures value { (result, self.new) ≡ next_u64 R.COUNT self.old }
@@ -206,7 +206,7 @@ impl<R: Rounds, B: RngBackend<R>> ChaChaRng<R, B> {
         state
     }
 
-    /// The generator of a state. Any 49 bytes are a state: the upper half of the last one is ignored.
+    /// The generator of a state. Any 49 bytes are a state: the upper half of the last byte is ignored.
     pub fn deserialize_state(state: &SerializedRngState) -> Self
         ensures value { result ≡ of_state_bytes state.now }
         ensures stored { state_bytes result ≡ take 48 state.now

@@ -1,4 +1,4 @@
--- What calls on a cipher from a position on answer, and what they leave: 0 exactly where the bytes
+-- What calls on a cipher from a position on return, and what they leave: 0 exactly where the bytes
 -- end at the limit or before it, and else 1, and then nothing is written (this crate).
 use Rattle.std.specs.Prelude.{ℕ, List, ◌≡◌, ◌↔◌, ◌⊎◌, ◌≤◌, ◌+◌, length}
 use Rattle.chacha20.specs.Keystream.{stream_part, xor_stream}
@@ -9,12 +9,12 @@ pub record Answered (P : Type 0) (answer : ℕ) (made old new : List ℕ) : Type
   pub bytes : answer ≡ 0 → new ≡ made
   pub refused : (answer ≡ 0) ⊎ ((answer ≡ 1) × (new ≡ old))
 
--- bytes combined in place with a stream
+-- bytes XORed in place with a stream
 abbrev pub Xored : (limit : ℕ) (stream : ℕ → ℕ) (position answer : ℕ) (old new : List ℕ) → Type 0
 Xored limit stream position answer old new =
     Answered (position + length old ≤ limit) answer (xor_stream stream position old) old new
 
--- bytes combined from an input to an output, which has to be as long
+-- an input XORed with a stream into an output, which has to be as long
 abbrev pub XoredInto : (limit : ℕ) (stream : ℕ → ℕ) (position answer : ℕ)
     (input old new : List ℕ) → Type 0
 XoredInto limit stream position answer input old new =
