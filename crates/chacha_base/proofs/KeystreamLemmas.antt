@@ -1,12 +1,13 @@
 -- Bytes combined with a stream, and bytes of a stream. Cores, the byte stream and generators cite these; `chacha20`
 -- passes on what proofs of callers cite. Read `xor_stream` and `stream_part` of `Keystream` first.
-use Rattle.std.proofs.Common.{subst, ◌≡◌, ℕ, zero, suc, ◌+◌, ◌*◌, ◌/◌, ◌%◌, ◌<◌, ◌≤◌, List, take, drop, [], ◌∷◌, ◌++◌, length, slice_index, slice_index_or, bit_xor, replicate, arith, refl, sym, ap, ap₂, ◌∙◌, append_assoc, append-nil, take-add, Some, get_or-take, get_or-drop, length-take-le, take_at, take_all, drop_at, drop-drop}
-use Rattle.std.proofs.Math.Nat.{mod-add-mod, mod-mod}
+use Rattle.std.proofs.Common.{◌≡◌, ℕ, zero, suc, ◌+◌, ◌*◌, ◌/◌, ◌%◌, ◌<◌, ◌≤◌, List, take, drop, [], ◌∷◌, ◌++◌, length, slice_index, slice_index_or, bit_xor, replicate, arith, refl, sym, ap, ap₂, ◌∙◌, append_assoc, append-nil, take-add, Some, get_or-take, get_or-drop, length-take-le, take_at, take_all, drop_at, drop-drop}
+use Rattle.std.proofs.Math.Nat.{mod-add-mod}
 use Rattle.std.specs.Int.Bits.{xor_zero_l}
 use Rattle.std.proofs.lemmas.List.{get_or-replicate, length-replicate, drop_all}
+use Rattle.std.proofs.lemmas.Slice.{drop-put_mid}
 use borrow.Rule.Slice.PartMut.{put_mid}
 use Rattle.chacha_base.specs.Keystream.{keystream, xor_stream, stream_part}
-use Rattle.chacha_base.proofs.ListLemmas.{Written, written_more, part_long, slice_index_or-put_mid_above}
+use Rattle.chacha_base.proofs.ListLemmas.{Written, written_more, part_long}
 
 -- two streams that agree on the bytes that are combined
 pub xor_stream-same : (f g : ℕ → ℕ) (p q : ℕ) (xs : List ℕ) → ((i : ℕ) → i < length xs → f (p + i) ≡ g (q + i))
@@ -157,61 +158,35 @@ module _ (modulus : ℕ) (block : ℕ → List ℕ) where
       let here : i ≡ 0 + i = omega arith in ap₂ slice_index made here)
       ∙ ap (λ p. xor_stream (keystream modulus block) p xs) front
 
-  -- counters that are the same when they wrap
-  keystream-same : (c d i : ℕ) (xs : List ℕ) → c % modulus ≡ d % modulus
-      → xor_stream (keystream modulus block) (64 * (c + i)) xs ≡ xor_stream (keystream modulus block) (64 * (d + i)) xs
-  keystream-same c d i xs same =
-      let stream = keystream modulus block in
-      sym (keystream-wrapped (c + i) (64 * (c + i)) xs refl)
-      ∙ ap (λ k. xor_stream stream (64 * k) xs)
-      (sym (mod-add-mod c modulus i) ∙ ap (λ k. (k + i) % modulus) same ∙ mod-add-mod d modulus i)
-      ∙ keystream-wrapped (d + i) (64 * (d + i)) xs refl
-
--- k counters on from one that is `a` counters on
-module _ {n e : ℕ} (modulus first c a k : ℕ) (same : c % modulus ≡ (first + a) % modulus)
-    (moved : e ≡ (c + k) % modulus) (all : a + k ≡ n) where
-  pub counter-more : e ≡ (first + n) % modulus
-  counter-more =
-      let place : first + a + k ≡ first + n = omega arith in
-      moved
-      ∙ sym (mod-add-mod c modulus k) ∙ ap (λ q. (q + k) % modulus) same ∙ mod-add-mod (first + a) modulus k
-      ∙ ap (λ q. q % modulus) place
-
-  pub counter-wrapped : e % modulus ≡ (first + n) % modulus
-  counter-wrapped = ap (λ q. q % modulus) counter-more ∙ mod-mod (first + n) modulus
-
 -- element i of a list of blocks, combined with the block of the i-th counter from c on
 abbrev pub combined : (modulus : ℕ) (block : ℕ → List ℕ) (c : ℕ) (blocks : List (List ℕ)) → ℕ → List ℕ
-combined modulus block c blocks i = xor_stream (keystream modulus block) (64 * (c + i)) (slice_index_or blocks i [])
+combined modulus block c blocks i = xor_stream (slice_index (block ((c + i) % modulus))) 0 (slice_index_or blocks i [])
 
--- a list of blocks of which the first `a` are combined
-pub record AreCombined (modulus : ℕ) (block : ℕ → List ℕ) (first : ℕ) (old : List (List ℕ)) (a : ℕ)
+-- a list of blocks of which the first `a` are combined, from the counter `first` on; c is the counter behind them
+pub record AreCombined (modulus : ℕ) (block : ℕ → List ℕ) (first : ℕ) (old : List (List ℕ)) (a c : ℕ)
     (now : List (List ℕ)) : Type 0 where
+  pub counter : (i : ℕ) → (c + i) % modulus ≡ (first + (a + i)) % modulus
   pub done : Written (combined modulus block first old) a now
-  pub rest : (i : ℕ) → a ≤ i → slice_index_or now i [] ≡ slice_index_or old i []
+  pub rest : drop a now ≡ drop a old
 
 -- k blocks more
-pub blocks-more : {modulus first a n : ℕ} {block other : ℕ → List ℕ} {old now : List (List ℕ)} (c k : ℕ)
-    (part : List (List ℕ)) → other ≡ block → c % modulus ≡ (first + a) % modulus
-    → AreCombined modulus block first old a now
+pub blocks-more : {modulus first a c d n : ℕ} {block other : ℕ → List ℕ} {old now : List (List ℕ)} (k : ℕ)
+    (part : List (List ℕ)) → other ≡ block → AreCombined modulus block first old a c now
     → (a + k ≤ length now) × (a + k ≡ n) × (length part ≡ length (take k (drop a now)))
     → Written (combined modulus other c (take k (drop a now))) (length (take k (drop a now))) part
-    → AreCombined modulus block first old n (put_mid a k now part)
-blocks-more {modulus} {first} {a} {n} {block} {other} {old} {now} c k part alike same before room made =
+    → d ≡ (c + length (take k (drop a now))) % modulus → AreCombined modulus block first old n d (put_mid a k now part)
+blocks-more {modulus} {first} {a} {c} {block = block} {old = old} {now} k part alike before room made moved =
     let size = part_long a k now room.0 in
     let inside : a ≤ length now = omega arith in
-    record {
-      done = subst (λ m. Written (combined modulus block first old) m (put_mid a k now part)) room.1
-          (written_more (combined modulus block first old) a now part inside (room.2 ∙ size) before.done (λ i less.
-          let place : first + a + i ≡ first + (a + i) = omega arith in
-          let bytes = slice_index_or old (a + i) [] in
-          let kept = get_or-take k (drop a now) i [] less ∙ get_or-drop a now i []
-          ∙ before.rest (a + i) (omega arith) in
+    rw (← room.1) record {
+      counter = λ i.
+          let here : c + k + i ≡ c + (k + i) = omega arith in
+          let there : a + (k + i) ≡ a + k + i = omega arith in
+          rw (moved, size, mod-add-mod (c + k) modulus i, here, before.counter (k + i), there) refl;
+      done = written_more (combined modulus block first old) a now part inside (room.2 ∙ size) before.done (λ i less.
           made i (omega (arith, less, size))
-          ∙ ap Some (ap (xor_stream (keystream modulus other) (64 * (c + i))) kept
-          ∙ ap (λ b. xor_stream (keystream modulus b) (64 * (c + i)) bytes) alike
-          ∙ keystream-same modulus block c (first + a) i bytes same
-          ∙ ap (λ q. xor_stream (keystream modulus block) (64 * q) bytes) place)));
-      rest = λ i above. slice_index_or-put_mid_above a i now part [] (omega arith) inside (room.2 ∙ size)
-          ∙ before.rest i (omega arith);
+          ∙ ap Some (rw (alike, before.counter i, before.rest, get_or-take k (drop a old) i [] less, get_or-drop a old i [])
+          refl));
+      rest = drop-put_mid a k now part (a + k) (omega arith) inside (room.2 ∙ size)
+          ∙ sym (drop-drop k a now) ∙ ap (drop k) before.rest ∙ drop-drop k a old;
     }

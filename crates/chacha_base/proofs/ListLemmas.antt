@@ -1,12 +1,11 @@
 -- Lists of known length, and elements that are written one after another. All other lemma files and the proofs of
 -- loops cite these.
-use Rattle.std.proofs.Common.{◌≡◌, inl, inr, Bool, ℕ, zero, suc, ◌+◌, ◌-◌, ◌<◌, ◌≤◌, List, [], ◌∷◌, ◌++◌, length, map, take, drop, slice_index, slice_index_or, refl, sym, ap, subst, ◌∙◌, length-append, length-drop, length-set, arith, below_more, set, slice_get, Some, nat_lt, if◌then◌else◌, lt-ltb, le-ltb, length-take-le, get_or-drop, get_or-take, get_or-set_same, get_or-set_other, append-nil}
+use Rattle.std.proofs.Common.{◌≡◌, inl, inr, Bool, ℕ, zero, suc, ◌+◌, ◌-◌, ◌<◌, ◌≤◌, List, [], ◌∷◌, ◌++◌, length, map, take, drop, slice_index, refl, sym, ap, subst, ◌∙◌, length-append, length-drop, length-set, arith, below_more, set, slice_get, Some, nat_lt, if◌then◌else◌, lt-ltb, le-ltb, length-take-le, get_or-take, get_or-set_same, get_or-set_other, append-nil}
 use Rattle.std.specs.List.{range_with_len}
 use Rattle.std.proofs.lemmas.Bool.{cases_lt}
 use Rattle.std.proofs.lemmas.List.{get_or_append_left, get_or-append_right}
 use Rattle.std.proofs.lemmas.List.FromFn.{fill_by_all}
 use Rattle.std.proofs.lemmas.Option.{slice_get_read, slice_get_within, get_or_from_slice_get}
-use Rattle.std.proofs.lemmas.Slice.{drop-put_mid}
 use borrow.Rule.Slice.PartMut.{put_mid}
 
 -- what holds of the n words in a row, where n is a numeral, holds of each list of n words
@@ -43,16 +42,6 @@ one_more f i xs x inside made before =
     slice_get_read _ (length xs) j (f j) (sym (length-set xs i x)) (slice_get_within xs j (f j) (before j less))
     (sym (get_or-set_other xs i j x (f j) (omega arith) ∙ get_or_from_slice_get xs j (f j) (f j) (before j less))))
     (slice_get-set_same xs i x inside ∙ ap Some made)
-
--- an element behind a part that is written
-pub slice_index_or-put_mid_above : {X : Type 0} {k : ℕ} (a i : ℕ) (xs ys : List X) (d : X) → a + k ≤ i
-    → a ≤ length xs → length ys ≡ k → slice_index_or (put_mid a k xs ys) i d ≡ slice_index_or xs i d
-slice_index_or-put_mid_above {k = k} a i xs ys d h room same =
-    let place : a + k + (i - (a + k)) ≡ i = omega arith in
-    rw (← place)
-    (sym (get_or-drop (a + k) (put_mid a k xs ys) (i - (a + k)) d)
-    ∙ ap (λ l. slice_index_or l (i - (a + k)) d) (drop-put_mid a k xs ys (a + k) (omega arith) room same)
-    ∙ get_or-drop (a + k) xs (i - (a + k)) d)
 
 -- the part of k elements from place a on
 pub part_long : {X : Type 0} (a k : ℕ) (xs : List X) → a + k ≤ length xs → length (take k (drop a xs)) ≡ k

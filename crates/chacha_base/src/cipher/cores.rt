@@ -1,6 +1,6 @@
 //! The traits of cores.
 
-ghost use Rattle.std.specs.Prelude.{◌≡◌, ◌<◌, ◌+◌, ◌*◌, ◌/◌, ◌%◌, ℕ, [], length, slice_get, slice_index_or, Some};
+ghost use Rattle.std.specs.Prelude.{◌≡◌, ◌<◌, ◌+◌, ◌*◌, ◌/◌, ◌%◌, ℕ, [], length, slice_get, slice_index, slice_index_or, Some};
 ghost use Rattle.chacha_base.specs.Limit.{remaining};
 ghost use Rattle.chacha_base.specs.Keystream.{keystream, xor_stream};
 ghost use Rattle.chacha_base.specs.Counts.{Grows, for_single, for_whole_blocks};
@@ -107,9 +107,9 @@ pub trait StreamCipherCore: Keystream + BlockSizeUser + ParBlocksSizeUser {
 fn apply_group<C: StreamCipherCore>(core: &mut C, made: &mut [[u8; 64]], blocks: &mut [[u8; 64]])
     requires { length made.old ≡ length blocks.old }
     ensures blocks { (i : ℕ) → i < length blocks.old
-        → slice_get blocks.new i
-        ≡ Some (xor_stream (keystream C.modulus (C.block_at (C.fixed core.old)))
-        (64 * (C.counter core.old + i)) (slice_index_or blocks.old i [])) }
+        → slice_get blocks.new i ≡ Some (xor_stream
+        (slice_index (C.block_at (C.fixed core.old) ((C.counter core.old + i) % C.modulus))) 0
+        (slice_index_or blocks.old i [])) }
     ensures fixed { C.fixed core.new ≡ C.fixed core.old }
     ensures counter { C.counter core.new ≡ (C.counter core.old + length blocks.old) % C.modulus }
 {

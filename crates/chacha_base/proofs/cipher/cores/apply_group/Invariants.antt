@@ -1,7 +1,11 @@
-use Rattle.chacha_base.proofs.KeystreamLemmas.{AreCombined}
+use Rattle.std.proofs.Common.{◌≡◌, ℕ, ◌≤◌, [], slice_index, slice_index_or}
+use Rattle.chacha_base.specs.Keystream.{xor_stream}
+use Rattle.chacha_base.proofs.ListLemmas.{Written}
 use Rattle.chacha_base.proofs.cipher.cores.apply_group.Given as goal
 
 abbrev pub invariant-loop-i : goal.invariant-loop-i
-invariant-loop-i g l =
-    AreCombined g.C.Keystream.modulus (g.C.Keystream.block_at (g.C.Keystream.fixed l.fn.core))
-    (g.C.StreamCipherCore.counter l.fn.core) l.fn.blocks l.i l.blocks
+invariant-loop-i g l = record {
+  done : Written (λ j. xor_stream (slice_index (slice_index_or l.made j [])) 0 (slice_index_or l.fn.blocks j []))
+      l.i l.blocks;
+  rest : (j : ℕ) → l.i ≤ j → slice_index_or l.blocks j [] ≡ slice_index_or l.fn.blocks j [];
+}

@@ -1,6 +1,6 @@
-use Rattle.std.proofs.Common.{◌≡◌, ◌≤◌, ◌+◌, ◌-◌, ◌∙◌, length, ap, arith}
+use Rattle.std.proofs.Common.{◌≡◌, ◌≤◌, ◌+◌, ◌-◌, ◌∙◌, Some, length, refl, ap, arith}
 use Rattle.chacha_base.proofs.ListLemmas.{part_long}
-use Rattle.chacha_base.proofs.KeystreamLemmas.{counter-more, counter-wrapped, blocks-more}
+use Rattle.chacha_base.proofs.KeystreamLemmas.{blocks-more, xor_stream-block}
 use Rattle.chacha_base.proofs.cipher.cores.StreamCipherCore.apply_keystream_blocks.Goals as goal
 
 pub groups-preserved : goal.groups-preserved
@@ -11,14 +11,11 @@ groups-preserved g c =
     let made = c.apply_group in
     let all : a + k ≡ a + 16 = omega arith in
     let inside : a + k ≤ length c.groups.blocks = omega arith in
-    let long = part_long a k c.groups.blocks inside in
     record {
       within = omega arith;
       fixed = made.ensures.fixed ∙ kept.fixed;
-      counter = counter-wrapped g.Self.Keystream.modulus (g.Self.StreamCipherCore.counter c.args.self.now) _ a k
-          kept.counter (rw long at made.ensures.counter) all;
-      blocks = blocks-more _ k _ (ap g.Self.Keystream.block_at kept.fixed) kept.counter kept.blocks
-          (inside, all, made.auto.blocks) made.ensures.blocks;
+      blocks = blocks-more k _ (ap g.Self.Keystream.block_at kept.fixed) kept.blocks (inside, all, omega arith)
+          made.ensures.blocks made.ensures.counter;
     }
 
 pub returns : goal.returns
@@ -29,12 +26,13 @@ returns g c =
     let made = c.apply_group-2 in
     let all : a + k ≡ length c.args.blocks.now = omega arith in
     let inside : a + k ≤ length c.groups.blocks = omega arith in
-    let long = part_long a k c.groups.blocks inside in
-    let blocks = blocks-more _ k _ (ap g.Self.Keystream.block_at kept.fixed) kept.counter kept.blocks
-    (inside, all, made.auto.blocks) made.ensures.blocks in
+    let block = g.Self.Keystream.block_at (g.Self.Keystream.fixed c.args.self.now) in
+    let first = g.Self.StreamCipherCore.counter c.args.self.now in
+    let blocks = blocks-more k _ (ap g.Self.Keystream.block_at kept.fixed) kept.blocks (inside, all, omega arith)
+    made.ensures.blocks made.ensures.counter in
     record {
-      blocks = blocks.done;
+      blocks = λ i less. blocks.done i less
+          ∙ ap Some (xor_stream-block _ block (first + i) _ _ refl (omega (arith, c.told-blocks i less)));
       fixed = made.ensures.fixed ∙ kept.fixed;
-      counter = counter-more g.Self.Keystream.modulus (g.Self.StreamCipherCore.counter c.args.self.now) _ a k
-          kept.counter (rw long at made.ensures.counter) all;
+      counter = rw (part_long a k c.groups.blocks inside, kept.blocks.counter k, all) at made.ensures.counter;
     }
