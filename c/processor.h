@@ -1,6 +1,6 @@
 /* SPDX-License-Identifier: Apache-2.0 OR MIT
 
-   Which level of x86-64 a processor has, by what it and the system say of it. Not proved; `make -C bench levels` tries
+   Which level of x86-64 a processor has, by what it and the system say of it. Not proved; `make -C c/tests levels` tries
    the decision on described processors. */
 
 #ifndef CHACHA20_PROCESSOR_H

@@ -7,7 +7,7 @@
        chacha20_wipe_stack();
 
    Call it from the function that made the calls, so that it begins where they began. The library's
-   calls of 0.6.0 go CHACHA20_DEEPEST bytes deep at most (make -C bench stack measures it); the rest
+   calls of 0.6.0 go CHACHA20_DEEPEST bytes deep at most (make -C c/tests stack measures it); the rest
    is for what a compiler puts between. It reaches no registers, no copies that your own functions
    made, and none that the system made of the stack, as in a core file or a signal's frame. */
 

@@ -5,7 +5,7 @@
 #ifndef LIBRARY_H
 #define LIBRARY_H
 
-#include "../include/chacha20.h"
+#include "../../include/chacha20.h"
 
 enum { LAYOUTS = 3, ROUNDS = 3 };
 

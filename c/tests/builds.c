@@ -6,7 +6,7 @@
 
 #if defined(__x86_64__)
 
-#include "../c/processor.h"
+#include "../processor.h"
 
 int find_builds(const struct library *found[MOST_BUILDS]) {
     static const struct library *const by_level[] = {&library_v1, &library_v2, &library_v3};

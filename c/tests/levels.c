@@ -4,7 +4,7 @@
 
 #include <stdio.h>
 
-#include "../c/processor.h"
+#include "../processor.h"
 
 struct described {
     const char *name;

@@ -10,7 +10,7 @@
 #include <string.h>
 #include <ucontext.h>
 
-#include "../include/chacha20_wipe.h"
+#include "../../include/chacha20_wipe.h"
 #include "library.h"
 
 enum { STACK = 1 << 16, MOST = (1 << 16) + 1000, KINDS = 15 };

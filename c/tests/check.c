@@ -16,7 +16,7 @@
 #include <sys/wait.h>
 #include <unistd.h>
 
-#include "bench.h"
+#include "compare.h"
 
 enum { LONGEST = 1 << 18, MOST_CUTS = 40, CONTROLS = 200 };
 

@@ -160,7 +160,7 @@ static int find_sodium(struct other *found) {
 int find_others(struct other found[MOST_OTHERS]) {
     int count = find_openssl(found);
     count += find_sodium(found + count);
-    puts("not found: the Rust crate chacha20; another implementation of 8 and 12 rounds (plain C of bench/ stands in)");
+    puts("not found: the Rust crate chacha20; another implementation of 8 and 12 rounds (plain C of c/tests stands in)");
     return count;
 }
 

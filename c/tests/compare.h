@@ -2,8 +2,8 @@
 
    The two uses of the program. */
 
-#ifndef BENCH_H
-#define BENCH_H
+#ifndef COMPARE_H
+#define COMPARE_H
 
 #include "library.h"
 #include "others.h"

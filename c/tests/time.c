@@ -15,7 +15,7 @@
 #include <time.h>
 #include <unistd.h>
 
-#include "bench.h"
+#include "compare.h"
 
 enum { MOST_CONTESTANTS = MOST_BUILDS + MOST_OTHERS + 1, TASKS = 9, PASSES = 30, PLACES = 64, PAGE = 4096 };
 

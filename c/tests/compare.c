@@ -1,20 +1,20 @@
 /* SPDX-License-Identifier: Apache-2.0 OR MIT
 
-   bench check [BYTES [SEED]]   compares the library with what is found on the machine; the last line says how many
-                                bytes, and how many of them differ
-   bench time [TURNS]           times the library and the others */
+   compare check [BYTES [SEED]]   compares the library with what is found on the machine; the last line says how many
+                                  bytes, and how many of them differ
+   compare time [TURNS]           times the library and the others */
 
 #include <stdio.h>
 #include <stdlib.h>
 #include <string.h>
 
-#include "bench.h"
+#include "compare.h"
 
 int main(int argc, char **argv) {
     struct machine machine = {.build_count = 0};
     int is_check = argc > 1 && strcmp(argv[1], "check") == 0, is_time = argc > 1 && strcmp(argv[1], "time") == 0;
     if (!is_check && !is_time) {
-        fputs("bench check [BYTES [SEED]]\nbench time [TURNS]\n", stderr);
+        fputs("compare check [BYTES [SEED]]\ncompare time [TURNS]\n", stderr);
         return 2;
     }
     if (is_time) hide_avx();
