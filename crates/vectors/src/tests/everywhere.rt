@@ -5,7 +5,7 @@ ghost use Rattle.chacha20.specs.Limit.{limit_of};
 
 use super::beside::wrong_beside;
 use super::direct::{Directly, Fresh, stream_ends};
-use super::streams::{X_KEY, X_NONCE, XCHACHA_FROM_64, legacy_stream, legacy_stream_from};
+use super::streams::{X_KEY, X_NONCE, XCHACHA_FROM_64, legacy_stream};
 use super::{
     all_right, backends, beside, core_calls, derived, ends, generator_runs, generator_traits,
     generators, odd_cuts, positions, rfc8439, runs, streams, wraps,
@@ -28,7 +28,6 @@ use chacha20::{
     StreamCipherCoreWrapper, XChaChaCore, XNonce,
 };
 use examples::backend::Width3;
-use std::process::Abort;
 
 type Cipher<K> = StreamCipherCoreWrapper<K>;
 
@@ -321,90 +320,10 @@ fn width3(rt: HostRuntime) {
     all_right(&rt, &[("Width3", over::<Width3>())]);
 }
 
-// The legacy stream over `Soft` between all places, of which the first is from a byte on and before another. This takes
-// several tests: `rt try` gives each a minute.
-fn soft_between(rt: &impl Abort, first: usize, end: usize) {
+// The legacy stream over `Soft` between all places. `rt try` stops a test after a minute, too soon for this one; `rt test`
+// and `rt ci` run it in seconds.
+#[test]
+fn soft_between_all_places(rt: HostRuntime) {
     let mut cipher = Cipher::<ChaChaCore<R20, Legacy, Soft>>::fresh(&FROM_1, &LEGACY_NONCE);
-    let wrong = legacy_stream_from(&mut Directly(&mut cipher), first, end, 1);
-    assert!(rt; wrong.is_none());
-}
-
-#[test]
-fn soft_from_0(rt: HostRuntime) {
-    soft_between(&rt, 0, 5);
-}
-
-#[test]
-fn soft_from_5(rt: HostRuntime) {
-    soft_between(&rt, 5, 11);
-}
-
-#[test]
-fn soft_from_11(rt: HostRuntime) {
-    soft_between(&rt, 11, 17);
-}
-
-#[test]
-fn soft_from_17(rt: HostRuntime) {
-    soft_between(&rt, 17, 23);
-}
-
-#[test]
-fn soft_from_23(rt: HostRuntime) {
-    soft_between(&rt, 23, 30);
-}
-
-#[test]
-fn soft_from_30(rt: HostRuntime) {
-    soft_between(&rt, 30, 37);
-}
-
-#[test]
-fn soft_from_37(rt: HostRuntime) {
-    soft_between(&rt, 37, 45);
-}
-
-#[test]
-fn soft_from_45(rt: HostRuntime) {
-    soft_between(&rt, 45, 53);
-}
-
-#[test]
-fn soft_from_53(rt: HostRuntime) {
-    soft_between(&rt, 53, 62);
-}
-
-#[test]
-fn soft_from_62(rt: HostRuntime) {
-    soft_between(&rt, 62, 71);
-}
-
-#[test]
-fn soft_from_71(rt: HostRuntime) {
-    soft_between(&rt, 71, 82);
-}
-
-#[test]
-fn soft_from_82(rt: HostRuntime) {
-    soft_between(&rt, 82, 95);
-}
-
-#[test]
-fn soft_from_95(rt: HostRuntime) {
-    soft_between(&rt, 95, 109);
-}
-
-#[test]
-fn soft_from_109(rt: HostRuntime) {
-    soft_between(&rt, 109, 128);
-}
-
-#[test]
-fn soft_from_128(rt: HostRuntime) {
-    soft_between(&rt, 128, 154);
-}
-
-#[test]
-fn soft_from_154(rt: HostRuntime) {
-    soft_between(&rt, 154, 256);
+    assert!(rt; legacy_stream(&mut Directly(&mut cipher), 1).is_none());
 }

@@ -12,17 +12,7 @@ use chacha20::{ChaChaRng, CipherCall, Key, Nonce, R20, RngAnswer, RngCall, Seed,
 /// Four blocks with a nonce of 8 bytes, between any three places that are multiples of so many bytes, in two parts; the
 /// second part also ends with the last byte. It returns the first places between which the stream is wrong.
 pub fn legacy_stream<C: Listed>(cipher: &mut C, step: usize) -> Option<[usize; 3]> {
-    legacy_stream_from(cipher, 0, 256, step)
-}
-
-/// The same, where the first place is from a byte on and before another.
-pub fn legacy_stream_from<C: Listed>(
-    cipher: &mut C,
-    first: usize,
-    end: usize,
-    step: usize,
-) -> Option<[usize; 3]> {
-    for from in first..end.min(256) {
+    for from in 0..256usize {
         if is_place(from, step) {
             for middle in from..256 {
                 if is_place(middle, step) {
