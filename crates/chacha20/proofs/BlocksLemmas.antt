@@ -77,8 +77,7 @@ at-more {n} {layout} {s} {old} {t} {now} {i = i} {l = l} {e = e} blocks held cou
       long = rw xored (same_len_mid (64 * i) size now _ (length-xor_stream (byte_of blocks) 0 part) ∙ held.long);
       state = state_after-more layout s t _ i l e held.sixteen held.state moved all;
       bytes = xored
-          ∙ xor_stream-more (state_stream n layout s) (64 * c) (64 * i) size (64 * e) old now
-          (xor_stream (byte_of blocks) 0 part) (omega arith) room held.bytes
+          ∙ xor_stream-more (state_stream n layout s) (64 * c) (64 * i) size old (omega arith) room held.bytes
           (xor_stream-blocks m (state_block n layout (fixed_words layout t)) (state_counter layout t) blocks part whole
           (λ j less. made j (omega arith))
           ∙ ap₂ (λ f d. xor_stream (keystream m (state_block n layout f)) (64 * d) part)

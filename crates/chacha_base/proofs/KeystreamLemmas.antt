@@ -58,10 +58,10 @@ module _ (stream : ℕ → ℕ) where
   length-xor_stream p (x ∷ xs) = ap suc (length-xor_stream (p + 1) xs)
 
   -- one more part of bytes that are combined part by part
-  pub xor_stream-more : (p a k e : ℕ) (old now part : List ℕ) → e ≡ a + k → e ≤ length old
+  pub xor_stream-more : {e : ℕ} {now part : List ℕ} (p a k : ℕ) (old : List ℕ) → e ≡ a + k → e ≤ length old
       → now ≡ xor_stream stream p (take a old) ++ drop a old → part ≡ xor_stream stream (p + a) (take k (drop a now))
       → put_mid a k now part ≡ xor_stream stream p (take e old) ++ drop e old
-  xor_stream-more p a k e old now part ends inside before done =
+  xor_stream-more {e} {now} p a k old ends inside before done =
       let made = xor_stream stream p (take a old) in
       let size : length (take a old) ≡ a = length-take-le a old (omega arith) in
       let front : length made ≡ a = length-xor_stream p (take a old) ∙ size in
@@ -184,9 +184,8 @@ blocks-more {modulus} {first} {a} {c} {block = block} {old = old} {now} k part a
           let there : a + (k + i) ≡ a + k + i = omega arith in
           rw (moved, size, mod-add-mod (c + k) modulus i, here, before.counter (k + i), there) refl;
       done = written_more (combined modulus block first old) a now part inside (room.2 ∙ size) before.done (λ i less.
-          made i (omega (arith, less, size))
-          ∙ ap Some (rw (alike, before.counter i, before.rest, get_or-take k (drop a old) i [] less, get_or-drop a old i [])
-          refl));
+          made i (omega (arith, less, size)) ∙ ap Some
+          (rw (alike, before.counter i, before.rest, get_or-take k (drop a old) i [] less, get_or-drop a old i []) refl));
       rest = drop-put_mid a k now part (a + k) (omega arith) inside (room.2 ∙ size)
           ∙ sym (drop-drop k a now) ∙ ap (drop k) before.rest ∙ drop-drop k a old;
     }

@@ -13,9 +13,8 @@ loop-i-preserved c =
     let at = 64 * c.args.first in
     let width = at + 64 * length blocks - at in
     let long = part_long at width c.args.data.now (omega arith) in
-    xor_stream-more (byte_of blocks) 0 (64 * i) (64 * i + 64 - 64 * i) (64 * (i + 1)) _ c.loop-i.part
-    c.xor_bytes.new.output (omega arith) (omega (arith, long)) c.loop-i.invariant
-    (c.xor_bytes.ensures ∙ xor_stream-one blocks (0 + 64 * i) i _ (omega arith) (omega arith))
+    xor_stream-more (byte_of blocks) 0 (64 * i) (64 * i + 64 - 64 * i) _ (omega arith) (omega (arith, long))
+    c.loop-i.invariant (c.xor_bytes.ensures ∙ xor_stream-one blocks (0 + 64 * i) i _ (omega arith) (omega arith))
 
 pub returns : goal.returns
 returns c =
