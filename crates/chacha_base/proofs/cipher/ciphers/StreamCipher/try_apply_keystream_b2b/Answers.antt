@@ -1,5 +1,5 @@
-use Rattle.std.proofs.Common.{◌≡◌, ◌≤◌, length, refl, sym, ap, ap₂, subst, ◌∙◌}
-use Rattle.chacha_base.specs.Keystream.{keystream, xor_stream}
+use Rattle.std.proofs.Common.{◌≡◌, ◌≤◌, length, refl, sym, ap, subst, ◌∙◌}
+use Rattle.chacha_base.specs.Keystream.{keystream}
 use Rattle.chacha_base.proofs.CipherLemmas.{moved_on}
 use Rattle.chacha_base.proofs.PieceLemmas.{xor_stream-written, piece-within, piece-long}
 use Rattle.chacha_base.proofs.cipher.ciphers.StreamCipher.try_apply_keystream_b2b.Goals as goal
@@ -22,10 +22,7 @@ pieces-preserved g c =
       bytes = xor_stream-written stream (cipher.position old) done n _ c.args.input.now c.pieces.output _ before.within
           (subst (λ m. done ≤ m) (c.if-input-output.false ∙ sym c.pieces.auto.output) before.within)
           (c.apply_keystream.auto.buf ∙ size) before.bytes
-          (c.apply_keystream.ensures.bytes
-          ∙ ap (λ f. xor_stream (keystream cipher.modulus (cipher.block_at f)) (cipher.position c.pieces.self)
-          c.copy_from_slice.new.self) before.fixed
-          ∙ ap₂ (xor_stream stream) before.position c.copy_from_slice.ensures.after);
+          (rw (before.fixed, before.position, c.copy_from_slice.ensures.after) at c.apply_keystream.ensures.bytes);
     }
 
 pub returns-then-input-output-clause-refused : goal.returns-then-input-output-clause-refused
