@@ -20,10 +20,6 @@ pub begins-not_empty : {empty : Bool} {limit : ℕ} (p n : ℕ) → empty ≡ na
 begins-not_empty p zero is not front fits = absurd (false≢true (sym not ∙ is))
 begins-not_empty p (suc n) is not front fits = record { front = front (omega arith); some = omega arith; fits = fits }
 
--- how many blocks there are up to the limit
-pub limit-blocks : (modulus limit : ℕ) → limit ≡ limit_of modulus → limit / 64 ≡ modulus
-limit-blocks modulus limit is = omega arith
-
 -- a core whose counter was set for a position: at a block's front no block is made, and else one
 pub at-sought_front : {modulus p counter : ℕ} {block : ℕ → List ℕ} {buffer : List ℕ} → p ≤ limit_of modulus
     → p % 64 ≤ 0 → counter ≡ p / 64 % modulus → IsBuffered modulus block counter buffer p

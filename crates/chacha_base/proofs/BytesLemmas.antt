@@ -26,10 +26,6 @@ bytes-written xs out four i inside room before made =
     ∙ ap₂ ◌++◌ before made
     ∙ sym (ap bytes (take_more xs i 0 inside) ∙ bytes-append (take i xs) (slice_index xs i ∷ [])))
 
--- a word of four bytes
-pub word_is : (a b c d : ℕ) → from_le_bytes w32 (a ∷ b ∷ c ∷ d ∷ []) ≡ a + 256 * b + 256 ^ 2 * c + 256 ^ 3 * d
-word_is a b c d = omega arith
-
 -- word i of a list of bytes
 abbrev word_at : List ℕ → ℕ → ℕ
 word_at bs i =
@@ -39,7 +35,9 @@ word_at bs i =
 -- the words of one word's bytes more
 pub words-more : (i : ℕ) (bs : List ℕ) → 4 * i + 4 ≤ length bs
     → words (take (4 * (i + 1)) bs) ≡ words (take (4 * i) bs) ++ word_at bs i ∷ []
-words-more zero (a ∷ b ∷ c ∷ d ∷ bs) h = ap (λ x. x ∷ []) (sym (word_is a b c d))
+words-more zero (a ∷ b ∷ c ∷ d ∷ bs) h =
+    let word : a + 256 * b + 256 ^ 2 * c + 256 ^ 3 * d ≡ from_le_bytes w32 (a ∷ b ∷ c ∷ d ∷ []) = omega arith in
+    ap (λ x. x ∷ []) word
 words-more (suc i) (a ∷ b ∷ c ∷ d ∷ bs) h =
     let whole : 4 * (suc i + 1) ≡ suc (suc (suc (suc (4 * (i + 1))))) = omega arith in
     let front : 4 * suc i ≡ suc (suc (suc (suc (4 * i)))) = omega arith in

@@ -77,14 +77,6 @@ grows-blocks w par one m groups tail =
     grows-then groups tail (omega arith) (omega arith) (omega (arith, add-mul (min 1 (m % w)) 0 one))
     (omega (arith, add-mul (m % w) 0 one))
 
--- k single blocks after the others
-grows-more : (w par one m k : ℕ) {a b c : Counts} → Grows (for_whole_blocks w par one m) a b
-    → Grows (for_call 0 k (k * one)) b c → Grows (for_blocks w par one m k) a c
-grows-more w par one m k first then =
-    grows-then first then (omega arith) (omega arith)
-    (omega (arith, add-mul (min 1 (m % w)) k one, add-mul (min 1 (m % w)) 0 one))
-    (omega (arith, add-mul (m % w) k one, add-mul (m % w) 0 one))
-
 -- whole blocks and a last part
 pub grows-rest : {n whole : ℕ} {a b c : Counts} (w par one last : ℕ) → whole ≡ n / 64 * 64 → last + n / 64 * 64 ≡ n
     → Grows (for_whole_blocks w par one (whole / 64)) a b → Grows (for_last_part one last) b c
@@ -92,7 +84,10 @@ pub grows-rest : {n whole : ℕ} {a b c : Counts} (w par one last : ℕ) → who
 grows-rest {n} {whole} w par one last cut all first then =
     let blocks : whole / 64 ≡ n / 64 = omega arith in
     let part : last ≡ n % 64 = omega arith in
-    rw (← blocks, ← part) (grows-more w par one (whole / 64) (min 1 last) first then)
+    let few = min 1 (whole / 64 % w) in
+    rw (← blocks, ← part) (grows-then first then (omega arith) (omega arith)
+    (omega (arith, add-mul few (min 1 last) one, add-mul few 0 one))
+    (omega (arith, add-mul (whole / 64 % w) (min 1 last) one, add-mul (whole / 64 % w) 0 one)))
 
 -- the same after what was left of a block
 pub grows-bytes : {len begun : ℕ} {a b : Counts} (w par one p rest : ℕ) → begun ≡ min len (left_at p)

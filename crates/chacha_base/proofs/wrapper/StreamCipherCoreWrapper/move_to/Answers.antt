@@ -1,7 +1,7 @@
-use Rattle.std.proofs.Common.{◌/◌, ◌%◌, ◌∙◌, ap, sym, subst}
+use Rattle.std.proofs.Common.{◌≡◌, arith, ◌/◌, ◌%◌, ◌∙◌, ap, sym, subst}
 use Rattle.chacha_base.specs.Buffered.{IsBuffered}
 use Rattle.chacha_base.specs.Counts.{Counts, Grows, for_last_part}
-use Rattle.chacha_base.proofs.BufferedLemmas.{at-sought_front, at-sought_part, limit-blocks}
+use Rattle.chacha_base.proofs.BufferedLemmas.{at-sought_front, at-sought_part}
 use Rattle.chacha_base.proofs.CountsLemmas.{grows-last, grows-no_last}
 use Rattle.chacha_base.proofs.wrapper.StreamCipherCoreWrapper.move_to.Goals.{then-position-gt0, else-position-gt0}
 use Rattle.chacha_base.proofs.wrapper.StreamCipherCoreWrapper.move_to.Goals as goal
@@ -14,8 +14,8 @@ invariant_of-self g c =
     let modulus = g.C.Keystream.modulus in
     let p = c.args.position in
     let set = c.set_block_pos.new.self in
-    let here = c.set_block_pos.ensures.counter ∙ c.from_u64.ensures
-    ∙ ap (λ m. p / 64 % m) (limit-blocks modulus _ c.limit.ensures) in
+    let blocks : c.limit.result / 64 ≡ modulus = omega arith in
+    let here = c.set_block_pos.ensures.counter ∙ c.from_u64.ensures ∙ ap (λ m. p / 64 % m) blocks in
     elim c.if-position-gt0.branch [
       | then-position-gt0 w ↦
           let made = w.write_block_counted in
