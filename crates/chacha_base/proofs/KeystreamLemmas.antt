@@ -67,11 +67,8 @@ module _ (stream : ℕ → ℕ) where
       let front : length made ≡ a = length-xor_stream p (take a old) ∙ size in
       let kept : take a now ≡ made = ap (take a) before ∙ take_at made (drop a old) a front in
       let rest : drop a now ≡ drop a old = ap (drop a) before ∙ drop_at made (drop a old) a front in
-      let new = done ∙ ap (λ t. xor_stream stream (p + a) (take k t)) rest in
-      let split : take e old ≡ take a old ++ take k (drop a old) = ap (λ n. take n old) ends ∙ take-add a k old in
-      let after = ap (drop k) rest ∙ drop-drop k a old ∙ sym (ap (λ n. drop n old) ends) in
-      rw (split, xor_stream-append p (take a old) (take k (drop a old)), size, append_assoc)
-      (ap₂ ◌++◌ kept (ap₂ ◌++◌ new after))
+      rw (ends, take-add a k old, xor_stream-append p (take a old) (take k (drop a old)), size, append_assoc)
+      (ap₂ ◌++◌ kept (ap₂ ◌++◌ (rw rest at done) (ap (drop k) rest ∙ drop-drop k a old)))
 
   -- all of the bytes
   pub xor_stream-whole : (p n : ℕ) (xs : List ℕ) → length xs ≤ n
@@ -185,7 +182,7 @@ blocks-more {modulus} {first} {a} {c} {block = block} {old = old} {now} k part a
           rw (moved, size, mod-add-mod (c + k) modulus i, here, before.counter (k + i), there) refl;
       done = written_more (combined modulus block first old) a now part inside (room.2 ∙ size) before.done (λ i less.
           made i (omega (arith, less, size)) ∙ ap Some
-          (rw (alike, before.counter i, before.rest, get_or-take k (drop a old) i [] less, get_or-drop a old i []) refl));
+          (rw (alike, before.counter i, before.rest, get_or-take k (drop a old) i [] less, get_or-drop) refl));
       rest = drop-put_mid a k now part (a + k) (omega arith) inside (room.2 ∙ size)
           ∙ sym (drop-drop k a now) ∙ ap (drop k) before.rest ∙ drop-drop k a old;
     }

@@ -23,14 +23,9 @@ pub xor_stream-written : (stream : ℕ → ℕ) (p done n k : ℕ) (input output
     → piece ≡ xor_stream stream (p + done) (take (done + n - done) (drop done input))
     → take (done + n) (put_mid done k output piece) ≡ xor_stream stream p (take (done + n) input)
 xor_stream-written stream p done n k input output piece inside room size before made =
-    let front = take done input in
-    let next = take n (drop done input) in
     let wide : done + n - done ≡ n = omega arith in
-    take-put_mid done k output piece (done + n) (omega arith) room
-    ∙ ap₂ ◌++◌ before (made ∙ ap (λ m. xor_stream stream (p + done) (take m (drop done input))) wide)
-    ∙ sym (ap (xor_stream stream p) (take-add done n input)
-    ∙ xor_stream-append stream p front next
-    ∙ ap (λ m. xor_stream stream p front ++ xor_stream stream (p + m) next) (length-take-le done input inside))
+    rw (take-add done n input, xor_stream-append, length-take-le done input inside)
+    (take-put_mid done k output piece (done + n) (omega arith) room ∙ ap₂ ◌++◌ before (rw wide at made))
 
 -- what lies behind a piece stays as it was when the piece is written
 pub rest-written : {X : Type 0} (done n k : ℕ) (whole buf piece : List X) → k ≤ n → done ≤ length buf → length piece ≡ k

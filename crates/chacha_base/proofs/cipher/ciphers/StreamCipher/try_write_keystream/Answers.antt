@@ -23,6 +23,6 @@ pieces-preserved g c =
       within = subst (λ m. done + n ≤ m) c.pieces.auto.buf inside;
       fixed = c.apply_keystream.ensures.fixed ∙ before.fixed;
       position = moved_on _ _ p done n _ before.position size c.apply_keystream.ensures.position;
-      bytes = stream_part-written stream p done n _ c.pieces.buf _ front (c.apply_keystream.auto.buf ∙ size) before.bytes
+      bytes = stream_part-written stream p done n _ _ _ front (c.apply_keystream.auto.buf ∙ size) before.bytes
           (rw (before.fixed, before.position, zeros, xor_stream-zeros) at c.apply_keystream.ensures.bytes);
     }
