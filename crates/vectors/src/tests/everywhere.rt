@@ -320,8 +320,8 @@ fn width3(rt: HostRuntime) {
     all_right(&rt, &[("Width3", over::<Width3>())]);
 }
 
-// The legacy stream over `Soft` between all places. `rt try` stops a test after a minute, too soon for this one; `rt test`
-// and `rt ci` run it in seconds.
+// The legacy stream over `Soft` between all places. `rt try` stops a test after a minute, too soon for this one.
+// `rt test` and `rt ci` run it in seconds.
 #[test]
 fn soft_between_all_places(rt: HostRuntime) {
     let mut cipher = Cipher::<ChaChaCore<R20, Legacy, Soft>>::fresh(&FROM_1, &LEGACY_NONCE);

@@ -14,5 +14,6 @@ returns c =
       low = rw c.from.ensures at (c.copy_from_slice-3.ensures.after ∙ c.to_le_bytes-low.ensures);
       position = refl;
     } in
-    let value = ap of_state_bytes (state_is is) ∙ of_state_bytes-state_bytes _ c.told-seed (omega arith) (omega arith) in
+    let value =
+    ap of_state_bytes (state_is is) ∙ of_state_bytes-state_bytes _ c.told-seed (omega arith) (omega arith) in
     record { value = value; stored = state_is is ∙ ap state_bytes (sym value) }
