@@ -38,6 +38,6 @@ pub trait KeyIvInit: Keystream {
     /// block, since a cipher sets the counter of its core to 0. Nothing is refused.
     fn new(key: &Self::Key, iv: &Self::Iv) -> Self
         ensures value { result ≡ init key.now iv.now }
-        ensures blocks { Self.block_at (Self.fixed result) ≡ blocks_of key.now iv.now }
+        ensures keystream { Self.block_at (Self.fixed result) ≡ blocks_of key.now iv.now }
         ensures first { Self.position result ≡ Self.first_position };
 }

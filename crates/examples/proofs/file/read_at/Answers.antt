@@ -22,7 +22,7 @@ returns-clause-plaintext c plaintext same =
     let sought = c.in_ok-try_seek.ensures in
     let apply = c.try_apply_keystream_b2b in
     let bytes : OnOk apply.result (apply.new.output ≡ xor_stream stream start stored) =
-    rw (← c.new-cipher.ensures.blocks) (rw (sought.fixed, sought.position) at apply.ensures.bytes) in
+    rw (← c.new-cipher.ensures.keystream) (rw (sought.fixed, sought.position) at apply.ensures.bytes) in
     rw decrypted at bytes
 
 -- answered for speed

@@ -3,7 +3,7 @@ use Rattle.examples.proofs.frames.apply.Goals as goal
 
 pub returns-in-Ok-clause-bytes : goal.returns-in-Ok-clause-bytes
 returns-in-Ok-clause-bytes c =
-    rw (← c.nonce_of-nonce.ensures.value, ← c.new.ensures.blocks, ← c.new.ensures.first) c.in-Ok.ensures.bytes
+    rw (← c.nonce_of-nonce.ensures.value, ← c.new.ensures.keystream, ← c.new.ensures.first) c.in-Ok.ensures.bytes
 
 pub returns-in-Ok-clause-accepted : goal.returns-in-Ok-clause-accepted
 returns-in-Ok-clause-accepted c = search rules

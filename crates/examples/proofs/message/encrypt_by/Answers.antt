@@ -7,4 +7,4 @@ returns-clause-accepted g c =
 
 pub returns-clause-bytes : goal.returns-clause-bytes
 returns-clause-bytes g c =
-    rw (c.new.ensures.blocks, c.new.ensures.first, g.met.C.StreamCipher.first_is) at c.try_apply_keystream.ensures.bytes
+    rw (c.new.ensures.keystream, c.new.ensures.first, g.met.C.StreamCipher.first_is) at c.try_apply_keystream.ensures.bytes

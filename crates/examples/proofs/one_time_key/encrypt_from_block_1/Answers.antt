@@ -7,4 +7,4 @@ returns-clause-accepted c = rw c.seek.ensures.position at c.try_apply_keystream.
 pub returns-clause-bytes : goal.returns-clause-bytes
 returns-clause-bytes c =
     let sought = c.seek.ensures in
-    rw (← c.new-cipher.ensures.blocks) (rw (sought.fixed, sought.position) at c.try_apply_keystream.ensures.bytes)
+    rw (← c.new-cipher.ensures.keystream) (rw (sought.fixed, sought.position) at c.try_apply_keystream.ensures.bytes)

@@ -10,5 +10,5 @@ returns c =
     let key = c.args.key.now in
     let nonce = c.args.nonce.now in
     c.write_keystream.ensures.bytes
-    ∙ ap₂ (λ block_of p. stream_part (keystream (2 ^ 32) block_of) p 32) c.new.ensures.blocks c.new.ensures.first
+    ∙ ap₂ (λ block_of p. stream_part (keystream (2 ^ 32) block_of) p 32) c.new.ensures.keystream c.new.ensures.first
     ∙ stream_part-block (2 ^ 32) (block 10 ietf key nonce) 0 32 (omega arith) (length-block 10 ietf key nonce 0)

@@ -16,6 +16,6 @@ returns g c =
     let value = c.new.ensures.value ∙ ap₂ (λ (k iv : List ℕ). start ietf k iv 0) key nonce in
     record {
       value = value;
-      blocks = blocks-of-start n ietf (subkey n c.args.key.now c.args.iv.now) (subnonce c.args.iv.now) _ long value;
+      keystream = blocks-of-start n ietf (subkey n c.args.key.now c.args.iv.now) (subnonce c.args.iv.now) _ long value;
       first = c.new.ensures.first;
     }
