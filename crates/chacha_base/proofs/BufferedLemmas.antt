@@ -8,13 +8,13 @@ use Rattle.chacha_base.specs.Limit.{limit_of}
 use Rattle.chacha_base.specs.Buffered.{IsBuffered, left_at}
 use Rattle.chacha_base.proofs.KeystreamLemmas.{xor_stream-same, xor_stream-part, xor_stream-block}
 
--- at least one byte, n in all, that begin at a block's front and end within the limit
+-- n bytes from position p on: p is the front of a block, there is at least one byte, and they end within the limit
 pub record Begins (p n limit : ℕ) : Type 0 where
   pub front : p % 64 ≡ 0
   pub some : 0 < n
   pub fits : p + n ≤ limit
 
--- the n bytes of a slice for which `is_empty` returned false
+-- the bytes of a slice are such bytes, if its `is_empty` is false, p is the front of a block, and they fit
 pub begins-not_empty : {empty : Bool} {limit : ℕ} (p n : ℕ) → empty ≡ nat_eq n 0 → empty ≡ false
     → (0 < n → p % 64 ≡ 0) → p + n ≤ limit → Begins p n limit
 begins-not_empty p zero is not front fits = absurd (false≢true (sym not ∙ is))
