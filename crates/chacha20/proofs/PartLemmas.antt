@@ -1,9 +1,31 @@
 -- Lists that are written part by part. Proofs of callers may cite these, for a nonce that is made of parts; here the
 -- 49 bytes of a state are written so.
-use Rattle.std.proofs.Common.{◌≡◌, ℕ, List, ◌++◌, length, drop, ap₂, take_at, drop_at}
+use Rattle.std.proofs.Common.{◌≡◌, ◌<◌, ◌^◌, ◌∙◌, ℕ, List, ◌++◌, length, take, drop, refl, sym, ap, ap₂, take_at, drop_at}
+use Rattle.std.proofs.lemmas.Nat.{from_le_bytes-to_le_bytes_4, from_le_bytes-to_le_bytes_8}
+use Rattle.std.specs.Int.{Width, w32, w64, from_le_bytes, to_le_bytes}
 use borrow.Rule.Slice.PartMut.{put_mid}
 
 -- a part written where it belongs
 pub put_mid-at : {X : Type 0} (n k : ℕ) (xs zs ys : List X) → length xs ≡ n
     → put_mid n k (xs ++ zs) ys ≡ xs ++ (ys ++ drop k zs)
 put_mid-at n k xs zs ys long = ap₂ (λ a b. a ++ (ys ++ drop k b)) (take_at xs zs n long) (drop_at xs zs n long)
+
+-- a part of a fixed length and then a number, low byte first: equal lists have the same part and the same number, for
+-- every width at which the bytes can be read back
+ending-same : (w : Width) (limit : ℕ) → ((n : ℕ) → n < limit → from_le_bytes w (to_le_bytes w n) ≡ n)
+    → (xs ys : List ℕ) (i j : ℕ) → length xs ≡ length ys → i < limit → j < limit
+    → xs ++ to_le_bytes w i ≡ ys ++ to_le_bytes w j → (xs ≡ ys) × (i ≡ j)
+ending-same w limit back xs ys i j long i_fits j_fits same =
+    let n = length ys in
+    let part = sym (take_at xs _ n long) ∙ ap (take n) same ∙ take_at ys _ n refl in
+    let bytes = sym (drop_at xs _ n long) ∙ ap (drop n) same ∙ drop_at ys _ n refl in
+    (part, sym (back i i_fits) ∙ ap (from_le_bytes w) bytes ∙ back j j_fits)
+
+-- for numbers of 32 and of 64 bits
+pub ending-same_32 : (xs ys : List ℕ) (i j : ℕ) → length xs ≡ length ys → i < 2 ^ 32 → j < 2 ^ 32
+    → xs ++ to_le_bytes w32 i ≡ ys ++ to_le_bytes w32 j → (xs ≡ ys) × (i ≡ j)
+ending-same_32 = ending-same w32 (2 ^ 32) from_le_bytes-to_le_bytes_4
+
+pub ending-same_64 : (xs ys : List ℕ) (i j : ℕ) → length xs ≡ length ys → i < 2 ^ 64 → j < 2 ^ 64
+    → xs ++ to_le_bytes w64 i ≡ ys ++ to_le_bytes w64 j → (xs ≡ ys) × (i ≡ j)
+ending-same_64 = ending-same w64 (2 ^ 64) from_le_bytes-to_le_bytes_8
