@@ -1,4 +1,4 @@
--- Laws of states and of their blocks that proofs of backends may cite, as StateLemmas states them.
+-- Laws that proofs of backends may cite: of states and of their blocks, as StateLemmas states them, and of counts.
 -- `s` is the first state, of sixteen words that fit (`Words`), and `t` the one some blocks on. In an
 -- answer `c.told-state` and `c.fits-state` say of an argument `state` that it is such a state.
 
@@ -10,3 +10,7 @@ pub use Rattle.chacha_base.proofs.StateLemmas.{next_block-state_after}
 pub use Rattle.chacha_base.proofs.StateLemmas.{next_block-more, next_blocks-more}
 -- the words of a generator, written likewise: one block more, and all of them
 pub use Rattle.chacha_base.proofs.StateLemmas.{next_words-more, next_words-are}
+-- the sums of two states, word by word
+pub use Rattle.chacha_base.proofs.RoundLemmas.{add_states_are}
+-- counts with so many quarter rounds more: those of no block, and of one block more
+pub use Rattle.chacha_base.proofs.CountsLemmas.{plus_rounds, counted-none, counted-more}
