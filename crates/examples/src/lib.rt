@@ -6,6 +6,7 @@
 pub mod backend;
 pub mod file;
 pub mod frames;
+pub mod log;
 pub mod message;
 pub mod one_time_key;
 pub mod pieces;
