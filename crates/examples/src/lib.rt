@@ -13,5 +13,3 @@ pub mod pieces;
 pub mod records;
 pub mod scalar;
 pub mod simulation;
-#[cfg(test)]
-mod tests;

@@ -1,4 +1,5 @@
-//! Published bytes, and answers that were computed by hand, over each backend; and the wrapper over a user's own core.
+//! Published bytes, and answers that were computed by hand, over each backend; the wrapper over a user's own core; and
+//! the tests of named types and of users' code.
 
 mod backends;
 mod beside;
@@ -19,6 +20,7 @@ mod runs;
 mod streams;
 mod toy;
 mod toy_cipher;
+mod users;
 mod wraps;
 
 ghost use Rattle.std.specs.Prelude.{All, IsNone};

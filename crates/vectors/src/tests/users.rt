@@ -1,0 +1,20 @@
+//! Tests that need no table of rows: what the named types are, what a caller proves from public contracts alone, and
+//! what users write, as the crate `examples` does.
+
+mod base;
+mod contracts;
+mod draws;
+mod file;
+mod frames;
+mod generator_cores;
+mod generator_states;
+mod generic;
+mod message;
+mod names;
+mod one_time_key;
+mod pieces;
+mod readme;
+mod records;
+mod simulation;
+mod texts;
+mod xchacha;

@@ -1,0 +1,99 @@
+//! A published ciphertext that is read in parts, and records over each backend of the library.
+
+use crate::rows::COUNTING;
+use crate::tests::streams::NONCE;
+use chacha20::backends::{Lanes4, Lanes8, Lanes16, Rows8, Soft};
+use chacha20::cipher::{KeyIvInit, StreamCipherError, StreamCipherSeek};
+use chacha20::variants::Ietf;
+use chacha20::{ChaChaCore, Key, Nonce, R20, StreamCipherCoreWrapper};
+use examples::file::{encrypt_record, read_at};
+use examples::message::encrypt;
+
+// Bytes 48 to 79 of the message of RFC 8439, section 2.4.2, which begins at block 1: so a block ends between them.
+static CIPHERTEXT: &[u8; 32] = b"\
+    \x16\x39\xd6\x24\xe6\x51\x52\xab\x8f\x53\x0c\x35\x9f\x08\x61\xd8\
+    \x07\xca\x0d\xbf\x50\x0d\x6a\x61\x56\xa3\x8e\x08\x8a\x22\xb6\x5e";
+
+// Reads a window of the file: 112 zeros, and then those bytes.
+fn reads(start: usize, window: &mut [u8]) -> bool {
+    let mut file = [0; 144];
+    file[112..].copy_from_slice(CIPHERTEXT);
+    read_at(&COUNTING, &NONCE, &file, start, window).is_ok()
+}
+
+#[test]
+fn published(rt: HostRuntime) {
+    let mut all = [0; 32];
+    let mut part = [0; 16];
+    let accepted = reads(112, &mut all) && reads(120, &mut part);
+    assert!(rt;
+        accepted && all == *b"ould offer you only one tip for " && part == *b"er you only one "
+    );
+}
+
+// The last byte and none after it are read; more is refused, and the window stays.
+#[test]
+fn at_the_end(rt: HostRuntime) {
+    let mut last = [0; 1];
+    let mut window = [5; 2];
+    assert!(rt; reads(143, &mut last) && last == *b" " && reads(144, &mut []));
+    let refused = [
+        reads(143, &mut window),
+        reads(144, &mut window),
+        reads(145, &mut []),
+        reads(usize::MAX, &mut window),
+    ];
+    assert!(rt; refused == [false; 4] && window == [5; 2]);
+}
+
+#[test]
+fn random_access(rt: HostRuntime) {
+    let mut file = [7; 100];
+    let mut window = [0; 30];
+    let encrypted = encrypt(&[1; 32], &[2; 12], &mut file).is_ok();
+    let hidden = file[60..90] != [7; 30];
+    let decrypted = read_at(&[1; 32], &[2; 12], &file, 60, &mut window).is_ok();
+    assert!(rt; encrypted && hidden && decrypted && window == [7; 30]);
+}
+
+// Four records of 100 bytes, in any order, are what one application gives. One past the end is refused, which changes
+// neither bytes nor position.
+fn as_a_whole<S: StreamCipherSeek>(cipher: &mut S) -> [bool; 5] {
+    let mut whole = [9; 400];
+    let mut file = [9; 400];
+    let mut accepted = cipher.try_apply_keystream(&mut whole).is_ok();
+    for number in [2, 0, 3, 1] {
+        let bytes = &mut file[100 * number as usize..100 * number as usize + 100];
+        accepted &= encrypt_record(cipher, number, bytes).is_ok();
+    }
+    let encrypted = file;
+    let past_the_end = encrypt_record(cipher, u64::MAX, &mut file) == Err(StreamCipherError);
+    [
+        accepted,
+        encrypted == whole,
+        past_the_end,
+        file == encrypted,
+        cipher.try_current_pos() == Ok(200u32),
+    ]
+}
+
+fn of_new<C>() -> [bool; 5]
+where
+    C: KeyIvInit<Key = Key, Iv = Nonce> + StreamCipherSeek + Drop,
+{
+    as_a_whole(&mut C::new(&COUNTING, &[0; 12]))
+}
+
+type Over<B> = StreamCipherCoreWrapper<ChaChaCore<R20, Ietf, B>>;
+
+#[test]
+fn records_over_each_backend(rt: HostRuntime) {
+    let right = [
+        of_new::<Over<Soft>>(),
+        of_new::<Over<Lanes4>>(),
+        of_new::<Over<Lanes8>>(),
+        of_new::<Over<Rows8>>(),
+        of_new::<Over<Lanes16>>(),
+    ];
+    assert!(rt; right == [[true; 5]; 5]);
+}

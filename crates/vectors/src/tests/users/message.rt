@@ -1,0 +1,73 @@
+//! Published messages and keystreams.
+
+use crate::rows::{COUNTING, FROM_1, LEGACY_NONCE};
+use crate::tests::streams::{NONCE, X_KEY, X_NONCE};
+use chacha20::backends::Soft;
+use chacha20::cipher::StreamCipherError;
+use chacha20::variants::{Ietf, Legacy};
+use chacha20::{ChaChaCore, R20, StreamCipherCoreWrapper, XChaChaCore};
+use examples::message::{encrypt, encrypt_6, encrypt_by, encrypt_legacy, encrypt_xchacha};
+
+#[test]
+fn encrypted(rt: HostRuntime) {
+    let mut ietf = [0; 178];
+    ietf[64..].copy_from_slice(&PLAINTEXT);
+    let mut legacy = [0; 256];
+    let mut x = [0; 368];
+    let accepted = [
+        encrypt(&COUNTING, &NONCE, &mut ietf),
+        encrypt_legacy(&FROM_1, &LEGACY_NONCE, &mut legacy),
+        encrypt_xchacha(&X_KEY, &X_NONCE, &mut x),
+    ];
+    assert!(rt; accepted == [Ok(()); 3]);
+    assert!(rt; ietf.ends_with(&CIPHERTEXT));
+    assert!(rt; legacy.starts_with(LEGACY) && x[64..].starts_with(XCHACHA_FROM_64));
+    assert!(rt; apply_by_soft(&mut ietf, &mut legacy, &mut x) == [Ok(()); 3]);
+    assert!(rt; ietf.starts_with(&[0; 64]) && ietf.ends_with(&PLAINTEXT));
+    assert!(rt; legacy == [0; 256] && x == [0; 368]);
+}
+
+// The same over another backend. Other tests compare all bytes of three such keystreams with the published ones.
+fn apply_by_soft(
+    ietf: &mut [u8],
+    legacy: &mut [u8],
+    x: &mut [u8],
+) -> [Result<(), StreamCipherError>; 3] {
+    [
+        encrypt_by::<StreamCipherCoreWrapper<ChaChaCore<R20, Ietf, Soft>>>(&COUNTING, &NONCE, ietf),
+        encrypt_by::<StreamCipherCoreWrapper<ChaChaCore<R20, Legacy, Soft>>>(
+            &FROM_1,
+            &LEGACY_NONCE,
+            legacy,
+        ),
+        encrypt_by::<StreamCipherCoreWrapper<XChaChaCore<R20, Soft>>>(&X_KEY, &X_NONCE, x),
+    ]
+}
+
+#[test]
+fn own_rounds(rt: HostRuntime) {
+    let mut message = *b"attack at dawn";
+    let there = encrypt_6(&COUNTING, &NONCE, &mut message).is_ok();
+    let encrypted = message;
+    let back = encrypt_6(&COUNTING, &NONCE, &mut message).is_ok();
+    assert!(rt; there && back && encrypted != message && message == *b"attack at dawn");
+}
+
+// The message of RFC 8439, section 2.4.2, which is encrypted from block 1 on.
+pub static PLAINTEXT: [u8; 114] =
+    *b"Ladies and Gentlemen of the class of '99: If I could offer you only one tip \
+    for the future, sunscreen would be it.";
+
+pub static CIPHERTEXT: [u8; 114] = *b"\
+    \x6e\x2e\x35\x9a\x25\x68\xf9\x80\x41\xba\x07\x28\xdd\x0d\x69\x81\xe9\x7e\x7a\xec\x1d\x43\x60\xc2\
+    \x0a\x27\xaf\xcc\xfd\x9f\xae\x0b\xf9\x1b\x65\xc5\x52\x47\x33\xab\x8f\x59\x3d\xab\xcd\x62\xb3\x57\
+    \x16\x39\xd6\x24\xe6\x51\x52\xab\x8f\x53\x0c\x35\x9f\x08\x61\xd8\x07\xca\x0d\xbf\x50\x0d\x6a\x61\
+    \x56\xa3\x8e\x08\x8a\x22\xb6\x5e\x52\xbc\x51\x4d\x16\xcc\xf8\x06\x81\x8c\xe9\x1a\xb7\x79\x37\x36\
+    \x5a\xf9\x0b\xbf\x74\xa3\x5b\xe6\xb4\x0b\x8e\xed\xf2\x78\x5e\x42\x87\x4d";
+
+// The front of a stream of the Rust crate's tests.
+static LEGACY: &[u8; 16] = b"\xde\xeb\x6b\x9d\x06\xdf\xf3\xe0\x91\xbf\x3a\xd4\xf4\xd4\x92\xb6";
+
+// The front of the keystream of draft-arciszewski-xchacha-03, section A.3.2, from block 1 on.
+static XCHACHA_FROM_64: &[u8; 16] =
+    b"\x29\x62\x4b\x4b\x1b\x14\x0a\xce\x53\x74\x0e\x40\x5b\x21\x68\x54";

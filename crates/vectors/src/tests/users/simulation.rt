@@ -1,0 +1,76 @@
+// The first block of the seed 0 on stream 0 is that of RFC 8439, A.1, number 1, and on stream 2^57 that of number 5.
+// Their words of 64 bits, times a bound, divided by 2^64, give the numbers here.
+
+use chacha20::{ChaCha20Rng, ChaChaRng, R20, Soft};
+use examples::simulation::{below, resume, roll, rolls, rolls_in_two, shuffle, worker};
+
+// Eight dice of the published words.
+static DICE: [u8; 8] = [4, 1, 1, 5, 4, 2, 1, 4];
+
+#[test]
+fn drawn_below(rt: HostRuntime) {
+    let mut rng = ChaCha20Rng::from_seed([0; 32]);
+    let drawn = [
+        below(&mut rng, 1000),
+        below(&mut rng, 1000),
+        below(&mut rng, 1),
+        below(&mut rng, u64::MAX),
+    ];
+    assert!(rt; drawn == [563, 159, 0, 0xc70d_778b_ccef_36a7]);
+}
+
+#[test]
+fn rolled(rt: HostRuntime) {
+    let mut rng = ChaCha20Rng::from_seed([0; 32]);
+    let mut other = ChaChaRng::<R20, Soft>::from_seed([0; 32]);
+    let mut dice = [0; 7];
+    let first = roll(&mut rng);
+    rolls(&mut rng, &mut dice);
+    let mut others = [0; 8];
+    rolls(&mut other, &mut others);
+    assert!(rt; first == DICE[0] && DICE.ends_with(&dice) && others == DICE);
+}
+
+#[test]
+fn shuffled(rt: HostRuntime) {
+    let mut rng = ChaCha20Rng::from_seed([0; 32]);
+    let mut items = *b"abcdefghi";
+    shuffle(&mut rng, &mut items);
+    assert!(rt; items == *b"hgafiebdc" && rng.get_word_pos() == 16);
+    let mut one = *b"a";
+    shuffle(&mut rng, &mut one);
+    shuffle(&mut rng, &mut one[..0]);
+    assert!(rt; one == *b"a" && rng.get_word_pos() == 16);
+}
+
+#[test]
+fn workers(rt: HostRuntime) {
+    let mut first = [0; 8];
+    let mut second = [0; 8];
+    rolls(&mut worker([0; 32], 0), &mut first);
+    rolls(&mut worker([0; 32], 0x0200_0000_0000_0000), &mut second);
+    assert!(rt; first == DICE && second == [2, 5, 4, 5, 6, 6, 3, 3]);
+}
+
+#[test]
+fn resumed(rt: HostRuntime) {
+    let mut stored = ChaCha20Rng::from_seed([0; 32]).serialize_state();
+    let mut dice = [0; 8];
+    resume(&mut stored, &mut dice[..3]);
+    resume(&mut stored, &mut dice[3..]);
+    let rng = ChaCha20Rng::deserialize_state(&stored);
+    assert!(rt; dice == DICE && rng.get_word_pos() == 16);
+}
+
+#[test]
+fn rolled_in_two(rt: HostRuntime) {
+    let mut rng = ChaCha20Rng::from_seed([0; 32]);
+    let mut other = ChaChaRng::<R20, Soft>::from_seed([0; 32]);
+    let mut dice = [0; 70];
+    let mut first = [0; 33];
+    let mut rest = [0; 37];
+    rolls(&mut rng, &mut dice);
+    rolls_in_two(&mut other, &mut first, &mut rest);
+    assert!(rt; dice.starts_with(&DICE) && dice.starts_with(&first) && dice.ends_with(&rest));
+    assert!(rt; rng.serialize_state() == other.serialize_state());
+}

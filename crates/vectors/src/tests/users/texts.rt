@@ -1,0 +1,97 @@
+//! The texts that `Debug` writes: of cores and generators over each backend and a user's own, among them those of the
+//! named types; and of types that derive it.
+
+use chacha20::cipher::{KeyIvInit, OverflowError, RngBackend, StreamCipherError};
+use chacha20::{
+    ChaChaCore, ChaChaRng, CipherAnswer, CipherCall, Ietf, Lanes4, Lanes8, Lanes16, Legacy, R8,
+    R12, R20, RngAnswer, RngCall, Rows8, Soft, XChaChaCore,
+};
+use examples::backend::Width3;
+use std::alloc::Global;
+use std::fmt::Debug;
+
+fn has_text<T: Debug>(alloc: Global, value: &T, expected: &str) -> bool {
+    match format!(in alloc; "{value:?}") {
+        Ok(text) => text.as_str() == expected,
+        Err(_) => false,
+    }
+}
+
+fn core_texts<B>(alloc: Global) -> [bool; 3] {
+    let of_8 = ChaChaCore::<R8, Ietf, B>::new(&[0; 32], &[0; 12]);
+    let of_20 = ChaChaCore::<R20, Ietf, B>::new(&[0; 32], &[0; 12]);
+    let legacy = ChaChaCore::<R20, Legacy, B>::new(&[0; 32], &[0; 8]);
+    [
+        has_text(alloc, &of_8, "ChaChaCore<R: 4, V: 32-bit)> { ... }"),
+        has_text(alloc, &of_20, "ChaChaCore<R: 10, V: 32-bit)> { ... }"),
+        has_text(alloc, &legacy, "ChaChaCore<R: 10, V: 64-bit)> { ... }"),
+    ]
+}
+
+fn generator_texts<B>(alloc: Global) -> [bool; 3]
+where
+    B: RngBackend<R8> + RngBackend<R12> + RngBackend<R20>,
+{
+    let of_8 = ChaChaRng::<R8, B>::from_seed([0; 32]);
+    let of_12 = ChaChaRng::<R12, B>::from_seed([0; 32]);
+    let of_20 = ChaChaRng::<R20, B>::from_seed([0; 32]);
+    [
+        has_text(alloc, &of_8, "ChaCha8Rng { ... }"),
+        has_text(alloc, &of_12, "ChaCha12Rng { ... }"),
+        has_text(alloc, &of_20, "ChaCha20Rng { ... }"),
+    ]
+}
+
+// Which texts are right: of cores, and of generators.
+fn texts<B>(alloc: Global) -> [[bool; 3]; 2]
+where
+    B: RngBackend<R8> + RngBackend<R12> + RngBackend<R20>,
+{
+    [core_texts::<B>(alloc), generator_texts::<B>(alloc)]
+}
+
+// With 16 lanes the cores are those of the named ciphers, with 8 lanes the generators are the named ones.
+#[test]
+fn over_each_backend(rt: HostRuntime) {
+    let found = [
+        texts::<Soft>(rt.alloc()),
+        texts::<Lanes4>(rt.alloc()),
+        texts::<Lanes8>(rt.alloc()),
+        texts::<Rows8>(rt.alloc()),
+        texts::<Lanes16>(rt.alloc()),
+        texts::<Width3>(rt.alloc()),
+    ];
+    assert_eq!(rt; found, [[[true; 3]; 2]; 6]);
+}
+
+#[test]
+fn derived(rt: HostRuntime) {
+    let alloc = rt.alloc();
+    let core = XChaChaCore::<R20, Lanes16>::new(&[0; 32], &[0; 24]);
+    let found = [
+        has_text(alloc, &R8, "R8"),
+        has_text(alloc, &R12, "R12"),
+        has_text(alloc, &R20, "R20"),
+        has_text(alloc, &Soft, "Soft"),
+        has_text(alloc, &Lanes4, "Lanes4"),
+        has_text(alloc, &Lanes8, "Lanes8"),
+        has_text(alloc, &Rows8, "Rows8"),
+        has_text(alloc, &Lanes16, "Lanes16"),
+        has_text(alloc, &StreamCipherError, "StreamCipherError"),
+        has_text(alloc, &OverflowError, "OverflowError"),
+        has_text(alloc, &CipherCall::Seek(9), "Seek(9)"),
+        has_text(alloc, &CipherAnswer::Position(9), "Position(9)"),
+        has_text(
+            alloc,
+            &RngCall::Fill { at: 1, len: 2 },
+            "Fill { at: 1, len: 2 }",
+        ),
+        has_text(alloc, &RngAnswer::U32(9), "U32(9)"),
+        has_text(
+            alloc,
+            &core,
+            "XChaChaCore { core: ChaChaCore<R: 10, V: 32-bit)> { ... } }",
+        ),
+    ];
+    assert!(rt; found == [true; 15]);
+}
