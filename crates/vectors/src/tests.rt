@@ -1,5 +1,5 @@
-//! Published bytes, and answers that were computed by hand, over each backend; the wrapper over a user's own core; and
-//! the tests of named types and of users' code.
+//! Published bytes, and answers that were computed by hand, over each backend; the wrapper over a user's own core;
+//! the exports for C; and named types and users' code.
 
 mod backends;
 mod beside;
@@ -8,6 +8,7 @@ mod derived;
 mod direct;
 mod ends;
 mod everywhere;
+mod exports;
 mod faults;
 mod generator_runs;
 mod generator_traits;

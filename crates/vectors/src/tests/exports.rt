@@ -3,28 +3,33 @@
 //! The proof of a call grows with the callee's contract, and that of a function with the square of its length. So
 //! exports are called in functions without a contract, and the tests are short functions and tables.
 
-use super::{COUNTING, NONCE, X_NONCE, ZEROS};
-use crate::chacha::{
+use super::streams::NONCE;
+use crate::rows::COUNTING;
+use chacha20::{Key, Nonce, R8, R12, R20, SerializedRngState, XNonce, hchacha};
+use chacha20_c::chacha::{
     chacha8_keystream_raw, chacha8_xor_between, chacha8_xor_in_place, chacha12_keystream_raw,
     chacha12_xor_between, chacha12_xor_in_place, chacha20_check, chacha20_keystream_raw,
     chacha20_xor_between, chacha20_xor_in_place,
 };
-use crate::generators::{
+use chacha20_c::generators::{
     chacha_rng_from_seed, chacha_rng_get_block_pos, chacha_rng_get_stream, chacha_rng_get_word_pos,
     chacha_rng_set_block_pos, chacha_rng_set_stream, chacha_rng_set_word_pos, chacha8_rng_fill_raw,
     chacha8_rng_next_u32, chacha8_rng_next_u64, chacha12_rng_fill_raw, chacha12_rng_next_u32,
     chacha12_rng_next_u64, chacha20_rng_fill_raw, chacha20_rng_next_u32, chacha20_rng_next_u64,
 };
-use crate::legacy::{
+use chacha20_c::legacy::{
     chacha20_legacy_check, chacha20_legacy_keystream_raw, chacha20_legacy_xor_between,
     chacha20_legacy_xor_in_place,
 };
-use crate::xchacha::{
+use chacha20_c::xchacha::{
     hchacha8, hchacha12, hchacha20, xchacha8_keystream_raw, xchacha8_xor_between,
     xchacha8_xor_in_place, xchacha12_keystream_raw, xchacha12_xor_between, xchacha12_xor_in_place,
     xchacha20_keystream_raw, xchacha20_xor_between, xchacha20_xor_in_place,
 };
-use chacha20::{Key, Nonce, R8, R12, R20, SerializedRngState, hchacha};
+
+static ZEROS: Key = [0; 32];
+
+static X_NONCE: XNonce = *b"@ABCDEFGHIJKLMNOPQRSTUVX";
 
 // The exports of ciphers by their number of rounds; any other number is the legacy cipher.
 
