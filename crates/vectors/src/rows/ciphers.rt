@@ -1,7 +1,6 @@
 //! Rows of ciphers.
 
-ghost use Rattle.std.specs.Prelude.{◌≡◌, ◌↔◌, ◌≤◌, ◌<◌, ◌+◌, ◌^◌, ◌∷◌, [], IfSome, IsNone, IsTrue, Some, length};
-ghost use Rattle.chacha20.specs.Keystream.{keystream, xor_stream};
+ghost use Rattle.std.specs.Prelude.{◌≡◌, ◌↔◌, ◌≤◌, ◌<◌, ◌^◌, ◌∷◌, [], IfSome, IsNone, IsTrue, Some};
 ghost use Rattle.chacha20.specs.Limit.{limit_of};
 ghost use Rattle.vectors.specs.Rows.{AreEntered, AreEnteredBy, Keeps};
 
@@ -14,6 +13,7 @@ use chacha20::{
     CipherAnswer, CipherCall, Key, LegacyNonce, Nonce, R20, StreamCipherCoreWrapper, XNonce,
     hchacha,
 };
+use examples::pieces::apply_in_pieces;
 
 /// Lists of a row, with its number.
 pub type NumberedLists = (usize, &'static [CipherList]);
@@ -293,24 +293,6 @@ fn row_1<C: KeyIvInit<Key = Key, Iv = Nonce> + StreamCipherSeek + Drop>() -> Ver
         "there, back, and in pieces",
         &[there == CIPHERTEXT, back == PLAINTEXT, data == CIPHERTEXT],
     )
-}
-
-/// Applies a cipher to bytes in pieces of one size, of which the last may be shorter. The bytes and the cipher become
-/// those of one application.
-pub fn apply_in_pieces<C: StreamCipher>(cipher: &mut C, bytes: &mut [u8], size: usize)
-    requires some { 0 < size }
-    requires fits { C.position cipher.old + length bytes.old ≤ limit_of C.modulus }
-    ensures bytes { bytes.new ≡ xor_stream (keystream C.modulus (C.block_at (C.fixed cipher.old)))
-        (C.position cipher.old) bytes.old }
-    ensures fixed { C.fixed cipher.new ≡ C.fixed cipher.old }
-    ensures position { C.position cipher.new ≡ C.position cipher.old + length bytes.old }
-{
-    let mut done = 0;
-    'pieces: while done < bytes.len() {
-        let end = done + size.min(bytes.len() - done);
-        cipher.apply_keystream(&mut bytes[done..end]);
-        done = end;
-    }
 }
 
 // HChaCha (draft-irtf-cfrg-xchacha, section 2.2.1).

@@ -59,6 +59,10 @@ fn applied_at_once<C: StreamCipherCore>(core: &mut C) -> [[u8; 64]; 4] {
     core.apply_keystream_blocks(&mut []);
     core.apply_keystream_blocks(&mut blocks[..1]);
     core.apply_keystream_blocks(&mut blocks[1..]);
+    taken_away(blocks)
+}
+
+fn taken_away(mut blocks: [[u8; 64]; 4]) -> [[u8; 64]; 4] {
     for byte in blocks.as_flattened_mut() {
         *byte ^= 0xa5;
     }

@@ -177,7 +177,16 @@ where
 
 // A cipher with nonces of 24 bytes, compared with the one under the derived key and nonce.
 fn wrong_derived<R: Rounds, B: StreamCipherBackend<R, Ietf>>() -> Verdict {
-    derived::wrong_stream::<R, Cipher<XChaChaCore<R, B>>, Cipher<ChaChaCore<R, Ietf, B>>>()
+    wrong_derived_core::<R, XChaChaCore<R, B>, ChaChaCore<R, Ietf, B>>()
+}
+
+fn wrong_derived_core<R, X, K>() -> Verdict
+where
+    R: Rounds,
+    X: KeyIvInit<Key = Key, Iv = XNonce> + StreamCipherSeekCore + Drop,
+    K: KeyIvInit<Key = Key, Iv = Nonce> + StreamCipherSeekCore + Drop,
+{
+    derived::wrong_stream::<R, Cipher<X>, Cipher<K>>()
 }
 
 // Compared with ciphers over the plain backend, which hand out the blocks of the RFC one by one.
@@ -324,6 +333,13 @@ fn width3(rt: HostRuntime) {
 // `rt test` and `rt ci` run it in seconds.
 #[test]
 fn soft_between_all_places(rt: HostRuntime) {
-    let mut cipher = Cipher::<ChaChaCore<R20, Legacy, Soft>>::fresh(&FROM_1, &LEGACY_NONCE);
-    assert!(rt; legacy_stream(&mut Directly(&mut cipher), 1).is_none());
+    assert!(rt; is_right_between_all_places::<ChaChaCore<R20, Legacy, Soft>>());
+}
+
+fn is_right_between_all_places<K>() -> bool
+where
+    K: KeyIvInit<Key = Key, Iv = LegacyNonce> + StreamCipherSeekCore + Drop,
+{
+    let mut cipher = Cipher::<K>::new(&FROM_1, &LEGACY_NONCE);
+    legacy_stream(&mut Directly(&mut cipher), 1).is_none()
 }

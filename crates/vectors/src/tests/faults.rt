@@ -9,6 +9,7 @@ use crate::rows::generators::wrong_table;
 use crate::rows::lists::{CipherList, Listed, RngList, wrong_list};
 use crate::rows::{R0, Verdict, first_wrong_row};
 use chacha20::backends::Soft;
+use chacha20::cipher::{KeyIvInit, StreamCipherSeekCore};
 use chacha20::variants::Ietf;
 use chacha20::{
     ChaChaCore, CipherAnswer, CipherCall, Key, Nonce, RngAnswer, RngCall, StreamCipherCoreWrapper,
@@ -173,18 +174,16 @@ static WRONG_ROW: [CipherList; 1] = [CipherList {
 }];
 
 // Whether the row of this number is found, of three rows of a cipher without rounds.
-fn finds_row(number: usize) -> bool {
+fn finds_row<K>(number: usize) -> bool
+where
+    K: KeyIvInit<Key = Key, Iv = Nonce> + StreamCipherSeekCore + Drop,
+{
     let mut rows: [NumberedLists; 3] = [(0, &RIGHT_ROW), (1, &RIGHT_ROW), (2, &RIGHT_ROW)];
     if number < 3 {
         rows[number] = (number, &WRONG_ROW);
     }
     let mut verdicts = [None; 24];
-    enter_table::<StreamCipherCoreWrapper<ChaChaCore<R0, Ietf, Soft>>>(
-        &mut verdicts,
-        &[0; 32],
-        &[0; 12],
-        &rows,
-    );
+    enter_table::<StreamCipherCoreWrapper<K>>(&mut verdicts, &[0; 32], &[0; 12], &rows);
     match first_wrong_row(&verdicts) {
         Some(failure) => failure.number == number && failure.check == "wrong",
         None => number == 3,
@@ -194,7 +193,7 @@ fn finds_row(number: usize) -> bool {
 #[test]
 fn rows(rt: HostRuntime) {
     for number in 0..4usize {
-        assert!(rt; finds_row(number), "{number}");
+        assert!(rt; finds_row::<ChaChaCore<R0, Ietf, Soft>>(number), "{number}");
     }
     let right: NumberedLists = (0, &[RIGHT]);
     let wrong = wrong_rows::<Nonce, Counting>(&[2; 32], &[0; 12], &[right]);

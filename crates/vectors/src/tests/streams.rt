@@ -13,9 +13,9 @@ use chacha20::{ChaChaRng, CipherCall, Key, Nonce, R20, RngAnswer, RngCall, Seed,
 /// second part also ends with the last byte. It returns the first places between which the stream is wrong.
 pub fn legacy_stream<C: Listed>(cipher: &mut C, step: usize) -> Option<[usize; 3]> {
     for from in 0..256usize {
-        if is_place(from, step) {
+        if from.is_multiple_of(step) {
             for middle in from..256 {
-                if is_place(middle, step) {
+                if middle.is_multiple_of(step) {
                     if let Some(last) = wrong_last(cipher, from, middle, step) {
                         return Some([from, middle, last]);
                     }
@@ -26,12 +26,8 @@ pub fn legacy_stream<C: Listed>(cipher: &mut C, step: usize) -> Option<[usize; 3
     None
 }
 
-fn is_place(byte: usize, step: usize) -> bool {
-    step != 0 && byte % step == 0
-}
-
 fn is_end(byte: usize, step: usize) -> bool {
-    byte == 256 || is_place(byte, step)
+    byte == 256 || byte.is_multiple_of(step)
 }
 
 // The first end, from the middle on, to which the stream is wrong.

@@ -3,6 +3,7 @@
 use super::all_right;
 use super::direct::Directly;
 use super::toy::Toy;
+use crate::rows::Verdict;
 use crate::rows::lists::{CipherList, wrong_list};
 use chacha20::cipher::{KeyIvInit, StreamCipher, StreamCipherSeekCore};
 use chacha20::{CipherAnswer, CipherCall, StreamCipherCoreWrapper};
@@ -14,16 +15,20 @@ const LIMIT: u128 = 64 * 0x1_0000_0000;
 #[test]
 fn toy_calls(rt: HostRuntime) {
     assert!(rt; Toy::new(&7, &()).get_block_pos() == 5);
-    let mut cipher = StreamCipherCoreWrapper::<Toy>::new(&7, &());
+    all_right(&rt, &listed::<Toy>());
+}
+
+fn listed<K>() -> [(&'static str, Verdict); 2]
+where
+    K: KeyIvInit<Key = u8, Iv = ()> + StreamCipherSeekCore + Drop,
+{
+    let mut cipher = StreamCipherCoreWrapper::<K>::new(&7, &());
     let direct = wrong_list(&mut Directly(&mut cipher), &LISTS);
-    let mut cipher = StreamCipherCoreWrapper::<Toy>::new(&7, &());
-    all_right(
-        &rt,
-        &[
-            ("directly", direct),
-            ("as lists", wrong_list(&mut cipher, &LISTS)),
-        ],
-    );
+    let mut cipher = StreamCipherCoreWrapper::<K>::new(&7, &());
+    [
+        ("directly", direct),
+        ("as lists", wrong_list(&mut cipher, &LISTS)),
+    ]
 }
 
 // Under the toy core of seed 7 byte p of the keystream is (7 + 100 * (p / 64) + p % 64) mod 256: the first block begins

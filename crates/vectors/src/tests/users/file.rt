@@ -3,9 +3,9 @@
 use crate::rows::COUNTING;
 use crate::tests::streams::NONCE;
 use chacha20::backends::{Lanes4, Lanes8, Lanes16, Rows8, Soft};
-use chacha20::cipher::{KeyIvInit, StreamCipherError, StreamCipherSeek};
+use chacha20::cipher::{KeyIvInit, StreamCipherBackend, StreamCipherError, StreamCipherSeek};
 use chacha20::variants::Ietf;
-use chacha20::{ChaChaCore, Key, Nonce, R20, StreamCipherCoreWrapper};
+use chacha20::{ChaChaCore, R20, StreamCipherCoreWrapper};
 use examples::file::{encrypt_record, read_at};
 use examples::message::encrypt;
 
@@ -77,23 +77,20 @@ fn as_a_whole<S: StreamCipherSeek>(cipher: &mut S) -> [bool; 5] {
     ]
 }
 
-fn of_new<C>() -> [bool; 5]
-where
-    C: KeyIvInit<Key = Key, Iv = Nonce> + StreamCipherSeek + Drop,
-{
-    as_a_whole(&mut C::new(&COUNTING, &[0; 12]))
-}
-
 type Over<B> = StreamCipherCoreWrapper<ChaChaCore<R20, Ietf, B>>;
+
+fn over<B: StreamCipherBackend<R20, Ietf>>() -> [bool; 5] {
+    as_a_whole(&mut Over::<B>::new(&COUNTING, &[0; 12]))
+}
 
 #[test]
 fn records_over_each_backend(rt: HostRuntime) {
     let right = [
-        of_new::<Over<Soft>>(),
-        of_new::<Over<Lanes4>>(),
-        of_new::<Over<Lanes8>>(),
-        of_new::<Over<Rows8>>(),
-        of_new::<Over<Lanes16>>(),
+        over::<Soft>(),
+        over::<Lanes4>(),
+        over::<Lanes8>(),
+        over::<Rows8>(),
+        over::<Lanes16>(),
     ];
     assert!(rt; right == [[true; 5]; 5]);
 }
