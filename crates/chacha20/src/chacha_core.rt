@@ -16,7 +16,7 @@ use chacha_base::cipher::{
     StreamCipherBackend, StreamCipherSeekCore,
 };
 use chacha_base::rounds::{R20, Rounds};
-use chacha_base::state::{counter, set_counter};
+use chacha_base::state::{counter, set_counter, set_counter_in_row};
 use chacha_base::variants::{Ietf, Legacy, StreamCipherCounter, Variant};
 pub use generator_core::Generator;
 pub(crate) use generator_core::joined;
@@ -215,6 +215,6 @@ impl<R: Rounds, V: Variant, B: StreamCipherBackend<R, V>> StreamCipherSeekCore
     }
 
     fn set_block_pos(&mut self, pos: V::Counter) {
-        self.set_block_pos(pos);
+        set_counter_in_row::<V>(&mut self.state, pos);
     }
 }

@@ -182,6 +182,6 @@ impl<R: Rounds, B: StreamCipherBackend<R, Ietf>> StreamCipherSeekCore for XChaCh
     }
 
     fn set_block_pos(&mut self, pos: u32) {
-        self.core.set_block_pos(pos);
+        StreamCipherSeekCore::set_block_pos(&mut self.core, pos);
     }
 }

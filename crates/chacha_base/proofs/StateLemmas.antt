@@ -1,11 +1,14 @@
 -- States of sixteen words: the counter, the words that stay, and the blocks from a state on. The proofs of the
 -- kernel, of cores and of generators cite these; proofs of your own backend find them in `BackendLaws`. Read `State`
 -- first.
-use Rattle.std.proofs.Common.{◌≡◌, ℕ, ◌+◌, ◌*◌, ◌/◌, ◌%◌, ◌^◌, ◌<◌, ◌≤◌, List, ◌++◌, length, take, drop, slice_index, arith, refl, ap, ap₂, ◌∙◌, set, mod-eq_of_lt, take_at, drop_at, slice_get, Some}
+use Rattle.std.proofs.Common.{◌≡◌, ℕ, ◌+◌, ◌*◌, ◌/◌, ◌%◌, ◌^◌, ◌<◌, ◌≤◌, List, [], ◌∷◌, ◌++◌, length, take, drop, slice_index, arith, refl, ap, ap₂, ◌∙◌, set, mod-eq_of_lt, take_at, drop_at, slice_get, Some}
 use Rattle.std.proofs.Math.Nat.{mod-add-mod, mod-mod}
 use Rattle.std.proofs.lemmas.List.FromFn.{length-map-range_with_len, get_or-map-range_with_len, fill_by_all}
 use Rattle.std.proofs.lemmas.Option.{slice_get-get_or, get_or_from_slice_get}
 use borrow.Rule.Slice.PartMut.{put_mid}
+use lib.Lanes.{chunk, put_chunk, zip2}
+use Rattle.std.specs.Int.Bits.{bit_and, bit_or, and_zero_r, or_zero_l, or_zero_r}
+use Rattle.std.proofs.lemmas.Nat.{and_mask}
 use Rattle.chacha_base.specs.Layout.{row_counter, Layout, ietf, legacy, modulus, counter_words, row_at}
 use Rattle.chacha_base.specs.Bytes.{bytes, words}
 use Rattle.chacha_base.specs.Block.{constants, start}
@@ -36,6 +39,16 @@ counter_words-wrapped legacy c =
     let low : c % 2 ^ 64 % 2 ^ 32 ≡ c % 2 ^ 32 = omega arith in
     let high : c % 2 ^ 64 / 2 ^ 32 % 2 ^ 32 ≡ c / 2 ^ 32 % 2 ^ 32 = omega arith in rw (low, high) refl
 
+-- all bits of a word; what of a word a mask of all and of no bits keeps
+abbrev pub ones : ℕ
+ones = 4294967295
+
+or_ones : (w : ℕ) → w < 2 ^ 32 → bit_or (bit_and w ones) 0 ≡ w
+or_ones w fits = or_zero_r _ ∙ and_mask w 32 ∙ mod-eq_of_lt fits
+
+or_none : (w c : ℕ) → bit_or (bit_and w 0) c ≡ c
+or_none w c = ap (λ a. bit_or a c) (and_zero_r w) ∙ or_zero_l c
+
 module _ (layout : Layout) where
   pub state_counter-below : (s : List ℕ) → length s ≡ 16 → Words s → state_counter layout s < modulus layout
   state_counter-below s long fits =
@@ -63,6 +76,21 @@ module _ (layout : Layout) where
   state_at-written c s row long same =
       rw same (by_layout 16 (λ l t. put_mid 12 4 t (row_at l c (take 4 (drop 12 t))) ≡ state_at l c t) layout s long
       refl refl)
+
+  -- the same, written as one vector
+  pub state_at-in_row : (c : ℕ) (s kept row : List ℕ) → length s ≡ 16 → Words s
+      → kept ≡ row_at layout 0 (ones ∷ ones ∷ ones ∷ ones ∷ []) → row ≡ row_at layout c (0 ∷ 0 ∷ 0 ∷ 0 ∷ [])
+      → put_mid 12 4 s (put_chunk 0 (take 4 (drop 12 s))
+      (zip2 bit_or (zip2 bit_and (chunk 0 4 (take 4 (drop 12 s))) kept) row)) ≡ state_at layout c s
+  state_at-in_row c s kept row long fits same other =
+      let stays : (i : ℕ) → bit_or (bit_and (slice_index s i) ones) 0 ≡ slice_index s i =
+      λ i. or_ones (slice_index s i) (fits i) in
+      let low = or_none (slice_index s 12) (c % 2 ^ 32) in
+      let high = or_none (slice_index s 13) (c / 2 ^ 32 % 2 ^ 32) in
+      rw (same, other) (by_layout 16 (λ l t. let old = take 4 (drop 12 t) in
+      put_mid 12 4 t (put_chunk 0 old (zip2 bit_or (zip2 bit_and (chunk 0 4 old)
+      (row_at l 0 (ones ∷ ones ∷ ones ∷ ones ∷ []))) (row_at l c (0 ∷ 0 ∷ 0 ∷ 0 ∷ [])))) ≡ state_at l c t) layout s long
+      (rw (low, stays 13, stays 14, stays 15) refl) (rw (low, high, stays 14, stays 15) refl))
 
   -- the counter at the front of a state's last row is the state's
   pub row_counter-state : (s : List ℕ) → length s ≡ 16

@@ -5,6 +5,7 @@ ghost use Rattle.chacha_base.specs.Layout.{modulus};
 ghost use Rattle.chacha_base.specs.State.{state_counter, fixed_words, state_at, state_after};
 
 use crate::variants::{StreamCipherCounter, Variant};
+use std::simd::prelude::*;
 
 /// The counter of a state.
 #[inline(always)]
@@ -23,6 +24,23 @@ pub fn set_counter<V: Variant>(state: &mut [u32; 16], pos: V::Counter)
     ensures counter { state_counter V.layout state.new ≡ V.Counter.value pos }
 {
     V::set_block_pos(&mut state[12..], pos);
+}
+
+/// `set_counter`, which writes the last row as one vector: a backend that reads the row as a vector would wait for a
+/// word that was written alone.
+#[inline(always)]
+pub fn set_counter_in_row<V: Variant>(state: &mut [u32; 16], pos: V::Counter)
+    ensures state { state.new ≡ state_at V.layout (V.Counter.value pos) state.old }
+    ensures fixed { fixed_words V.layout state.new ≡ fixed_words V.layout state.old }
+    ensures counter { state_counter V.layout state.new ≡ V.Counter.value pos }
+{
+    let mut kept = [u32::MAX; 4];
+    V::set_block_pos(&mut kept, V::Counter::from_u64(0));
+    let mut set = [0; 4];
+    V::set_block_pos(&mut set, pos);
+    // Where a word is put into a vector, the compiler writes that word alone.
+    let row = (u32x4::from_slice(&state[12..]) & u32x4::from_array(kept)) | u32x4::from_array(set);
+    row.copy_to_slice(&mut state[12..]);
 }
 
 /// Advances the counter of a state by a number of blocks. It wraps at 2^32 or 2^64, as the variant says. The other
