@@ -50,6 +50,7 @@ impl ParBlocksSizeUser for Scalar {
 
     const PAR_BLOCKS: usize = 1;
 
+    // A width is at least 1 and at most 16.
     ghost par_blocks_at_least = { lit≤ tt };
 
     ghost par_blocks_at_most = { lit≤ tt };
