@@ -266,11 +266,14 @@ static void single_words(const struct library *library, uint8_t *data) {
     for (int i = 0; i < 64; i++) words ^= library->next_u32[2](data);
 }
 
+/* From the front of a block on, where 64 words are one refill; elsewhere they are two. */
 static void buffered_words(const struct library *library, uint8_t *data) {
     static struct chacha_rng_buffer buffer;
-    library->buffer_begin(&buffer, data);
+    static uint8_t state[CHACHA_RNG_STATE_BYTES];
+    (void)data;
+    library->buffer_begin(&buffer, state);
     for (int i = 0; i < 64; i++) words ^= library->buffered_u32[2](&buffer);
-    library->buffer_end(&buffer, data);
+    library->buffer_end(&buffer, state);
 }
 
 static void filled_words(const struct library *library, uint8_t *data) {
