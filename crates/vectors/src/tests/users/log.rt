@@ -5,29 +5,29 @@ use crate::rows::COUNTING;
 use crate::tests::streams::NONCE;
 use examples::log::LogWriter;
 
-// Two lines after 64 bytes, with a writer that goes on.
+// Whether a writer that goes on after so many bytes takes a line, and how many bytes the log then has.
+fn is_appended(len: u64, line: &mut [u8], end: u64) -> bool {
+    match LogWriter::resume(&COUNTING, &NONCE, len) {
+        Ok(mut writer) => writer.append(line).is_ok() && writer.len() == end,
+        Err(_) => false,
+    }
+}
+
+// The second line by a writer that goes on.
 #[test]
 fn message_in_lines(rt: HostRuntime) {
-    let mut first = [0; 36];
-    let mut second = [0; 78];
-    first.copy_from_slice(&PLAINTEXT[..36]);
-    second.copy_from_slice(&PLAINTEXT[36..]);
-    let mut writer = LogWriter::new(&COUNTING, &NONCE);
-    assert!(rt; writer.append(&mut [0; 64]).is_ok() && writer.append(&mut first).is_ok());
-    let Ok(mut writer) = LogWriter::resume(&COUNTING, &NONCE, writer.len()) else {
-        panic!(rt; "not resumed");
-    };
-    assert!(rt; writer.append(&mut second).is_ok() && writer.len() == 178);
-    assert!(rt; CIPHERTEXT.starts_with(&first) && CIPHERTEXT.ends_with(&second));
+    let mut message = [0; 178];
+    message[64..].copy_from_slice(&PLAINTEXT);
+    let (first, second) = message.split_at_mut(100);
+    assert!(rt; LogWriter::new(&COUNTING, &NONCE).append(first).is_ok());
+    assert!(rt; is_appended(100, second, 178));
+    assert!(rt; message.ends_with(&CIPHERTEXT));
 }
 
 #[test]
 fn end_of_a_log(rt: HostRuntime) {
-    assert!(rt; LogWriter::resume(&COUNTING, &NONCE, 274877906945).is_err());
-    let Ok(mut writer) = LogWriter::resume(&COUNTING, &NONCE, 274877906943) else {
-        panic!(rt; "not resumed");
-    };
     let mut line = [7; 2];
-    assert!(rt; writer.append(&mut line).is_err() && line == [7; 2]);
-    assert!(rt; writer.len() == 274877906943 && writer.append(&mut line[..1]).is_ok());
+    assert!(rt; !is_appended(274877906945, &mut [], 274877906945));
+    assert!(rt; !is_appended(274877906943, &mut line, 274877906945) && line == [7; 2]);
+    assert!(rt; is_appended(274877906943, &mut line[..1], 274877906944));
 }
