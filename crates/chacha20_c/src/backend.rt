@@ -6,8 +6,12 @@ use chacha20::backends::{Lanes4, Lanes16};
 use chacha20::cipher::{ParBlocksSizeUser, StreamCipherBackend};
 use chacha20::{Rounds, Steps, Variant};
 
-/// For vectors of 128 bits: three or four blocks by `Lanes4`, and one or two by `Lanes16`, which makes only those where
-/// `Lanes4` makes four. It counts nothing.
+// The backends of one or two blocks, and of three or four: `Lanes4` makes four where two are wanted.
+type Few = Lanes16;
+
+type More = Lanes4;
+
+/// For vectors of 128 bits: each number of blocks by the backend that makes the fewest. It counts nothing.
 pub(crate) struct Narrow;
 
 impl ParBlocksSizeUser for Narrow {
@@ -33,28 +37,20 @@ impl<R: Rounds, V: Variant> StreamCipherBackend<R, V> for Narrow {
 
     #[inline(always)]
     fn gen_ks_block(state: &mut [u32; 16], block: &mut [u8; 64], _: &mut Steps) {
-        <Lanes16 as StreamCipherBackend<R, V>>::gen_ks_block(state, block, &mut Steps::new());
+        <Few as StreamCipherBackend<R, V>>::gen_ks_block(state, block, &mut Steps::new());
     }
 
     #[inline(always)]
     fn gen_par_ks_blocks(state: &mut [u32; 16], blocks: &mut [[u8; 64]], _: &mut Steps) {
-        <Lanes4 as StreamCipherBackend<R, V>>::gen_par_ks_blocks(state, blocks, &mut Steps::new());
+        <More as StreamCipherBackend<R, V>>::gen_par_ks_blocks(state, blocks, &mut Steps::new());
     }
 
     #[inline(always)]
     fn gen_tail_blocks(state: &mut [u32; 16], blocks: &mut [[u8; 64]], _: &mut Steps) {
         if blocks.len() < 3 {
-            <Lanes16 as StreamCipherBackend<R, V>>::gen_tail_blocks(
-                state,
-                blocks,
-                &mut Steps::new(),
-            );
+            <Few as StreamCipherBackend<R, V>>::gen_tail_blocks(state, blocks, &mut Steps::new());
         } else {
-            <Lanes4 as StreamCipherBackend<R, V>>::gen_tail_blocks(
-                state,
-                blocks,
-                &mut Steps::new(),
-            );
+            <More as StreamCipherBackend<R, V>>::gen_tail_blocks(state, blocks, &mut Steps::new());
         }
     }
 }

@@ -46,8 +46,8 @@ impl LogWriter {
         }
     }
 
-    /// A writer that goes on at the end of a log of `len` bytes. `Err` exactly where these are more than 274877906944
-    /// (256 GiB), the keystream's.
+    /// A writer that goes on at the end of a log of `len` bytes. `Err` exactly where these are more than the
+    /// 274877906944 bytes (256 GiB) of the keystream.
     pub fn resume(key: &Key, nonce: &Nonce, len: u64) -> Result<Self, StreamCipherError>
         ensures accepted { IsOk result ↔ (len ≤ 274877906944) }
         ensures keystream { IfOk result (λ writer. ⟦<ChaCha20 as Keystream>⟧.block_at writer.fixed

@@ -1,9 +1,9 @@
 //! A backend of a user's own on plain words, without a backend of the library. It makes each block by the functions of
 //! `chacha_base`, so the crate's line in `crates.txt` names `chacha_base` too.
 //!
-//! A block is a state after the rounds, plus the state, as bytes. What the three traits require of the calls is in
-//! `cipher/backends.rt` of `chacha_base`: which blocks or words they make, the state after them, and how many quarter
-//! rounds they count.
+//! A block is the state after the rounds plus the state before them, as bytes. What the last two traits require of the
+//! calls is in `cipher/backends.rt` of `chacha_base`: which blocks or words they make, the state after them, and how
+//! many quarter rounds they count.
 
 ghost use Rattle.std.specs.Prelude.{◌≡◌, ◌+◌, ◌*◌};
 ghost use Rattle.chacha20.specs.Rounds.{mix};
@@ -16,8 +16,7 @@ use chacha20::cipher::{ParBlocksSizeUser, RngBackend, StreamCipherBackend};
 use chacha20::variants::{Legacy, Variant};
 use chacha20::{Rounds, Steps};
 
-/// One block at a time, on words. It counts the quarter rounds that it makes, but no calls: the traits ask for none
-/// (this crate).
+/// One block at a time, on words. It counts its quarter rounds, but not its calls: no trait requires that (this crate).
 pub struct Scalar;
 
 // The words of a state's block.
