@@ -7,4 +7,5 @@ returns-clause-accepted g c =
 
 pub returns-clause-bytes : goal.returns-clause-bytes
 returns-clause-bytes g c =
-    rw (c.new.ensures.keystream, c.new.ensures.first, g.met.C.StreamCipher.first_is) at c.try_apply_keystream.ensures.bytes
+    let made = c.new.ensures in
+    rw (made.keystream, made.first, g.met.C.StreamCipher.first_is) at c.try_apply_keystream.ensures.bytes
