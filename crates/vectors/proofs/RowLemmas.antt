@@ -1,9 +1,12 @@
 -- Tables of what fails in rows, and the rows that are entered in them. The proofs of the functions that enter rows
 -- cite these. Read `Rows` first.
-use Rattle.std.proofs.Common.{◌≡◌, ℕ, ◌<◌, Bool, true, false, ◌&&◌, ◌||◌, eqb, ltb, List, [], ◌∷◌, ◌++◌, map, Option, None, IsSome, All, slice_index_or, refl, subst}
+use Rattle.std.proofs.Common.{◌≡◌, ℕ, ◌<◌, ◌+◌, Bool, true, false, ◌&&◌, ◌||◌, eqb, ltb, List, [], ◌∷◌, ◌++◌, length, map, Option, None, IsNone, IsSome, is_some, All, slice_index_or, refl, ap, subst, sym, ◌∙◌}
+use Rattle.std.specs.List.{AllWithin}
+use Rattle.std.specs.Option.{option_flatten}
 use Rattle.std.proofs.lemmas.Bool.{false≢true}
 use Rattle.std.proofs.lemmas.Bool.Decides.{Decides-eqb, Decides-ltb}
-use Rattle.std.proofs.lemmas.List.Elements.{All-nil, All-cons, All-head, All-tail, All-append, All-map, All-weaker}
+use Rattle.std.proofs.lemmas.List.Elements.{All-nil, All-cons, All-head, All-tail, All-append, All-map, All-weaker, AllWithin-more}
+use Rattle.std.proofs.lemmas.List.{get_or_default}
 use Rattle.vectors.specs.Rows.{AreEntered, AreEnteredBy, Keeps}
 
 both : (x y : Bool) → (x && y) ≡ true → (x ≡ true) × (y ≡ true)
@@ -13,6 +16,17 @@ both false y h = absurd (false≢true h)
 either : (x y : Bool) (R : Type 0) → (x || y) ≡ true → (x ≡ true → R) → (y ≡ true → R) → R
 either true y R h left right = left refl
 either false y R h left right = right h
+
+not-true : (x : Bool) → (x ≡ true → ⊥) → x ≡ false
+not-true true h = absurd (h refl)
+not-true false h = refl
+
+-- what held of the entries before one still holds after a step, and it holds of that one too
+one-more : {X : Type 0} (P Q : X → Type 0) (xs : List X) (i : ℕ) (d : X) → i < length xs
+    → ((x : X) → P x → Q x) → AllWithin P xs 0 i → Q (slice_index_or xs i d) → AllWithin Q xs 0 (i + 1)
+one-more P Q xs i d inside still old new =
+    AllWithin-more Q xs 0 i (λ k e low high. still (slice_index_or xs k e) (old k e low high))
+    (λ e. subst Q (get_or_default xs i d e inside) new)
 
 -- whether a number is one of several
 abbrev pub is_among : List ℕ → ℕ → Bool
@@ -59,9 +73,47 @@ module _ {F : Type 0} where
       → AreEntered numbers table → AreEnteredBy (λ n. n) numbers table
   by-numbers numbers table h = record { each = λ k d lt below. h.each k d lt }
 
+  -- what is kept twice is kept
+  pub kept-twice : (a b c : List (Option (Option F))) → Keeps a b → Keeps b c → Keeps a c
+  kept-twice a b c first then = record {
+    rows = λ number is. then.rows number (first.rows number is);
+    failures = λ number is.
+        let same = first.failures number is in
+        then.failures number (subst (λ row. IsSome (option_flatten row)) (sym same) is) ∙ same;
+  }
+
+  -- nothing fails in a row in which nothing fails later
+  right-before : (a b : List (Option (Option F))) (n : ℕ) → Keeps a b
+      → IsNone (option_flatten (slice_index_or b n None)) → IsNone (option_flatten (slice_index_or a n None))
+  right-before a b n keeps none =
+      not-true (is_some (option_flatten (slice_index_or a n None)))
+      (λ some. false≢true (sym none ∙ ap (λ row. is_some (option_flatten row)) (keeps.failures n some) ∙ some))
+
   -- rows that were entered before, and rows that are entered now
   pub joined : (a b : List (Option (Option F))) (xs ys : List ℕ) → Keeps a b
       → AreEnteredBy (λ n. n) xs a → AreEnteredBy (λ n. n) ys b → AreEnteredBy (λ n. n) (xs ++ ys) b
   joined a b xs ys keeps old new =
       let still = All-weaker (IsEntered a) (IsEntered b) (λ n h below. keeps.rows n (h below)) xs old.each in
       record { each = All-append (IsEntered b) xs ys still new.each }
+
+module _ {X F : Type 0} (number : X → ℕ) (a b : List (Option (Option F))) (entries : List X) (i : ℕ) (d : X)
+    (inside : i < length entries) (keeps : Keeps a b) where
+  abbrev IsIn : List (Option (Option F)) → X → Type 0
+  IsIn table entry = number entry < 24 → IsSome (slice_index_or table (number entry) None)
+
+  -- after the entries before one, this one is entered too
+  pub entered-next : AllWithin (IsIn a) entries 0 i → IsIn b (slice_index_or entries i d)
+      → AllWithin (IsIn b) entries 0 (i + 1)
+  entered-next =
+      one-more (IsIn a) (IsIn b) entries i d inside (λ entry is below. keeps.rows (number entry) (is below))
+
+  abbrev IsRight : (X → Type 0) → List (Option (Option F)) → X → Type 0
+  IsRight P table entry =
+      number entry < 24 → IsNone (option_flatten (slice_index_or table (number entry) None)) → P entry
+
+  -- and it is right where nothing failed in its row
+  pub right-next : (P : X → Type 0) → AllWithin (IsRight P a) entries 0 i → IsRight P b (slice_index_or entries i d)
+      → AllWithin (IsRight P b) entries 0 (i + 1)
+  right-next P =
+      one-more (IsRight P a) (IsRight P b) entries i d inside
+      (λ entry is below none. is below (right-before a b (number entry) keeps none))

@@ -106,6 +106,8 @@ pub fn enter(verdicts: &mut Verdicts, number: usize, failed: Verdict)
     ensures table { verdicts.new ≡ with_entry verdicts.old (number, failed) }
     ensures kept { Keeps verdicts.old verdicts.new }
     ensures entered { number < 24 → IsSome (slice_index_or verdicts.new number None) }
+    ensures right { number < 24
+        → IsNone (option_flatten (slice_index_or verdicts.new number None)) → IsNone failed }
 {
     if number < verdicts.len() {
         verdicts[number] = Some(verdicts[number].flatten().or(failed));

@@ -1,6 +1,10 @@
 use Rattle.std.proofs.Common.{refl}
-use Rattle.vectors.proofs.RowLemmas.{joined, by-number, chosen}
+use Rattle.vectors.proofs.RowLemmas.{joined, kept-twice, by-number, chosen}
 use Rattle.vectors.proofs.rows.ciphers.enter_rows_of_legacy.Goals as goal
+
+-- answered for speed
+pub returns-clause-kept : goal.returns-clause-kept
+returns-clause-kept g c = kept-twice _ _ _ c.enter_all.ensures.kept c.enter_table.ensures.kept
 
 pub returns-clause-entered : goal.returns-clause-entered
 returns-clause-entered g c =
