@@ -8,7 +8,7 @@ use super::lists::{CipherList, Listed, wrong_list};
 use super::{
     COUNTING, FROM_1, LEGACY_NONCE, Verdict, Verdicts, enter, enter_all, failed, first_failure,
 };
-use chacha20::cipher::{KeyIvInit, SeekNum, StreamCipher, StreamCipherSeek, StreamCipherSeekCore};
+use chacha20::cipher::{KeyIvInit, SeekNum, StreamCipherSeek, StreamCipherSeekCore};
 use chacha20::{
     CipherAnswer, CipherCall, Key, LegacyNonce, Nonce, R20, StreamCipherCoreWrapper, XNonce,
     hchacha,
@@ -63,15 +63,16 @@ where
     ensures kept { Keeps verdicts.old verdicts.new }
     ensures entered { AreEntered (1 ∷ 4 ∷ 11 ∷ 12 ∷ 16 ∷ 18 ∷ 22 ∷ []) verdicts.new }
 {
+    let (ciphertext, first) = row_1::<C>();
     let rows = [
-        (1, row_1::<C>()),
+        (1, first),
         (11, row_11::<C>()),
         (12, row_12::<C>()),
         (18, row_18::<C>()),
     ];
     enter_all(verdicts, &rows);
     enter_table::<C>(verdicts, &COUNTING, &NONCE_4, &IETF_ROWS);
-    first_ciphertext::<C>()
+    ciphertext
 }
 
 fn enter_rows_of_legacy<C>(verdicts: &mut Verdicts)
@@ -269,15 +270,8 @@ pub static X_ROWS: [NumberedLists; 1] = [
     ),
 ];
 
-// The first row's ciphertext; its plaintext, if the cipher refuses it.
-fn first_ciphertext<C: KeyIvInit<Key = Key, Iv = Nonce> + StreamCipher + Drop>() -> [u8; 16] {
-    let mut data = PLAINTEXT;
-    let _ = C::new(&[0x42; 32], &[0x24; 12]).try_apply_keystream(&mut data);
-    data
-}
-
-// Encrypted, decrypted, and encrypted again in pieces of 3.
-fn row_1<C: KeyIvInit<Key = Key, Iv = Nonce> + StreamCipherSeek + Drop>() -> Verdict
+// Encrypted, decrypted, and encrypted again in pieces of 3. Returns the ciphertext too.
+fn row_1<C: KeyIvInit<Key = Key, Iv = Nonce> + StreamCipherSeek + Drop>() -> ([u8; 16], Verdict)
     requires { 2 ^ 32 ≤ limit_of C.modulus }
 {
     let mut cipher = C::new(&[0x42; 32], &[0x24; 12]);
@@ -289,10 +283,11 @@ fn row_1<C: KeyIvInit<Key = Key, Iv = Nonce> + StreamCipherSeek + Drop>() -> Ver
     let back = data;
     cipher.seek(0u32);
     apply_in_pieces(&mut cipher, &mut data, 3);
-    failed(
+    let verdict = failed(
         "there, back, and in pieces",
         &[there == CIPHERTEXT, back == PLAINTEXT, data == CIPHERTEXT],
-    )
+    );
+    (there, verdict)
 }
 
 // HChaCha (draft-irtf-cfrg-xchacha, section 2.2.1).
