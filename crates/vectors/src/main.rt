@@ -23,12 +23,9 @@ struct Lines<'a> {
 
 impl Display for Lines<'_> {
     fn fmt<W: fmt::Write>(&self, f: &mut Formatter<W>) -> fmt::Result {
-        for byte in self.ciphertext {
-            write!(f, "{byte:02x}")?;
-        }
-        writeln!(f)?;
-        for (number, verdict) in self.verdicts.iter().enumerate() {
-            if let Some(failed) = *verdict {
+        writeln!(f, "{:032x}", u128::from_be_bytes(*self.ciphertext))?;
+        for number in 0..24usize {
+            if let Some(failed) = self.verdicts[number] {
                 let word = if failed.is_none() { "ok" } else { "bad" };
                 writeln!(f, "row {number} {word}")?;
             }
