@@ -29,3 +29,7 @@ invariant_of-self g c =
     made.ensures.counter
     (made.ensures.block
     ∙ ap (λ f. g.C.Keystream.block_at f (g.C.StreamCipherCore.counter c.self.inside.core)) (sym made.ensures.fixed))
+
+-- answered for speed
+pub returns-then-not-is_empty-clause-fixed : goal.returns-then-not-is_empty-clause-fixed
+returns-then-not-is_empty-clause-fixed g c = c.write_block_counted.ensures.fixed ∙ ap (λ v. v.fixed) c.self.view_is

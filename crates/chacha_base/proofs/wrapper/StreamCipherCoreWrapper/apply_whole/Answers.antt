@@ -21,3 +21,7 @@ invariant_of-self g c =
     c.requires.front c.requires.fits in
     at-whole c.self.invariant (ap (λ v. v.position) c.self.view_is) begins c.requires.whole
     c.apply_blocks_counted.auto.data c.apply_blocks_counted.ensures.counter
+
+-- answered for speed
+pub returns-then-not-is_empty-clause-fixed : goal.returns-then-not-is_empty-clause-fixed
+returns-then-not-is_empty-clause-fixed g c = c.apply_blocks_counted.ensures.fixed ∙ ap (λ v. v.fixed) c.self.view_is
