@@ -14,6 +14,9 @@
 //! authenticated: where a bit of a record is changed, that bit of its text changes, and no read notices it.
 
 ghost use Rattle.std.specs.Prelude.{◌≡◌, ◌≢◌, ◌↔◌, ◌<◌, ◌≤◌, ◌+◌, ◌-◌, ◌^◌, ℕ, length, IsOk, OnOk, OnErr};
+ghost use Rattle.chacha20.specs.Block.{block};
+ghost use Rattle.chacha20.specs.Keystream.{keystream, xor_stream};
+ghost use Rattle.chacha20.specs.Layout.{ietf};
 ghost use Rattle.examples.specs.Records.{nonce_of, record_at, text_of};
 
 use chacha20::cipher::{KeyIvInit, StreamCipher, StreamCipherError};
@@ -70,7 +73,7 @@ pub fn write(
     }
     let version = records[place].version + 1;
     let mut bytes = *text;
-    ChaCha20::new(key, &nonce(number, version)).apply_keystream(&mut bytes);
+    apply(key, &nonce(number, version), &mut bytes);
     records[place] = Record { version, bytes };
     Ok(())
 }
@@ -92,15 +95,16 @@ pub fn read(
     if place >= records.len() || records[place].version == 0 {
         return Err(StreamCipherError);
     }
-    decrypt(key, number, &records[place], text);
+    let stored = &records[place];
+    *text = stored.bytes;
+    apply(key, &nonce(number, stored.version), text);
     Ok(())
 }
 
-// The text of a record of this number.
-fn decrypt(key: &Key, number: u32, stored: &Record, text: &mut [u8; LEN])
-    ensures { text.new ≡ text_of key.now number stored.now }
+// XORs the bytes of a record with the keystream of a nonce.
+fn apply(key: &Key, nonce: &Nonce, bytes: &mut [u8; LEN])
+    ensures { bytes.new
+        ≡ xor_stream (keystream (2 ^ 32) (block 10 ietf key.now nonce.now)) 0 bytes.old }
 {
-    let mut bytes = stored.bytes;
-    ChaCha20::new(key, &nonce(number, stored.version)).apply_keystream(&mut bytes);
-    *text = bytes;
+    ChaCha20::new(key, nonce).apply_keystream(bytes);
 }

@@ -26,10 +26,9 @@ returns-clause-text c =
     let text = c.args.text.now in
     let version = (record_at c.args.records.now c.args.number).version + 1 in
     let stream = keystream (2 ^ 32) (block 10 ietf key (nonce_of c.args.number version)) in
-    let made : c.apply_keystream.new.buf ≡ xor_stream (keystream (2 ^ 32) (block 10 ietf key c.nonce.result)) 0 text =
-    rw (← c.new.ensures.keystream, ← c.new.ensures.first) c.apply_keystream.ensures.bytes in
-    let bytes : c.apply_keystream.new.buf ≡ xor_stream stream 0 text =
-    made ∙ ap (λ nonce. xor_stream (keystream (2 ^ 32) (block 10 ietf key nonce)) 0 text) c.nonce.ensures.value in
+    let bytes : c.apply.new.bytes ≡ xor_stream stream 0 text =
+    c.apply.ensures
+    ∙ ap (λ nonce. xor_stream (keystream (2 ^ 32) (block 10 ietf key nonce)) 0 text) c.nonce.ensures.value in
     ap (text_of key c.args.number) (get_or-set_same c.args.records.now c.args.number _ _ (omega arith))
     ∙ ap (xor_stream stream 0) bytes ∙ xor_stream-xor_stream stream 0 text
 
