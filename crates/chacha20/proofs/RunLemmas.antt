@@ -13,6 +13,7 @@ use Rattle.chacha_base.specs.Keystream.{xor_stream}
 use Rattle.chacha_base.specs.SeekNum.{signed_position}
 use Rattle.chacha_base.proofs.KeystreamLemmas.{xor_stream-append, length-xor_stream}
 use Rattle.chacha20.proofs.KeystreamLemmas.{xor_stream-xor_stream}
+use Rattle.chacha20.proofs.ResultLemmas.{on_ok_given}
 use Rattle.chacha20.specs.declared.runs.CipherCall.{CipherCall}
 use Rattle.chacha20.specs.declared.runs.CipherCall.TheVariants.{Apply, Seek, SeekI32}
 use Rattle.chacha20.specs.declared.runs.CipherAnswer.{CipherAnswer}
@@ -45,7 +46,7 @@ pub record Leaves {E : Type 0} (r : Result (Unit {0}) E) (c : Cipher) (old : Lis
   pub refused : OnErr r (left ≡ record { answer = Refused; cipher = c; bytes = old })
 
 -- that is the outcome of a call that is accepted where the test says yes
-pub outcome-is : {E P : Type 0} {r : Result (Unit {0}) E} {c : Cipher} {bytes : List ℕ} {p : ℕ} {after : List ℕ}
+outcome-is : {E P : Type 0} {r : Result (Unit {0}) E} {c : Cipher} {bytes : List ℕ} {p : ℕ} {after : List ℕ}
     {left : CipherOutcome} (test : Bool) → Decides test P → IsOk r ↔ P → Leaves r c bytes p after left
     → done_if test c bytes p after ≡ left
 outcome-is {r = Ok x} true tells accepted is = sym is.done
@@ -100,7 +101,7 @@ seek-leaves {r = Ok x} {old = old} Accepted said told = record {
 seek-leaves {r = Err e} {old = old} Accepted said told =
     record { done = tt; refused = λ i. answered (told.refused i) (said.refused i) old }
 
-pub put-leaves : {E : Type 0} {r : Result (Unit {0}) E} {c d : Cipher} {old : List ℕ} {a : CipherAnswer} {p : ℕ}
+put-leaves : {E : Type 0} {r : Result (Unit {0}) E} {c d : Cipher} {old : List ℕ} {a : CipherAnswer} {p : ℕ}
     (at len : ℕ) (new made : List ℕ) (Accepted : Type 0)
     → Writes r Accepted (d.position ≡ p) c d (part at len old) new made → Answers r a
     → Leaves r c old p (put at len made old) (record { answer = a; cipher = d; bytes = put at len new old })
@@ -128,10 +129,53 @@ seek_i32-is s c old (pos p) r said told = le-outcome-is p s.limit said.accepted 
 seek_i32-is s c old (negsuc p) (Ok x) said told = absurd (said.accepted.0 refl)
 seek_i32-is s c old (negsuc p) (Err e) said told = λ i. answered (sym told.refused i) (sym said.refused i) old
 
-pub both-Decides : (a b p limit : ℕ) → Decides ((a == b) && nat_le (p + b) limit) ((a ≡ b) × (p + a ≤ limit))
+both-Decides : (a b p limit : ℕ) → Decides ((a == b) && nat_le (p + b) limit) ((a ≡ b) × (p + a ≤ limit))
 both-Decides a b p limit =
     Decides-like _ (λ both. (both.0, omega (arith, both.0, both.1))) (λ both. (both.0, omega (arith, both.0, both.1)))
     (Decides-and _ _ (Decides-eqb a b) (leb-true (p + b) limit, le-leb (p + b) limit))
+
+-- the outcome of a write of data[at..at + len], which has at + len - at bytes: `made` makes them of the old ones and
+-- their number
+pub wrote-is : {E : Type 0} {d : Cipher} {a : CipherAnswer} (r : Result (Unit {0}) E) (c : Cipher) (old new : List ℕ)
+    (at len limit : ℕ) (made : List ℕ → ℕ → List ℕ) → at + len ≤ length old
+    → (let bytes = part at (at + len - at) old in
+    Writes r (c.position + length bytes ≤ limit) (d.position ≡ c.position + length bytes) c d bytes new
+    (made bytes (length bytes)))
+    → Answers r a
+    → done_if (nat_le (c.position + len) limit) c old (c.position + len) (put at len (made (part at len old) len) old)
+    ≡ record { answer = a; cipher = d; bytes = put at (at + len - at) new old }
+wrote-is r c old new at len limit made inside given told =
+    let width : at + len - at ≡ len = omega arith in
+    let said = rw (width, part_long at len old inside) at given in
+    rw width (le-outcome-is _ _ said.accepted (put-leaves at len _ _ _ said told))
+
+-- the same of a write that also reads input[from..from + from_len]
+pub wrote_from-is : {E : Type 0} {d : Cipher} {a : CipherAnswer} (r : Result (Unit {0}) E) (c : Cipher)
+    (old new input : List ℕ) (from from_len at len limit : ℕ) (stream : ℕ → ℕ)
+    → (from + from_len ≤ length input) × (at + len ≤ length old)
+    → (let bytes = part at (at + len - at) old in
+    let read = part from (from + from_len - from) input in
+    Writes r ((length read ≡ length bytes) × (c.position + length read ≤ limit))
+    (d.position ≡ c.position + length read) c d bytes new (xor_stream stream c.position read))
+    → Answers r a
+    → done_if ((from_len == len) && nat_le (c.position + len) limit) c old (c.position + len)
+    (put at len (xor_stream stream c.position (part from from_len input)) old)
+    ≡ record { answer = a; cipher = d; bytes = put at (at + len - at) new old }
+wrote_from-is r c old new input from from_len at len limit stream inside given told =
+    let width : at + len - at ≡ len = omega arith in
+    let from_width : from + from_len - from ≡ from_len = omega arith in
+    let size = part_long at len old inside.1 in
+    let from_size = part_long from from_len input inside.0 in
+    let said = rw (width, from_width, size, from_size) at given in
+    let there = λ (ok : IsOk r). ap (λ n. c.position + n) (said.accepted.0 ok).0 in
+    rw width (outcome-is _ (both-Decides from_len len _ _) said.accepted
+    (put-leaves at len _ _ _ (record {
+      accepted = said.accepted;
+      bytes = said.bytes;
+      fixed = said.fixed;
+      position = on_ok_given _ (λ ok place. place ∙ there ok) said.position;
+      refused = said.refused;
+    }) told))
 
 -- a position that is told
 pub pos-is : {c : Cipher} {old : List ℕ} (p : ℕ) → Some p ≡ Some c.position

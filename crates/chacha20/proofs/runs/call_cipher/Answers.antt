@@ -1,8 +1,7 @@
-use Rattle.std.proofs.Common.{◌≡◌, ◌≤◌, ◌+◌, ◌-◌, ◌^◌, false, true, inl, inr, refl, ap, ◌∙◌, arith, rules, to_z-of_z, IsOk, SFits, w32}
-use Rattle.chacha_base.proofs.ListLemmas.{part_long}
+use Rattle.std.proofs.Common.{◌≡◌, ◌≤◌, ◌^◌, false, true, inl, inr, refl, arith, rules, to_z-of_z, SFits, w32}
+use Rattle.chacha_base.specs.Keystream.{xor_stream, stream_part}
 use Rattle.chacha20.specs.Runs.{setting}
-use Rattle.chacha20.proofs.ResultLemmas.{on_ok_given}
-use Rattle.chacha20.proofs.RunLemmas.{outcome-is, le-outcome-is, check-leaves, seek-leaves, seek_i32-is, put-leaves, both-Decides, pos-is, pos_i32-is}
+use Rattle.chacha20.proofs.RunLemmas.{le-outcome-is, check-leaves, seek-leaves, seek_i32-is, wrote-is, wrote_from-is, pos-is, pos_i32-is}
 use Rattle.chacha20.proofs.runs.call_cipher.Goals as goal
 
 pub returns-in-CheckRemaining : goal.returns-in-CheckRemaining
@@ -10,45 +9,31 @@ returns-in-CheckRemaining g c =
     rw c.in-CheckRemaining.is
     (le-outcome-is _ _ c.check_remaining.ensures.accepted (check-leaves c.answer.ensures))
 
--- a call on data[at..at + len] has at + len - at bytes
 pub returns-in-Apply : goal.returns-in-Apply
 returns-in-Apply g c =
     let range = c.in-Apply in
-    let width : range.at + range.len - range.at ≡ range.len = omega arith in
-    let size = part_long range.at range.len c.args.data.now (rw range.is at c.requires) in
-    let said = rw (width, size) at c.try_apply_keystream.ensures in
-    rw (range.is, width)
-    (le-outcome-is _ _ said.accepted (put-leaves range.at range.len _ _ _ said c.answer-in-Apply.ensures))
+    let s = setting g.C.Keystream.modulus g.C.Keystream.block_at c.args.input.now in
+    let old = c.args.cipher.now in
+    rw range.is (wrote-is _ old _ _ range.at range.len s.limit
+    (λ bytes n. xor_stream (s.stream old.fixed) old.position bytes) (rw range.is at c.requires)
+    c.try_apply_keystream.ensures c.answer-in-Apply.ensures)
 
 pub returns-in-Write : goal.returns-in-Write
 returns-in-Write g c =
     let range = c.in-Write in
-    let width : range.at + range.len - range.at ≡ range.len = omega arith in
-    let size = part_long range.at range.len c.args.data.now (rw range.is at c.requires) in
-    let said = rw (width, size) at c.try_write_keystream.ensures in
-    rw (range.is, width)
-    (le-outcome-is _ _ said.accepted (put-leaves range.at range.len _ _ _ said c.answer-in-Write.ensures))
+    let s = setting g.C.Keystream.modulus g.C.Keystream.block_at c.args.input.now in
+    let old = c.args.cipher.now in
+    rw range.is (wrote-is _ old _ _ range.at range.len s.limit
+    (λ bytes n. stream_part (s.stream old.fixed) old.position n) (rw range.is at c.requires)
+    c.try_write_keystream.ensures c.answer-in-Write.ensures)
 
 pub returns-in-ApplyFrom : goal.returns-in-ApplyFrom
 returns-in-ApplyFrom g c =
     let range = c.in-ApplyFrom in
-    let inside = rw range.is at c.requires in
-    let width : range.at + range.len - range.at ≡ range.len = omega arith in
-    let from_width : range.from + range.from_len - range.from ≡ range.from_len = omega arith in
-    let size = part_long range.at range.len c.args.data.now inside.1 in
-    let from_size = part_long range.from range.from_len c.args.input.now inside.0 in
-    let said = rw (width, from_width, size, from_size) at c.try_apply_keystream_b2b.ensures in
-    let there = λ (ok : IsOk c.try_apply_keystream_b2b.result).
-    ap (λ n. c.args.cipher.now.position + n) (said.accepted.0 ok).0 in
-    rw (range.is, width)
-    (outcome-is _ (both-Decides range.from_len range.len _ _) said.accepted
-    (put-leaves range.at range.len _ _ _ (record {
-      accepted = said.accepted;
-      bytes = said.bytes;
-      fixed = said.fixed;
-      position = on_ok_given _ (λ ok place. place ∙ there ok) said.position;
-      refused = said.refused;
-    }) c.answer-in-ApplyFrom.ensures))
+    let s = setting g.C.Keystream.modulus g.C.Keystream.block_at c.args.input.now in
+    let old = c.args.cipher.now in
+    rw range.is (wrote_from-is _ old _ _ s.input range.from range.from_len range.at range.len s.limit
+    (s.stream old.fixed) (rw range.is at c.requires) c.try_apply_keystream_b2b.ensures c.answer-in-ApplyFrom.ensures)
 
 pub returns-in-Seek : goal.returns-in-Seek
 returns-in-Seek g c =
