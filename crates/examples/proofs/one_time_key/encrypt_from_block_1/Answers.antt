@@ -1,5 +1,5 @@
-use Rattle.std.proofs.lemmas.Result.{on_err_weaker}
 use Rattle.examples.proofs.one_time_key.encrypt_from_block_1.Goals as goal
+use Rattle.std.proofs.lemmas.Result.{on_err_weaker}
 
 -- answered for speed
 pub returns-clause-accepted : goal.returns-clause-accepted
