@@ -3,12 +3,10 @@
 
 mod base;
 mod contracts;
-mod draws;
 mod file;
 mod frames;
 mod generator_cores;
 mod generator_states;
-mod generic;
 mod log;
 mod message;
 mod names;
