@@ -2,57 +2,28 @@
 
 use crate::rows::{COUNTING, FROM_1, LEGACY_NONCE};
 use crate::tests::streams::{NONCE, X_KEY, X_NONCE};
-use chacha20::backends::Soft;
-use chacha20::cipher::{KeyIvInit, StreamCipherSeekCore};
-use chacha20::variants::{Ietf, Legacy};
-use chacha20::{ChaChaCore, R20, StreamCipherCoreWrapper, XChaChaCore};
-use examples::message::{encrypt, encrypt_6, encrypt_by, encrypt_legacy, encrypt_xchacha};
+use examples::message::{encrypt, encrypt_6, encrypt_legacy, encrypt_xchacha};
 
-// Whether a cipher over another backend gives these bytes back. Other tests compare all bytes of three such keystreams
-// with the published ones.
-fn gives_back<K>(key: &K::Key, nonce: &K::Iv, message: &mut [u8], before: &[u8]) -> bool
-where
-    K: KeyIvInit + StreamCipherSeekCore + Drop,
-{
-    let accepted = encrypt_by::<StreamCipherCoreWrapper<K>>(key, nonce, message).is_ok();
-    accepted && *message == *before
-}
-
-fn ietf() -> bool {
-    let mut before = [0; 178];
-    before[64..].copy_from_slice(&PLAINTEXT);
-    let mut message = before;
+#[test]
+fn ietf(rt: HostRuntime) {
+    let mut message = [0; 178];
+    message[64..].copy_from_slice(&PLAINTEXT);
     let accepted = encrypt(&COUNTING, &NONCE, &mut message).is_ok();
-    accepted
-        && message.ends_with(&CIPHERTEXT)
-        && gives_back::<ChaChaCore<R20, Ietf, Soft>>(&COUNTING, &NONCE, &mut message, &before)
-}
-
-fn legacy() -> bool {
-    let mut message = [0; 256];
-    let accepted = encrypt_legacy(&FROM_1, &LEGACY_NONCE, &mut message).is_ok();
-    accepted
-        && message.starts_with(LEGACY)
-        && gives_back::<ChaChaCore<R20, Legacy, Soft>>(
-            &FROM_1,
-            &LEGACY_NONCE,
-            &mut message,
-            &[0; 256],
-        )
-}
-
-fn xchacha() -> bool {
-    let mut message = [0; 368];
-    let accepted = encrypt_xchacha(&X_KEY, &X_NONCE, &mut message).is_ok();
-    accepted
-        && message[64..].starts_with(XCHACHA_FROM_64)
-        && gives_back::<XChaChaCore<R20, Soft>>(&X_KEY, &X_NONCE, &mut message, &[0; 368])
+    assert!(rt; accepted && message.ends_with(&CIPHERTEXT));
 }
 
 #[test]
-fn encrypted(rt: HostRuntime) {
-    let right = [ietf(), legacy(), xchacha()];
-    assert!(rt; right == [true; 3]);
+fn legacy(rt: HostRuntime) {
+    let mut message = [0; 16];
+    let accepted = encrypt_legacy(&FROM_1, &LEGACY_NONCE, &mut message).is_ok();
+    assert!(rt; accepted && message == *LEGACY);
+}
+
+#[test]
+fn xchacha(rt: HostRuntime) {
+    let mut message = [0; 80];
+    let accepted = encrypt_xchacha(&X_KEY, &X_NONCE, &mut message).is_ok();
+    assert!(rt; accepted && message.ends_with(XCHACHA_FROM_64));
 }
 
 #[test]
