@@ -1,7 +1,6 @@
-//! Every public name by the crate's root and by its module, and which types the aliases name. Some names are only
+//! Every public name by the crate's root and by its module, and which types the aliases name. Most names are only
 //! imported: that they are found is the test.
 
-use chacha20::rand_core::SeedableRng;
 use chacha20::{
     BlockSizeUser, ChaCha8, ChaCha8Rng, ChaCha12, ChaCha12Rng, ChaCha20, ChaCha20Legacy,
     ChaCha20LegacyCore, ChaCha20Rng, ChaChaCore, ChaChaRng, CipherAnswer, CipherCall, Generator,
@@ -14,20 +13,18 @@ use chacha20::{
     runs, variants,
 };
 
-// Names of traits, in bounds.
-trait Core<T: StreamCipherCounter + SeekNum>: Keystream
-    + StreamCipherCore
-    + StreamCipherSeekCore<Counter = T>
-    + Generator<Output = [u32; 64]> {}
-
-impl<T, C> Core<T> for C
-where
-    T: StreamCipherCounter + SeekNum,
-    C: Keystream
-        + StreamCipherCore
-        + StreamCipherSeekCore<Counter = T>
-        + Generator<Output = [u32; 64]>,
-{}
+// The same names by their modules.
+mod by_module {
+    use chacha20::backends::{Lanes4, Lanes8, Lanes16, Rows8, Soft};
+    use chacha20::cipher::{
+        BlockSizeUser, IvSizeUser, KeyIvInit, KeySizeUser, Keystream, OverflowError,
+        ParBlocksSizeUser, RngBackend, SeekNum, StreamCipher, StreamCipherBackend,
+        StreamCipherCore, StreamCipherCoreWrapper, StreamCipherCounter, StreamCipherError,
+        StreamCipherSeek, StreamCipherSeekCore,
+    };
+    use chacha20::runs::{CipherAnswer, CipherCall, RngAnswer, RngCall, run_cipher, run_rng};
+    use chacha20::variants::{Ietf, Legacy, StreamCipherCounter as Counter, Variant};
+}
 
 // Sizes of blocks, keys and nonces, and blocks in a parallel call.
 fn sizes<C>() -> [usize; 4]
@@ -58,21 +55,6 @@ static SIZES: [[usize; 4]; 6] = [
     [64, 32, 24, 8],
     [64, 32, 24, 16],
 ];
-
-// The first word and the position of a core after four blocks, and its position after one more.
-fn after_blocks<T: StreamCipherCounter + SeekNum, C: Core<T>>(core: &mut C) -> (u32, [u64; 2]) {
-    let mut words = [0; 64];
-    core.generate(&mut words);
-    let after_four = core.get_block_pos().to_u64();
-    core.write_keystream_block(&mut [0; 64]);
-    (words[0], [after_four, core.get_block_pos().to_u64()])
-}
-
-#[test]
-fn cores(rt: HostRuntime) {
-    let mut core = ChaCha20LegacyCore::from_seed([0; 32]);
-    assert!(rt; after_blocks(&mut core) == (0xade0_b876, [4, 5]));
-}
 
 // The sizes of a cipher's key and nonce. No cipher is handed over: the argument names its type.
 fn sizes_of_type<K>(_cipher: Option<&StreamCipherCoreWrapper<K>>) -> (usize, usize)
@@ -135,19 +117,13 @@ fn ciphers(rt: HostRuntime) {
         of_type(&KEY, &NONCE, None::<&ChaCha20>),
         of_type(&KEY, &LEGACY_NONCE, None::<&ChaCha20Legacy>),
     ];
-    assert!(rt; found == FIRST_BYTES);
+    assert!(rt; found == FIRST_BYTES && sizes_of_type(None::<&XChaCha20>) == (32, 24));
 }
 
 // The subkey of zeros is that of the tests of golang.org/x/crypto, of which the first bytes are given.
 #[test]
-fn x_ciphers(rt: HostRuntime) {
-    let sizes = [
-        sizes_of_type(None::<&XChaCha8>),
-        sizes_of_type(None::<&XChaCha12>),
-        sizes_of_type(None::<&XChaCha20>),
-    ];
-    let subkey = hchacha::<R20>(&KEY, &[0; 16]);
-    assert!(rt; sizes == [(32, 24); 3] && subkey.starts_with(b"\x11\x40\x70\x4c\x32\x8d\x1d\x5d"));
+fn subkey(rt: HostRuntime) {
+    assert!(rt; hchacha::<R20>(&KEY, &[0; 16]).starts_with(b"\x11\x40\x70\x4c\x32\x8d\x1d\x5d"));
 }
 
 type Cipher<K> = StreamCipherCoreWrapper<K>;
@@ -189,35 +165,6 @@ fn generators_in_full(
     named
 }
 
-// By the modules: a list of calls, and the position after it.
-fn sought<K: cipher::StreamCipherSeekCore>(
-    cipher: &mut cipher::StreamCipherCoreWrapper<K>,
-) -> bool {
-    let calls = [runs::CipherCall::Seek(9)];
-    let mut answers = [runs::CipherAnswer::Refused];
-    runs::run_cipher(cipher, &[], &mut [], &calls, &mut answers);
-    answers == [runs::CipherAnswer::Done] && position(cipher) == Ok(9)
-}
-
-fn position<C: cipher::StreamCipherSeek>(cipher: &C) -> Result<i32, cipher::OverflowError> {
-    cipher.try_current_pos()
-}
-
-#[test]
-fn modules(rt: HostRuntime) {
-    let mut cipher = cipher::StreamCipherCoreWrapper::<
-        ChaChaCore<R20, variants::Ietf, backends::Soft>,
-    >::new(&KEY, &NONCE);
-    assert!(rt; sought(&mut cipher));
-}
-
-#[test]
-fn generators(rt: HostRuntime) {
-    let seed: Seed = [0; 32];
-    let state: SerializedRngState = [0; 49];
-    let stored = ChaCha20Rng::from_seed(seed).serialize_state();
-    let mut rng = ChaChaRng::<R20, Lanes16>::deserialize_state(&state);
-    let mut answers = [runs::RngAnswer::Done];
-    runs::run_rng(&mut rng, &mut [], &[runs::RngCall::NextU32], &mut answers);
-    assert!(rt; stored == state && answers == [runs::RngAnswer::U32(0xade0_b876)]);
+fn bytes_in_full(named: (XNonce, Seed, SerializedRngState)) -> ([u8; 24], [u8; 32], [u8; 49]) {
+    named
 }
