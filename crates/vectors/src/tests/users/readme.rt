@@ -3,10 +3,10 @@
 ghost use Rattle.std.specs.Prelude.{◌≡◌, ◌≤◌, length};
 
 use chacha20::backends::Lanes4;
-use chacha20::cipher::{KeyIvInit, StreamCipher, StreamCipherError, StreamCipherSeek};
+use chacha20::cipher::{KeyIvInit, StreamCipher, StreamCipherError};
 use chacha20::variants::Ietf;
-use chacha20::{ChaCha20, ChaCha20Rng, ChaChaCore, Key, Nonce, R20, StreamCipherCoreWrapper};
-use examples::message::encrypt;
+use chacha20::{ChaCha20, ChaChaCore, Key, Nonce, R20, StreamCipherCoreWrapper};
+use examples::message::{encrypt, encrypt_by};
 
 // A message, encrypted by a new cipher.
 fn encrypted(key: &Key, nonce: &Nonce) -> Result<[u8; 14], StreamCipherError> {
@@ -45,52 +45,28 @@ fn apply_next(cipher: &mut ChaCha20, message: &mut [u8]) {
     }
 }
 
+// There and back.
 #[test]
 fn with_contracts(rt: HostRuntime) {
     let mut message = *b"attack at dawn";
-    let accepted = encrypt(&[0x42; 32], &[0x24; 12], &mut message).is_ok();
+    encrypt_short(&KEY, &NONCE, &mut message);
     let encrypted = message;
-    encrypt_short(&[0x42; 32], &[0x24; 12], &mut message);
-    let decrypted = message;
-    apply_next(&mut ChaCha20::new(&[0x42; 32], &[0x24; 12]), &mut message);
-    assert!(rt; accepted && encrypted == ENCRYPTED);
-    assert!(rt; decrypted == *b"attack at dawn" && message == ENCRYPTED);
+    apply_next(&mut ChaCha20::new(&KEY, &NONCE), &mut message);
+    assert!(rt; encrypted == ENCRYPTED && message == *b"attack at dawn");
 }
 
 #[test]
 fn first_lines(rt: HostRuntime) {
     let mut message = *b"attack at dawn";
-    let mut cipher = ChaCha20Lanes4::new(&[0x42; 32], &[0x24; 12]);
-    let accepted = cipher.try_apply_keystream(&mut message).is_ok();
-    assert!(rt; encrypted(&[0x42; 32], &[0x24; 12]) == Ok(ENCRYPTED));
+    let accepted = encrypt_by::<ChaCha20Lanes4>(&KEY, &NONCE, &mut message).is_ok();
     let same = encrypt_and_decrypt(&[1; 32], &[2; 12], &mut message).is_ok();
     assert!(rt; accepted && same && message == ENCRYPTED);
+    assert!(rt; encrypted(&KEY, &NONCE) == Ok(ENCRYPTED));
 }
+
+static KEY: Key = [0x42; 32];
+
+static NONCE: Nonce = [0x24; 12];
 
 // What `openssl enc -chacha20` makes of the message.
 static ENCRYPTED: [u8; 14] = [133, 112, 20, 12, 40, 124, 16, 213, 27, 39, 138, 66, 72, 77];
-
-// A part of a message from byte 500 on.
-fn apply_from_500(message: &mut [u8; 1000]) -> Result<(), StreamCipherError> {
-    let mut cipher = ChaCha20::new(&[1; 32], &[2; 12]);
-    cipher.try_seek(500u32)?;
-    cipher.try_apply_keystream(&mut message[500..])?;
-    Ok(())
-}
-
-#[test]
-fn into_the_middle(rt: HostRuntime) {
-    let mut whole = [7; 1000];
-    let mut message = whole;
-    assert!(rt; encrypt(&[1; 32], &[2; 12], &mut whole).is_ok());
-    assert!(rt; apply_from_500(&mut message).is_ok() && whole[500..] == message[500..]);
-}
-
-#[test]
-fn stored(rt: HostRuntime) {
-    let mut rng = ChaCha20Rng::from_seed([1; 32]);
-    rng.fill_bytes(&mut [0; 1000]);
-    let mut restored = ChaCha20Rng::deserialize_state(&rng.serialize_state());
-    let same = restored.next_u64() == rng.next_u64(); // true
-    assert!(rt; same);
-}
