@@ -5,23 +5,29 @@ use crate::rows::COUNTING;
 use crate::tests::streams::NONCE;
 use examples::log::LogWriter;
 
-// Whether a writer that goes on after so many bytes takes a line, and how many bytes the log then has.
+// Whether a writer takes a line, and how many bytes the log then has.
+fn appends(writer: &mut LogWriter, line: &mut [u8], end: u64) -> bool {
+    writer.append(line).is_ok() && writer.len() == end
+}
+
+// The same of a writer that goes on after so many bytes.
 fn is_appended(len: u64, line: &mut [u8], end: u64) -> bool {
     match LogWriter::resume(&COUNTING, &NONCE, len) {
-        Ok(mut writer) => writer.append(line).is_ok() && writer.len() == end,
+        Ok(mut writer) => appends(&mut writer, line, end),
         Err(_) => false,
     }
 }
 
-// The second line by a writer that goes on.
+// The message in two lines, the second by a writer that goes on.
 #[test]
 fn message_in_lines(rt: HostRuntime) {
-    let mut message = [0; 178];
-    message[64..].copy_from_slice(&PLAINTEXT);
-    let (first, second) = message.split_at_mut(100);
-    assert!(rt; LogWriter::new(&COUNTING, &NONCE).append(first).is_ok());
-    assert!(rt; is_appended(100, second, 178));
-    assert!(rt; message.ends_with(&CIPHERTEXT));
+    let mut first = [0; 100];
+    let mut second = [0; 78];
+    first[64..].copy_from_slice(&PLAINTEXT[..36]);
+    second.copy_from_slice(&PLAINTEXT[36..]);
+    let new = appends(&mut LogWriter::new(&COUNTING, &NONCE), &mut first, 100);
+    assert!(rt; new && is_appended(100, &mut second, 178));
+    assert!(rt; CIPHERTEXT.starts_with(&first[64..]) && CIPHERTEXT.ends_with(&second));
 }
 
 #[test]

@@ -22,13 +22,10 @@ fn drawn_below(rt: HostRuntime) {
 #[test]
 fn rolled(rt: HostRuntime) {
     let mut rng = ChaCha20Rng::from_seed([0; 32]);
-    let mut other = ChaChaRng::<R20, Soft>::from_seed([0; 32]);
     let mut dice = [0; 7];
     let first = roll(&mut rng);
     rolls(&mut rng, &mut dice);
-    let mut others = [0; 8];
-    rolls(&mut other, &mut others);
-    assert!(rt; first == DICE[0] && DICE.ends_with(&dice) && others == DICE);
+    assert!(rt; first == DICE[0] && DICE.ends_with(&dice));
 }
 
 #[test]
@@ -52,14 +49,16 @@ fn workers(rt: HostRuntime) {
     assert!(rt; first == DICE && second == [2, 5, 4, 5, 6, 6, 3, 3]);
 }
 
+// From the state of the seed 0 to that at word 16.
 #[test]
 fn resumed(rt: HostRuntime) {
-    let mut stored = ChaCha20Rng::from_seed([0; 32]).serialize_state();
+    let mut stored = [0; 49];
     let mut dice = [0; 8];
     resume(&mut stored, &mut dice[..3]);
     resume(&mut stored, &mut dice[3..]);
-    let rng = ChaCha20Rng::deserialize_state(&stored);
-    assert!(rt; dice == DICE && rng.get_word_pos() == 16);
+    let mut expected = [0; 49];
+    expected[40] = 16;
+    assert!(rt; dice == DICE && stored == expected);
 }
 
 #[test]
