@@ -1,13 +1,15 @@
 //! Generators through the traits of `rand_core`, as generic code uses them.
 
-use super::all_right;
 use crate::rows::{FROM_1, R0, Verdict, failed};
 use chacha20::cipher::{RngBackend, StreamCipherCore};
 use chacha20::rand_core::{self, CryptoRng, Rng, SeedableRng, TryRng};
 use chacha20::{ChaCha8Rng, ChaCha12Rng, ChaCha20LegacyCore, ChaCha20Rng, ChaChaRng, R20, Seed};
 
-// A list of reads: a word, two words, 5 bytes, no bytes, a word.
-fn reads<G: Rng>(rng: &mut G) -> (u32, u64, [u8; 5], u32) {
+// What a list of reads gives: a word, two words, 5 bytes, no bytes, a word.
+type Reads = (u32, u64, [u8; 5], u32);
+
+// By a generator that is fit for keys.
+fn reads<G: CryptoRng>(rng: &mut G) -> Reads {
     let word = rng.next_u32();
     let two_words = rng.next_u64();
     let mut bytes = [0; 5];
@@ -16,67 +18,56 @@ fn reads<G: Rng>(rng: &mut G) -> (u32, u64, [u8; 5], u32) {
     (word, two_words, bytes, rng.next_u32())
 }
 
-fn try_reads<G: TryRng>(
-    rng: &mut G,
-) -> (Option<u32>, Option<u64>, bool, [u8; 5], bool, Option<u32>) {
-    let word = rng.try_next_u32().ok();
-    let two_words = rng.try_next_u64().ok();
+// By one whose reads may fail, and whether all bytes came. A word that doesn't come is 1, which none of `READS` is.
+fn try_reads<G: TryRng>(rng: &mut G) -> (Reads, bool) {
+    let word = rng.try_next_u32().unwrap_or(1);
+    let two_words = rng.try_next_u64().unwrap_or(1);
     let mut bytes = [0; 5];
-    let filled = rng.try_fill_bytes(&mut bytes).is_ok();
-    let filled_none = rng.try_fill_bytes(&mut []).is_ok();
+    let filled = rng.try_fill_bytes(&mut bytes).is_ok() && rng.try_fill_bytes(&mut []).is_ok();
     (
-        word,
-        two_words,
+        (word, two_words, bytes, rng.try_next_u32().unwrap_or(1)),
         filled,
-        bytes,
-        filled_none,
-        rng.try_next_u32().ok(),
     )
 }
+
+static READS: Reads = (
+    0xc2e0_f0ca,
+    0xf2c4_5a64_6640_c8dc,
+    *b"\xe8\xca\x40\xd6\x00",
+    0,
+);
 
 /// What is wrong with the worked reads of a generator without rounds.
 pub fn wrong_reads<B: RngBackend<R0>>() -> Verdict {
     let mut rng = ChaChaRng::<R0, B>::from_seed([0; 32]);
     let mut other = ChaChaRng::<R0, B>::from_seed([0; 32]);
-    let bytes = *b"\xe8\xca\x40\xd6\x00";
-    let (word, two_words) = (0xc2e0_f0ca, 0xf2c4_5a64_6640_c8dc);
     failed(
-        "reads through Rng and TryRng",
+        "reads through CryptoRng and TryRng",
         &[
-            reads(&mut rng) == (word, two_words, bytes, 0),
-            try_reads(&mut other) == (Some(word), Some(two_words), true, bytes, true, Some(0)),
+            reads(&mut rng) == READS,
+            try_reads(&mut other) == (READS, true),
         ],
     )
 }
 
-// Two reads of 13 bytes.
-fn fills<G: Rng>(rng: &mut G) -> [[u8; 13]; 2] {
-    let mut bytes = [[0; 13]; 2];
-    rng.fill_bytes(&mut bytes[0]);
-    rng.fill_bytes(&mut bytes[1]);
-    bytes
-}
-
-fn try_fills<G: TryRng>(rng: &mut G) -> ([[u8; 13]; 2], [bool; 2]) {
-    let mut bytes = [[0; 13]; 2];
-    let first = rng.try_fill_bytes(&mut bytes[0]).is_ok();
-    let second = rng.try_fill_bytes(&mut bytes[1]).is_ok();
-    (bytes, [first, second])
+// Whether two reads give these bytes.
+fn fills<G: TryRng>(rng: &mut G, first: &[u8; 13], second: &[u8; 13]) -> bool {
+    let mut bytes = [0; 13];
+    let right = rng.try_fill_bytes(&mut bytes).is_ok() && bytes == *first;
+    right && rng.try_fill_bytes(&mut bytes).is_ok() && bytes == *second
 }
 
 /// What is wrong with the reads of row 7.
 pub fn wrong_row_7<B: RngBackend<R20>>() -> Verdict {
-    let expected = [
-        *b"\xb1\x69\x7e\x9f\xc6\x46\x1e\x19\x83\xd1\x31\xcf\x69",
-        *b"\xa7\xa3\xfc\x13\x4f\x14\x98\x80\xe8\xbb\x2b\x5d\x23",
-    ];
     let mut rng = ChaChaRng::<R20, B>::from_seed(FROM_1);
-    let mut other = ChaChaRng::<R20, B>::from_seed(FROM_1);
-    let right = fills(&mut rng) == expected && try_fills(&mut other) == (expected, [true; 2]);
-    let positions = [rng.get_word_pos(), other.get_word_pos()];
+    let right = fills(
+        &mut rng,
+        b"\xb1\x69\x7e\x9f\xc6\x46\x1e\x19\x83\xd1\x31\xcf\x69",
+        b"\xa7\xa3\xfc\x13\x4f\x14\x98\x80\xe8\xbb\x2b\x5d\x23",
+    );
     failed(
-        "row 7 through Rng and TryRng, and the positions after it",
-        &[right, positions == [8; 2]],
+        "row 7 through TryRng, and the position after it",
+        &[right, rng.get_word_pos() == 8],
     )
 }
 
@@ -110,31 +101,18 @@ fn core_is_of_seed(number: u64) -> bool {
     block == bytes
 }
 
+static NUMBERS: [u64; 4] = [0, 1, 0x0123_4567_89ab_cdef, u64::MAX];
+
 #[test]
 fn seed_from_u64(rt: HostRuntime) {
-    for number in [0, 1, 0x0123_4567_89ab_cdef, u64::MAX] {
-        let right = failed(
-            "8, 12 and 20 rounds, and a core's block",
-            &[
-                is_of_seed::<ChaCha8Rng>(number),
-                is_of_seed::<ChaCha12Rng>(number),
-                is_of_seed::<ChaCha20Rng>(number),
-                core_is_of_seed(number),
-            ],
-        );
-        all_right(&rt, &[("the seed of a number", right)]);
+    for i in 0..NUMBERS.len() {
+        let number = NUMBERS[i];
+        let right = [
+            is_of_seed::<ChaCha8Rng>(number),
+            is_of_seed::<ChaCha12Rng>(number),
+            is_of_seed::<ChaCha20Rng>(number),
+            core_is_of_seed(number),
+        ];
+        assert!(rt; right == [true; 4], "{number}");
     }
-}
-
-// A key, of a generator that is fit for it.
-fn draw_key<G: CryptoRng>(rng: &mut G) -> [u8; 16] {
-    let mut key = [0; 16];
-    rng.fill_bytes(&mut key);
-    key
-}
-
-#[test]
-fn key(rt: HostRuntime) {
-    let key = draw_key(&mut ChaCha20Rng::from_seed([0; 32]));
-    assert!(rt; key == *b"\x76\xb8\xe0\xad\xa0\xf1\x3d\x90\x40\x5d\x6a\xe5\x53\x86\xbd\x28");
 }
