@@ -46,8 +46,11 @@ impl Listed for Counting {
         calls: &[CipherCall],
         answers: &mut [CipherAnswer],
     ) -> bool {
-        for (call, answer) in calls.iter().zip(answers.iter_mut()) {
-            *answer = self.answer(data, *call);
+        if answers.len() != calls.len() {
+            return false;
+        }
+        for i in 0..calls.len() {
+            answers[i] = self.answer(data, calls[i]);
         }
         !self.fails_by_lists
     }
@@ -87,35 +90,80 @@ const RIGHT: CipherList = CipherList {
     after: &[0, 1, 2],
 };
 
-// Answers and bytes, of which one is wrong.
-static FAULTS: [(&'static [CipherAnswer], &'static [u8]); 6] = [
-    (
-        &[
-            CipherAnswer::Done,
-            CipherAnswer::Position(1),
-            CipherAnswer::Position(2),
-        ],
-        &[0, 1, 2],
-    ),
-    (
-        &[
-            CipherAnswer::Position(0),
-            CipherAnswer::Position(9),
-            CipherAnswer::Position(2),
-        ],
-        &[0, 1, 2],
-    ),
-    (
-        &[
-            CipherAnswer::Position(0),
-            CipherAnswer::Position(1),
-            CipherAnswer::PositionI32(2),
-        ],
-        &[0, 1, 2],
-    ),
-    (&[], &[9, 1, 2]),
-    (&[], &[0, 9, 2]),
-    (&[], &[0, 1, 9]),
+// Of each of these an answer or a byte is wrong.
+const FIRST_ANSWER: CipherList = CipherList {
+    name: "wrong",
+    answers: &[
+        CipherAnswer::Done,
+        CipherAnswer::Position(1),
+        CipherAnswer::Position(2),
+    ],
+    ..RIGHT
+};
+
+const SECOND_ANSWER: CipherList = CipherList {
+    name: "wrong",
+    answers: &[
+        CipherAnswer::Position(0),
+        CipherAnswer::Position(9),
+        CipherAnswer::Position(2),
+    ],
+    ..RIGHT
+};
+
+const LAST_ANSWER: CipherList = CipherList {
+    name: "wrong",
+    answers: &[
+        CipherAnswer::Position(0),
+        CipherAnswer::Position(1),
+        CipherAnswer::PositionI32(2),
+    ],
+    ..RIGHT
+};
+
+const FIRST_BYTE: CipherList = CipherList {
+    name: "wrong",
+    answers: &[],
+    after: &[9, 1, 2],
+    ..RIGHT
+};
+
+const SECOND_BYTE: CipherList = CipherList {
+    name: "wrong",
+    answers: &[],
+    after: &[0, 9, 2],
+    ..RIGHT
+};
+
+const LAST_BYTE: CipherList = CipherList {
+    name: "wrong",
+    answers: &[],
+    after: &[0, 1, 9],
+    ..RIGHT
+};
+
+// Of each three in a row one is wrong: each at the front, in the middle and at the end.
+static FAULTY_LISTS: [CipherList; 20] = [
+    RIGHT,
+    RIGHT,
+    FIRST_ANSWER,
+    RIGHT,
+    RIGHT,
+    SECOND_ANSWER,
+    RIGHT,
+    RIGHT,
+    LAST_ANSWER,
+    RIGHT,
+    RIGHT,
+    FIRST_BYTE,
+    RIGHT,
+    RIGHT,
+    SECOND_BYTE,
+    RIGHT,
+    RIGHT,
+    LAST_BYTE,
+    RIGHT,
+    RIGHT,
 ];
 
 fn is_named(verdict: Verdict, name: &str) -> bool {
@@ -125,79 +173,81 @@ fn is_named(verdict: Verdict, name: &str) -> bool {
     }
 }
 
-// Whether each fault is found in the list at a place.
-fn finds_lists(place: usize) -> bool {
+fn finds_lists() -> bool {
     let mut found = true;
-    for (answers, after) in &FAULTS {
-        let mut lists = [RIGHT, RIGHT, RIGHT];
-        if place < 3 {
-            lists[place] = CipherList {
-                name: "wrong",
-                answers: *answers,
-                after: *after,
-                ..RIGHT
-            };
-        }
+    for at in 0..18usize {
         let mut cipher = Counting::fresh(&[0; 32], &[0; 12]);
-        found &= is_named(wrong_list(&mut cipher, &lists), "wrong");
+        found &= is_named(wrong_list(&mut cipher, &FAULTY_LISTS[at..at + 3]), "wrong");
     }
     found
 }
 
-#[test]
-fn lists(rt: HostRuntime) {
-    let right = wrong_lists::<Nonce, Counting>(&[0; 32], &[0; 12], &[RIGHT]);
-    assert!(rt; right.is_none());
-    assert!(rt; finds_lists(0) && finds_lists(1) && finds_lists(2));
-    for way in [1, 2] {
-        let wrong = wrong_lists::<Nonce, Counting>(&[way; 32], &[0; 12], &[RIGHT]);
-        assert!(rt; is_named(wrong, "right"));
-    }
+// What is wrong with a right list, where one of the two ways to call the cipher fails, or none.
+fn wrong_way(way: u8) -> Verdict {
+    wrong_lists::<Nonce, Counting>(&[way; 32], &[0; 12], &RIGHT_LISTS)
 }
 
-static RIGHT_ROW: [CipherList; 1] = [CipherList {
+static RIGHT_LISTS: [CipherList; 1] = [RIGHT];
+
+#[test]
+fn lists(rt: HostRuntime) {
+    assert!(rt; finds_lists() && wrong_way(0).is_none());
+    assert!(rt; is_named(wrong_way(1), "right") && is_named(wrong_way(2), "right"));
+}
+
+const RIGHT_ROW: CipherList = CipherList {
     name: "right",
     input: &[],
     data: &[0; 4],
     calls: &[CipherCall::Apply { at: 0, len: 4 }],
     answers: &[CipherAnswer::Done],
     after: b"\xca\xf0\xe0\xc2",
-}];
+};
 
-static WRONG_ROW: [CipherList; 1] = [CipherList {
+const WRONG_ROW: CipherList = CipherList {
     name: "wrong",
-    input: &[],
-    data: &[0; 4],
-    calls: &[CipherCall::Apply { at: 0, len: 4 }],
-    answers: &[CipherAnswer::Done],
     after: b"\xca\xf0\xe0\xc3",
-}];
+    ..RIGHT_ROW
+};
+
+// The row of the table's number is wrong, and in the last table none.
+static FAULTY_ROWS: [[NumberedLists; 3]; 4] = [
+    [(0, &[WRONG_ROW]), (1, &[RIGHT_ROW]), (2, &[RIGHT_ROW])],
+    [(0, &[RIGHT_ROW]), (1, &[WRONG_ROW]), (2, &[RIGHT_ROW])],
+    [(0, &[RIGHT_ROW]), (1, &[RIGHT_ROW]), (2, &[WRONG_ROW])],
+    [(0, &[RIGHT_ROW]), (1, &[RIGHT_ROW]), (2, &[RIGHT_ROW])],
+];
 
 // Whether the row of this number is found, of three rows of a cipher without rounds.
-fn finds_row<K>(number: usize) -> bool
+fn finds_row<K>(number: usize, rows: &[NumberedLists]) -> bool
 where
     K: KeyIvInit<Key = Key, Iv = Nonce> + StreamCipherSeekCore + Drop,
 {
-    let mut rows: [NumberedLists; 3] = [(0, &RIGHT_ROW), (1, &RIGHT_ROW), (2, &RIGHT_ROW)];
-    if number < 3 {
-        rows[number] = (number, &WRONG_ROW);
-    }
     let mut verdicts = [None; 24];
-    enter_table::<StreamCipherCoreWrapper<K>>(&mut verdicts, &[0; 32], &[0; 12], &rows);
+    enter_table::<StreamCipherCoreWrapper<K>>(&mut verdicts, &[0; 32], &[0; 12], rows);
     match first_wrong_row(&verdicts) {
         Some(failure) => failure.number == number && failure.check == "wrong",
         None => number == 3,
     }
 }
 
+fn finds_rows<K>() -> bool
+where
+    K: KeyIvInit<Key = Key, Iv = Nonce> + StreamCipherSeekCore + Drop,
+{
+    let mut found = true;
+    for number in 0..4usize {
+        found &= finds_row::<K>(number, &FAULTY_ROWS[number]);
+    }
+    found
+}
+
+static ROWS_OF_ONE_LIST: [NumberedLists; 1] = [(0, &[RIGHT])];
+
 #[test]
 fn rows(rt: HostRuntime) {
-    for number in 0..4usize {
-        assert!(rt; finds_row::<ChaChaCore<R0, Ietf, Soft>>(number), "{number}");
-    }
-    let right: NumberedLists = (0, &[RIGHT]);
-    let wrong = wrong_rows::<Nonce, Counting>(&[2; 32], &[0; 12], &[right]);
-    assert!(rt; is_named(wrong, "right"));
+    let wrong = wrong_rows::<Nonce, Counting>(&[2; 32], &[0; 12], &ROWS_OF_ONE_LIST);
+    assert!(rt; finds_rows::<ChaChaCore<R0, Ietf, Soft>>() && is_named(wrong, "right"));
 }
 
 const RIGHT_DRAW: RngList = RngList {
@@ -217,66 +267,132 @@ const RIGHT_DRAW: RngList = RngList {
     last: b"\xa0\xf1\x3d",
 };
 
-// Answers, and first and last bytes, of which one is wrong.
-static FAULTY_DRAWS: [(&'static [RngAnswer], &'static [u8], &'static [u8]); 9] = [
-    (
-        &[
-            RngAnswer::U64(0),
-            RngAnswer::U32(0xade0_b876),
-            RngAnswer::Done,
-        ],
-        &[],
-        &[],
-    ),
-    (
-        &[
-            RngAnswer::Done,
-            RngAnswer::U32(0xade0_b877),
-            RngAnswer::Done,
-        ],
-        &[],
-        &[],
-    ),
-    (
-        &[
-            RngAnswer::Done,
-            RngAnswer::U32(0xade0_b876),
-            RngAnswer::U64(0),
-        ],
-        &[],
-        &[],
-    ),
-    (&[], b"\xa1\xf1\x3d", &[]),
-    (&[], b"\xa0\xf0\x3d", &[]),
-    (&[], b"\xa0\xf1\x3c", &[]),
-    (&[], &[], b"\xa1\xf1\x3d"),
-    (&[], &[], b"\xa0\xf0\x3d"),
-    (&[], &[], b"\xa0\xf1\x3c"),
+// Of each of these an answer, or one of the first or the last bytes, is wrong.
+const FIRST_DRAW: RngList = RngList {
+    name: "wrong",
+    answers: &[
+        RngAnswer::U64(0),
+        RngAnswer::U32(0xade0_b876),
+        RngAnswer::Done,
+    ],
+    ..RIGHT_DRAW
+};
+
+const SECOND_DRAW: RngList = RngList {
+    name: "wrong",
+    answers: &[
+        RngAnswer::Done,
+        RngAnswer::U32(0xade0_b877),
+        RngAnswer::Done,
+    ],
+    ..RIGHT_DRAW
+};
+
+const LAST_DRAW: RngList = RngList {
+    name: "wrong",
+    answers: &[
+        RngAnswer::Done,
+        RngAnswer::U32(0xade0_b876),
+        RngAnswer::U64(0),
+    ],
+    ..RIGHT_DRAW
+};
+
+const FIRST_OF_FIRST_BYTES: RngList = RngList {
+    name: "wrong",
+    answers: &[],
+    first: b"\xa1\xf1\x3d",
+    last: &[],
+    ..RIGHT_DRAW
+};
+
+const SECOND_OF_FIRST_BYTES: RngList = RngList {
+    name: "wrong",
+    answers: &[],
+    first: b"\xa0\xf0\x3d",
+    last: &[],
+    ..RIGHT_DRAW
+};
+
+const LAST_OF_FIRST_BYTES: RngList = RngList {
+    name: "wrong",
+    answers: &[],
+    first: b"\xa0\xf1\x3c",
+    last: &[],
+    ..RIGHT_DRAW
+};
+
+const FIRST_OF_LAST_BYTES: RngList = RngList {
+    name: "wrong",
+    answers: &[],
+    first: &[],
+    last: b"\xa1\xf1\x3d",
+    ..RIGHT_DRAW
+};
+
+const SECOND_OF_LAST_BYTES: RngList = RngList {
+    name: "wrong",
+    answers: &[],
+    first: &[],
+    last: b"\xa0\xf0\x3d",
+    ..RIGHT_DRAW
+};
+
+const LAST_OF_LAST_BYTES: RngList = RngList {
+    name: "wrong",
+    answers: &[],
+    first: &[],
+    last: b"\xa0\xf1\x3c",
+    ..RIGHT_DRAW
+};
+
+// Of each three in a row one is wrong.
+static FAULTY_DRAWS: [RngList; 29] = [
+    RIGHT_DRAW,
+    RIGHT_DRAW,
+    FIRST_DRAW,
+    RIGHT_DRAW,
+    RIGHT_DRAW,
+    SECOND_DRAW,
+    RIGHT_DRAW,
+    RIGHT_DRAW,
+    LAST_DRAW,
+    RIGHT_DRAW,
+    RIGHT_DRAW,
+    FIRST_OF_FIRST_BYTES,
+    RIGHT_DRAW,
+    RIGHT_DRAW,
+    SECOND_OF_FIRST_BYTES,
+    RIGHT_DRAW,
+    RIGHT_DRAW,
+    LAST_OF_FIRST_BYTES,
+    RIGHT_DRAW,
+    RIGHT_DRAW,
+    FIRST_OF_LAST_BYTES,
+    RIGHT_DRAW,
+    RIGHT_DRAW,
+    SECOND_OF_LAST_BYTES,
+    RIGHT_DRAW,
+    RIGHT_DRAW,
+    LAST_OF_LAST_BYTES,
+    RIGHT_DRAW,
+    RIGHT_DRAW,
 ];
 
-// Whether each fault is found in the draws at a place.
-fn finds_draws(place: usize) -> bool {
+fn finds_draws() -> bool {
     let mut found = true;
-    for (answers, first, last) in &FAULTY_DRAWS {
-        let mut lists = [RIGHT_DRAW, RIGHT_DRAW, RIGHT_DRAW];
-        if place < 3 {
-            lists[place] = RngList {
-                name: "wrong",
-                answers: *answers,
-                first: *first,
-                last: *last,
-                ..RIGHT_DRAW
-            };
-        }
-        found &= is_named(wrong_table::<Soft>([0; 32], &lists), "wrong");
+    for at in 0..27usize {
+        let draws = &FAULTY_DRAWS[at..at + 3];
+        found &= is_named(wrong_table::<Soft>([0; 32], draws), "wrong");
     }
     found
 }
 
+static RIGHT_DRAWS: [RngList; 2] = [RIGHT_DRAW, RIGHT_DRAW];
+
 #[test]
 fn draws(rt: HostRuntime) {
-    assert!(rt; wrong_table::<Soft>([0; 32], &[RIGHT_DRAW, RIGHT_DRAW]).is_none());
-    assert!(rt; finds_draws(0) && finds_draws(1) && finds_draws(2));
+    assert!(rt; wrong_table::<Soft>([0; 32], &RIGHT_DRAWS).is_none() && finds_draws());
 }
 
 // The legacy stream, of which one byte is wrong.
@@ -305,11 +421,11 @@ impl Listed for Spoiled {
 // With steps of 17 bytes: the first places between which the wrong byte lies.
 #[test]
 fn streams(rt: HostRuntime) {
-    for (byte, last) in [(0, 17), (127, 136), (255, 256)] {
-        assert!(rt;
-            legacy_stream(&mut Spoiled(byte), 17) == Some([0, 0, last]),
-            "{byte}"
-        );
-    }
-    assert!(rt; legacy_stream(&mut Spoiled(256), 17).is_none());
+    let found = [
+        legacy_stream(&mut Spoiled(0), 17),
+        legacy_stream(&mut Spoiled(127), 17),
+        legacy_stream(&mut Spoiled(255), 17),
+        legacy_stream(&mut Spoiled(256), 17),
+    ];
+    assert!(rt; found == [Some([0, 0, 17]), Some([0, 0, 136]), Some([0, 0, 256]), None]);
 }
