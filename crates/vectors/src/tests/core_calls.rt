@@ -87,6 +87,8 @@ enum By {
     Counted,
 }
 
+static KINDS: [By; 4] = [By::Single, By::Written, By::Applied, By::Counted];
+
 fn four_blocks<C: StreamCipherCore>(core: &mut C, by: By) -> [[u8; 64]; 4] {
     match by {
         By::Single => single_blocks(core),
@@ -100,12 +102,9 @@ fn four_blocks<C: StreamCipherCore>(core: &mut C, by: By) -> [[u8; 64]; 4] {
 fn wrong_kind<C: StreamCipherSeekCore>(core: &mut C, start: C::Counter, end: u64) -> Option<usize> {
     core.set_block_pos(start);
     let single = single_blocks(core);
-    for (number, by) in [By::Single, By::Written, By::Applied, By::Counted]
-        .iter()
-        .enumerate()
-    {
+    for number in 0..KINDS.len() {
         core.set_block_pos(start);
-        if four_blocks(core, *by) != single || core.get_block_pos().to_u64() != end {
+        if four_blocks(core, KINDS[number]) != single || core.get_block_pos().to_u64() != end {
             return Some(number);
         }
     }

@@ -8,13 +8,9 @@ use chacha20::{CipherCall, Nonce, Rounds, XNonce, hchacha};
 /// What is wrong with 130 bytes of a cipher with nonces of 24 bytes and so many rounds, compared with the cipher with
 /// nonces of 12 bytes over the same backend.
 pub fn wrong_stream<R: Rounds, X: Fresh<XNonce>, C: Fresh<Nonce>>() -> Verdict {
-    let mut input = [0; 16];
-    input.copy_from_slice(&X_NONCE[..16]);
-    let mut nonce = [0; 12];
-    nonce[4..].copy_from_slice(&X_NONCE[16..]);
     let mut stream = [0; 130];
     let applied = all_done(
-        &mut C::fresh(&hchacha::<R>(&X_KEY, &input), &nonce),
+        &mut C::fresh(&hchacha::<R>(&X_KEY, &X_NONCE_FRONT), &DERIVED_NONCE),
         &[],
         &mut stream,
         &[CipherCall::Apply { at: 0, len: 130 }],
@@ -27,3 +23,8 @@ pub fn wrong_stream<R: Rounds, X: Fresh<XNonce>, C: Fresh<Nonce>>() -> Verdict {
         ],
     )
 }
+
+// The first 16 bytes of the nonce, and four zero bytes and its last eight.
+static X_NONCE_FRONT: [u8; 16] = *b"@ABCDEFGHIJKLMNO";
+
+static DERIVED_NONCE: Nonce = *b"\0\0\0\0PQRSTUVX";

@@ -21,13 +21,16 @@ impl<C: Direct> Listed for Directly<'_, C> {
         calls: &[CipherCall],
         answers: &mut [CipherAnswer],
     ) -> bool {
-        for (call, answer) in calls.iter().zip(answers.iter_mut()) {
-            if !in_slices(*call, input.len(), data.len()) {
+        if answers.len() != calls.len() {
+            return false;
+        }
+        for i in 0..calls.len() {
+            if !in_slices(calls[i], input.len(), data.len()) {
                 return false;
             }
-            *answer = self.0.answers(input, data, *call);
+            answers[i] = self.0.answers(input, data, calls[i]);
         }
-        answers.len() == calls.len()
+        true
     }
 }
 

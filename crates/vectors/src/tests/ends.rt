@@ -350,12 +350,12 @@ fn last_blocks_one_by_one<C: Listed>(cipher: &mut C, start: u128) -> [[u8; 64]; 
     requires { start ≤ 2 ^ 70 }
 {
     let mut blocks = [[0; 64]; 33];
-    for (place, block) in blocks.iter_mut().enumerate() {
+    for place in 0..33usize {
         let calls = [
             CipherCall::Seek(start + 64 * place as u128),
             CipherCall::Apply { at: 0, len: 64 },
         ];
-        let _ = all_done(cipher, &[], block, &calls);
+        let _ = all_done(cipher, &[], &mut blocks[place], &calls);
     }
     blocks
 }
@@ -537,16 +537,22 @@ pub fn wrong_legacy_groups<C: Listed>(cipher: &mut C) -> Verdict {
     wrong_ends(cipher, start, &last)
 }
 
+static LAST_16_ALONE: [CipherList; 1] = [LAST_16];
+
+static FIRST_4_ALONE: [CipherList; 1] = [FIRST_4];
+
+static INTO_LAST_ALONE: [CipherList; 1] = [INTO_LAST];
+
 /// The same ends of a cipher without rounds, by direct calls with positions of 64 and of 32 bits.
 pub fn wrong_zero_types<C: StreamCipherSeek>(cipher: &mut C) -> Verdict
     requires { 274877906944 ≤ limit_of C.modulus }
 {
     cipher.seek(274877906928u64);
-    let last = wrong_list(&mut Directly(cipher), &[LAST_16]);
+    let last = wrong_list(&mut Directly(cipher), &LAST_16_ALONE);
     cipher.seek(0u32);
-    let first = wrong_list(&mut Directly(cipher), &[FIRST_4]);
+    let first = wrong_list(&mut Directly(cipher), &FIRST_4_ALONE);
     cipher.seek(274877906864u64);
-    let into_last = wrong_list(&mut Directly(cipher), &[INTO_LAST]);
+    let into_last = wrong_list(&mut Directly(cipher), &INTO_LAST_ALONE);
     first_failure(&[last, first, into_last, wrong_limit(cipher)])
 }
 
@@ -571,7 +577,7 @@ where
     requires { 2 ^ 32 ≤ limit_of C.modulus }
 {
     let mut cipher = C::new(&COUNTING, &[0; 12]);
-    let far = cipher.try_seek(usize::MAX).is_err() && is_at::<C, u64>(&cipher, Some(0));
+    let far = cipher.try_seek(usize::MAX).is_err() && is_at::<C, i32>(&cipher, Some(0));
     cipher.seek(2147483647i32);
     let at = is_at::<C, i32>(&cipher, Some(2147483647));
     let _ = cipher.try_apply_keystream(&mut [0]);

@@ -20,20 +20,15 @@ pub fn wrong_run<B: RngBackend<R0>>() -> Verdict {
     let mut rng = ZeroGenerator::<B>::from_seed([0; 32]);
     rng.set_stream(STREAM);
     rng.set_word_pos(PAST_THE_LAST);
-    let words = rng.next_u64();
-    let positions = (rng.get_word_pos(), rng.get_block_pos());
+    let words = rng.next_u64() == 0x0000_0002_0000_0006;
+    let positions = rng.get_word_pos() == 16 && rng.get_block_pos() == 1;
     let mut data = [0; 5];
     rng.fill_bytes(&mut data);
     let rng = ZeroGenerator::<B>::deserialize_state(&rng.serialize_state());
-    let end = (rng.get_word_pos(), rng.get_block_pos(), rng.get_stream());
+    let end = rng.get_word_pos() == 18 && rng.get_block_pos() == 1 && rng.get_stream() == STREAM;
     failed(
         "direct calls: two words, positions, bytes, and the end",
-        &[
-            words == 0x0000_0002_0000_0006,
-            positions == (16, 1),
-            data == *b"\xca\xf0\xe0\xc2\xdc",
-            end == (18, 1, STREAM),
-        ],
+        &[words, positions, data == *b"\xca\xf0\xe0\xc2\xdc", end],
     )
 }
 

@@ -55,9 +55,9 @@ fn wrong_cut<C: Listed>(cipher: &mut C) -> Option<usize> {
     if !all_done(cipher, &[], &mut whole, &calls) {
         return Some(LENGTH);
     }
-    for size in SIZES {
-        if !same_in_pieces(cipher, &whole, size) {
-            return Some(size);
+    for i in 0..SIZES.len() {
+        if !same_in_pieces(cipher, &whole, SIZES[i]) {
+            return Some(SIZES[i]);
         }
     }
     for place in 0..34usize {

@@ -51,8 +51,8 @@ fn in_types<C: StreamCipherSeek>(cipher: &mut C, place: u64) -> Verdict {
 }
 
 fn wrong_places<C: StreamCipherSeek>(cipher: &mut C) -> Verdict {
-    for place in PLACES {
-        let wrong = in_types(cipher, place);
+    for i in 0..PLACES.len() {
+        let wrong = in_types(cipher, PLACES[i]);
         if wrong.is_some() {
             return wrong;
         }
@@ -107,10 +107,10 @@ where
     let mut written = [9; 4];
     cipher.write_keystream(&mut written);
     let after_written = cipher.current_pos::<u64>();
-    cipher.seek(2u32);
+    cipher.seek(2u64);
     let mut applied = [0; 2];
     cipher.apply_keystream(&mut applied);
-    cipher.seek(0i32);
+    cipher.seek(0u64);
     let mut between = [9; 2];
     cipher.apply_keystream_b2b(&[0, 0], &mut between);
     failed(

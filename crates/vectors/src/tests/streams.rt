@@ -65,8 +65,9 @@ fn is_part_of_legacy<C: Listed>(cipher: &mut C, from: usize, middle: usize, last
 
 /// What is wrong with the published streams of generators.
 pub fn wrong_generator_stream<B: RngBackend<R20>>() -> Verdict {
-    for (seed, lists) in &GENERATOR_STREAMS {
-        let wrong = wrong_table::<B>(*seed, *lists);
+    for i in 0..GENERATOR_STREAMS.len() {
+        let (seed, lists) = GENERATOR_STREAMS[i];
+        let wrong = wrong_table::<B>(seed, lists);
         if wrong.is_some() {
             return wrong;
         }
@@ -87,9 +88,7 @@ fn wraps_to_start<B: RngBackend<R20>>() -> bool {
     let mut over_the_end = [0; 320];
     first.fill_bytes(&mut from_start);
     last.fill_bytes(&mut over_the_end);
-    over_the_end.ends_with(&from_start)
-        && [first.get_word_pos(), last.get_word_pos()] == [64, 64]
-        && [first.get_block_pos(), last.get_block_pos()] == [4, 4]
+    over_the_end.ends_with(&from_start) && first == last && first.get_block_pos() == 4
 }
 
 pub static NONCE: Nonce = [0, 0, 0, 0, 0, 0, 0, 0x4a, 0, 0, 0, 0];
