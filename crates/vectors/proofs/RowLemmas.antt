@@ -22,9 +22,9 @@ not-true true h = absurd (h refl)
 not-true false h = refl
 
 -- what held of the entries before one still holds after a step, and it holds of that one too
-one-more : {X : Type 0} (P Q : X → Type 0) (xs : List X) (i : ℕ) (d : X) → i < length xs
+within-next : {X : Type 0} (P Q : X → Type 0) (xs : List X) (i : ℕ) (d : X) → i < length xs
     → ((x : X) → P x → Q x) → AllWithin P xs 0 i → Q (slice_index_or xs i d) → AllWithin Q xs 0 (i + 1)
-one-more P Q xs i d inside still old new =
+within-next P Q xs i d inside still old new =
     AllWithin-more Q xs 0 i (λ k e low high. still (slice_index_or xs k e) (old k e low high))
     (λ e. subst Q (get_or_default xs i d e inside) new)
 
@@ -105,7 +105,7 @@ module _ {X F : Type 0} (number : X → ℕ) (a b : List (Option (Option F))) (e
   pub entered-next : AllWithin (IsIn a) entries 0 i → IsIn b (slice_index_or entries i d)
       → AllWithin (IsIn b) entries 0 (i + 1)
   entered-next =
-      one-more (IsIn a) (IsIn b) entries i d inside (λ entry is below. keeps.rows (number entry) (is below))
+      within-next (IsIn a) (IsIn b) entries i d inside (λ entry is below. keeps.rows (number entry) (is below))
 
   abbrev IsRight : (X → Type 0) → List (Option (Option F)) → X → Type 0
   IsRight P table entry =
@@ -115,5 +115,5 @@ module _ {X F : Type 0} (number : X → ℕ) (a b : List (Option (Option F))) (e
   pub right-next : (P : X → Type 0) → AllWithin (IsRight P a) entries 0 i → IsRight P b (slice_index_or entries i d)
       → AllWithin (IsRight P b) entries 0 (i + 1)
   right-next P =
-      one-more (IsRight P a) (IsRight P b) entries i d inside
+      within-next (IsRight P a) (IsRight P b) entries i d inside
       (λ entry is below none. is below (right-before a b (number entry) keeps none))

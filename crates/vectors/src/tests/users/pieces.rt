@@ -1,5 +1,5 @@
-//! A published message in pieces and in two buffers, over the backend of `scalar.rt`. Row 1 has pieces over each backend
-//! of the library.
+//! A published message in pieces and in two buffers, over the backend of `scalar.rt`. Row 1 has pieces over each
+//! backend of the library.
 
 ghost use Rattle.std.specs.Prelude.{◌≤◌, ◌^◌};
 ghost use Rattle.chacha20.specs.Limit.{limit_of};

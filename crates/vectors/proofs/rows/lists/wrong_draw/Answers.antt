@@ -8,8 +8,8 @@ use Rattle.vectors.proofs.rows.lists.wrong_draw.Goals as goal
 pub lists-preserved : goal.lists-preserved
 lists-preserved g c =
     let draws = c.draws_as.ensures in
-    one-drawn eq-value.it g.R.Rounds.COUNT c.lists.rng c.draws_as.new.rng c.args.lists.now c.lists.i _ _ c.lists-test.true
-    (draws.right.0 c.if-not-draws_as.false) (draws.rng c.if-not-draws_as.false) c.lists.invariant
+    one-drawn eq-value.it g.R.Rounds.COUNT c.lists.rng c.draws_as.new.rng c.args.lists.now c.lists.i _ _
+    c.lists-test.true (draws.right.0 c.if-not-draws_as.false) (draws.rng c.if-not-draws_as.false) c.lists.invariant
 
 pub returns-then-not-draws_as : goal.returns-then-not-draws_as
 returns-then-not-draws_as g c = (
