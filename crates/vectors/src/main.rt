@@ -2,62 +2,11 @@
 //! nothing. The status is 0 if each line says ok and could be written, and else 1.
 #![tactic(auto)]
 
-ghost use Rattle.std.specs.Prelude.{◌≡◌, ◌↔◌, All, IsNone, IsTrue};
-ghost use Rattle.std.specs.Option.{option_flatten};
-ghost use Rattle.std.specs.Process.{exit_status};
-
-mod rows;
-#[cfg(test)]
-mod tests;
-
-use rows::{Verdicts, first_wrong_row};
-use std::fmt::{self, Display, Formatter};
 use std::process::ExitCode;
-
-// The lines that the program prints.
-#[derive(Drop)]
-struct Lines<'a> {
-    ciphertext: &'a [u8; 16],
-    verdicts: &'a Verdicts,
-}
-
-impl Display for Lines<'_> {
-    fn fmt<W: fmt::Write>(&self, f: &mut Formatter<W>) -> fmt::Result {
-        writeln!(f, "{:032x}", u128::from_be_bytes(*self.ciphertext))?;
-        for number in 0..24usize {
-            if let Some(failed) = self.verdicts[number] {
-                let word = if failed.is_none() { "ok" } else { "bad" };
-                writeln!(f, "row {number} {word}")?;
-            }
-        }
-        Ok(())
-    }
-}
-
-// Success exactly where the lines could be printed and no row is bad.
-fn status(printed: bool, verdicts: &Verdicts) -> ExitCode
-    ensures { exit_status result ≡ 0
-        ↔ (IsTrue printed × All (λ row. IsNone (option_flatten row)) verdicts.now) }
-{
-    if printed && first_wrong_row(verdicts).is_none() {
-        ExitCode::SUCCESS
-    } else {
-        ExitCode::FAILURE
-    }
-}
-
-// Prints the lines, and returns the status.
-fn report(rt: &impl Print, ciphertext: &[u8; 16], verdicts: &Verdicts) -> ExitCode
-    ensures { exit_status result ≡ 0 → All (λ row. IsNone (option_flatten row)) verdicts.now }
-{
-    let lines = Lines {
-        ciphertext,
-        verdicts,
-    };
-    status(print!(rt; "{lines}").is_ok(), verdicts)
-}
+use worked_rows::report::report;
+use worked_rows::worked;
 
 fn main(rt: HostRuntime) -> ExitCode {
-    let (ciphertext, verdicts) = rows::worked();
+    let (ciphertext, verdicts) = worked();
     report(&rt, &ciphertext, &verdicts)
 }

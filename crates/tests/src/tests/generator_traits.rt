@@ -1,0 +1,120 @@
+//! Generators through the traits of `rand_core`, as generic code uses them.
+
+use chacha20::cipher::{RngBackend, StreamCipherCore};
+use chacha20::rand_core::{self, CryptoRng, Rng, SeedableRng, TryRng};
+use chacha20::{ChaCha8Rng, ChaCha12Rng, ChaCha20LegacyCore, ChaCha20Rng, ChaChaRng, R20, Seed};
+use worked_rows::R0;
+use worked_rows::published::FROM_1;
+use worked_rows::verdicts::{Verdict, failed};
+
+// What a list of reads gives: a word, two words, 5 bytes, no bytes, a word.
+type Reads = (u32, u64, [u8; 5], u32);
+
+// By a generator that is fit for keys.
+fn reads<G: CryptoRng>(rng: &mut G) -> Reads {
+    let word = rng.next_u32();
+    let two_words = rng.next_u64();
+    let mut bytes = [0; 5];
+    rng.fill_bytes(&mut bytes);
+    rng.fill_bytes(&mut []);
+    (word, two_words, bytes, rng.next_u32())
+}
+
+// By one whose reads may fail, and whether all bytes came. A word that doesn't come is 1, which none of `READS` is.
+fn try_reads<G: TryRng>(rng: &mut G) -> (Reads, bool) {
+    let word = rng.try_next_u32().unwrap_or(1);
+    let two_words = rng.try_next_u64().unwrap_or(1);
+    let mut bytes = [0; 5];
+    let filled = rng.try_fill_bytes(&mut bytes).is_ok() && rng.try_fill_bytes(&mut []).is_ok();
+    (
+        (word, two_words, bytes, rng.try_next_u32().unwrap_or(1)),
+        filled,
+    )
+}
+
+static READS: Reads = (
+    0xc2e0_f0ca,
+    0xf2c4_5a64_6640_c8dc,
+    *b"\xe8\xca\x40\xd6\x00",
+    0,
+);
+
+/// What is wrong with the worked reads of a generator without rounds.
+pub fn wrong_reads<B: RngBackend<R0>>() -> Verdict {
+    let mut rng = ChaChaRng::<R0, B>::from_seed([0; 32]);
+    let mut other = ChaChaRng::<R0, B>::from_seed([0; 32]);
+    failed(
+        "reads through CryptoRng and TryRng",
+        &[
+            reads(&mut rng) == READS,
+            try_reads(&mut other) == (READS, true),
+        ],
+    )
+}
+
+// Whether two reads give these bytes.
+fn fills<G: TryRng>(rng: &mut G, first: &[u8; 13], second: &[u8; 13]) -> bool {
+    let mut bytes = [0; 13];
+    let right = rng.try_fill_bytes(&mut bytes).is_ok() && bytes == *first;
+    right && rng.try_fill_bytes(&mut bytes).is_ok() && bytes == *second
+}
+
+/// What is wrong with the reads of row 7.
+pub fn wrong_row_7<B: RngBackend<R20>>() -> Verdict {
+    let mut rng = ChaChaRng::<R20, B>::from_seed(FROM_1);
+    let right = fills(
+        &mut rng,
+        b"\xb1\x69\x7e\x9f\xc6\x46\x1e\x19\x83\xd1\x31\xcf\x69",
+        b"\xa7\xa3\xfc\x13\x4f\x14\x98\x80\xe8\xbb\x2b\x5d\x23",
+    );
+    failed(
+        "row 7 through TryRng, and the position after it",
+        &[right, rng.get_word_pos() == 8],
+    )
+}
+
+// A generator that another one seeds.
+fn seeded_by<G: SeedableRng + Rng>(first: &mut G) -> G {
+    G::from_rng(first)
+}
+
+#[test]
+fn row_17(rt: HostRuntime) {
+    let mut first = ChaCha20Rng::from_seed(
+        *b"\0\0\0\0\0\0\0\0\x01\0\0\0\0\0\0\0\x02\0\0\0\0\0\0\0\x03\0\0\0\0\0\0\0",
+    );
+    let word = first.next_u32();
+    let mut second = seeded_by(&mut first);
+    let words = [word, second.next_u32()];
+    assert!(rt; words == [137206642, 1325750369] && first.get_word_pos() == 9);
+}
+
+// Whether the generator of a number is that of the seed that rand_core makes of it.
+fn is_of_seed<G: SeedableRng<Seed = Seed> + PartialEq + Drop>(number: u64) -> bool {
+    G::seed_from_u64(number) == G::from_seed(rand_core::Seed::from_u64(number))
+}
+
+// Whether the core of a number gives the first block of the generator of the number.
+fn core_is_of_seed(number: u64) -> bool {
+    let mut block = [0; 64];
+    let mut bytes = [0; 64];
+    ChaCha20LegacyCore::seed_from_u64(number).write_keystream_block(&mut block);
+    ChaCha20Rng::from_seed(rand_core::Seed::from_u64(number)).fill_bytes(&mut bytes);
+    block == bytes
+}
+
+static NUMBERS: [u64; 4] = [0, 1, 0x0123_4567_89ab_cdef, u64::MAX];
+
+#[test]
+fn seed_from_u64(rt: HostRuntime) {
+    for i in 0..NUMBERS.len() {
+        let number = NUMBERS[i];
+        let right = [
+            is_of_seed::<ChaCha8Rng>(number),
+            is_of_seed::<ChaCha12Rng>(number),
+            is_of_seed::<ChaCha20Rng>(number),
+            core_is_of_seed(number),
+        ];
+        assert!(rt; right == [true; 4], "{number}");
+    }
+}

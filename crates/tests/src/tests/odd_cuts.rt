@@ -1,0 +1,80 @@
+//! Odd cuts, for any cipher: called directly, and by lists of calls.
+
+ghost use Rattle.std.specs.Prelude.{◌≤◌};
+
+use super::direct::{Directly, Fresh, all_done};
+use chacha20::CipherCall;
+use worked_rows::lists::Listed;
+use worked_rows::published::COUNTING;
+use worked_rows::verdicts::{Verdict, failed_for, first_failure};
+
+// A message of some blocks and one byte more than a group of any backend.
+const LENGTH: usize = 2049;
+
+// One more and one fewer than blocks and groups have bytes, and less than a block.
+static SIZES: [usize; 9] = [1, 3, 63, 64, 65, 255, 257, 1023, 1025];
+
+// Whether pieces of a size, with an empty piece after each, come out as the whole.
+fn same_in_pieces<C: Listed>(cipher: &mut C, whole: &[u8; LENGTH], size: usize) -> bool {
+    let mut data = [0; LENGTH];
+    let mut right = all_done(cipher, &[], &mut [], &[CipherCall::Seek(0)]);
+    for at in 0..LENGTH {
+        if at % size.max(1) == 0 {
+            let len = size.min(LENGTH - at);
+            let calls = [
+                CipherCall::Apply { at, len },
+                CipherCall::Apply {
+                    at: at + len,
+                    len: 0,
+                },
+            ];
+            right &= all_done(cipher, &[], &mut data, &calls);
+        }
+    }
+    right && data == *whole
+}
+
+// Whether the rest from a byte on, after a seek to it, comes out as the whole does from there on.
+fn same_from<C: Listed>(cipher: &mut C, whole: &[u8; LENGTH], from: usize) -> bool
+    requires { from ≤ 2049 }
+{
+    let mut data = [0; LENGTH];
+    let calls = [
+        CipherCall::Seek(from as u128),
+        CipherCall::Apply {
+            at: from,
+            len: LENGTH - from,
+        },
+    ];
+    all_done(cipher, &[], &mut data, &calls) && data[from..] == whole[from..]
+}
+
+// The first size of pieces, or the first place of a seek, for which the bytes differ from those of one application.
+fn wrong_cut<C: Listed>(cipher: &mut C) -> Option<usize> {
+    let mut whole = [0; LENGTH];
+    let calls = [CipherCall::Apply { at: 0, len: LENGTH }];
+    if !all_done(cipher, &[], &mut whole, &calls) {
+        return Some(LENGTH);
+    }
+    for i in 0..SIZES.len() {
+        if !same_in_pieces(cipher, &whole, SIZES[i]) {
+            return Some(SIZES[i]);
+        }
+    }
+    for place in 0..34usize {
+        if !same_from(cipher, &whole, 61 * place) {
+            return Some(61 * place);
+        }
+    }
+    None
+}
+
+/// What is wrong with cuts of a new cipher: the size of the pieces, or the place of the seek.
+pub fn wrong_cuts<N, C: Fresh<N>>(nonce: &N) -> Verdict {
+    let direct = wrong_cut(&mut Directly(&mut C::fresh(&COUNTING, nonce)));
+    let listed = wrong_cut(&mut C::fresh(&COUNTING, nonce));
+    first_failure(&[
+        failed_for("a cut", direct),
+        failed_for("a cut by lists", listed),
+    ])
+}

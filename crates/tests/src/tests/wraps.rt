@@ -1,0 +1,124 @@
+//! Counters and positions that wrap, and states of any bytes, over each backend. Nothing here makes rounds, so that
+//! words can be computed by hand.
+
+use chacha20::cipher::{KeyIvInit, RngBackend, StreamCipherCounter, StreamCipherSeekCore};
+use chacha20::rand_core::SeedableRng;
+use chacha20::{ChaChaRng, Key, Nonce, Seed};
+use worked_rows::R0;
+use worked_rows::cores::last_row;
+use worked_rows::verdicts::{Verdict, failed, failed_for, first_failure};
+
+// The last rows of blocks 0, 2, 3 and 19 of twenty, and the position after them.
+type Ends = ([[u8; 16]; 4], u64);
+
+// Of twenty blocks at once from a counter on.
+fn ends<C: StreamCipherSeekCore>(core: &mut C, start: C::Counter) -> Ends {
+    let mut blocks = [[1; 64]; 20];
+    core.set_block_pos(start);
+    core.write_keystream_blocks(&mut blocks);
+    let rows = [
+        last_row(&blocks[0]),
+        last_row(&blocks[2]),
+        last_row(&blocks[3]),
+        last_row(&blocks[19]),
+    ];
+    (rows, core.get_block_pos().to_u64())
+}
+
+// A counter of 32 bits wraps to 0, and the nonce behind it stays.
+static IETF_WRAP: Ends = (
+    [
+        *b"\xfa\xff\xff\xff\0\0\0\0\0\0\0\0\0\0\0\0",
+        *b"\xfe\xff\xff\xff\0\0\0\0\0\0\0\0\0\0\0\0",
+        [0; 16],
+        *b"\x20\0\0\0\0\0\0\0\0\0\0\0\0\0\0\0",
+    ],
+    17,
+);
+
+// A counter of 64 bits carries into its high word.
+static LEGACY_CARRY: Ends = (
+    [
+        *b"\xfa\xff\xff\xff\0\0\0\0\0\0\0\0\0\0\0\0",
+        *b"\xfe\xff\xff\xff\0\0\0\0\0\0\0\0\0\0\0\0",
+        *b"\0\0\0\0\x02\0\0\0\0\0\0\0\0\0\0\0",
+        *b"\x20\0\0\0\x02\0\0\0\0\0\0\0\0\0\0\0",
+    ],
+    4294967313,
+);
+
+// And wraps to 0 as well.
+static LEGACY_WRAP: Ends = (
+    [
+        *b"\xfa\xff\xff\xff\xfe\xff\xff\xff\0\0\0\0\0\0\0\0",
+        *b"\xfe\xff\xff\xff\xfe\xff\xff\xff\0\0\0\0\0\0\0\0",
+        [0; 16],
+        *b"\x20\0\0\0\0\0\0\0\0\0\0\0\0\0\0\0",
+    ],
+    17,
+);
+
+/// What is wrong with twenty blocks of cores without rounds around the ends of counters.
+pub fn wrong_core<I, L>() -> Verdict
+where
+    I: KeyIvInit<Key = Key, Iv = Nonce> + StreamCipherSeekCore<Counter = u32> + Drop,
+    L: SeedableRng<Seed = Seed> + StreamCipherSeekCore<Counter = u64> + Drop,
+{
+    let mut ietf = I::new(&[0; 32], &[0; 12]);
+    let mut legacy = L::from_seed([0; 32]);
+    failed(
+        "around the ends of 32 bits, of a low word, and of 64 bits",
+        &[
+            ends(&mut ietf, u32::MAX - 2) == IETF_WRAP,
+            ends(&mut legacy, 0xffff_fffd) == LEGACY_CARRY,
+            ends(&mut legacy, u64::MAX - 2) == LEGACY_WRAP,
+        ],
+    )
+}
+
+// How many word positions there are.
+const POSITIONS: u128 = 1 << 68;
+
+const STREAM: u64 = 0x8000_0001_0000_0003;
+
+// The first of 131 numbers of words around the wrap after which a position is wrong, or asking for it changes a word.
+fn wrong_position<B: RngBackend<R0>>() -> Option<usize> {
+    let mut asked = ChaChaRng::<R0, B>::from_seed([0; 32]);
+    let mut unasked = ChaChaRng::<R0, B>::from_seed([0; 32]);
+    asked.set_stream(STREAM);
+    unasked.set_stream(STREAM);
+    asked.set_block_pos(u64::MAX - 1);
+    unasked.set_block_pos(u64::MAX - 1);
+    for words in 0..131usize {
+        let expected = (POSITIONS - 32 + words as u128) % POSITIONS;
+        let right = asked.get_word_pos() == expected
+            && u128::from(asked.get_block_pos()) == expected / 16
+            && asked.next_u32() == unasked.next_u32();
+        if !right {
+            return Some(words);
+        }
+    }
+    None
+}
+
+// The first value of a state's last byte that isn't taken modulo 16.
+fn wrong_last_byte<B: RngBackend<R0>>() -> Option<usize> {
+    for last in 0..=255u8 {
+        let mut state = [0; 49];
+        state[48] = last;
+        let rng = ChaChaRng::<R0, B>::deserialize_state(&state);
+        state[48] = last % 16;
+        if rng.get_word_pos() != u128::from(last % 16) << 64 || rng.serialize_state() != state {
+            return Some(usize::from(last));
+        }
+    }
+    None
+}
+
+/// What is wrong with positions of generators around the wrap, and with states of any last byte.
+pub fn wrong_generator<B: RngBackend<R0>>() -> Verdict {
+    first_failure(&[
+        failed_for("so many words around the wrap", wrong_position::<B>()),
+        failed_for("a state's last byte", wrong_last_byte::<B>()),
+    ])
+}

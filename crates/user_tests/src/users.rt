@@ -1,0 +1,21 @@
+//! What the named types are, what a caller proves from public contracts alone, what users write, as the crate `examples`
+//! does, and the exports for C.
+
+mod base;
+mod contracts;
+mod exports;
+mod file;
+mod frames;
+mod generator_cores;
+mod generator_states;
+mod log;
+mod message;
+mod names;
+mod one_time_key;
+mod pieces;
+mod readme;
+mod records;
+mod scalar;
+mod simulation;
+mod texts;
+mod xchacha;

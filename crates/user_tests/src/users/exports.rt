@@ -1,0 +1,331 @@
+//! Each export once, compared with published streams or with another export.
+//!
+//! The proof of a call grows with the callee's contract, and that of a function with the square of its length. So
+//! exports are called in functions without a contract, and the tests are short functions and tables.
+
+use chacha20::{Key, Nonce, R8, R12, R20, SerializedRngState, hchacha};
+use chacha20_c::chacha::{
+    chacha8_keystream_raw, chacha8_xor_between, chacha8_xor_in_place, chacha12_keystream_raw,
+    chacha12_xor_between, chacha12_xor_in_place, chacha20_check, chacha20_keystream_raw,
+    chacha20_xor_between, chacha20_xor_in_place,
+};
+use chacha20_c::generators::{
+    chacha_rng_from_seed, chacha_rng_get_block_pos, chacha_rng_get_stream, chacha_rng_get_word_pos,
+    chacha_rng_set_block_pos, chacha_rng_set_stream, chacha_rng_set_word_pos, chacha8_rng_fill_raw,
+    chacha8_rng_next_u32, chacha8_rng_next_u64, chacha12_rng_fill_raw, chacha12_rng_next_u32,
+    chacha12_rng_next_u64, chacha20_rng_fill_raw, chacha20_rng_next_u32, chacha20_rng_next_u64,
+};
+use chacha20_c::legacy::{
+    chacha20_legacy_check, chacha20_legacy_keystream_raw, chacha20_legacy_xor_between,
+    chacha20_legacy_xor_in_place,
+};
+use chacha20_c::xchacha::{
+    hchacha8, hchacha12, hchacha20, xchacha8_keystream_raw, xchacha8_xor_between,
+    xchacha8_xor_in_place, xchacha12_keystream_raw, xchacha12_xor_between, xchacha12_xor_in_place,
+    xchacha20_keystream_raw, xchacha20_xor_between, xchacha20_xor_in_place,
+};
+use worked_rows::published::{
+    CIPHERTEXT, COUNTING, MESSAGE, NONCE, OF_8_ROUNDS, OF_12_ROUNDS, OF_20_ROUNDS, X_NONCE,
+};
+
+static ZEROS: Key = [0; 32];
+
+// The exports of ciphers by their number of rounds; any other number is the legacy cipher.
+
+const LEGACY: u32 = 0;
+
+fn in_place(rounds: u32, key: &Key, nonce: &Nonce, position: u64, data: &mut [u8]) -> u32 {
+    match rounds {
+        8 => chacha8_xor_in_place(key, nonce, position, data),
+        12 => chacha12_xor_in_place(key, nonce, position, data),
+        20 => chacha20_xor_in_place(key, nonce, position, data),
+        _ => legacy_in_place(0, position, data),
+    }
+}
+
+// With a key and a nonce of zeros, from byte 8 on.
+fn between(rounds: u32, output: &mut [u8], input: &[u8]) -> u32 {
+    match rounds {
+        8 => chacha8_xor_between(&ZEROS, &[0; 12], 8, output, input),
+        12 => chacha12_xor_between(&ZEROS, &[0; 12], 8, output, input),
+        20 => chacha20_xor_between(&ZEROS, &[0; 12], 8, output, input),
+        _ => chacha20_legacy_xor_between(&ZEROS, &[0; 8], 0, 8, output, input),
+    }
+}
+
+fn keystream(rounds: u32, output: &mut [u8]) -> u32 {
+    match rounds {
+        8 => chacha8_keystream_raw(&ZEROS, &[0; 12], 8, output),
+        12 => chacha12_keystream_raw(&ZEROS, &[0; 12], 8, output),
+        20 => chacha20_keystream_raw(&ZEROS, &[0; 12], 8, output),
+        _ => legacy_keystream(0, 8, output),
+    }
+}
+
+// With a key and a nonce of zeros.
+fn legacy_in_place(block_pos: u64, offset: u64, data: &mut [u8]) -> u32 {
+    chacha20_legacy_xor_in_place(&ZEROS, &[0; 8], block_pos, offset, data)
+}
+
+fn legacy_keystream(block_pos: u64, offset: u64, output: &mut [u8]) -> u32 {
+    chacha20_legacy_keystream_raw(&ZEROS, &[0; 8], block_pos, offset, output)
+}
+
+// A number of rounds, what an output holds before the call, and the first bytes for a key and a nonce of zeros.
+static STREAMS: [(u32, u8, [u8; 32]); 4] = [
+    (8, 1, OF_8_ROUNDS),
+    (12, 2, OF_12_ROUNDS),
+    (20, 3, OF_20_ROUNDS),
+    (LEGACY, 4, OF_20_ROUNDS),
+];
+
+fn begins(rounds: u32, stream: &[u8; 32]) -> bool {
+    let mut bytes = [0; 32];
+    in_place(rounds, &ZEROS, &[0; 12], 0, &mut bytes) == 0 && bytes == *stream
+}
+
+// A stream from byte 8 on, combined with the stream, leaves zeros.
+fn cancels(rounds: u32, before: u8, stream: &[u8; 32]) -> bool {
+    let mut bytes = [before; 24];
+    between(rounds, &mut bytes, &stream[8..]) == 0 && bytes == [0; 24]
+}
+
+// The keystream goes over whatever was there.
+fn written(rounds: u32, before: u8, stream: &[u8; 32]) -> bool {
+    let mut bytes = [before; 24];
+    keystream(rounds, &mut bytes) == 0 && stream.ends_with(&bytes)
+}
+
+fn streams() -> bool {
+    for (rounds, before, stream) in &STREAMS {
+        if !begins(*rounds, stream)
+            || !cancels(*rounds, *before, stream)
+            || !written(*rounds, *before, stream)
+        {
+            return false;
+        }
+    }
+    true
+}
+
+// The message of RFC 8439, section 2.4.2, from block 1 on.
+fn message() -> bool {
+    let mut text = *MESSAGE;
+    in_place(20, &COUNTING, &NONCE, 64, &mut text) == 0 && text == *CIPHERTEXT
+}
+
+// The last byte of the stream, and the byte before it.
+fn legacy_ends() -> bool {
+    let (mut last, mut two) = ([0; 1], [0; 2]);
+    legacy_keystream(u64::MAX, 63, &mut last) == 0
+        && legacy_in_place(u64::MAX, 62, &mut two) == 0
+        && last[0] == two[1]
+}
+
+// A block whose first byte has a number past 64 bits.
+fn legacy_goes_far() -> bool {
+    let (mut early, mut far) = ([0; 8], [0; 8]);
+    legacy_in_place(1 << 58, 0, &mut far) == 0
+        && legacy_in_place(1, u64::MAX - 63, &mut early) == 0
+        && early == far
+        && !OF_20_ROUNDS.starts_with(&far)
+}
+
+// The front of the nonce of 24 bytes, and the nonce of 12 that is made of its end.
+static X_FRONT: [u8; 16] = *b"@ABCDEFGHIJKLMNO";
+
+static DERIVED_NONCE: Nonce = *b"\0\0\0\0PQRSTUVX";
+
+fn extended_in_place(rounds: u32, position: u64, data: &mut [u8]) -> u32 {
+    match rounds {
+        8 => xchacha8_xor_in_place(&COUNTING, &X_NONCE, position, data),
+        12 => xchacha12_xor_in_place(&COUNTING, &X_NONCE, position, data),
+        _ => xchacha20_xor_in_place(&COUNTING, &X_NONCE, position, data),
+    }
+}
+
+fn extended_between(rounds: u32, output: &mut [u8], input: &[u8]) -> u32 {
+    match rounds {
+        8 => xchacha8_xor_between(&COUNTING, &X_NONCE, 9, output, input),
+        12 => xchacha12_xor_between(&COUNTING, &X_NONCE, 9, output, input),
+        _ => xchacha20_xor_between(&COUNTING, &X_NONCE, 9, output, input),
+    }
+}
+
+fn extended_keystream(rounds: u32, output: &mut [u8]) -> u32 {
+    match rounds {
+        8 => xchacha8_keystream_raw(&COUNTING, &X_NONCE, 9, output),
+        12 => xchacha12_keystream_raw(&COUNTING, &X_NONCE, 9, output),
+        _ => xchacha20_keystream_raw(&COUNTING, &X_NONCE, 9, output),
+    }
+}
+
+// The key that is made of the key and of the nonce's front.
+fn derived(rounds: u32) -> Key {
+    match rounds {
+        8 => hchacha::<R8>(&COUNTING, &X_FRONT),
+        12 => hchacha::<R12>(&COUNTING, &X_FRONT),
+        _ => hchacha::<R20>(&COUNTING, &X_FRONT),
+    }
+}
+
+fn extends(rounds: u32) -> bool {
+    let (mut bytes, mut beside) = ([0; 70], [0; 70]);
+    extended_in_place(rounds, 3, &mut bytes) == 0
+        && in_place(rounds, &derived(rounds), &DERIVED_NONCE, 3, &mut beside) == 0
+        && bytes == beside
+}
+
+// Each call has the same bytes from byte 9 on.
+fn extended_agree(rounds: u32) -> bool {
+    let (mut written, mut combined, mut first) = ([b'x'; 5], [b'x'; 5], [0; 14]);
+    extended_keystream(rounds, &mut written) == 0
+        && extended_between(rounds, &mut combined, &[0; 5]) == 0
+        && extended_in_place(rounds, 0, &mut first) == 0
+        && written == combined
+        && first.ends_with(&written)
+}
+
+fn extended() -> bool {
+    for rounds in [8, 12, 20] {
+        if !extends(rounds) || !extended_agree(rounds) {
+            return false;
+        }
+    }
+    true
+}
+
+fn subkey(rounds: u32, input: &[u8; 16]) -> Key {
+    let mut key = [0; 32];
+    match rounds {
+        8 => hchacha8(&COUNTING, input, &mut key),
+        12 => hchacha12(&COUNTING, input, &mut key),
+        _ => hchacha20(&COUNTING, input, &mut key),
+    }
+    key
+}
+
+static INPUT: [u8; 16] = *b"\x00\x00\x00\x09\x00\x00\x00\x4a\x00\x00\x00\x00\x31\x41\x59\x27";
+
+static SUBKEY: Key = *b"\x82\x41\x3b\x42\x27\xb2\x7b\xfe\xd3\x0e\x42\x50\x8a\x87\x7d\x73\
+    \xa0\xf9\xe4\xd5\x8a\x74\xa8\x53\xc1\x2e\xc4\x13\x26\xd3\xec\xdc";
+
+// HChaCha20 (draft-irtf-cfrg-xchacha, section 2.2.1); fewer rounds compared with the library's.
+fn subkeys() -> bool {
+    subkey(8, &X_FRONT) == derived(8)
+        && subkey(12, &X_FRONT) == derived(12)
+        && subkey(20, &INPUT) == SUBKEY
+}
+
+fn refuses() -> bool {
+    let mut kept = [7; 2];
+    legacy_in_place(u64::MAX, 63, &mut kept) == 1
+        && in_place(20, &ZEROS, &[0; 12], u64::MAX, &mut kept) == 1
+        && xchacha20_xor_between(&ZEROS, &X_NONCE, 0, &mut kept, b"Hello") == 1
+        && kept == [7; 2]
+}
+
+fn checks() -> bool {
+    chacha20_check(274877906944, 1) == 1
+        && chacha20_check(274877906934, 10) == 0
+        && chacha20_check(u64::MAX, usize::MAX) == 1
+        && chacha20_legacy_check(u64::MAX, 63, 1) == 0
+        && chacha20_legacy_check(u64::MAX, 63, 2) == 1
+        && chacha20_legacy_check(u64::MAX, u64::MAX, usize::MAX) == 1
+}
+
+fn word(rounds: u32, state: &mut SerializedRngState) -> u32 {
+    match rounds {
+        8 => chacha8_rng_next_u32(state),
+        12 => chacha12_rng_next_u32(state),
+        _ => chacha20_rng_next_u32(state),
+    }
+}
+
+fn two_words(rounds: u32, state: &mut SerializedRngState) -> u64 {
+    match rounds {
+        8 => chacha8_rng_next_u64(state),
+        12 => chacha12_rng_next_u64(state),
+        _ => chacha20_rng_next_u64(state),
+    }
+}
+
+fn fill(rounds: u32, state: &mut SerializedRngState, output: &mut [u8]) {
+    match rounds {
+        8 => chacha8_rng_fill_raw(state, output),
+        12 => chacha12_rng_fill_raw(state, output),
+        _ => chacha20_rng_fill_raw(state, output),
+    }
+}
+
+// The state of a seed of zeros.
+fn seeded() -> SerializedRngState {
+    let mut state = [1; 49];
+    chacha_rng_from_seed(&ZEROS, &mut state);
+    state
+}
+
+// A number of rounds, and the first word, the next two and the low bytes of the fourth for a seed of zeros, which are
+// those of the ciphers.
+static READS: [(u32, u32, u64, [u8; 3]); 3] = [
+    (8, 0x2fef_003e, 0xe8b8_5b7f_d640_5f89, *b"\x1f\x09\xa5"),
+    (12, 0x6a9a_f49b, 0x12ce_1f81_53f9_5507, *b"\x5f\x26\x83"),
+    (20, 0xade0_b876, 0xe56a_5d40_903d_f1a0, *b"\x53\x86\xbd"),
+];
+
+fn reads() -> bool {
+    for (rounds, first, next, last) in &READS {
+        if !reads_as(*rounds, *first, *next, last) {
+            return false;
+        }
+    }
+    true
+}
+
+fn reads_as(rounds: u32, first: u32, next: u64, last: &[u8; 3]) -> bool {
+    let mut state = seeded();
+    let mut bytes = [0; 3];
+    let right = word(rounds, &mut state) == first && two_words(rounds, &mut state) == next;
+    fill(rounds, &mut state, &mut bytes);
+    let mut after = seeded();
+    after[40] = 4;
+    right && bytes == *last && state == after
+}
+
+fn word_pos_is(state: &SerializedRngState, low: u64, high: u64) -> bool {
+    let (mut read_low, mut read_high) = (1, 1);
+    chacha_rng_get_word_pos(state, &mut read_low, &mut read_high);
+    read_low == low && read_high == high
+}
+
+// The stream is set first, since that moves to its first word.
+fn positions() -> bool {
+    let mut state = [0xff; 49];
+    chacha_rng_set_stream(&mut state, 0x0807_0605_0403_0201);
+    let first = word_pos_is(&state, 0, 0) && state[48] == 0;
+    chacha_rng_set_block_pos(&mut state, u64::MAX);
+    let last = chacha_rng_get_block_pos(&state) == u64::MAX
+        && word_pos_is(&state, u64::MAX - 15, 15);
+    chacha_rng_set_word_pos(&mut state, 5, 0x1_0000_000a);
+    first && last && word_pos_is(&state, 5, 10) && stream_is_stored(&state)
+}
+
+fn stream_is_stored(state: &SerializedRngState) -> bool {
+    chacha_rng_get_stream(state) == 0x0807_0605_0403_0201
+        && state[32..41].starts_with(b"\x01\x02\x03\x04\x05\x06\x07\x08\x05")
+}
+
+#[test]
+fn ciphers(rt: HostRuntime) {
+    assert!(rt; streams() && message() && extended() && subkeys());
+}
+
+#[test]
+fn ends(rt: HostRuntime) {
+    assert!(rt; legacy_ends() && legacy_goes_far() && refuses() && checks());
+}
+
+#[test]
+fn generators(rt: HostRuntime) {
+    assert!(rt; reads() && positions());
+}

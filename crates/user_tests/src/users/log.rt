@@ -1,0 +1,37 @@
+//! A published message as lines of a log, and what a writer refuses.
+
+use examples::log::LogWriter;
+use worked_rows::published::{CIPHERTEXT, COUNTING, MESSAGE, NONCE};
+
+// Whether a writer takes a line, and how many bytes the log then has.
+fn appends(writer: &mut LogWriter, line: &mut [u8], end: u64) -> bool {
+    writer.append(line).is_ok() && writer.len() == end
+}
+
+// The same of a writer that goes on after so many bytes.
+fn is_appended(len: u64, line: &mut [u8], end: u64) -> bool {
+    match LogWriter::resume(&COUNTING, &NONCE, len) {
+        Ok(mut writer) => appends(&mut writer, line, end),
+        Err(_) => false,
+    }
+}
+
+// The message in two lines, the second by a writer that goes on.
+#[test]
+fn message_in_lines(rt: HostRuntime) {
+    let mut first = [0; 100];
+    let mut second = [0; 78];
+    first[64..].copy_from_slice(&MESSAGE[..36]);
+    second.copy_from_slice(&MESSAGE[36..]);
+    let new = appends(&mut LogWriter::new(&COUNTING, &NONCE), &mut first, 100);
+    assert!(rt; new && is_appended(100, &mut second, 178));
+    assert!(rt; CIPHERTEXT.starts_with(&first[64..]) && CIPHERTEXT.ends_with(&second));
+}
+
+#[test]
+fn end_of_a_log(rt: HostRuntime) {
+    let mut line = [7; 2];
+    assert!(rt; !is_appended(274877906945, &mut [], 274877906945));
+    assert!(rt; !is_appended(274877906943, &mut line, 274877906945) && line == [7; 2]);
+    assert!(rt; is_appended(274877906943, &mut line[..1], 274877906944));
+}

@@ -1,0 +1,159 @@
+//! Every public name by the crate's root and by its module, and which types the aliases name. Most names are only
+//! imported: that they are found is the test.
+
+use chacha20::{
+    BlockSizeUser, ChaCha8, ChaCha8Rng, ChaCha12, ChaCha12Rng, ChaCha20, ChaCha20Legacy,
+    ChaCha20LegacyCore, ChaCha20Rng, ChaChaCore, ChaChaRng, CipherAnswer, CipherCall, Generator,
+    Ietf, IvSizeUser, Key, KeyIvInit, KeySizeUser, Keystream, Lanes4, Lanes8, Lanes16, Legacy,
+    LegacyNonce, Nonce, OverflowError, ParBlocksSizeUser, R8, R12, R20, RngAnswer, RngBackend,
+    RngCall, Rounds, Rows8, Seed, SeekNum, SerializedRngState, Soft, Steps, StreamCipher,
+    StreamCipherBackend, StreamCipherCore, StreamCipherCoreWrapper, StreamCipherCounter,
+    StreamCipherError, StreamCipherSeek, StreamCipherSeekCore, Variant, XChaCha8, XChaCha12,
+    XChaCha20, XChaChaCore, XNonce, backends, cipher, hchacha, rand_core, run_cipher, run_rng,
+    runs, variants,
+};
+use worked_rows::published::{OF_8_ROUNDS, OF_12_ROUNDS, OF_20_ROUNDS};
+
+// The same names by their modules.
+mod by_module {
+    use chacha20::backends::{Lanes4, Lanes8, Lanes16, Rows8, Soft};
+    use chacha20::cipher::{
+        BlockSizeUser, IvSizeUser, KeyIvInit, KeySizeUser, Keystream, OverflowError,
+        ParBlocksSizeUser, RngBackend, SeekNum, StreamCipher, StreamCipherBackend,
+        StreamCipherCore, StreamCipherCoreWrapper, StreamCipherCounter, StreamCipherError,
+        StreamCipherSeek, StreamCipherSeekCore,
+    };
+    use chacha20::runs::{CipherAnswer, CipherCall, RngAnswer, RngCall, run_cipher, run_rng};
+    use chacha20::variants::{Ietf, Legacy, StreamCipherCounter as Counter, Variant};
+}
+
+// Sizes of blocks, keys and nonces, and blocks in a parallel call.
+fn sizes<C>() -> [usize; 4]
+where
+    C: BlockSizeUser + KeySizeUser + IvSizeUser + ParBlocksSizeUser,
+{
+    [C::BLOCK_SIZE, C::KEY_SIZE, C::IV_SIZE, C::PAR_BLOCKS]
+}
+
+#[test]
+fn sizes_of_cores(rt: HostRuntime) {
+    let found = [
+        sizes::<ChaChaCore<R8, Ietf, Soft>>(),
+        sizes::<ChaChaCore<R12, Ietf, Lanes4>>(),
+        sizes::<ChaChaCore<R20, Legacy, Lanes8>>(),
+        sizes::<ChaCha20LegacyCore>(),
+        sizes::<XChaChaCore<R20, Rows8>>(),
+        sizes::<XChaChaCore<R20, Lanes16>>(),
+    ];
+    assert!(rt; found == SIZES);
+}
+
+static SIZES: [[usize; 4]; 6] = [
+    [64, 32, 12, 1],
+    [64, 32, 12, 4],
+    [64, 32, 8, 4],
+    [64, 32, 8, 16],
+    [64, 32, 24, 8],
+    [64, 32, 24, 16],
+];
+
+// The sizes of a cipher's key and nonce. No cipher is handed over: the argument names its type.
+fn sizes_of_type<K>(_cipher: Option<&StreamCipherCoreWrapper<K>>) -> (usize, usize)
+where
+    K: StreamCipherSeekCore + KeySizeUser + IvSizeUser,
+{
+    (
+        StreamCipherCoreWrapper::<K>::KEY_SIZE,
+        StreamCipherCoreWrapper::<K>::IV_SIZE,
+    )
+}
+
+// The same, after the first bytes of a new cipher.
+fn of_type<K>(
+    key: &K::Key,
+    nonce: &K::Iv,
+    cipher: Option<&StreamCipherCoreWrapper<K>>,
+) -> ([u8; 32], (usize, usize))
+where
+    K: KeyIvInit + KeySizeUser + IvSizeUser + StreamCipherSeekCore + Drop,
+{
+    let sizes = sizes_of_type(cipher);
+    let mut cipher = StreamCipherCoreWrapper::<K>::new(key, nonce);
+    let mut bytes = [0; 32];
+    let _ = cipher.try_apply_keystream(&mut bytes);
+    (bytes, sizes)
+}
+
+static FIRST_BYTES: [([u8; 32], (usize, usize)); 4] = [
+    (OF_8_ROUNDS, (32, 12)),
+    (OF_12_ROUNDS, (32, 12)),
+    (OF_20_ROUNDS, (32, 12)),
+    (OF_20_ROUNDS, (32, 8)),
+];
+
+static KEY: Key = [0; 32];
+
+static NONCE: Nonce = [0; 12];
+
+static LEGACY_NONCE: LegacyNonce = [0; 8];
+
+// The first bytes of each named type, and its sizes.
+#[test]
+fn ciphers(rt: HostRuntime) {
+    let found = [
+        of_type(&KEY, &NONCE, None::<&ChaCha8>),
+        of_type(&KEY, &NONCE, None::<&ChaCha12>),
+        of_type(&KEY, &NONCE, None::<&ChaCha20>),
+        of_type(&KEY, &LEGACY_NONCE, None::<&ChaCha20Legacy>),
+    ];
+    assert!(rt; found == FIRST_BYTES && sizes_of_type(None::<&XChaCha20>) == (32, 24));
+}
+
+// The subkey of zeros is that of the tests of golang.org/x/crypto, of which the first bytes are given.
+#[test]
+fn subkey(rt: HostRuntime) {
+    assert!(rt; hchacha::<R20>(&KEY, &[0; 16]).starts_with(b"\x11\x40\x70\x4c\x32\x8d\x1d\x5d"));
+}
+
+type Cipher<K> = StreamCipherCoreWrapper<K>;
+
+// The type that each alias names, its backend included: another type would not be accepted here.
+fn ciphers_in_full(
+    named: (
+        ChaCha8,
+        ChaCha12,
+        ChaCha20,
+        ChaCha20Legacy,
+        XChaCha8,
+        XChaCha12,
+        XChaCha20,
+    ),
+) -> (
+    Cipher<ChaChaCore<R8, Ietf, Lanes16>>,
+    Cipher<ChaChaCore<R12, Ietf, Lanes16>>,
+    Cipher<ChaChaCore<R20, Ietf, Lanes16>>,
+    Cipher<ChaChaCore<R20, Legacy, Lanes16>>,
+    Cipher<XChaChaCore<R8, Lanes16>>,
+    Cipher<XChaChaCore<R12, Lanes16>>,
+    Cipher<XChaChaCore<R20, Lanes16>>,
+) {
+    named
+}
+
+fn legacy_core_in_full(named: ChaCha20LegacyCore) -> ChaChaCore<R20, Legacy, Lanes16> {
+    named
+}
+
+fn generators_in_full(
+    named: (ChaCha8Rng, ChaCha12Rng, ChaCha20Rng),
+) -> (
+    ChaChaRng<R8, Lanes8>,
+    ChaChaRng<R12, Lanes8>,
+    ChaChaRng<R20, Lanes8>,
+) {
+    named
+}
+
+fn bytes_in_full(named: (XNonce, Seed, SerializedRngState)) -> ([u8; 24], [u8; 32], [u8; 49]) {
+    named
+}

@@ -1,3 +1,0 @@
-pub mod RowLemmas
-pub mod CoreLemmas
-pub mod DrawLemmas

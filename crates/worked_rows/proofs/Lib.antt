@@ -1,0 +1,3 @@
+pub mod VerdictLemmas
+pub mod CoreLemmas
+pub mod DrawLemmas
