@@ -1,5 +1,5 @@
 //! The ciphers and generators of `chacha20` for C, and for what can call C. `include/chacha20.h` declares each function.
-//! `c/Makefile` makes a static library of this crate; here it is a library, so that `vectors` can test the exports.
+//! `c/Makefile` makes a static library of this crate; here it is a library, so that `user_tests` can test the exports.
 //!
 //! A slice is passed as a pointer and then its length, an array as a pointer. No pointer is null, even where a length
 //! is 0, and what a call writes overlaps nothing else that it is given. Arguments come in the order key, nonce,

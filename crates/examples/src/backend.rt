@@ -1,4 +1,4 @@
-//! A backend of a user's own, over the public names of `chacha20` alone. The tests of `vectors` run over it too.
+//! A backend of a user's own, over the public names of `chacha20` alone. The crate `tests` runs over it too.
 
 ghost use Rattle.std.specs.Prelude.{◌≡◌, length};
 ghost use Rattle.chacha20.specs.State.{state_after, AreNextBlocks};
