@@ -82,6 +82,7 @@ pub fn write_one<R: Rounds, V: Variant, G: Group, const W: usize>(
 {
     steps.add_other();
     let words = mixed_words::<R, V, G, W>(state, steps);
+    // A slice, since no part of an array whose length is a const parameter can be borrowed.
     let made = &words[..];
     write_bytes(&made[0], block);
     advance::<V>(state, 1);
@@ -131,6 +132,7 @@ pub fn write_tail<R: Rounds, V: Variant, G: Group, const W: usize>(
     if !blocks.is_empty() {
         steps.add_other();
         let words = mixed_words::<R, V, G, W>(state, steps);
+        // A slice, as in `write_one`.
         let made = &words[..];
         'each: for g in 0..blocks.len() {
             write_bytes(&made[g], &mut blocks[g]);
