@@ -63,7 +63,7 @@ fn mixed_words<R: Rounds, V: Variant, G: Group, const W: usize>(
     words
 }
 
-/// Writes the next block, and counts one other call. The counter moves by one, whatever else the group makes.
+/// Writes the next block, and counts one `other` call. The counter moves by one, even if the group has more blocks.
 #[inline(always)]
 pub fn write_one<R: Rounds, V: Variant, G: Group, const W: usize>(
     state: &mut [u32; 16],
@@ -111,8 +111,8 @@ pub fn write_group<R: Rounds, V: Variant, G: Group, const W: usize>(
     advance::<V>(state, W);
 }
 
-/// Writes at most as many blocks as a group has. Where there are any, the group is made once, and counts as one other
-/// call. Where there are none, nothing is made.
+/// Writes at most as many blocks as a group has. For one block or more the group is made once, and counts as one `other`
+/// call. For none, nothing is made.
 #[inline(always)]
 pub fn write_tail<R: Rounds, V: Variant, G: Group, const W: usize>(
     state: &mut [u32; 16],
@@ -155,7 +155,7 @@ pub fn write_buffer<R: Rounds, G: Group>(
         ≡ record steps.old { rounds = steps.old.rounds + 2 * G.ROUND_STEPS * R.COUNT } }
 {
     let words = mixed_words::<R, Legacy, G, 4>(state, steps);
-    'four: for i in 0..4usize {
+    'each: for i in 0..4usize {
         buffer[16 * i..16 * i + 16].copy_from_slice(&words[i]);
     }
     advance::<Legacy>(state, 4);

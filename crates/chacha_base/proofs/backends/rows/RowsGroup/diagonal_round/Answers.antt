@@ -8,6 +8,6 @@ pub returns-clause-blocks : goal.returns-clause-blocks
 returns-clause-blocks g c b h =
     c.rows_turned.ensures b h
     ∙ ap (undiagonalized g.row.STAYS)
-    (columns-of-lanes g.V.Vector.FOURS g.V.Vector.lane _ _ c.quarter_round-mixed.ensures.lanes b h
+    (columns-of-lanes g.V.Vector.QUADS g.V.Vector.lane _ _ c.quarter_round-mixed.ensures.lanes b h
     ∙ ap columns (c.rows_turned-diagonalized.ensures b h))
     ∙ columns-diagonalized g.row.STAYS _

@@ -13,7 +13,7 @@ each-preserved g c =
           below_more (λ h. row (slice_index c.set_row.new.words) h ≡ row (slice_index (slice_index_or last h [])) 0)
           c.each.g
           (λ h less.
-          c.set_row.ensures.elsewhere h (omega (arith, less, g.met.V.Vector.fours_at_most)) (omega arith)
+          c.set_row.ensures.elsewhere h (omega (arith, less, g.met.V.Vector.quads_at_most)) (omega arith)
           ∙ c.each.invariant.done h less)
           c.set_row.ensures.here;
     }
