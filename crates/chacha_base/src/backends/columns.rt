@@ -3,7 +3,7 @@
 ghost use Rattle.std.specs.Prelude.{◌≡◌, ◌<◌, ℕ, ◌+◌, ◌*◌, ⊤, [], ◌∷◌, length, slice_index, slice_index_or};
 ghost use Rattle.chacha_base.specs.Rounds.{columns, diagonals, rounds};
 ghost use Rattle.chacha_base.specs.ColumnVectors.{block_in_columns};
-ghost use Rattle.chacha_base.specs.Lanes.{row};
+ghost use Rattle.chacha_base.specs.Lanes.{quad};
 ghost use Rattle.chacha_base.specs.Vectors.{words_at, block_in_rows};
 
 use crate::backends::group::{BlockBuffer, Group, write_block};
@@ -60,13 +60,13 @@ fn column<V: Vector>(state: &[u32; 16], last_rows: &[[u32; 4]], k: usize) -> Fou
 #[inline(always)]
 fn transposed<V: ColumnVector>(w0: V, w1: V, w2: V, w3: V) -> FourVectors<V>
     ensures first { (g : ℕ) → g < V.QUADS
-        → row (V.lane result.0) g ≡ words_at V.lane w0 w1 w2 w3 (4 * g) }
+        → quad (V.lane result.0) g ≡ words_at V.lane w0 w1 w2 w3 (4 * g) }
     ensures second { (g : ℕ) → g < V.QUADS
-        → row (V.lane result.1) g ≡ words_at V.lane w0 w1 w2 w3 (4 * g + 1) }
+        → quad (V.lane result.1) g ≡ words_at V.lane w0 w1 w2 w3 (4 * g + 1) }
     ensures third { (g : ℕ) → g < V.QUADS
-        → row (V.lane result.2) g ≡ words_at V.lane w0 w1 w2 w3 (4 * g + 2) }
+        → quad (V.lane result.2) g ≡ words_at V.lane w0 w1 w2 w3 (4 * g + 2) }
     ensures fourth { (g : ℕ) → g < V.QUADS
-        → row (V.lane result.3) g ≡ words_at V.lane w0 w1 w2 w3 (4 * g + 3) }
+        → quad (V.lane result.3) g ≡ words_at V.lane w0 w1 w2 w3 (4 * g + 3) }
 {
     let (low_02, high_02) = w0.interleaved(w2);
     let (low_13, high_13) = w1.interleaved(w3);

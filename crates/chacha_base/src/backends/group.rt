@@ -3,7 +3,7 @@
 ghost use Rattle.std.specs.Prelude.{◌≡◌, ◌<◌, ℕ, ◌+◌, ◌-◌, ◌*◌, ⊤, nat_lt, if◌then◌else◌, List, [], length, slice_get, slice_index, slice_index_or, Some};
 ghost use Rattle.chacha_base.specs.Bytes.{bytes};
 ghost use Rattle.chacha_base.specs.Rounds.{columns, diagonals, rounds, add_states};
-ghost use Rattle.chacha_base.specs.Lanes.{row, with_last_row};
+ghost use Rattle.chacha_base.specs.Lanes.{quad, with_last_row};
 ghost use Rattle.chacha_base.specs.Vectors.{block_in_rows};
 
 use crate::backends::vector::{FourVectors, Vector};
@@ -162,7 +162,7 @@ impl BlockBuffer for [u8; 64] {
 #[inline(always)]
 fn write_row(words: u32x4, output: &mut [u8])
     requires { length output.old ≡ 16 }
-    ensures { output.new ≡ bytes (row (slice_index words) 0) }
+    ensures { output.new ≡ bytes (quad (slice_index words) 0) }
 {
     words.to_le_bytes().copy_to_slice(output);
 }

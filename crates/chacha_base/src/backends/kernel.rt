@@ -111,8 +111,8 @@ pub fn write_group<R: Rounds, V: Variant, G: Group, const W: usize>(
     advance::<V>(state, W);
 }
 
-/// Writes at most as many blocks as a group has. For one block or more the group is made once, and counts as one `other`
-/// call. For none, nothing is made.
+/// Writes at most as many blocks as a group has. For one block or more the group is made once, and counts as one
+/// `other` call. For none, nothing is made.
 #[inline(always)]
 pub fn write_tail<R: Rounds, V: Variant, G: Group, const W: usize>(
     state: &mut [u32; 16],

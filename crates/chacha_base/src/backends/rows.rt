@@ -1,8 +1,7 @@
 //! Groups of blocks in rows: a vector for each row of a state, and a quad for each block.
 
 ghost use Rattle.std.specs.Prelude.{◌≡◌, ◌<◌, ℕ, ◌*◌, ⊤, [], ◌∷◌, slice_index};
-ghost use Rattle.chacha_base.specs.Lanes.{row, state_row};
-ghost use Rattle.chacha_base.specs.Diagonalized.{rows_turned};
+ghost use Rattle.chacha_base.specs.Lanes.{quad, state_row, rows_turned};
 ghost use Rattle.chacha_base.specs.Vectors.{block_in_rows};
 
 use crate::backends::group::{BlockBuffer, Group, write_block};
@@ -11,8 +10,8 @@ use crate::rounds::Steps;
 use std::alloc::AllocError;
 
 /// States in rows, one in each quad. A round of the diagonals first turns the rows, so that each diagonal becomes a
-/// column: row `STAYS` stays, and the rows after it, in a circle, turn to the left by 1, 2 and 3 places. A quarter round
-/// reads row 1 (b) first and writes it last, so if that row stays, the others turn in the meantime.
+/// column: row `STAYS` stays, and the rows after it, in a circle, turn to the left by 1, 2 and 3 places. A quarter
+/// round reads row 1 (b) first and writes it last, so if that row stays, the others turn in the meantime.
 pub struct Rows<V, const STAYS: usize>(FourVectors<V>);
 
 // By hand, as a copy: what a derive writes clones each field.
@@ -31,7 +30,7 @@ impl<V: Copy, const STAYS: usize> Copy for Rows<V, STAYS> {}
 // The vector that has these four words in each quad.
 #[inline(always)]
 fn repeated<V: Vector>(w0: u32, w1: u32, w2: u32, w3: u32) -> V
-    ensures { (g : ℕ) → g < V.QUADS → row (V.lane result) g ≡ w0 ∷ w1 ∷ w2 ∷ w3 ∷ [] }
+    ensures { (g : ℕ) → g < V.QUADS → quad (V.lane result) g ≡ w0 ∷ w1 ∷ w2 ∷ w3 ∷ [] }
 {
     V::from_words(&[
         w0, w1, w2, w3, w0, w1, w2, w3, w0, w1, w2, w3, w0, w1, w2, w3,

@@ -12,8 +12,8 @@ use crate::rounds::{Rounds, Steps};
 use crate::variants::Variant;
 use std::simd::prelude::*;
 
-/// Eight blocks in a parallel call, in rows, with a vector of four words for each row of each block (this crate). A call
-/// for a single block makes eight as well, and keeps the first; a generator's call makes four.
+/// Eight blocks in a parallel call, in rows, with a vector of four words for each row of each block (this crate). A
+/// call for a single block makes eight as well, and keeps the first; a generator's call makes four.
 #[derive(Clone, Copy, Debug)]
 pub struct Rows8;
 

@@ -3,7 +3,7 @@
 ghost use Rattle.std.specs.Prelude.{◌≡◌, ◌≤◌, ◌<◌, ℕ, ◌+◌, ◌*◌, ⊤, bit_xor, slice_index};
 ghost use Rattle.chacha_base.specs.Words.{add, rotl};
 ghost use Rattle.chacha_base.specs.QuarterRound.{quarter};
-ghost use Rattle.chacha_base.specs.Lanes.{row, interleaved_low, interleaved_high, turned};
+ghost use Rattle.chacha_base.specs.Lanes.{quad, interleaved_low, interleaved_high, turned};
 ghost use Rattle.chacha_base.specs.Vectors.{lanes_at, sums_at};
 
 use crate::rounds::Steps;
@@ -37,12 +37,12 @@ pub trait Vector: Copy {
 
     /// The vector with the words of each quad turned to the left by `by` places.
     fn turned(self, by: usize) -> Self
-        ensures { (g : ℕ) → g < QUADS → row (lane result) g ≡ turned by (row (lane self) g) };
+        ensures { (g : ℕ) → g < QUADS → quad (lane result) g ≡ turned by (quad (lane self) g) };
 
     /// The words of quad g.
     fn quad(self, g: usize) -> u32x4
         requires { g < QUADS }
-        ensures { row (slice_index result) 0 ≡ row (lane self) g };
+        ensures { quad (slice_index result) 0 ≡ quad (lane self) g };
 
     ghost quads_at_most: { QUADS ≤ 4 };
 }
@@ -57,10 +57,10 @@ pub trait ColumnVector: Vector {
     /// Interleaves each quad with the same quad of another vector: the first vector has the first two words of both, by
     /// turns, and the second the last two.
     fn interleaved(self, other: Self) -> (Self, Self)
-        ensures low { (g : ℕ) → g < Self.QUADS → row (Self.lane result.0) g
-            ≡ interleaved_low (row (Self.lane self) g) (row (Self.lane other) g) }
-        ensures high { (g : ℕ) → g < Self.QUADS → row (Self.lane result.1) g
-            ≡ interleaved_high (row (Self.lane self) g) (row (Self.lane other) g) };
+        ensures low { (g : ℕ) → g < Self.QUADS → quad (Self.lane result.0) g
+            ≡ interleaved_low (quad (Self.lane self) g) (quad (Self.lane other) g) }
+        ensures high { (g : ℕ) → g < Self.QUADS → quad (Self.lane result.1) g
+            ≡ interleaved_high (quad (Self.lane self) g) (quad (Self.lane other) g) };
 }
 
 /// Words a, b, c and d of a quarter round in each lane. In rows these are the rows of states, in columns a column or a

@@ -1,6 +1,6 @@
 use Rattle.std.proofs.Common.{◌∙◌, ap}
 use Rattle.chacha_base.specs.Rounds.{columns}
-use Rattle.chacha_base.specs.Diagonalized.{undiagonalized}
+use Rattle.chacha_base.specs.Lanes.{undiagonalized}
 use Rattle.chacha_base.proofs.RowLemmas.{columns-of-lanes, columns-diagonalized}
 use Rattle.chacha_base.proofs.backends.rows.RowsGroup.diagonal_round.Goals as goal
 
