@@ -63,8 +63,8 @@ const TOP_AT: usize = 48;
 /// number of double rounds, `B` the backend that makes the words. No call is refused.
 pub struct ChaChaRng<R: Rounds, B> {
     core: ChaChaCore<R, Legacy, B>,
-    // While `index` is below `BUFFER_WORDS`, the buffer holds the words of the last four blocks that the core made, and those
-    // before `index` are used.
+    // While `index` is below `BUFFER_WORDS`, the buffer holds the words of the last four blocks that the core made, and
+    // those before `index` are used.
     buffer: [u32; BUFFER_WORDS],
     index: usize,
 }
@@ -266,7 +266,8 @@ impl<R: Rounds, B: RngBackend<R>> ChaChaRng<R, B> {
     }
 }
 
-// Fills the buffer where no words are left in it. In the reads only this test is inlined.
+// Fills the buffer if no words are left in it. This function is inlined into each read, and `generate` isn't: so a
+// read has only the test and a call.
 #[inline(always)]
 fn refill<R: Rounds, B: RngBackend<R>>(
     core: &mut ChaChaCore<R, Legacy, B>,
@@ -346,7 +347,7 @@ impl<R: Rounds, B: RngBackend<R>> PartialEq for ChaChaRng<R, B> {
         ensures value { result ≡ same_generator self.now other.now }
         ensures same { IsTrue result ↔ (self.now ≡ other.now) }
     {
-        // All three tests are made, whatever the first ones say: one equation proves it.
+        // All three comparisons are made, even if the first one fails, so that one equation proves the result.
         (self.get_word_pos() == other.get_word_pos())
             & (self.get_stream() == other.get_stream())
             & (self.get_seed() == other.get_seed())

@@ -107,7 +107,7 @@ sums-of-lanes n lane x y z e g h =
     of_columns-same (e (4 * g) (omega arith)) (e (4 * g + 1) (omega arith))
     (e (4 * g + 2) (omega arith)) (e (4 * g + 3) (omega arith))
 
--- the columns of a state with its rows moved are its diagonals, whichever row stays
+-- the columns of a state with its rows turned are its diagonals, whichever row stays
 turned_by : (s : List ℕ) (k : ℕ) → k < 4
     → (let j = 4 + k in let i = 4 - k in
     rows_turned j (j - 1) (j - 2) (j - 3) (columns (rows_turned i (i + 1) (i + 2) (i + 3) s)) ≡ diagonals s)

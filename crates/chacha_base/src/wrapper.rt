@@ -210,7 +210,7 @@ impl<C: StreamCipherSeekCore> StreamCipherCoreWrapper<C> {
         ensures fixed { self.new.fixed ≡ self.old.fixed }
         ensures position { self.new.position ≡ position }
     {
-        // At the limit that is 0: a core is then past its last block.
+        // 0 at the limit, where the core is past its last block.
         let counter = position / 64 % (Self::limit() / 64);
         self.core
             .set_block_pos(C::Counter::from_u64(counter as u64));
