@@ -1,8 +1,10 @@
--- The seed and the stream, read back from the words of a state, and the generator that they make with its counter.
--- The proofs of construction and of `set_stream`, and the other lemma files on generators, cite these. Read
--- `GeneratorCore` and `Unread` first.
-use Rattle.std.proofs.Common.{◌≡◌, ℕ, ◌*◌, ◌/◌, ◌%◌, ◌^◌, ◌<◌, List, [], ◌∷◌, ◌++◌, length, take, arith, refl, ap, ◌∙◌, take_at, drop_at, length-append}
+-- When two generators are equal. The seed and the stream, read back from the words of a state, and the generator that
+-- they make with its counter. The proofs of construction, of `set_stream`, of `==` and of `run_rng`, and the other
+-- lemma files on generators, cite these. Read `GeneratorCore`, `Unread` and `same_generator` of `Generator` first.
+use Rattle.std.proofs.Common.{◌≡◌, Decides, ℕ, ◌*◌, ◌/◌, ◌%◌, ◌^◌, ◌<◌, List, [], ◌∷◌, ◌++◌, length, take, arith, refl, ap, ◌∙◌, take_at, drop_at, length-append}
+use Rattle.std.specs.Cmp.Lexicographic.{pointwise_decides}
 use Rattle.std.specs.Int.{w64, to_le_bytes, from_le_bytes}
+use Rattle.std.proofs.lemmas.Bool.Decides.{Decides-and, Decides-eqb, Decides-like}
 use Rattle.chacha_base.specs.Bytes.{bytes, words}
 use Rattle.chacha_base.specs.Block.{constants, start}
 use Rattle.chacha_base.specs.Layout.{legacy}
@@ -10,7 +12,7 @@ use Rattle.chacha_base.specs.State.{state_counter, state_at, fixed_words}
 use Rattle.chacha_base.proofs.StateLemmas.{length-state_at, fixed_words-state_at, fixed_words-start, state_counter-start}
 use Rattle.chacha_base.proofs.BytesLemmas.{Bytes, bytes-below, bytes-words, length-words, words-to_le_bytes, from_le_bytes-bytes}
 use Rattle.chacha_base.proofs.ListLemmas.{by_words}
-use Rattle.chacha20.specs.Generator.{GeneratorState}
+use Rattle.chacha20.specs.Generator.{GeneratorState, same_generator}
 use Rattle.chacha20.specs.GeneratorCore.{seed_in, stream_in, IsStart}
 use Rattle.chacha20.specs.Unread.{generator_of, IsUnread}
 
@@ -20,6 +22,14 @@ length-seed_in core long = by_words 16 (λ s. length (seed_in (fixed_words legac
 -- generators with the same parts are one
 pub generator_is : (g h : GeneratorState) → g.seed ≡ h.seed → g.stream ≡ h.stream → g.word_pos ≡ h.word_pos → g ≡ h
 generator_is g h seeds streams positions = λ i. record { seed = seeds i; stream = streams i; word_pos = positions i }
+
+-- they are equal exactly where each of their parts is
+pub same-Decides : (a b : GeneratorState) → Decides (same_generator a b) (a ≡ b)
+same-Decides a b =
+    Decides-like _ (λ same. generator_is a b same.1.1 same.1.0 same.0)
+    (λ one. (ap (λ g. g.word_pos) one, (ap (λ g. g.stream) one, ap (λ g. g.seed) one)))
+    (Decides-and _ _ (Decides-eqb a.word_pos b.word_pos)
+    (Decides-and _ _ (Decides-eqb a.stream b.stream) (pointwise_decides Decides-eqb a.seed b.seed)))
 
 -- a core at whose buffer no word is left
 pub unread-none : (n : ℕ) (core buffer : List ℕ) → length core ≡ 16 → IsStart (fixed_words legacy core)

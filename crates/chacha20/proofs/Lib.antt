@@ -1,8 +1,8 @@
 -- What proofs of callers cite.
-pub mod KeystreamLemmas
 pub mod PartLemmas
 pub mod RepeatedLemmas
 pub mod ResultLemmas
+pub use Rattle.chacha_base.proofs.KeystreamLemmas
 pub use Rattle.chacha_base.proofs.PieceLemmas
 pub use Rattle.chacha_base.proofs.CipherLemmas
 pub use Rattle.chacha_base.proofs.BackendLaws
@@ -10,10 +10,8 @@ pub use Rattle.chacha_base.proofs.BackendLaws
 pub mod BlocksLemmas
 pub mod StartLemmas
 pub mod RunLemmas
-pub mod XChaChaLemmas
 pub mod XChaChaVectors
 pub mod GeneratorVectors
 pub mod GeneratorLemmas
 pub mod ReadLemmas
-pub mod GeneratorEquality
 pub mod StateBytesLemmas

@@ -11,8 +11,7 @@ use Rattle.chacha_base.proofs.ListLemmas.{part_long}
 use Rattle.chacha_base.specs.Cipher.{Cipher}
 use Rattle.chacha_base.specs.Keystream.{xor_stream}
 use Rattle.chacha_base.specs.SeekNum.{signed_position}
-use Rattle.chacha_base.proofs.KeystreamLemmas.{xor_stream-append, length-xor_stream}
-use Rattle.chacha20.proofs.KeystreamLemmas.{xor_stream-xor_stream}
+use Rattle.chacha_base.proofs.KeystreamLemmas.{xor_stream-append, length-xor_stream, xor_stream-xor_stream}
 use Rattle.chacha20.proofs.ResultLemmas.{on_ok_given}
 use Rattle.chacha20.specs.declared.runs.CipherCall.{CipherCall}
 use Rattle.chacha20.specs.declared.runs.CipherCall.TheVariants.{Apply, Seek, SeekI32}

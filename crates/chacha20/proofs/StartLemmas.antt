@@ -1,5 +1,5 @@
--- Start states: written part by part, and the blocks from one on. The proofs of `new` of each core cite these. Read
--- `start` of `Block` first.
+-- Start states: written part by part, and the blocks from one on; and the derived nonce of XChaCha. The proofs of `new`
+-- of each core cite these, and proofs of callers may. Read `start` of `Block` and `XChaCha` first.
 use Rattle.std.proofs.Common.{◌≡◌, ℕ, ◌*◌, List, ◌++◌, length, take, drop, replicate, refl, sym, ap, ◌∙◌}
 use Rattle.std.proofs.Math.Nat.{zero-mod}
 use Rattle.std.proofs.Math.Path.{fun_ext}
@@ -13,6 +13,7 @@ use Rattle.chacha_base.specs.State.{state_counter, state_block, fixed_words}
 use Rattle.chacha_base.proofs.BytesLemmas.{length-words}
 use Rattle.chacha_base.proofs.ListLemmas.{words_of, by_words}
 use Rattle.chacha_base.proofs.StateLemmas.{state_counter-start, fixed_words-start, start-wrapped, state_of-start}
+use Rattle.chacha20.specs.XChaCha.{subnonce}
 
 -- the constants and twelve zeros, with a key of eight written over these, and then a row of four, as one vector
 abbrev Written : List ℕ → List ℕ → Type 0
@@ -38,3 +39,9 @@ pub first-of-start : (layout : Layout) (key nonce s : List ℕ) → length key �
     → 64 * state_counter layout s ≡ 0
 first-of-start layout key nonce s long same =
     rw (same, state_counter-start layout key nonce 0 (length-words 8 key long), zero-mod (modulus layout))
+
+-- the last eight bytes of a nonce of 24, written behind four of twelve zeros
+pub subnonce_written : (nonce back : List ℕ) → length nonce ≡ 24 → back ≡ take 8 (drop 16 nonce)
+    → put_mid 4 8 (replicate 12 0) back ≡ subnonce nonce
+subnonce_written nonce back whole last =
+    rw last (by_words 24 (λ v. put_mid 4 8 (replicate 12 0) (take 8 (drop 16 v)) ≡ subnonce v) nonce whole refl)

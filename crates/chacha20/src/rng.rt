@@ -36,8 +36,23 @@ pub type ChaCha12Rng = ChaChaRng<R12, Lanes8>;
 /// A generator with ten double rounds.
 pub type ChaCha20Rng = ChaChaRng<R20, Lanes8>;
 
+// Words in a block.
+const BLOCK_WORDS: u128 = 16;
+
+// Blocks in a buffer, and their words.
+const BUFFER_BLOCKS: u64 = 4;
+
+const BUFFER_WORDS: usize = 64;
+
 // How many word positions there are: sixteen words for each of 2^64 blocks.
 const POSITIONS: u128 = 1 << 68;
+
+// Where a stored state has its stream, its word position, and the position's last byte.
+const STREAM_AT: usize = 32;
+
+const POSITION_AT: usize = 40;
+
+const TOP_AT: usize = 48;
 
 /// A generator of random words.
 ///
@@ -48,9 +63,9 @@ const POSITIONS: u128 = 1 << 68;
 /// number of double rounds, `B` the backend that makes the words. No call is refused.
 pub struct ChaChaRng<R: Rounds, B> {
     core: ChaChaCore<R, Legacy, B>,
-    // While `index` is below 64, the buffer holds the words of the last four blocks that the core made, and those
-    // before `index` are used.
-    buffer: [u32; 64],
+    // While `index` is below `BUFFER_WORDS`, the buffer holds the words of the last four blocks that the core made, and
+    // those before `index` are used.
+    buffer: [u32; BUFFER_WORDS],
     index: usize,
 }
 
@@ -83,8 +98,8 @@ impl<R: Rounds, B: RngBackend<R>> ChaChaRng<R, B> {
     {
         ChaChaRng {
             core: ChaChaCore::from_seed(seed),
-            buffer: [0; 64],
-            index: 64,
+            buffer: [0; BUFFER_WORDS],
+            index: BUFFER_WORDS,
         }
     }
 
@@ -106,7 +121,7 @@ impl<R: Rounds, B: RngBackend<R>> ChaChaRng<R, B> {
         ensures value { (result, self.new) ≡ next_u64 R.COUNT self.old }
         ensures kept { (self.new.seed ≡ self.old.seed) × (self.new.stream ≡ self.old.stream) }
     {
-        if self.index < 63 {
+        if self.index < BUFFER_WORDS - 1 {
             let low = self.buffer[self.index];
             let high = self.buffer[self.index + 1];
             self.index += 2;
@@ -135,9 +150,9 @@ impl<R: Rounds, B: RngBackend<R>> ChaChaRng<R, B> {
         ensures value { result ≡ self.now.word_pos }
         ensures below { result < 2 ^ 68 }
     {
-        // The core has moved four blocks past the front of the buffer.
-        let first = self.core.get_block_pos().wrapping_sub(4);
-        (16 * u128::from(first) + self.index as u128) % POSITIONS
+        // The core has moved past the blocks of the buffer.
+        let first = self.core.get_block_pos().wrapping_sub(BUFFER_BLOCKS);
+        (BLOCK_WORDS * u128::from(first) + self.index as u128) % POSITIONS
     }
 
     /// Sets the word position, modulo 2^68. It makes one buffer of words.
@@ -146,16 +161,16 @@ impl<R: Rounds, B: RngBackend<R>> ChaChaRng<R, B> {
         ensures position { self.new.word_pos ≡ word_pos % 2 ^ 68 }
     {
         let position = word_pos % POSITIONS;
-        self.core.set_block_pos((position / 16) as u64);
+        self.core.set_block_pos((position / BLOCK_WORDS) as u64);
         self.core.generate(&mut self.buffer);
-        self.index = (position % 16) as usize;
+        self.index = (position % BLOCK_WORDS) as usize;
     }
 
     /// The number of the block that the next word lies in.
     pub fn get_block_pos(&self) -> u64
         ensures { result ≡ self.now.word_pos / 16 }
     {
-        (self.get_word_pos() / 16) as u64
+        (self.get_word_pos() / BLOCK_WORDS) as u64
     }
 
     /// Moves to the first word of a block. No block is made yet.
@@ -163,7 +178,7 @@ impl<R: Rounds, B: RngBackend<R>> ChaChaRng<R, B> {
         ensures { self.new ≡ record self.old { word_pos = 16 * block_pos } }
     {
         self.core.set_block_pos(block_pos);
-        self.index = 64;
+        self.index = BUFFER_WORDS;
     }
 
     /// The stream.
@@ -179,7 +194,7 @@ impl<R: Rounds, B: RngBackend<R>> ChaChaRng<R, B> {
     {
         self.core.set_stream(stream);
         self.core.set_block_pos(0);
-        self.index = 64;
+        self.index = BUFFER_WORDS;
     }
 
     /// The seed.
@@ -199,10 +214,10 @@ impl<R: Rounds, B: RngBackend<R>> ChaChaRng<R, B> {
         let stream = self.get_stream().to_le_bytes();
         let low = ((word_pos & u128::from(u64::MAX)) as u64).to_le_bytes();
         let mut state = [0; 49];
-        state[..32].copy_from_slice(&self.get_seed());
-        state[32..40].copy_from_slice(&stream);
-        state[40..48].copy_from_slice(&low);
-        state[48] = (word_pos >> 64) as u8;
+        state[..STREAM_AT].copy_from_slice(&self.get_seed());
+        state[STREAM_AT..POSITION_AT].copy_from_slice(&stream);
+        state[POSITION_AT..TOP_AT].copy_from_slice(&low);
+        state[TOP_AT] = (word_pos >> 64) as u8;
         state
     }
 
@@ -213,11 +228,11 @@ impl<R: Rounds, B: RngBackend<R>> ChaChaRng<R, B> {
             ++ (slice_index state.now 48 % 16 ∷ []) }
     {
         let mut seed = [0; 32];
-        seed.copy_from_slice(&state[..32]);
-        let low = read_u64(&state[40..48]);
+        seed.copy_from_slice(&state[..STREAM_AT]);
+        let low = read_u64(&state[POSITION_AT..TOP_AT]);
         let mut rng = Self::from_seed(seed);
-        rng.set_stream(read_u64(&state[32..40]));
-        rng.set_word_pos((u128::from(state[48]) << 64) | u128::from(low));
+        rng.set_stream(read_u64(&state[STREAM_AT..POSITION_AT]));
+        rng.set_word_pos((u128::from(state[TOP_AT]) << 64) | u128::from(low));
         rng
     }
 
@@ -240,7 +255,7 @@ impl<R: Rounds, B: RngBackend<R>> ChaChaRng<R, B> {
         let mut done = 0;
         'words: while 4 * done < dst.len() {
             refill(&mut self.core, &mut self.buffer, &mut self.index);
-            let count = (dst.len() / 4 - done).min(64 - self.index);
+            let count = (dst.len() / 4 - done).min(BUFFER_WORDS - self.index);
             write_bytes(
                 &self.buffer[self.index..self.index + count],
                 &mut dst[4 * done..4 * done + 4 * count],
@@ -251,7 +266,8 @@ impl<R: Rounds, B: RngBackend<R>> ChaChaRng<R, B> {
     }
 }
 
-// Fills the buffer where no words are left in it. In the reads only this test is inlined.
+// Fills the buffer if no words are left in it. This function is inlined into each read, and `generate` isn't: so a
+// read has only the test and a call.
 #[inline(always)]
 fn refill<R: Rounds, B: RngBackend<R>>(
     core: &mut ChaChaCore<R, Legacy, B>,
@@ -264,7 +280,7 @@ fn refill<R: Rounds, B: RngBackend<R>>(
     ensures some { index.new < 64 }
     ensures same { generator_of core.new index.new ≡ generator_of core.old index.old }
 {
-    if *index == 64 {
+    if *index == BUFFER_WORDS {
         core.generate(buffer);
         *index = 0;
     }
@@ -331,7 +347,7 @@ impl<R: Rounds, B: RngBackend<R>> PartialEq for ChaChaRng<R, B> {
         ensures value { result ≡ same_generator self.now other.now }
         ensures same { IsTrue result ↔ (self.now ≡ other.now) }
     {
-        // All three tests are made, whatever the first ones say: one equation proves it.
+        // All three comparisons are made, even if the first one fails, so that one equation proves the result.
         (self.get_word_pos() == other.get_word_pos())
             & (self.get_stream() == other.get_stream())
             & (self.get_seed() == other.get_seed())

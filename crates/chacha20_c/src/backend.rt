@@ -6,6 +6,16 @@ use chacha20::backends::{Lanes4, Lanes16};
 use chacha20::cipher::{ParBlocksSizeUser, StreamCipherBackend};
 use chacha20::{Rounds, Steps, Variant};
 
+// Bytes in eight blocks, in nine and in sixteen.
+const EIGHT_BLOCKS: usize = 512;
+
+const NINE_BLOCKS: usize = 576;
+
+const SIXTEEN_BLOCKS: usize = 1024;
+
+// More bytes than this are worth a cut at the end of a block.
+const LONG: usize = 0x4000;
+
 // The backends of one or two blocks, and of three or four: `Lanes4` makes four where two are wanted.
 type Few = Lanes16;
 
@@ -65,14 +75,14 @@ pub(crate) type Chosen = Narrow;
 pub(crate) fn first_part<B: ParBlocksSizeUser>(position: u128, len: usize) -> usize
     ensures { result ≤ len }
 {
-    if B::PAR_BLOCKS <= 8 || len < 576 {
+    if B::PAR_BLOCKS <= 8 || len < NINE_BLOCKS {
         return len;
     }
     let rest = len - (64 - (position % 64) as usize) % 64;
-    if rest % 1024 < 576 {
+    if rest % SIXTEEN_BLOCKS < NINE_BLOCKS {
         len
     } else {
-        len - rest % 512
+        len - rest % EIGHT_BLOCKS
     }
 }
 
@@ -81,7 +91,7 @@ pub(crate) fn first_part<B: ParBlocksSizeUser>(position: u128, len: usize) -> us
 pub(crate) fn first_part_in_pieces<B: ParBlocksSizeUser>(position: u128, len: usize) -> usize
     ensures { result ≤ len }
 {
-    if B::PAR_BLOCKS > 8 && len > 0x4000 && position % 64 > 0 {
+    if B::PAR_BLOCKS > 8 && len > LONG && position % 64 > 0 {
         64 - (position % 64) as usize
     } else {
         first_part::<B>(position, len)

@@ -16,6 +16,13 @@ use chacha20::{ChaCha8Rng, ChaCha12Rng, ChaCha20Rng, ChaChaRng, Rounds, Seed, Se
 // How many word positions there are: sixteen words for each of 2^64 blocks.
 const POSITIONS: u128 = 1 << 68;
 
+// Where a stored state has its stream, its word position, and the position's last byte.
+const STREAM_AT: usize = 32;
+
+const POSITION_AT: usize = 40;
+
+const TOP_AT: usize = 48;
+
 /// Writes the state of a seed: the start of stream 0 (this crate). `state` and `seed` do not overlap.
 #[unsafe(no_mangle)]
 pub extern "C" fn chacha_rng_from_seed(seed: &Seed, state: &mut SerializedRngState)
@@ -31,8 +38,8 @@ pub extern "C" fn chacha_rng_get_word_pos(state: &SerializedRngState, low: &mut 
     ensures value { low.new + 2 ^ 64 * high.new ≡ (of_state_bytes state.now).word_pos }
     ensures below { high.new < 16 }
 {
-    *low = read_u64(&state[40..48]);
-    *high = u64::from(state[48] % 16);
+    *low = read_u64(&state[POSITION_AT..TOP_AT]);
+    *high = u64::from(state[TOP_AT] % 16);
 }
 
 /// Sets the word position to low + 2^64 * high, modulo 2^68 (this crate).
@@ -50,8 +57,8 @@ pub extern "C" fn chacha_rng_set_word_pos(state: &mut SerializedRngState, low: u
 pub extern "C" fn chacha_rng_get_block_pos(state: &SerializedRngState) -> u64
     ensures { result ≡ (of_state_bytes state.now).word_pos / 16 }
 {
-    let low = read_u64(&state[40..48]);
-    (low >> 4) + (u64::from(state[48] % 16) << 60)
+    let low = read_u64(&state[POSITION_AT..TOP_AT]);
+    (low >> 4) + (u64::from(state[TOP_AT] % 16) << 60)
 }
 
 /// Moves to the first word of a block (this crate).
@@ -244,10 +251,10 @@ fn stored(seed: &Seed, stream: u64, word_pos: u128) -> SerializedRngState
     let position = word_pos % POSITIONS;
     let low = ((position & u128::from(u64::MAX)) as u64).to_le_bytes();
     let mut state = [0; 49];
-    state[..32].copy_from_slice(seed);
-    state[32..40].copy_from_slice(&stream.to_le_bytes());
-    state[40..48].copy_from_slice(&low);
-    state[48] = (position >> 64) as u8;
+    state[..STREAM_AT].copy_from_slice(seed);
+    state[STREAM_AT..POSITION_AT].copy_from_slice(&stream.to_le_bytes());
+    state[POSITION_AT..TOP_AT].copy_from_slice(&low);
+    state[TOP_AT] = (position >> 64) as u8;
     state
 }
 
@@ -256,7 +263,7 @@ fn seed_in(state: &SerializedRngState) -> Seed
     ensures { result ≡ (of_state_bytes state.now).seed }
 {
     let mut seed = [0; 32];
-    seed.copy_from_slice(&state[..32]);
+    seed.copy_from_slice(&state[..STREAM_AT]);
     seed
 }
 
@@ -264,7 +271,7 @@ fn seed_in(state: &SerializedRngState) -> Seed
 fn stream_in(state: &SerializedRngState) -> u64
     ensures { result ≡ (of_state_bytes state.now).stream }
 {
-    read_u64(&state[32..40])
+    read_u64(&state[STREAM_AT..POSITION_AT])
 }
 
 // The number of 8 bytes, the low byte first.

@@ -37,18 +37,12 @@ grows-par n a exact =
     let rounds = ap (λ (s : Counts). s.rounds) exact in
     grows-calls (ap (λ s. s.par) exact) (omega (arith, other)) (omega (arith, rounds)) (omega (arith, rounds))
 
--- one other call for a last part, and none where there is none
+-- one other call for a last part
 pub grows-last : (one n : ℕ) {a b : Counts} → 0 < n → Grows (for_single one) a b → Grows (for_last_part one n) a b
 grows-last one n some grows =
     let single : min 1 n ≡ 1 = omega arith in
     let cost : 1 * one ≡ one = omega arith in
     rw (single, cost) grows
-
-pub grows-no_last : (one n : ℕ) (a : Counts) → n ≤ 0 → Grows (for_last_part one n) a a
-grows-no_last one n a none =
-    let calls : min 1 n ≡ 0 = omega arith in
-    let rounds : 0 * one ≡ 0 = omega arith in
-    rw (calls, rounds) (grows-none a)
 
 -- one after another
 grows-then : {x y z : Bounds} {a b c : Counts} → Grows x a b → Grows y b c

@@ -1,5 +1,5 @@
 -- Lanes of vectors: rotated, turned, interleaved, and written as bytes. The proofs of `vector`, and some of rows and
--- columns, cite these. Read `Lanes` and `Diagonalized` first.
+-- columns, cite these. Read `Lanes` first.
 use Rattle.std.proofs.Common.{w32, Fits, ◌≡◌, ℕ, zero, suc, ◌<◌, ◌+◌, ◌-◌, ◌*◌, ◌/◌, ◌%◌, ◌^◌, List, [], ◌∷◌, ◌++◌, length, map, slice_index, replicate, bit_or, bit_xor, arith, refl, sym, ap, ◌∙◌}
 use Rattle.std.specs.List.{range_with_len}
 use Rattle.std.specs.Simd.Lanes.{zip2, Each1, pick_l, number_l, digits_l}
@@ -7,7 +7,7 @@ use Rattle.std.proofs.lemmas.List.{get_or-map}
 use Rattle.std.proofs.lemmas.Nat.{xor_lt}
 use Rattle.std.proofs.lemmas.Simd.{below_from_Fits, Each1-get_or, get_or-zip2, get_or-replicate, length-zip2, length-replicate}
 use Rattle.chacha_base.specs.Words.{rotl}
-use Rattle.chacha_base.specs.Lanes.{row, turned}
+use Rattle.chacha_base.specs.Lanes.{quad, turned}
 use Rattle.chacha_base.specs.Bytes.{bytes}
 use Rattle.chacha_base.proofs.ListLemmas.{words_of, by_words}
 use Rattle.chacha_base.proofs.WordLemmas.{rotate_left_is}
@@ -108,19 +108,19 @@ xor_moved-is-rotl {n} a b va vb moved j h =
     ∙ get_or-map (λ x. rotl x 8) xs j 0 0 (omega arith)
     ∙ ap (λ x. rotl x 8) (lane_of bit_xor n a b va.0 vb.0 j h)
 
--- rows of words that are picked from two vectors, of which a row each makes them
-pub rows-picked : (places : List ℕ) (n : ℕ) (f : List ℕ → List ℕ → List ℕ) (a b : List ℕ)
+-- quads of words that are picked from two vectors, from the same quad of both
+pub quads-picked : (places : List ℕ) (n : ℕ) (f : List ℕ → List ℕ → List ℕ) (a b : List ℕ)
     → length a ≡ n → length b ≡ n
-    → ((g : ℕ) → g < 4 → row (slice_index (pick_l 0 (words_of n a ++ words_of n b) places)) g
-    ≡ f (row (slice_index (words_of n a)) g) (row (slice_index (words_of n b)) g))
+    → ((g : ℕ) → g < 4 → quad (slice_index (pick_l 0 (words_of n a ++ words_of n b) places)) g
+    ≡ f (quad (slice_index (words_of n a)) g) (quad (slice_index (words_of n b)) g))
     → (g : ℕ) → g < 4
-    → row (slice_index (pick_l 0 (a ++ b) places)) g ≡ f (row (slice_index a) g) (row (slice_index b) g)
-rows-picked places n f a b la lb same g less =
-    let made = λ (x y : List ℕ). row (slice_index (pick_l 0 (x ++ y) places)) g
-    ≡ f (row (slice_index x) g) (row (slice_index y) g) in
+    → quad (slice_index (pick_l 0 (a ++ b) places)) g ≡ f (quad (slice_index a) g) (quad (slice_index b) g)
+quads-picked places n f a b la lb same g less =
+    let made = λ (x y : List ℕ). quad (slice_index (pick_l 0 (x ++ y) places)) g
+    ≡ f (quad (slice_index x) g) (quad (slice_index y) g) in
     by_words n (λ x. made x b) a la (by_words n (made (words_of n a)) b lb (same g less))
 
--- where words that alternate between two vectors of n stand, four in each of m rows, from word k of both on
+-- where words that alternate between two vectors of n stand, in m quads, from word k of both on
 abbrev pub alternating : (n m k : ℕ) → List ℕ
 alternating n zero k = []
 alternating n (suc m) k = k ∷ (n + k) ∷ (k + 1) ∷ (n + (k + 1)) ∷ alternating n m (k + 4)
@@ -134,16 +134,16 @@ turned-rest k m x rest =
     let fourth : (k + 3) % 4 ≡ (m + 3) % 4 = omega arith in
     rw (first, second, third, fourth) refl
 
--- where the words of m rows are taken from, each row turned to the left by k places
+-- where the words of m quads are taken from, each quad turned to the left by k places
 abbrev turned_places : (k m : ℕ) → List ℕ
 turned_places k m = map (λ j. 4 * (j / 4) + (k + j) % 4) (range_with_len 0 (4 * m))
 
-pub rows-turned : {vector : List ℕ} (m by k : ℕ) (xs : List ℕ) → vector ≡ pick_l 0 (xs ++ xs) (turned_places k m)
+pub quads-turned : {vector : List ℕ} (m by k : ℕ) (xs : List ℕ) → vector ≡ pick_l 0 (xs ++ xs) (turned_places k m)
     → by % 4 ≡ k → length xs ≡ 4 * m
     → (let ys = words_of (4 * m) xs in (g : ℕ) → g < 4
-    → row (slice_index (pick_l 0 (ys ++ ys) (turned_places k m))) g ≡ turned k (row (slice_index ys) g))
-    → (g : ℕ) → g < 4 → row (slice_index vector) g ≡ turned by (row (slice_index xs) g)
-rows-turned m by k xs is rest long same g less =
-    ap (λ v. row (slice_index v) g) is
-    ∙ rows-picked (turned_places k m) (4 * m) (λ x y. turned k x) xs xs long long same g less
-    ∙ sym (turned-rest by k (row (slice_index xs) g) rest)
+    → quad (slice_index (pick_l 0 (ys ++ ys) (turned_places k m))) g ≡ turned k (quad (slice_index ys) g))
+    → (g : ℕ) → g < 4 → quad (slice_index vector) g ≡ turned by (quad (slice_index xs) g)
+quads-turned m by k xs is rest long same g less =
+    ap (λ v. quad (slice_index v) g) is
+    ∙ quads-picked (turned_places k m) (4 * m) (λ x y. turned k x) xs xs long long same g less
+    ∙ sym (turned-rest by k (quad (slice_index xs) g) rest)

@@ -8,7 +8,7 @@ use Rattle.std.proofs.lemmas.List.FromFn.{fill_by_all}
 use Rattle.std.proofs.lemmas.Option.{slice_get_read, slice_get_within, get_or_from_slice_get}
 use borrow.Rule.Slice.PartMut.{put_mid}
 
--- what holds of the n words in a row, where n is a numeral, holds of each list of n words
+-- what holds of a list of n words that is written out, where n is a numeral, holds of each list of n words
 abbrev pub words_of : ℕ → List ℕ → List ℕ
 words_of n xs = map (slice_index xs) (range_with_len 0 n)
 
@@ -81,7 +81,7 @@ four_more f a xs ys four room is before =
     ∙ below_four (λ j. slice_get (f a ∷ f (a + 1) ∷ f (a + 2) ∷ f (a + 3) ∷ []) j ≡ Some (f (a + j)))
     (ap (λ j. Some (f j)) here) refl refl refl i (omega (arith, less, four)))
 
--- two lists of n elements in a row
+-- two lists of n elements, one after the other
 pub halves_written : {X Y : Type 0} (f : Y → X) (n : ℕ) (xs ys : List X) (p q : ℕ → Y) → length xs ≡ n
     → length ys ≡ n → Written (λ j. f (p j)) n xs → Written (λ j. f (q j)) n ys
     → Written (λ i. f (if nat_lt i n then p i else q (i - n))) (n + n) (xs ++ ys)
@@ -95,7 +95,7 @@ halves_written f n xs ys p q lx ly first second =
     second j less ∙ ap (λ k. Some (f (q k))) place
     ∙ ap (λ b. either b (n + j)) (sym (le-ltb (n + j) n (omega arith)))))
 
--- four lists in a row, piece by piece
+-- four lists, one after another
 pub four_joined : {X : Type 0} {a b c d p q r s : List X} → a ≡ p → b ≡ q → c ≡ r → d ≡ s
     → a ++ b ++ c ++ d ≡ p ++ q ++ r ++ s
 four_joined ea eb ec ed = cc

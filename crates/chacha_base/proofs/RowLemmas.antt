@@ -3,8 +3,7 @@
 use Rattle.std.proofs.Common.{◌≡◌, ℕ, ◌<◌, ◌≤◌, ◌≢◌, ◌+◌, ◌-◌, ◌*◌, ◌%◌, Bool, true, false, List, [], ◌∷◌, ◌++◌, length, drop, slice_index, refl, ap, ◌∙◌, arith, set, length-set, get_or-set_same, get_or-set_other, if◌then◌else◌}
 use Rattle.chacha_base.specs.declared.backends.vector.FourVectors.{FourVectors}
 use Rattle.chacha_base.specs.Layout.{Layout, row_at}
-use Rattle.chacha_base.specs.Lanes.{row, state_row, with_last_row}
-use Rattle.chacha_base.specs.Diagonalized.{rows_turned, diagonalized, undiagonalized}
+use Rattle.chacha_base.specs.Lanes.{quad, state_row, with_last_row, rows_turned, diagonalized, undiagonalized}
 use Rattle.chacha_base.specs.QuarterRound.{quarter}
 use Rattle.chacha_base.specs.Rounds.{columns, diagonals, add_states}
 use Rattle.chacha_base.specs.Vectors.{lanes_at, sums_at, block_in_rows}
@@ -36,18 +35,18 @@ pub either-same : {a b p q r s : List ℕ} (f : List ℕ → List ℕ → List �
 either-same f true first second = first refl
 either-same f false first second = second refl
 
--- a row, word by word
-pub row-same : (f g : ℕ → ℕ) (k : ℕ) → ((j : ℕ) → 4 * k ≤ j → j < 4 * k + 4 → f j ≡ g j) → row f k ≡ row g k
-row-same f g k same =
+-- a quad, word by word
+pub quad-same : (f g : ℕ → ℕ) (k : ℕ) → ((j : ℕ) → 4 * k ≤ j → j < 4 * k + 4 → f j ≡ g j) → quad f k ≡ quad g k
+quad-same f g k same =
     four_listed (same (4 * k) (omega arith) (omega arith)) (same (4 * k + 1) (omega arith) (omega arith))
     (same (4 * k + 2) (omega arith) (omega arith)) (same (4 * k + 3) (omega arith) (omega arith))
 
--- a row of sixteen words that repeat
-pub row-repeated : (w0 w1 w2 w3 k : ℕ) → k < 4
-    → (let four = w0 ∷ w1 ∷ w2 ∷ w3 ∷ [] in row (slice_index (four ++ four ++ four ++ four)) k ≡ four)
-row-repeated w0 w1 w2 w3 =
+-- a quad of sixteen words that repeat
+pub quad-repeated : (w0 w1 w2 w3 k : ℕ) → k < 4
+    → (let four = w0 ∷ w1 ∷ w2 ∷ w3 ∷ [] in quad (slice_index (four ++ four ++ four ++ four)) k ≡ four)
+quad-repeated w0 w1 w2 w3 =
     let four = w0 ∷ w1 ∷ w2 ∷ w3 ∷ [] in
-    below_four (λ k. row (slice_index (four ++ four ++ four ++ four)) k ≡ four) refl refl refl refl
+    below_four (λ k. quad (slice_index (four ++ four ++ four ++ four)) k ≡ four) refl refl refl refl
 
 -- four words written at different places
 abbrev pub set_four : (s : List ℕ) (p q : ℕ × ℕ × ℕ × ℕ) → List ℕ
@@ -72,21 +71,21 @@ words-written s p q long within apart =
     (get_or-set_other v p.3 p.2 q.3 0 apart.5 ∙ get_or-set_same u p.2 q.2 0 (rw lu within.2))
     (get_or-set_same v p.3 q.3 0 (rw lv within.3))
 
--- the words of a state after a row is written: those of the row, and those of another
-abbrev row_places : ℕ → ℕ × ℕ × ℕ × ℕ
-row_places g = (4 * g, 4 * g + 1, 4 * g + 2, 4 * g + 3)
+-- the words after a quad is written: those of the quad, and those of another
+abbrev quad_places : ℕ → ℕ × ℕ × ℕ × ℕ
+quad_places g = (4 * g, 4 * g + 1, 4 * g + 2, 4 * g + 3)
 
-pub row-written : (s : List ℕ) (g : ℕ) (q : ℕ × ℕ × ℕ × ℕ) → 4 * g + 3 < length s
-    → row (slice_index (set_four s (row_places g) q)) g ≡ q.0 ∷ q.1 ∷ q.2 ∷ q.3 ∷ []
-row-written s g q inside =
-    ap (λ c. c.0 ∷ c.1 ∷ c.2 ∷ c.3 ∷ []) (words-written s (row_places g) q refl
+pub quad-written : (s : List ℕ) (g : ℕ) (q : ℕ × ℕ × ℕ × ℕ) → 4 * g + 3 < length s
+    → quad (slice_index (set_four s (quad_places g) q)) g ≡ q.0 ∷ q.1 ∷ q.2 ∷ q.3 ∷ []
+quad-written s g q inside =
+    ap (λ c. c.0 ∷ c.1 ∷ c.2 ∷ c.3 ∷ []) (words-written s (quad_places g) q refl
     (omega arith, omega arith, omega arith, inside)
     (omega arith, omega arith, omega arith, omega arith, omega arith, omega arith))
 
-pub row-elsewhere : (s : List ℕ) (g : ℕ) (q : ℕ × ℕ × ℕ × ℕ) (h : ℕ) → h ≢ g
-    → row (slice_index (set_four s (row_places g) q)) h ≡ row (slice_index s) h
-row-elsewhere s g q h apart =
-    row-same (slice_index (set_four s (row_places g) q)) (slice_index s) h (λ i from to.
+pub quad-elsewhere : (s : List ℕ) (g : ℕ) (q : ℕ × ℕ × ℕ × ℕ) (h : ℕ) → h ≢ g
+    → quad (slice_index (set_four s (quad_places g) q)) h ≡ quad (slice_index s) h
+quad-elsewhere s g q h apart =
+    quad-same (slice_index (set_four s (quad_places g) q)) (slice_index s) h (λ i from to.
     get_or-set_other _ (4 * g + 3) i q.3 0 (omega arith) ∙ get_or-set_other _ (4 * g + 2) i q.2 0 (omega arith)
     ∙ get_or-set_other _ (4 * g + 1) i q.1 0 (omega arith) ∙ get_or-set_other s (4 * g) i q.0 0 (omega arith))
 
@@ -108,7 +107,7 @@ sums-of-lanes n lane x y z e g h =
     of_columns-same (e (4 * g) (omega arith)) (e (4 * g + 1) (omega arith))
     (e (4 * g + 2) (omega arith)) (e (4 * g + 3) (omega arith))
 
--- the columns of a state with its rows moved are its diagonals, whichever row stays
+-- the columns of a state with its rows turned are its diagonals, whichever row stays
 turned_by : (s : List ℕ) (k : ℕ) → k < 4
     → (let j = 4 + k in let i = 4 - k in
     rows_turned j (j - 1) (j - 2) (j - 3) (columns (rows_turned i (i + 1) (i + 2) (i + 3) s)) ≡ diagonals s)

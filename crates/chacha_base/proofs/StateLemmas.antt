@@ -21,7 +21,7 @@ use Rattle.chacha_base.proofs.ListLemmas.{words_of, by_words, one_more, written_
 abbrev pub Words : List ℕ → Type 0
 Words s = (i : ℕ) → slice_index s i < 2 ^ 32
 
--- what holds of n words in a row in both layouts holds of a list of n words
+-- what holds of a written-out list of n words in both layouts holds of each list of n words
 pub by_layout : (n : ℕ) (P : Layout → List ℕ → Type 0) (layout : Layout) (s : List ℕ) → length s ≡ n
     → P ietf (words_of n s) → P legacy (words_of n s) → P layout s
 by_layout n P ietf s long first second = by_words n (P ietf) s long first

@@ -1,4 +1,4 @@
--- Sixteen vectors that hold the words of blocks, one block in each lane (this crate).
+-- Words of blocks in columns: sixteen vectors, and one block in each lane (this crate).
 use Rattle.std.specs.Prelude.{ℕ, List, ◌++◌}
 use Rattle.chacha_base.specs.declared.backends.columns.Columns.{Columns}
 use Rattle.chacha_base.specs.Vectors.{words_at}

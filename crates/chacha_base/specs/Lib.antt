@@ -15,6 +15,5 @@ pub mod Counts
 pub mod Number
 pub mod Buffered
 pub mod Lanes
-pub mod Diagonalized
 pub mod Vectors
 pub mod ColumnVectors

@@ -2,7 +2,7 @@
 use Rattle.std.specs.Prelude.{ℕ, List, [], ◌∷◌, ◌++◌}
 use Rattle.chacha_base.specs.declared.backends.vector.FourVectors.{FourVectors}
 use Rattle.chacha_base.specs.Words.{add}
-use Rattle.chacha_base.specs.Lanes.{row}
+use Rattle.chacha_base.specs.Lanes.{quad}
 
 -- lane j of four vectors
 abbrev pub lanes_at : {V : Type 0} → (V → ℕ → ℕ) → FourVectors V → ℕ → ℕ × ℕ × ℕ × ℕ
@@ -21,6 +21,7 @@ sums_at lane x y j = (
 abbrev pub words_at : {V : Type 0} → (V → ℕ → ℕ) → (w0 w1 w2 w3 : V) → ℕ → List ℕ
 words_at lane w0 w1 w2 w3 j = lane w0 j ∷ lane w1 j ∷ lane w2 j ∷ lane w3 j ∷ []
 
--- the sixteen words of block g of four vectors that hold rows, four lanes for each block
+-- the sixteen words of block g of four vectors in rows: quad g of each vector
 abbrev pub block_in_rows : {V : Type 0} → (V → ℕ → ℕ) → FourVectors V → ℕ → List ℕ
-block_in_rows lane x g = row (lane x.0) g ++ row (lane x.1) g ++ row (lane x.2) g ++ row (lane x.3) g
+block_in_rows lane x g =
+    quad (lane x.0) g ++ quad (lane x.1) g ++ quad (lane x.2) g ++ quad (lane x.3) g

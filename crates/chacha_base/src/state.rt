@@ -18,27 +18,27 @@ pub fn counter<V: Variant>(state: &[u32; 16]) -> V::Counter
 
 /// Sets the counter of a state. The other words stay.
 #[inline(always)]
-pub fn set_counter<V: Variant>(state: &mut [u32; 16], pos: V::Counter)
-    ensures state { state.new ≡ state_at V.layout (V.Counter.value pos) state.old }
+pub fn set_counter<V: Variant>(state: &mut [u32; 16], counter: V::Counter)
+    ensures state { state.new ≡ state_at V.layout (V.Counter.value counter) state.old }
     ensures fixed { fixed_words V.layout state.new ≡ fixed_words V.layout state.old }
-    ensures counter { state_counter V.layout state.new ≡ V.Counter.value pos }
+    ensures counter { state_counter V.layout state.new ≡ V.Counter.value counter }
 {
-    V::set_block_pos(&mut state[12..], pos);
+    V::set_block_pos(&mut state[12..], counter);
 }
 
-/// `set_counter`, which writes the last row as one vector: a backend that reads the row as a vector would wait for a
+/// As `set_counter`, but writes the last row as one vector. A backend reads the row as a vector, and would wait for a
 /// word that was written alone.
 #[inline(always)]
-pub fn set_counter_in_row<V: Variant>(state: &mut [u32; 16], pos: V::Counter)
-    ensures state { state.new ≡ state_at V.layout (V.Counter.value pos) state.old }
+pub fn set_counter_in_row<V: Variant>(state: &mut [u32; 16], counter: V::Counter)
+    ensures state { state.new ≡ state_at V.layout (V.Counter.value counter) state.old }
     ensures fixed { fixed_words V.layout state.new ≡ fixed_words V.layout state.old }
-    ensures counter { state_counter V.layout state.new ≡ V.Counter.value pos }
+    ensures counter { state_counter V.layout state.new ≡ V.Counter.value counter }
 {
     let mut kept = [u32::MAX; 4];
     V::set_block_pos(&mut kept, V::Counter::from_u64(0));
     let mut set = [0; 4];
-    V::set_block_pos(&mut set, pos);
-    // Where a word is put into a vector, the compiler writes that word alone.
+    V::set_block_pos(&mut set, counter);
+    // Masks, since the compiler writes a word alone if the word is put into a vector.
     let row = (u32x4::from_slice(&state[12..]) & u32x4::from_array(kept)) | u32x4::from_array(set);
     row.copy_to_slice(&mut state[12..]);
 }

@@ -36,7 +36,7 @@ pub trait StreamCipherCounter: Sealed + Copy {
     fn last() -> u64
         ensures { result + 1 ≡ M };
 
-    /// The counter `blocks` blocks on. It wraps at 2^32 or 2^64 (this crate).
+    /// The counter after `blocks` more blocks. It wraps at 2^32 or 2^64 (this crate).
     fn advanced_by(self, blocks: usize) -> Self
         ensures { value result ≡ (value self + blocks) % M };
 

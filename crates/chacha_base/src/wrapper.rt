@@ -126,7 +126,7 @@ impl<C: StreamCipherSeekCore> StreamCipherSeek for StreamCipherCoreWrapper<C> {
     fn try_seek<T: SeekNum>(&mut self, pos: T) -> Result<(), StreamCipherError> {
         match pos.to_position() {
             Some(position) if position <= Self::limit() => {
-                self.move_to(position, &mut Steps::new());
+                self.move_to(position);
                 Ok(())
             }
             _ => Err(StreamCipherError),
@@ -205,18 +205,17 @@ impl<C: StreamCipherSeekCore> StreamCipherCoreWrapper<C> {
     }
 
     // Moves to a position. It makes the block that the position is in, and none at the front of a block.
-    fn move_to(&mut self, position: u128, steps: &mut Steps)
+    fn move_to(&mut self, position: u128)
         requires { position ≤ limit_of C.modulus }
         ensures fixed { self.new.fixed ≡ self.old.fixed }
         ensures position { self.new.position ≡ position }
-        ensures steps { Grows (for_last_part C.one_cost (position % 64)) steps.old steps.new }
     {
-        // At the limit that is 0: a core is then past its last block.
+        // 0 at the limit, where the core is past its last block.
         let counter = position / 64 % (Self::limit() / 64);
         self.core
             .set_block_pos(C::Counter::from_u64(counter as u64));
         if position % 64 > 0 {
-            self.core.write_block_counted(&mut self.buffer, steps);
+            self.core.write_keystream_block(&mut self.buffer);
         }
         self.position = position;
     }

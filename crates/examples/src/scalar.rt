@@ -84,7 +84,7 @@ impl<R: Rounds> RngBackend<R> for Scalar {
     const RNG_STEPS: usize = 32;
 
     fn gen_ks_blocks(state: &mut [u32; 16], buffer: &mut [u32; 64], steps: &mut Steps) {
-        'four: for i in 0..4usize {
+        'each: for i in 0..4usize {
             buffer[16 * i..16 * i + 16].copy_from_slice(&block_words::<R>(state, steps));
             advance::<Legacy>(state, 1);
         }

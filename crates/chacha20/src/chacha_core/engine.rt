@@ -30,7 +30,7 @@ fn write_blocks<R: Rounds, V: Variant, B: StreamCipherBackend<R, V>>(
     B::gen_tail_blocks(state, &mut blocks[done..], &mut steps);
 }
 
-// XORs bytes with whole blocks, from block `first` on.
+// XORs the bytes from block `first` on with these blocks.
 #[inline(always)]
 fn xor_blocks(data: &mut [u8], first: usize, blocks: &[[u8; 64]])
     requires { 64 * (first + length blocks.now) ≤ length «data».old }
@@ -42,8 +42,8 @@ fn xor_blocks(data: &mut [u8], first: usize, blocks: &[[u8; 64]])
     }
 }
 
-// Writes the blocks of a tail. A plain call in a function of its own, which is not marked to be inlined: so the
-// compiler first simplifies the tail itself, and then a tail of one block is small enough to be inlined there.
+// Writes the blocks of a tail. The call has a function of its own, which isn't marked to be inlined. So the compiler
+// first simplifies the tail, and then finds it small enough to inline for one block.
 fn gen_tail_apart<R: Rounds, V: Variant, B: StreamCipherBackend<R, V>>(
     state: &mut [u32; 16],
     blocks: &mut [[u8; 64]],
@@ -58,7 +58,7 @@ fn gen_tail_apart<R: Rounds, V: Variant, B: StreamCipherBackend<R, V>>(
     B::gen_tail_blocks(state, blocks, steps);
 }
 
-// XORs bytes with whole blocks, which are made in `room`: groups by parallel calls, and then the tail.
+// XORs bytes with whole blocks. The blocks are made in `room`, first groups by parallel calls and then the tail.
 #[inline(always)]
 fn apply_through<R: Rounds, V: Variant, B: StreamCipherBackend<R, V>>(
     state: &mut [u32; 16],
@@ -87,7 +87,8 @@ fn apply_through<R: Rounds, V: Variant, B: StreamCipherBackend<R, V>>(
     xor_blocks(data, count - rest, made);
 }
 
-// XORs bytes with whole blocks. The room for them is as wide as the backend needs, and a single block has its own.
+// XORs bytes with whole blocks. The room for blocks is as wide as the backend needs, and a single block has its own
+// room.
 #[inline(always)]
 fn apply_blocks<R: Rounds, V: Variant, B: StreamCipherBackend<R, V>>(
     state: &mut [u32; 16],

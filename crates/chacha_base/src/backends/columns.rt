@@ -1,9 +1,9 @@
-//! Groups of blocks with a vector for each word of a state: a lane has the words of one block.
+//! Groups of blocks in columns: a vector for each word of a state, and a lane for each block.
 
 ghost use Rattle.std.specs.Prelude.{◌≡◌, ◌<◌, ℕ, ◌+◌, ◌*◌, ⊤, [], ◌∷◌, length, slice_index, slice_index_or};
 ghost use Rattle.chacha_base.specs.Rounds.{columns, diagonals, rounds};
 ghost use Rattle.chacha_base.specs.ColumnVectors.{block_in_columns};
-ghost use Rattle.chacha_base.specs.Lanes.{row};
+ghost use Rattle.chacha_base.specs.Lanes.{quad};
 ghost use Rattle.chacha_base.specs.Vectors.{words_at, block_in_rows};
 
 use crate::backends::group::{BlockBuffer, Group, write_block};
@@ -11,8 +11,7 @@ use crate::backends::vector::{ByBytes, ColumnVector, FourVectors, Vector, quarte
 use crate::rounds::Steps;
 use std::alloc::AllocError;
 
-/// Sixteen vectors, in the four columns of a state: vector 0 of column k is word k of each block, 1 is word 4 + k, 2 is
-/// word 8 + k and 3 is word 12 + k.
+/// States in columns, one in each lane: vector r of column k has word 4 r + k of each state.
 pub struct Columns<V>(
     pub FourVectors<V>,
     pub FourVectors<V>,
@@ -33,19 +32,20 @@ impl<V: Copy> Clone for Columns<V> {
 
 impl<V: Copy> Copy for Columns<V> {}
 
-// The first three words of column k of a state, the same for each block, and the last one of each.
+// Column k of each start state. Its first three words are the same for all blocks; the last is that of the block's own
+// last row.
 #[inline(always)]
 fn column<V: Vector>(state: &[u32; 16], last_rows: &[[u32; 4]], k: usize) -> FourVectors<V>
-    requires each { length last_rows.now ≡ 4 * V.FOURS }
+    requires each { length last_rows.now ≡ 4 * V.QUADS }
     requires within { k < 4 }
-    ensures a { (j : ℕ) → j < 4 * V.FOURS → V.lane result.0 j ≡ slice_index state.now k }
-    ensures b { (j : ℕ) → j < 4 * V.FOURS → V.lane result.1 j ≡ slice_index state.now (4 + k) }
-    ensures c { (j : ℕ) → j < 4 * V.FOURS → V.lane result.2 j ≡ slice_index state.now (8 + k) }
-    ensures d { (j : ℕ) → j < 4 * V.FOURS
+    ensures a { (j : ℕ) → j < 4 * V.QUADS → V.lane result.0 j ≡ slice_index state.now k }
+    ensures b { (j : ℕ) → j < 4 * V.QUADS → V.lane result.1 j ≡ slice_index state.now (4 + k) }
+    ensures c { (j : ℕ) → j < 4 * V.QUADS → V.lane result.2 j ≡ slice_index state.now (8 + k) }
+    ensures d { (j : ℕ) → j < 4 * V.QUADS
         → V.lane result.3 j ≡ slice_index (slice_index_or last_rows.now j []) k }
 {
     let mut words = [0; 16];
-    'each: for g in 0..4 * V::FOURS {
+    'each: for g in 0..4 * V::QUADS {
         words[g] = last_rows[g][k];
     }
     FourVectors(
@@ -56,18 +56,17 @@ fn column<V: Vector>(state: &[u32; 16], last_rows: &[[u32; 4]], k: usize) -> Fou
     )
 }
 
-// Four words of each state brought together: of four states side by side, the first result has the words of the first
-// state, the second those of the second, and so on.
+// Transposes four vectors, quad by quad: quad g of result k has the words that lane 4 g + k of the four vectors had.
 #[inline(always)]
 fn transposed<V: ColumnVector>(w0: V, w1: V, w2: V, w3: V) -> FourVectors<V>
-    ensures first { (g : ℕ) → g < V.FOURS
-        → row (V.lane result.0) g ≡ words_at V.lane w0 w1 w2 w3 (4 * g) }
-    ensures second { (g : ℕ) → g < V.FOURS
-        → row (V.lane result.1) g ≡ words_at V.lane w0 w1 w2 w3 (4 * g + 1) }
-    ensures third { (g : ℕ) → g < V.FOURS
-        → row (V.lane result.2) g ≡ words_at V.lane w0 w1 w2 w3 (4 * g + 2) }
-    ensures fourth { (g : ℕ) → g < V.FOURS
-        → row (V.lane result.3) g ≡ words_at V.lane w0 w1 w2 w3 (4 * g + 3) }
+    ensures first { (g : ℕ) → g < V.QUADS
+        → quad (V.lane result.0) g ≡ words_at V.lane w0 w1 w2 w3 (4 * g) }
+    ensures second { (g : ℕ) → g < V.QUADS
+        → quad (V.lane result.1) g ≡ words_at V.lane w0 w1 w2 w3 (4 * g + 1) }
+    ensures third { (g : ℕ) → g < V.QUADS
+        → quad (V.lane result.2) g ≡ words_at V.lane w0 w1 w2 w3 (4 * g + 2) }
+    ensures fourth { (g : ℕ) → g < V.QUADS
+        → quad (V.lane result.3) g ≡ words_at V.lane w0 w1 w2 w3 (4 * g + 3) }
 {
     let (low_02, high_02) = w0.interleaved(w2);
     let (low_13, high_13) = w1.interleaved(w3);
@@ -76,24 +75,24 @@ fn transposed<V: ColumnVector>(w0: V, w1: V, w2: V, w3: V) -> FourVectors<V>
     FourVectors(first, second, third, fourth)
 }
 
-// Blocks in rows: the first part has blocks 0, 4, 8 and so on, the second 1, 5 and 9.
-type FourRows<V> = (
+// Blocks in rows, in four parts: quad g of part k has block 4 g + k.
+type RowParts<V> = (
     FourVectors<V>,
     FourVectors<V>,
     FourVectors<V>,
     FourVectors<V>,
 );
 
-// The same blocks in rows.
+// Turns blocks in columns into blocks in rows.
 #[inline(always)]
-fn in_rows<V: ColumnVector>(states: Columns<V>) -> FourRows<V>
-    ensures first { (g : ℕ) → g < V.FOURS
+fn in_rows<V: ColumnVector>(states: Columns<V>) -> RowParts<V>
+    ensures first { (g : ℕ) → g < V.QUADS
         → block_in_rows V.lane result.0 g ≡ block_in_columns V.lane states (4 * g) }
-    ensures second { (g : ℕ) → g < V.FOURS
+    ensures second { (g : ℕ) → g < V.QUADS
         → block_in_rows V.lane result.1 g ≡ block_in_columns V.lane states (4 * g + 1) }
-    ensures third { (g : ℕ) → g < V.FOURS
+    ensures third { (g : ℕ) → g < V.QUADS
         → block_in_rows V.lane result.2 g ≡ block_in_columns V.lane states (4 * g + 2) }
-    ensures fourth { (g : ℕ) → g < V.FOURS
+    ensures fourth { (g : ℕ) → g < V.QUADS
         → block_in_rows V.lane result.3 g ≡ block_in_columns V.lane states (4 * g + 3) }
 {
     let Columns(k, l, m, n) = states;
@@ -109,24 +108,24 @@ fn in_rows<V: ColumnVector>(states: Columns<V>) -> FourRows<V>
     )
 }
 
-// Writes block g of each of four.
+// Writes blocks 4 g to 4 g + 3: quad g of each part.
 #[inline(always)]
-fn write_four<V: Vector, B: BlockBuffer>(rows: FourRows<V>, g: usize, four: &mut [B])
-    requires within { g < V.FOURS }
-    requires room { length four.old ≡ 4 }
-    ensures { four.new ≡ B.of_words (block_in_rows V.lane rows.0 g)
+fn write_blocks<V: Vector, B: BlockBuffer>(rows: RowParts<V>, g: usize, buffers: &mut [B])
+    requires within { g < V.QUADS }
+    requires room { length buffers.old ≡ 4 }
+    ensures { buffers.new ≡ B.of_words (block_in_rows V.lane rows.0 g)
         ∷ B.of_words (block_in_rows V.lane rows.1 g)
         ∷ B.of_words (block_in_rows V.lane rows.2 g)
         ∷ B.of_words (block_in_rows V.lane rows.3 g) ∷ [] }
 {
-    write_block(rows.0, g, &mut four[0]);
-    write_block(rows.1, g, &mut four[1]);
-    write_block(rows.2, g, &mut four[2]);
-    write_block(rows.3, g, &mut four[3]);
+    write_block(rows.0, g, &mut buffers[0]);
+    write_block(rows.1, g, &mut buffers[1]);
+    write_block(rows.2, g, &mut buffers[2]);
+    write_block(rows.3, g, &mut buffers[3]);
 }
 
 impl<V: ColumnVector> Group for Columns<V> {
-    ghost BLOCKS = { 4 * V.FOURS };
+    ghost BLOCKS = { 4 * V.QUADS };
 
     ghost ROUND_STEPS = { 4 };
 
@@ -181,8 +180,8 @@ impl<V: ColumnVector> Group for Columns<V> {
     #[inline(always)]
     fn store<B: BlockBuffer>(self, buffers: &mut [B]) {
         let rows = in_rows(self);
-        'each: for g in 0..V::FOURS {
-            write_four(rows, g, &mut buffers[4 * g..4 * g + 4]);
+        'each: for g in 0..V::QUADS {
+            write_blocks(rows, g, &mut buffers[4 * g..4 * g + 4]);
         }
     }
 }

@@ -1,9 +1,9 @@
-//! What the kernel needs of a group of blocks, in rows or in columns, and two groups side by side.
+//! What the kernel needs of a group of blocks, in rows or in columns, and groups of two halves.
 
 ghost use Rattle.std.specs.Prelude.{◌≡◌, ◌<◌, ℕ, ◌+◌, ◌-◌, ◌*◌, ⊤, nat_lt, if◌then◌else◌, List, [], length, slice_get, slice_index, slice_index_or, Some};
 ghost use Rattle.chacha_base.specs.Bytes.{bytes};
 ghost use Rattle.chacha_base.specs.Rounds.{columns, diagonals, rounds, add_states};
-ghost use Rattle.chacha_base.specs.Lanes.{row, with_last_row};
+ghost use Rattle.chacha_base.specs.Lanes.{quad, with_last_row};
 ghost use Rattle.chacha_base.specs.Vectors.{block_in_rows};
 
 use crate::backends::vector::{FourVectors, Vector};
@@ -11,14 +11,14 @@ use crate::rounds::Steps;
 use std::alloc::AllocError;
 use std::simd::prelude::*;
 
-/// The states of some blocks, one after another, with the rounds on them, that become blocks.
+/// The states of consecutive blocks. They go through the rounds together, and become the blocks.
 pub trait Group: Copy {
     ghost BLOCKS: { ℕ };
 
-    // Quarter rounds that a round of the columns counts, and one of the diagonals.
+    // The quarter rounds that a round counts, one of the columns or one of the diagonals.
     ghost ROUND_STEPS: { ℕ };
 
-    // The sixteen words of a state.
+    // The sixteen words of state g.
     ghost words_of: { Self → ℕ → List ℕ };
 
     /// A round of the columns of each state.
@@ -31,8 +31,7 @@ pub trait Group: Copy {
         ensures blocks { (g : ℕ) → g < BLOCKS → words_of result g ≡ diagonals (words_of self g) }
         ensures steps { steps.new ≡ record steps.old { rounds = steps.old.rounds + ROUND_STEPS } };
 
-    /// `count` double rounds of each state (RFC 8439, section 2.3). Of columns, sixteen vectors, a state is the sixteen
-    /// words in one lane.
+    /// `count` double rounds of each state (RFC 8439, section 2.3).
     #[inline(always)]
     final fn double_rounds(self, count: usize, steps: &mut Steps) -> Self
         ensures blocks { (g : ℕ) → g < BLOCKS
@@ -47,7 +46,7 @@ pub trait Group: Copy {
         states
     }
 
-    /// States that differ only in the last row.
+    /// A state for each of the last rows, behind the first three rows of `state`.
     fn start(state: &[u32; 16], last_rows: &[[u32; 4]]) -> Self
         requires { length last_rows.now ≡ BLOCKS }
         ensures { (g : ℕ) → g < BLOCKS → words_of result g
@@ -65,7 +64,7 @@ pub trait Group: Copy {
             → slice_get buffers.new g ≡ Some (B.of_words (words_of self g)) };
 }
 
-/// Two groups, one after the other. The rounds of both are made side by side.
+/// Two groups: the blocks of the second come after those of the first. Their rounds alternate.
 pub struct Twice<G>(G, G);
 
 // By hand, as a copy: what a derive writes clones each field.
@@ -118,12 +117,12 @@ impl<G: Group> Group for Twice<G> {
     }
 }
 
-/// Takes the words of a block, as words or as bytes.
+/// Room for a block, as words or as bytes.
 pub trait BlockBuffer {
     // The buffer that holds these words.
     ghost of_words: { List ℕ → Self };
 
-    /// Writes the words of a state, a row in each vector.
+    /// Writes a state of which each vector is a row.
     fn write_rows(&mut self, rows: FourVectors<u32x4>)
         ensures { self.new ≡ of_words (block_in_rows slice_index rows 0) };
 }
@@ -163,7 +162,7 @@ impl BlockBuffer for [u8; 64] {
 #[inline(always)]
 fn write_row(words: u32x4, output: &mut [u8])
     requires { length output.old ≡ 16 }
-    ensures { output.new ≡ bytes (row (slice_index words) 0) }
+    ensures { output.new ≡ bytes (quad (slice_index words) 0) }
 {
     words.to_le_bytes().copy_to_slice(output);
 }
@@ -171,9 +170,9 @@ fn write_row(words: u32x4, output: &mut [u8])
 /// Writes one of the states of which four vectors hold the rows.
 #[inline(always)]
 pub fn write_block<V: Vector, B: BlockBuffer>(rows: FourVectors<V>, g: usize, buffer: &mut B)
-    requires { g < V.FOURS }
+    requires { g < V.QUADS }
     ensures { buffer.new ≡ B.of_words (block_in_rows V.lane rows g) }
 {
     let FourVectors(a, b, c, d) = rows;
-    buffer.write_rows(FourVectors(a.four(g), b.four(g), c.four(g), d.four(g)));
+    buffer.write_rows(FourVectors(a.quad(g), b.quad(g), c.quad(g), d.quad(g)));
 }

@@ -63,7 +63,7 @@ fn mixed_words<R: Rounds, V: Variant, G: Group, const W: usize>(
     words
 }
 
-/// Writes the next block, and counts one other call. The counter moves by one, whatever else the group makes.
+/// Writes the next block, and counts one `other` call. The counter moves by one, even if the group has more blocks.
 #[inline(always)]
 pub fn write_one<R: Rounds, V: Variant, G: Group, const W: usize>(
     state: &mut [u32; 16],
@@ -82,6 +82,7 @@ pub fn write_one<R: Rounds, V: Variant, G: Group, const W: usize>(
 {
     steps.add_other();
     let words = mixed_words::<R, V, G, W>(state, steps);
+    // A slice, since no part of an array whose length is a const parameter can be borrowed.
     let made = &words[..];
     write_bytes(&made[0], block);
     advance::<V>(state, 1);
@@ -110,8 +111,8 @@ pub fn write_group<R: Rounds, V: Variant, G: Group, const W: usize>(
     advance::<V>(state, W);
 }
 
-/// Writes at most as many blocks as a group has. Where there are any, the group is made once, and counts as one other
-/// call. Where there are none, nothing is made.
+/// Writes at most as many blocks as a group has. For one block or more the group is made once, and counts as one
+/// `other` call. For none, nothing is made.
 #[inline(always)]
 pub fn write_tail<R: Rounds, V: Variant, G: Group, const W: usize>(
     state: &mut [u32; 16],
@@ -131,6 +132,7 @@ pub fn write_tail<R: Rounds, V: Variant, G: Group, const W: usize>(
     if !blocks.is_empty() {
         steps.add_other();
         let words = mixed_words::<R, V, G, W>(state, steps);
+        // A slice, as in `write_one`.
         let made = &words[..];
         'each: for g in 0..blocks.len() {
             write_bytes(&made[g], &mut blocks[g]);
@@ -153,7 +155,7 @@ pub fn write_buffer<R: Rounds, G: Group>(
         ≡ record steps.old { rounds = steps.old.rounds + 2 * G.ROUND_STEPS * R.COUNT } }
 {
     let words = mixed_words::<R, Legacy, G, 4>(state, steps);
-    'four: for i in 0..4usize {
+    'each: for i in 0..4usize {
         buffer[16 * i..16 * i + 16].copy_from_slice(&words[i]);
     }
     advance::<Legacy>(state, 4);

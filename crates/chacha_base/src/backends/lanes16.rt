@@ -13,12 +13,14 @@ use crate::rounds::{Rounds, Steps};
 use crate::variants::Variant;
 use std::simd::prelude::*;
 
-/// Sixteen blocks in a parallel call, with a vector of sixteen words for each word of a state (this crate). A tail is
-/// made in rows, by the narrowest group that holds it: one block alone takes a vector of four words for each row.
+/// Sixteen blocks in a parallel call, in columns, with a vector of sixteen words for each word of a state (this crate).
+/// The other calls are in rows, by the narrowest group that holds the blocks: one block alone takes a vector of four
+/// words for each row.
 #[derive(Clone, Copy, Debug)]
 pub struct Lanes16;
 
-// One block in vectors of four words, two in vectors of eight, and four, eight and sixteen in vectors of sixteen.
+// Groups in rows, by their number of blocks: one in vectors of four words, two in vectors of eight, and the others in
+// vectors of sixteen.
 type One = Rows<u32x4, 1>;
 
 type Two = Rows<u32x8, 1>;

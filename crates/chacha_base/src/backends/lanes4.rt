@@ -13,12 +13,13 @@ use crate::rounds::{Rounds, Steps};
 use crate::variants::Variant;
 use std::simd::prelude::*;
 
-/// Four blocks in a parallel call, with a vector of four words for each word of a state; one to a vector in all other
-/// calls (this crate). A call for a single block makes four as well, and keeps the first.
+/// Four blocks in a parallel call, in columns, with a vector of four words for each word of a state (this crate). The
+/// other calls are in rows, with a vector for each row of each block. A call for a single block makes four as well, and
+/// keeps the first.
 #[derive(Clone, Copy, Debug)]
 pub struct Lanes4;
 
-// Four blocks, with a vector for each row of each.
+// Four blocks in rows, each in vectors of its own.
 type Four = Twice<Twice<Rows<u32x4, 1>>>;
 
 impl ParBlocksSizeUser for Lanes4 {

@@ -1,4 +1,4 @@
-//! Four blocks at once, two to a vector of eight words.
+//! Four blocks at once, two in each vector of eight words.
 
 ghost use Rattle.std.specs.Prelude.{◌≡◌, ◌<◌, ◌+◌, ◌*◌, min, length};
 ghost use Rattle.chacha_base.specs.Counts.{Grows, for_tail};
@@ -12,12 +12,12 @@ use crate::rounds::{Rounds, Steps};
 use crate::variants::Variant;
 use std::simd::prelude::*;
 
-/// Four blocks in a parallel call, two to a vector of eight words (this crate). A call for a single block makes four
-/// as well, and keeps the first.
+/// Four blocks in a parallel call, in rows, with a vector of eight words for the same row of two blocks (this crate). A
+/// call for a single block makes four as well, and keeps the first.
 #[derive(Clone, Copy, Debug)]
 pub struct Lanes8;
 
-// Four blocks, a vector for each row of two.
+// Four blocks in rows, two in each vector.
 type Four = Twice<Rows<u32x8, 1>>;
 
 impl ParBlocksSizeUser for Lanes8 {

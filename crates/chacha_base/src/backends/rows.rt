@@ -1,8 +1,7 @@
-//! Groups of blocks with a vector for each row of a state, as many states as a vector has fours.
+//! Groups of blocks in rows: a vector for each row of a state, and a quad for each block.
 
 ghost use Rattle.std.specs.Prelude.{◌≡◌, ◌<◌, ℕ, ◌*◌, ⊤, [], ◌∷◌, slice_index};
-ghost use Rattle.chacha_base.specs.Lanes.{row, state_row};
-ghost use Rattle.chacha_base.specs.Diagonalized.{rows_turned};
+ghost use Rattle.chacha_base.specs.Lanes.{quad, state_row, rows_turned};
 ghost use Rattle.chacha_base.specs.Vectors.{block_in_rows};
 
 use crate::backends::group::{BlockBuffer, Group, write_block};
@@ -10,9 +9,9 @@ use crate::backends::vector::{ByShifts, FourVectors, Vector, quarter_round, sums
 use crate::rounds::Steps;
 use std::alloc::AllocError;
 
-/// States in rows. A round of the diagonals diagonalizes the rows, so that each diagonal becomes a column: row `STAYS`
-/// stays, and the rows after it, in a circle, turn to the left by 1, 2 and 3 places. Where row b (1) stays, which a
-/// quarter round needs first and writes last, the turns wait for nothing.
+/// States in rows, one in each quad. A round of the diagonals first turns the rows, so that each diagonal becomes a
+/// column: row `STAYS` stays, and the rows after it, in a circle, turn to the left by 1, 2 and 3 places. A quarter
+/// round reads row 1 (b) first and writes it last, so if that row stays, the others turn in the meantime.
 pub struct Rows<V, const STAYS: usize>(FourVectors<V>);
 
 // By hand, as a copy: what a derive writes clones each field.
@@ -28,17 +27,17 @@ impl<V: Copy, const STAYS: usize> Clone for Rows<V, STAYS> {
 
 impl<V: Copy, const STAYS: usize> Copy for Rows<V, STAYS> {}
 
-// A row of four words, the same for each block.
+// The vector that has these four words in each quad.
 #[inline(always)]
 fn repeated<V: Vector>(w0: u32, w1: u32, w2: u32, w3: u32) -> V
-    ensures { (g : ℕ) → g < V.FOURS → row (V.lane result) g ≡ w0 ∷ w1 ∷ w2 ∷ w3 ∷ [] }
+    ensures { (g : ℕ) → g < V.QUADS → quad (V.lane result) g ≡ w0 ∷ w1 ∷ w2 ∷ w3 ∷ [] }
 {
     V::from_words(&[
         w0, w1, w2, w3, w0, w1, w2, w3, w0, w1, w2, w3, w0, w1, w2, w3,
     ])
 }
 
-// Writes the row of one block.
+// Writes four values to the words of quad g.
 #[inline(always)]
 fn set_row(words: &mut [u32; 16], g: usize, values: &[u32; 4])
     requires { g < 4 }
@@ -52,7 +51,7 @@ fn set_row(words: &mut [u32; 16], g: usize, values: &[u32; 4])
     words[4 * g + 3] = values[3];
 }
 
-// Turns the rows of each block to the left, each by its own number of places.
+// Turns the four rows of each block to the left, by a, b, c and d places.
 #[inline(always)]
 fn rows_turned<V: Vector>(
     rows: FourVectors<V>,
@@ -61,7 +60,7 @@ fn rows_turned<V: Vector>(
     c: usize,
     d: usize,
 ) -> FourVectors<V>
-    ensures { (g : ℕ) → g < V.FOURS
+    ensures { (g : ℕ) → g < V.QUADS
         → block_in_rows V.lane result g ≡ rows_turned a b c d (block_in_rows V.lane rows g) }
 {
     FourVectors(
@@ -73,7 +72,7 @@ fn rows_turned<V: Vector>(
 }
 
 impl<V: Vector, const STAYS: usize> Group for Rows<V, STAYS> {
-    ghost BLOCKS = { V.FOURS };
+    ghost BLOCKS = { V.QUADS };
 
     ghost ROUND_STEPS = { 1 };
 
@@ -97,7 +96,7 @@ impl<V: Vector, const STAYS: usize> Group for Rows<V, STAYS> {
     fn start(state: &[u32; 16], last_rows: &[[u32; 4]]) -> Rows<V, STAYS> {
         let [w0, w1, w2, w3, w4, w5, w6, w7, w8, w9, w10, w11, _, _, _, _] = *state;
         let mut d = [0; 16];
-        'each: for g in 0..V::FOURS {
+        'each: for g in 0..V::QUADS {
             set_row(&mut d, g, &last_rows[g]);
         }
         Rows(FourVectors(
@@ -115,7 +114,7 @@ impl<V: Vector, const STAYS: usize> Group for Rows<V, STAYS> {
 
     #[inline(always)]
     fn store<B: BlockBuffer>(self, buffers: &mut [B]) {
-        'each: for g in 0..V::FOURS {
+        'each: for g in 0..V::QUADS {
             write_block(self.0, g, &mut buffers[g]);
         }
     }

@@ -12,12 +12,12 @@ use crate::rounds::{Rounds, Steps};
 use crate::variants::Variant;
 use std::simd::prelude::*;
 
-/// Eight blocks in a parallel call, one to a vector of four words (this crate). A call for a single block makes eight
-/// as well, and keeps the first; a generator's call makes four.
+/// Eight blocks in a parallel call, in rows, with a vector of four words for each row of each block (this crate). A
+/// call for a single block makes eight as well, and keeps the first; a generator's call makes four.
 #[derive(Clone, Copy, Debug)]
 pub struct Rows8;
 
-// Four blocks, a vector for each row of each, and eight.
+// Four blocks in rows, each in vectors of its own, and eight.
 type Four = Twice<Twice<Rows<u32x4, 0>>>;
 
 type Eight = Twice<Four>;

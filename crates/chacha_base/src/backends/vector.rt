@@ -3,67 +3,68 @@
 ghost use Rattle.std.specs.Prelude.{◌≡◌, ◌≤◌, ◌<◌, ℕ, ◌+◌, ◌*◌, ⊤, bit_xor, slice_index};
 ghost use Rattle.chacha_base.specs.Words.{add, rotl};
 ghost use Rattle.chacha_base.specs.QuarterRound.{quarter};
-ghost use Rattle.chacha_base.specs.Lanes.{row, interleaved_low, interleaved_high, turned};
+ghost use Rattle.chacha_base.specs.Lanes.{quad, interleaved_low, interleaved_high, turned};
 ghost use Rattle.chacha_base.specs.Vectors.{lanes_at, sums_at};
 
 use crate::rounds::Steps;
 use std::alloc::AllocError;
 use std::simd::prelude::*;
 
-/// A vector of words, one in each lane. The lanes lie in fours.
+/// A vector of words, one in each lane. Quad g is the lanes 4 g to 4 g + 3.
 pub trait Vector: Copy {
     // The word in a lane.
     ghost lane: { Self → ℕ → ℕ };
 
-    ghost FOURS: { ℕ };
+    ghost QUADS: { ℕ };
 
-    /// Fours in a vector.
-    const FOURS: usize;
+    /// Quads in a vector.
+    const QUADS: usize;
 
-    /// The vector of the first of these words, as many as it has lanes.
+    /// The vector of the first of these words, one for each lane.
     fn from_words(words: &[u32; 16]) -> Self
-        ensures { (j : ℕ) → j < 4 * FOURS → lane result j ≡ slice_index words.now j };
+        ensures { (j : ℕ) → j < 4 * QUADS → lane result j ≡ slice_index words.now j };
 
     /// The sums of the words in each lane.
     fn plus(self, other: Self) -> Self
-        ensures { (j : ℕ) → j < 4 * FOURS → lane result j ≡ add (lane self j) (lane other j) };
+        ensures { (j : ℕ) → j < 4 * QUADS → lane result j ≡ add (lane self j) (lane other j) };
 
     /// The words in each lane XORed and rotated to the left.
     fn xor_rotated(self, other: Self, by: u32) -> Self
         requires some { 0 < by }
         requires most { by < 32 }
-        ensures { (j : ℕ) → j < 4 * FOURS
+        ensures { (j : ℕ) → j < 4 * QUADS
             → lane result j ≡ rotl (bit_xor (lane self j) (lane other j)) by };
 
-    /// Each four turned to the left by so many places.
+    /// The vector with the words of each quad turned to the left by `by` places.
     fn turned(self, by: usize) -> Self
-        ensures { (g : ℕ) → g < FOURS → row (lane result) g ≡ turned by (row (lane self) g) };
+        ensures { (g : ℕ) → g < QUADS → quad (lane result) g ≡ turned by (quad (lane self) g) };
 
-    /// The words of one four.
-    fn four(self, g: usize) -> u32x4
-        requires { g < FOURS }
-        ensures { row (slice_index result) 0 ≡ row (lane self) g };
+    /// The words of quad g.
+    fn quad(self, g: usize) -> u32x4
+        requires { g < QUADS }
+        ensures { quad (slice_index result) 0 ≡ quad (lane self) g };
 
-    ghost fours_at_most: { FOURS ≤ 4 };
+    ghost quads_at_most: { QUADS ≤ 4 };
 }
 
-/// A vector of which columns can be made.
+/// What only columns need of a vector.
 pub trait ColumnVector: Vector {
     /// The words in each lane XORed and rotated to the left by 8, as a permutation of bytes.
     fn xor_rotated_8(self, other: Self) -> Self
-        ensures { (j : ℕ) → j < 4 * Self.FOURS
+        ensures { (j : ℕ) → j < 4 * Self.QUADS
             → Self.lane result j ≡ rotl (bit_xor (Self.lane self j) (Self.lane other j)) 8 };
 
-    /// The first two words of each four by turns with those of another vector, and the last two.
+    /// Interleaves each quad with the same quad of another vector: the first vector has the first two words of both, by
+    /// turns, and the second the last two.
     fn interleaved(self, other: Self) -> (Self, Self)
-        ensures low { (g : ℕ) → g < Self.FOURS → row (Self.lane result.0) g
-            ≡ interleaved_low (row (Self.lane self) g) (row (Self.lane other) g) }
-        ensures high { (g : ℕ) → g < Self.FOURS → row (Self.lane result.1) g
-            ≡ interleaved_high (row (Self.lane self) g) (row (Self.lane other) g) };
+        ensures low { (g : ℕ) → g < Self.QUADS → quad (Self.lane result.0) g
+            ≡ interleaved_low (quad (Self.lane self) g) (quad (Self.lane other) g) }
+        ensures high { (g : ℕ) → g < Self.QUADS → quad (Self.lane result.1) g
+            ≡ interleaved_high (quad (Self.lane self) g) (quad (Self.lane other) g) };
 }
 
-/// Words a, b, c and d of a quarter round in each lane: the four rows of some states, or a column or diagonal of one
-/// state in each lane.
+/// Words a, b, c and d of a quarter round in each lane. In rows these are the rows of states, in columns a column or a
+/// diagonal of the state in each lane.
 pub struct FourVectors<V>(pub V, pub V, pub V, pub V);
 
 // By hand, as a copy: what a derive writes clones each field.
@@ -83,7 +84,7 @@ impl<V: Copy> Copy for FourVectors<V> {}
 pub trait RotateBy8<V: Vector> {
     /// The words in each lane XORed and rotated to the left by 8.
     fn xor_rotated(one: V, other: V) -> V
-        ensures { (j : ℕ) → j < 4 * V.FOURS
+        ensures { (j : ℕ) → j < 4 * V.QUADS
             → V.lane result j ≡ rotl (bit_xor (V.lane one j) (V.lane other j)) 8 };
 }
 
@@ -107,13 +108,14 @@ impl<V: ColumnVector> RotateBy8<V> for ByBytes {
     }
 }
 
-/// The quarter round of each lane (RFC 8439, section 2.1). It counts as one. `B` says how words are rotated by 8.
+/// A quarter round in each lane (RFC 8439, section 2.1), which together count as one. `B` says how words are rotated by
+/// 8.
 #[inline(always)]
 pub fn quarter_round<V: Vector, B: RotateBy8<V>>(
     start: FourVectors<V>,
     steps: &mut Steps,
 ) -> FourVectors<V>
-    ensures lanes { (j : ℕ) → j < 4 * V.FOURS → lanes_at V.lane result j
+    ensures lanes { (j : ℕ) → j < 4 * V.QUADS → lanes_at V.lane result j
         ≡ quarter (V.lane start.0 j) (V.lane start.1 j) (V.lane start.2 j) (V.lane start.3 j) }
     ensures steps { steps.new ≡ record steps.old { rounds = steps.old.rounds + 1 } }
 {
@@ -133,7 +135,7 @@ pub fn quarter_round<V: Vector, B: RotateBy8<V>>(
 /// The sums of the words in each lane.
 #[inline(always)]
 pub fn sums<V: Vector>(one: FourVectors<V>, other: FourVectors<V>) -> FourVectors<V>
-    ensures { (j : ℕ) → j < 4 * V.FOURS
+    ensures { (j : ℕ) → j < 4 * V.QUADS
         → lanes_at V.lane result j ≡ sums_at V.lane one other j }
 {
     let FourVectors(a, b, c, d) = one;
@@ -167,11 +169,11 @@ impl Vector for u32x4 {
 
     ghost lane = { λ vector j. slice_index vector j };
 
-    ghost FOURS = { 1 };
+    ghost QUADS = { 1 };
 
-    const FOURS: usize = 1;
+    const QUADS: usize = 1;
 
-    ghost fours_at_most = { lit≤ tt };
+    ghost quads_at_most = { lit≤ tt };
 
     #[inline(always)]
     fn from_words(words: &[u32; 16]) -> u32x4 {
@@ -199,7 +201,7 @@ impl Vector for u32x4 {
     }
 
     #[inline(always)]
-    fn four(self, _g: usize) -> u32x4 {
+    fn quad(self, _g: usize) -> u32x4 {
         self
     }
 }
@@ -224,11 +226,11 @@ impl Vector for u32x8 {
 
     ghost lane = { λ vector j. slice_index vector j };
 
-    ghost FOURS = { 2 };
+    ghost QUADS = { 2 };
 
-    const FOURS: usize = 2;
+    const QUADS: usize = 2;
 
-    ghost fours_at_most = { lit≤ tt };
+    ghost quads_at_most = { lit≤ tt };
 
     #[inline(always)]
     fn from_words(words: &[u32; 16]) -> u32x8 {
@@ -256,7 +258,7 @@ impl Vector for u32x8 {
     }
 
     #[inline(always)]
-    fn four(self, g: usize) -> u32x4 {
+    fn quad(self, g: usize) -> u32x4 {
         match g {
             0 => self.swizzle([0, 1, 2, 3]),
             _ => self.swizzle([4, 5, 6, 7]),
@@ -269,11 +271,11 @@ impl Vector for u32x16 {
 
     ghost lane = { λ vector j. slice_index vector j };
 
-    ghost FOURS = { 4 };
+    ghost QUADS = { 4 };
 
-    const FOURS: usize = 4;
+    const QUADS: usize = 4;
 
-    ghost fours_at_most = { lit≤ tt };
+    ghost quads_at_most = { lit≤ tt };
 
     #[inline(always)]
     fn from_words(words: &[u32; 16]) -> u32x16 {
@@ -301,7 +303,7 @@ impl Vector for u32x16 {
     }
 
     #[inline(always)]
-    fn four(self, g: usize) -> u32x4 {
+    fn quad(self, g: usize) -> u32x4 {
         match g {
             0 => self.swizzle([0, 1, 2, 3]),
             1 => self.swizzle([4, 5, 6, 7]),

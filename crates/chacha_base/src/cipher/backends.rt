@@ -12,8 +12,8 @@ use crate::variants::Variant;
 /// Makes the blocks of a state one after another (RFC 8439, section 2.3), 64 bytes each. The functions have no
 /// receiver, so a backend is an empty type.
 ///
-/// A call makes the block of the state's counter, or that one and those of the counters after it, in order. It moves
-/// the counter past them and keeps the other words of the state. Counters wrap, at 2^32 or 2^64 as the variant says.
+/// A call makes one block, that of the state's counter, or several blocks in order, from that one on. It moves the
+/// counter past them and keeps the other words of the state. Counters wrap, at 2^32 or 2^64 as the variant says.
 /// Nothing is refused. Anyone may implement it; a backend that counts nothing has both constants 0.
 pub trait StreamCipherBackend<R: Rounds, V: Variant>: ParBlocksSizeUser {
     ghost PAR_STEPS: { ℕ };

@@ -22,7 +22,7 @@ pub trait StreamCipherCore: Keystream + BlockSizeUser + ParBlocksSizeUser {
 
     ghost one_cost: { ℕ };
 
-    /// How many blocks are left, from that of the counter to the one with the greatest counter. `None` where a `usize`
+    /// How many blocks are left, from the next one to the one with the greatest counter. `None` where a `usize`
     /// cannot represent that number: only where a counter of 64 bits is 0.
     fn remaining_blocks(&self) -> Option<usize>
         ensures remaining { result ≡ remaining Self.modulus (counter self.now) }

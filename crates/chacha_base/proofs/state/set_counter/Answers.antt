@@ -6,11 +6,11 @@ use Rattle.chacha_base.proofs.state.set_counter.Goals as goal
 pub returns : goal.returns
 returns g c =
     let layout = g.V.Variant.layout in
-    let pos = g.V.Counter.StreamCipherCounter.value c.args.pos in
-    let written = state_at-written layout pos c.args.state.now _ c.told-state c.set_block_pos.ensures.row in
+    let number = g.V.Counter.StreamCipherCounter.value c.args.counter in
+    let written = state_at-written layout number c.args.state.now _ c.told-state c.set_block_pos.ensures.row in
     record {
       state = written;
-      fixed = ap (fixed_words layout) written ∙ fixed_words-state_at layout pos c.args.state.now c.told-state;
-      counter = ap (state_counter layout) written ∙ state_counter-state_at layout pos c.args.state.now c.told-state
+      fixed = ap (fixed_words layout) written ∙ fixed_words-state_at layout number c.args.state.now c.told-state;
+      counter = ap (state_counter layout) written ∙ state_counter-state_at layout number c.args.state.now c.told-state
           ∙ mod-eq_of_lt c.set_block_pos.ensures.below;
     }

@@ -6,12 +6,12 @@ use Rattle.chacha_base.proofs.state.set_counter_in_row.Goals as goal
 pub returns : goal.returns
 returns g c =
     let layout = g.V.Variant.layout in
-    let pos = g.V.Counter.StreamCipherCounter.value c.args.pos in
-    let written = state_at-in_row layout pos c.args.state.now _ _ c.told-state c.fits-state
+    let number = g.V.Counter.StreamCipherCounter.value c.args.counter in
+    let written = state_at-in_row layout number c.args.state.now _ _ c.told-state c.fits-state
     (rw c.from_u64.ensures at c.set_block_pos.ensures.row) c.set_block_pos-2.ensures.row in
     record {
       state = written;
-      fixed = ap (fixed_words layout) written ∙ fixed_words-state_at layout pos c.args.state.now c.told-state;
-      counter = ap (state_counter layout) written ∙ state_counter-state_at layout pos c.args.state.now c.told-state
+      fixed = ap (fixed_words layout) written ∙ fixed_words-state_at layout number c.args.state.now c.told-state;
+      counter = ap (state_counter layout) written ∙ state_counter-state_at layout number c.args.state.now c.told-state
           ∙ mod-eq_of_lt c.set_block_pos-2.ensures.below;
     }

@@ -3,8 +3,8 @@ use Rattle.chacha20.proofs.ReadLemmas.{taken, two_read}
 use Rattle.chacha20.proofs.rng.ChaChaRng.next_u64.Goals as goal
 
 pub invariant_of-self : goal.invariant_of-self
-invariant_of-self g c = taken c.self.invariant 2 _ refl (omega (arith, c.if-self-lt63.true))
+invariant_of-self g c = taken c.self.invariant 2 _ refl (omega (arith, c.if-self.true))
 
-pub returns-then-self-lt63-clause-value : goal.returns-then-self-lt63-clause-value
-returns-then-self-lt63-clause-value g c =
+pub returns-then-self-clause-value : goal.returns-then-self-clause-value
+returns-then-self-clause-value g c =
     rw (← c.self.view_is, c.joined.ensures) (two_read c.self.invariant (omega arith))

@@ -1,5 +1,5 @@
 use Rattle.std.proofs.Math.Bool.{and_assoc}
-use Rattle.chacha20.proofs.GeneratorEquality.{same-Decides}
+use Rattle.chacha20.proofs.GeneratorLemmas.{same-Decides}
 use Rattle.chacha20.proofs.rng.ChaChaRngPartialEq.eq.Goals as goal
 
 pub returns-clause-value : goal.returns-clause-value

@@ -3,7 +3,7 @@ use Rattle.std.proofs.lemmas.List.{take_all, take_more_set, drop_all, drop_more}
 use Rattle.std.proofs.lemmas.List.Elements.{All-get_or}
 use Rattle.chacha20.specs.GeneratorRuns.{RngOutcome, rng_run, InData}
 use Rattle.chacha20.proofs.RunLemmas.{behind, run-more, run-all}
-use Rattle.chacha20.proofs.GeneratorEquality.{same-Decides}
+use Rattle.chacha20.proofs.GeneratorLemmas.{same-Decides}
 use Rattle.chacha20.proofs.runs.rng.run_rng.Goals as goal
 
 pub calls-init : goal.calls-init

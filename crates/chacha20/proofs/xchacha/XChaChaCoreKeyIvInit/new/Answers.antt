@@ -2,8 +2,7 @@ use Rattle.std.proofs.Common.{◌≡◌, ℕ, List, ◌∙◌, length, ap, ap₂
 use Rattle.chacha_base.specs.Layout.{ietf}
 use Rattle.chacha_base.specs.Block.{start}
 use Rattle.chacha20.specs.XChaCha.{subkey, subnonce}
-use Rattle.chacha20.proofs.StartLemmas.{blocks-of-start}
-use Rattle.chacha20.proofs.XChaChaLemmas.{subnonce_written}
+use Rattle.chacha20.proofs.StartLemmas.{blocks-of-start, subnonce_written}
 use Rattle.chacha20.proofs.xchacha.XChaChaCoreKeyIvInit.new.Goals as goal
 
 pub returns : goal.returns

@@ -6,4 +6,4 @@ use Rattle.chacha_base.proofs.backends.group.write_block.Goals as goal
 pub returns : goal.returns
 returns g c =
     c.write_rows.ensures
-    ∙ ap g.B.BlockBuffer.of_words (four_joined c.four.ensures c.four-2.ensures c.four-3.ensures c.four-4.ensures)
+    ∙ ap g.B.BlockBuffer.of_words (four_joined c.quad.ensures c.quad-2.ensures c.quad-3.ensures c.quad-4.ensures)

@@ -3,8 +3,8 @@ use Rattle.chacha_base.specs.Layout.{legacy}
 use Rattle.chacha_base.specs.State.{next_word}
 use Rattle.chacha_base.proofs.backends.kernel.write_buffer.Given as goal
 
-abbrev pub invariant-four : goal.invariant-four
-invariant-four g l = record {
+abbrev pub invariant-each : goal.invariant-each
+invariant-each g l = record {
   long : length l.buffer ≡ 64;
   done : (k : ℕ) → k < 16 * l.i → slice_get l.buffer k ≡ Some (next_word g.R.Rounds.COUNT legacy l.state k);
 }

@@ -1,8 +1,6 @@
 use Rattle.std.proofs.Common.{◌≡◌, arith, ◌/◌, ◌%◌, ◌∙◌, ap, sym, subst}
 use Rattle.chacha_base.specs.Buffered.{IsBuffered}
-use Rattle.chacha_base.specs.Counts.{Counts, Grows, for_last_part}
 use Rattle.chacha_base.proofs.BufferedLemmas.{at-sought_front, at-sought_part}
-use Rattle.chacha_base.proofs.CountsLemmas.{grows-last, grows-no_last}
 use Rattle.chacha_base.proofs.wrapper.StreamCipherCoreWrapper.move_to.Goals.{then-position-gt0, else-position-gt0}
 use Rattle.chacha_base.proofs.wrapper.StreamCipherCoreWrapper.move_to.Goals as goal
 
@@ -18,24 +16,11 @@ invariant_of-self g c =
     let here = c.set_block_pos.ensures.counter ∙ c.from_u64.ensures ∙ ap (λ m. p / 64 % m) blocks in
     elim c.if-position-gt0.branch [
       | then-position-gt0 w ↦
-          let made = w.write_block_counted in
+          let made = w.write_keystream_block in
           subst (λ s. IsBuffered modulus (block (fixed s.core)) (counter s.core) s.buffer p) (sym w.self-inside-is)
           (at-sought_part c.requires w.if-position-gt0.true here
           made.ensures.counter (made.ensures.block ∙ ap (λ f. block f (counter set)) (sym made.ensures.fixed)))
       | else-position-gt0 w ↦
           subst (λ s. IsBuffered modulus (block (fixed s.core)) (counter s.core) s.buffer p) (sym w.self-inside-is)
           (at-sought_front c.requires w.if-position-gt0.false here)
-    ]
-
-pub returns-clause-steps : goal.returns-clause-steps
-returns-clause-steps g c =
-    let one = g.C.StreamCipherCore.one_cost in
-    let used = c.args.position % 64 in
-    elim c.if-position-gt0.branch [
-      | then-position-gt0 w ↦
-          subst (λ (s : Counts). Grows (for_last_part one used) c.args.steps.now s) (sym w.steps-is)
-          (grows-last one used w.if-position-gt0.true w.write_block_counted.ensures.steps)
-      | else-position-gt0 w ↦
-          subst (λ (s : Counts). Grows (for_last_part one used) c.args.steps.now s) (sym w.steps-is)
-          (grows-no_last one used c.args.steps.now w.if-position-gt0.false)
     ]

@@ -4,8 +4,8 @@ use Rattle.chacha20.specs.State.{state_after, next_word}
 use Rattle.chacha20.proofs.BackendLaws.{plus_rounds}
 use Rattle.examples.proofs.scalar.ScalarRngBackend.gen_ks_blocks.Given as goal
 
-abbrev pub invariant-four : goal.invariant-four
-invariant-four g l = record {
+abbrev pub invariant-each : goal.invariant-each
+invariant-each g l = record {
   long : length l.buffer ≡ 64;
   done : (k : ℕ) → k < 16 * l.i → slice_get l.buffer k ≡ Some (next_word g.R.Rounds.COUNT legacy l.fn.state k);
   state : l.state ≡ state_after legacy l.i l.fn.state;

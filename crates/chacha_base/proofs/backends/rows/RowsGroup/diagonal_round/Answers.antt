@@ -1,6 +1,6 @@
 use Rattle.std.proofs.Common.{◌∙◌, ap}
 use Rattle.chacha_base.specs.Rounds.{columns}
-use Rattle.chacha_base.specs.Diagonalized.{undiagonalized}
+use Rattle.chacha_base.specs.Lanes.{undiagonalized}
 use Rattle.chacha_base.proofs.RowLemmas.{columns-of-lanes, columns-diagonalized}
 use Rattle.chacha_base.proofs.backends.rows.RowsGroup.diagonal_round.Goals as goal
 
@@ -8,6 +8,6 @@ pub returns-clause-blocks : goal.returns-clause-blocks
 returns-clause-blocks g c b h =
     c.rows_turned.ensures b h
     ∙ ap (undiagonalized g.row.STAYS)
-    (columns-of-lanes g.V.Vector.FOURS g.V.Vector.lane _ _ c.quarter_round-mixed.ensures.lanes b h
+    (columns-of-lanes g.V.Vector.QUADS g.V.Vector.lane _ _ c.quarter_round-mixed.ensures.lanes b h
     ∙ ap columns (c.rows_turned-diagonalized.ensures b h))
     ∙ columns-diagonalized g.row.STAYS _
