@@ -62,3 +62,8 @@ def checked(crate, *words):
     """The status of `rt check` in the folder of a crate, and what it said."""
     ran = subprocess.run(["rt", "check", *words], cwd=crate, stdout=subprocess.PIPE, stderr=subprocess.STDOUT, text=True)
     return ran.returncode, ran.stdout
+
+
+def messages(said):
+    """The messages of `rt check`, each as one line: the lines of a message after its first are indented."""
+    return [" ".join(it.split()) for it in re.split(r"\n(?!\s)", said.rstrip())]
