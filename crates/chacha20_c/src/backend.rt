@@ -21,7 +21,8 @@ type Few = Lanes16;
 
 type More = Lanes4;
 
-/// For vectors of 128 bits: each number of blocks by the backend that makes the fewest. It counts nothing.
+/// For vectors of 128 bits: makes each number of blocks by the backend that makes the fewest to spare. It counts
+/// nothing.
 pub(crate) struct Narrow;
 
 impl ParBlocksSizeUser for Narrow {

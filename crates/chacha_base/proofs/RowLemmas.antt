@@ -1,4 +1,4 @@
--- Blocks in the rows of vectors: set, moved, summed and stored. The proofs of `rows`, `group`, `rounds` and the kernel
+-- Blocks in rows: set, turned, summed and stored. The proofs of `rows`, `columns`, `group`, `rounds` and the kernel
 -- cite these. Read `Lanes` and `Vectors` first.
 use Rattle.std.proofs.Common.{◌≡◌, ℕ, ◌<◌, ◌≤◌, ◌≢◌, ◌+◌, ◌-◌, ◌*◌, ◌%◌, Bool, true, false, List, [], ◌∷◌, ◌++◌, length, drop, slice_index, refl, ap, ◌∙◌, arith, set, length-set, get_or-set_same, get_or-set_other, if◌then◌else◌}
 use Rattle.chacha_base.specs.declared.backends.vector.FourVectors.{FourVectors}

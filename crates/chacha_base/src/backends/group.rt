@@ -46,7 +46,7 @@ pub trait Group: Copy {
         states
     }
 
-    /// A state for each of the last rows, behind the first three rows of `state`.
+    /// A state for each of these last rows. The first three rows are those of `state`.
     fn start(state: &[u32; 16], last_rows: &[[u32; 4]]) -> Self
         requires { length last_rows.now ≡ BLOCKS }
         ensures { (g : ℕ) → g < BLOCKS → words_of result g

@@ -108,8 +108,7 @@ impl<V: ColumnVector> RotateBy8<V> for ByBytes {
     }
 }
 
-/// A quarter round in each lane (RFC 8439, section 2.1), which together count as one. `B` says how words are rotated by
-/// 8.
+/// A quarter round in each lane (RFC 8439, section 2.1). They count as one. `B` says how words are rotated by 8.
 #[inline(always)]
 pub fn quarter_round<V: Vector, B: RotateBy8<V>>(
     start: FourVectors<V>,
