@@ -1,4 +1,4 @@
-"""Must-fail edits: where they are, what they make of their files, and the goal that refuses one in what the prover printed."""
+"""Must-fail edits: where they are, what they make of their files, and the goals that refuse one in what the prover printed."""
 
 import glob
 import os
@@ -6,8 +6,22 @@ import re
 
 from common import FUNCTION, TOP, text_of
 
-# A proof that names what an edit took away, and what cites that proof: it says nothing of a contract.
-LOST = re.compile(r"has no field|is not in scope|has no `|was not admitted|was not checked")
+# What says nothing of a mistake: a proof that names what an edit took away, what cites that proof, and an answer of another form
+# than its place asks for.
+LOST = re.compile(
+    r"has no field|is not in scope|has no `|^record `|(?:was|were) not (?:admitted|checked)|homogeneous path|settles argument"
+    r"|no occurrence of the path|^expected type"
+)
+# What shows a mistake, by the words that a message begins with.
+KINDS = {
+    "numbers": re.compile(r"`(?:omega|grind)`: the goal does not follow"),
+    "two sides": re.compile(r"(?:as printed|computed as far as they go), the two types|give a proof of that as the last argument, `(?:rw|simp) L t`"),
+    "no proof found": re.compile(r"it is not proved that"),
+}
+# The search stops without a verdict. That shows a mistake only where the edit without it is the code as it stands.
+GAVE_UP = "gave up at one of its limits"
+# The place that a message of the prover begins with.
+PLACE = re.compile(r"(?:note: )?(?:\./)?(?:src|specs|proofs)/\S+?:\d+:\d+: ")
 
 
 def edits(folder="must-fail"):
@@ -47,11 +61,98 @@ def function_at(path, number):
     return inside[1] if inside else found[1] if found else "?"
 
 
-def goal_of(said, folder):
-    """The function and the goal of a line that says that the goal isn't proved: an answer that doesn't fit it, or a search that
-    found none. None for any other line."""
-    answer = re.match(r"(?:\./)?proofs/(?:\S+/)?([^/\s]+)/\w+\.antt:\d+:\d+: error: `([^`]+)`", said)
-    if answer and not LOST.search(said):
-        return answer[1], answer[2]
-    search = re.match(r"(?:note: )?(?:\./)?(src/\S+?):(\d+):\d+: it is not proved .*?\(`([^`]+)`\)", said)
-    return (function_at(f"{folder}/{search[1]}", int(search[2])), search[3]) if search else None
+def messages(said):
+    """The lines that the prover printed, each with the lines joined that go on with its message."""
+    joined = []
+    for line in said.split("\n"):
+        if line.startswith("  ") and joined and PLACE.match(joined[-1]):
+            joined[-1] += " " + line.strip()
+        else:
+            joined.append(line)
+    return joined
+
+
+def goal_of(message, folder, has_twin=False):
+    """The function and the goal of a message that says that the goal isn't proved (an answer that doesn't fit it, or a search that
+    found none), and what kind of message that is: one of KINDS, 'lost', or 'cut' where too little of it is there. None for any other."""
+    answer = re.match(r"(?:\./)?proofs/(?:\S+/)?([^/\s]+)/\w+\.antt:\d+:\d+: error: (?:`([^`]+)`(?:: |$))?(.*)", message)
+    if answer and (answer[2] or LOST.search(answer[3])):
+        return answer[1], answer[2] or "?", kind_of(answer[3], has_twin)
+    search = re.match(r"(?:note: )?(?:\./)?(src/\S+?):(\d+):\d+: (it is not proved .*)", message)
+    if not search:
+        return None
+    goal = re.search(r"\(`([^`]+)`\)", search[3])
+    return function_at(f"{folder}/{search[1]}", int(search[2])), goal[1] if goal else "?", kind_of(search[3], has_twin)
+
+
+def kind_of(said, has_twin):
+    """The kind of what a message says of a goal."""
+    if has_twin and GAVE_UP in said:
+        return "lost"
+    for kind, words in KINDS.items():
+        if words.match(said):
+            return kind
+    return "lost" if LOST.search(said) else "cut"
+
+
+def pieces(text):
+    """A source's functions in pieces: each clause and each body, by function and clause, and what is left of the text."""
+    found, rest, at, seen = {}, "", 0, {}
+    for head in re.finditer(r"\bfn (\w+)", text):
+        if head.start() < at:
+            continue
+        rest += text[at : head.end()]
+        at, depth = head.end(), 0
+        seen[head[1]] = seen.get(head[1], 0) + 1
+        name = head[1] + f" ({seen[head[1]]})" * (seen[head[1]] > 1)
+        while at < len(text):
+            clause = re.compile(r"(requires|ensures)(?: (\w+))? \{").match(text, at) if depth == 0 else None
+            if clause or depth == 0 and text[at] == "{":
+                end = closed(text, clause.end() - 1 if clause else at)
+                found[name, f"{clause[1]} {clause[2] or ''}".strip() if clause else "body"] = text[at:end]
+                at = end
+                if not clause:
+                    break
+            elif depth == 0 and text[at] == ";":
+                break
+            else:
+                depth += (text[at] in "([") - (text[at] in ")]")
+                rest += text[at]
+                at += 1
+    return found, rest + text[at:]
+
+
+def closed(text, at):
+    """The place behind the brace that closes the one at this place."""
+    depth = 0
+    for end in range(at, len(text)):
+        depth += (text[end] == "{") - (text[end] == "}")
+        if depth == 0:
+            return end + 1
+    return len(text)
+
+
+def differences(edit, twin, folder):
+    """Where an edit differs from its twin: the bodies of functions, the right sides of clauses, and what else."""
+    bodies, rights, others = [], [], []
+    both = [applied(it, folder) for it in (edit, twin)]
+    for path in sorted({*both[0], *both[1]}):
+        one, other = (it[path] if path in it else text_of(f"{folder}/{path}") for it in both)
+        if one == other:
+            continue
+        if not path.startswith("src/"):
+            others.append(f"the answers of {path.split('/')[-2]}" if path.startswith("proofs/") else path)
+            continue
+        (mine, left), (its, also) = pieces(one), pieces(other)
+        others += [f"{path} outside of functions"] * (left != also)
+        for function, part in sorted({*mine, *its}):
+            was, now = mine.get((function, part), ""), its.get((function, part), "")
+            if was == now:
+                continue
+            if part == "body":
+                bodies.append(f"the body of {function}")
+            elif " ≡ " in was and was.split(" ≡ ")[0] == now.split(" ≡ ")[0]:
+                rights.append(f"the right side of {function}'s {part}")
+            else:
+                others.append(f"{function}'s {part}")
+    return bodies, rights, others
