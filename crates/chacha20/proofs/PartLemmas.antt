@@ -1,7 +1,9 @@
 -- Lists that are written part by part. Proofs of callers may cite these, for a nonce that is made of parts; here the
 -- 49 bytes of a state are written so.
-use Rattle.std.proofs.Common.{◌≡◌, ◌<◌, ◌^◌, ◌∙◌, ℕ, List, ◌++◌, length, take, drop, refl, sym, ap, ap₂, take_at, drop_at}
+use Rattle.std.proofs.Common.{◌≡◌, ◌<◌, ◌≤◌, ◌+◌, ◌-◌, ◌^◌, ◌∙◌, ℕ, List, ◌++◌, length, take, drop, arith, refl, sym, ap, ap₂, take_at, drop_at, length-take-le}
 use Rattle.std.proofs.lemmas.Nat.{from_le_bytes-to_le_bytes_4, from_le_bytes-to_le_bytes_8}
+use Rattle.std.proofs.lemmas.Slice.{between_is, take-put_mid_below, drop-put_mid}
+use Rattle.std.specs.List.{slice_range}
 use Rattle.std.specs.Int.{Width, w32, w64, from_le_bytes, to_le_bytes}
 use borrow.Rule.Slice.PartMut.{put_mid}
 
@@ -29,3 +31,22 @@ ending-same_32 = ending-same w32 (2 ^ 32) from_le_bytes-to_le_bytes_4
 pub ending-same_64 : (xs ys : List ℕ) (i j : ℕ) → length xs ≡ length ys → i < 2 ^ 64 → j < 2 ^ 64
     → xs ++ to_le_bytes w64 i ≡ ys ++ to_le_bytes w64 j → (xs ≡ ys) × (i ≡ j)
 ending-same_64 = ending-same w64 (2 ^ 64) from_le_bytes-to_le_bytes_8
+
+-- a part before the place of a write, and one behind it, stay as they were
+pub slice_range-before : {X : Type 0} (n w m e : ℕ) (xs ys : List X) → e ≤ n → n ≤ length xs
+    → slice_range (put_mid n w xs ys) m e ≡ slice_range xs m e
+slice_range-before n w m e xs ys ends inside =
+    between_is (put_mid n w xs ys) m e
+    ∙ ap (drop m) (take-put_mid_below n w xs ys e ends inside) ∙ sym (between_is xs m e)
+
+pub slice_range-behind : {X : Type 0} (n w m e : ℕ) (xs ys : List X) → n + w ≤ m → n ≤ length xs → length ys ≡ w
+    → slice_range (put_mid n w xs ys) m e ≡ slice_range xs m e
+slice_range-behind n w m e xs ys begins inside long =
+    ap (take (e - m)) (drop-put_mid n w xs ys m begins inside long)
+
+-- the written part
+pub slice_range-written : {X : Type 0} (n w : ℕ) (xs ys rest : List X) → length ys ≡ w → n ≤ length xs
+    → slice_range (take n xs ++ (ys ++ rest)) n (n + w) ≡ ys
+slice_range-written n w xs ys rest long inside =
+    let wide : n + w - n ≡ length ys = omega (arith, long) in
+    ap (take (n + w - n)) (drop_at (take n xs) _ n (length-take-le n xs inside)) ∙ take_at ys rest _ (sym wide)

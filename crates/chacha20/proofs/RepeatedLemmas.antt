@@ -9,7 +9,7 @@ use Rattle.chacha_base.specs.Layout.{legacy}
 use Rattle.chacha_base.specs.Rounds.{mix}
 use Rattle.chacha_base.proofs.BytesLemmas.{bytes-append, length-bytes}
 use Rattle.chacha_base.proofs.KeystreamLemmas.{length-stream_part, stream_part-same, stream_part-add}
-use Rattle.chacha20.specs.Generator.{GeneratorState, positions, at_word_pos, word, next_u32, fill, repeated}
+use Rattle.chacha20.specs.Generator.{GeneratorState, positions, at_word_pos, word, next_u32, next_u64, fill, repeated}
 
 -- positions that are the same when they wrap have the same word
 pub word-same : (n : ℕ) (g : GeneratorState) (v w : ℕ) → v % positions ≡ w % positions → word n g v ≡ word n g w
@@ -102,3 +102,13 @@ fill-then {xs = xs} n k len g first then =
     let both : List ℕ × GeneratorState → List ℕ × GeneratorState =
     λ a. let rest = fill n a.1 len in (a.0 ++ rest.0, rest.1) in
     ap (λ (a : List ℕ × GeneratorState). (xs ++ a.0, a.1)) then ∙ ap both first ∙ sym (fill-add n k len g)
+
+-- k words of 64 bits, read one by one: the generator after them
+pub reads-next_u64 : (n k : ℕ) (g : GeneratorState) → g.word_pos < positions
+    → (repeated (next_u64 n) k g).1 ≡ at_word_pos g (g.word_pos + 2 * k)
+reads-next_u64 n zero g below =
+    let here : (g.word_pos + 2 * 0) % positions ≡ g.word_pos = omega (arith, below) in rw here
+reads-next_u64 n (suc k) g below =
+    let w = g.word_pos in
+    let after : ((w + 2) % positions + 2 * k) % positions ≡ (w + 2 * suc k) % positions = omega arith in
+    rw (reads-next_u64 n k (at_word_pos g (w + 2)) (omega arith), after)

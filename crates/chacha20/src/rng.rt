@@ -108,6 +108,7 @@ impl<R: Rounds, B: RngBackend<R>> ChaChaRng<R, B> {
     pub fn next_u32(&mut self) -> u32
         ensures value { (result, self.new) ≡ next_u32 R.COUNT self.old }
         ensures kept { (self.new.seed ≡ self.old.seed) × (self.new.stream ≡ self.old.stream) }
+        ensures within { self.old.word_pos < 2 ^ 68 }
     {
         refill(&mut self.core, &mut self.buffer, &mut self.index);
         let word = self.buffer[self.index];
@@ -120,6 +121,7 @@ impl<R: Rounds, B: RngBackend<R>> ChaChaRng<R, B> {
     pub fn next_u64(&mut self) -> u64
         ensures value { (result, self.new) ≡ next_u64 R.COUNT self.old }
         ensures kept { (self.new.seed ≡ self.old.seed) × (self.new.stream ≡ self.old.stream) }
+        ensures within { self.old.word_pos < 2 ^ 68 }
     {
         if self.index < BUFFER_WORDS - 1 {
             let low = self.buffer[self.index];
@@ -136,6 +138,7 @@ impl<R: Rounds, B: RngBackend<R>> ChaChaRng<R, B> {
     pub fn fill_bytes(&mut self, dst: &mut [u8])
         ensures value { (dst.new, self.new) ≡ fill R.COUNT self.old (length dst.old) }
         ensures kept { (self.new.seed ≡ self.old.seed) × (self.new.stream ≡ self.old.stream) }
+        ensures within { self.old.word_pos < 2 ^ 68 }
     {
         let (words, last) = dst.split_at_mut(dst.len() / 4 * 4);
         self.fill_words(words);
@@ -209,6 +212,7 @@ impl<R: Rounds, B: RngBackend<R>> ChaChaRng<R, B> {
     pub fn serialize_state(&self) -> SerializedRngState
         ensures value { result ≡ state_bytes self.now }
         ensures restored { of_state_bytes result ≡ self.now }
+        ensures within { self.now.word_pos < 2 ^ 68 }
     {
         let word_pos = self.get_word_pos();
         let stream = self.get_stream().to_le_bytes();
@@ -250,7 +254,8 @@ impl<R: Rounds, B: RngBackend<R>> ChaChaRng<R, B> {
     // Fills a slice with whole words.
     fn fill_words(&mut self, dst: &mut [u8])
         requires { length dst.old % 4 ≡ 0 }
-        ensures { (dst.new, self.new) ≡ fill R.COUNT self.old (length dst.old) }
+        ensures value { (dst.new, self.new) ≡ fill R.COUNT self.old (length dst.old) }
+        ensures within { self.old.word_pos < 2 ^ 68 }
     {
         let mut done = 0;
         'words: while 4 * done < dst.len() {

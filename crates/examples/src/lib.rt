@@ -12,4 +12,5 @@ pub mod one_time_key;
 pub mod pieces;
 pub mod records;
 pub mod scalar;
+pub mod sectors;
 pub mod simulation;

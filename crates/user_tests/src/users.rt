@@ -16,6 +16,7 @@ mod pieces;
 mod readme;
 mod records;
 mod scalar;
+mod sectors;
 mod simulation;
 mod texts;
 mod xchacha;

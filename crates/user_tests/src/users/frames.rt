@@ -1,6 +1,6 @@
 //! Frames: published values, a list of messages through both sides, and the end of the numbers.
 
-ghost use Rattle.std.specs.Prelude.{◌≡◌};
+ghost use Rattle.std.specs.Prelude.{◌≡◌, ◌<◌, ◌+◌, ◌^◌, length, IsOk, OnOk};
 
 use examples::frames::{FrameError, Receiver, Sender};
 use worked_rows::published::{CIPHERTEXT, COUNTING, MESSAGE};
@@ -28,7 +28,7 @@ static BLOCK: &[u8; 16] = b"\x10\xf1\xe7\xe4\xd1\x3b\x59\x15\x50\x0f\xdd\x1f\xa3
 static LAST_BYTE: &[u8; 16] = b"\xc2\xc6\x4d\x37\x8c\xd5\x36\x37\x4a\xe2\x04\xb9\xef\x93\x3f\xcd";
 
 // Encrypts each message and decrypts it again. Whatever the messages are, they come out as they went in, and both sides
-// have the same number.
+// have the same number, which has counted them. `Err` only where the numbers are used up.
 fn pass(
     sender: &mut Sender,
     receiver: &mut Receiver,
@@ -37,6 +37,9 @@ fn pass(
     requires { sender.old ≡ receiver.old }
     ensures messages { messages.new ≡ messages.old }
     ensures same { sender.new ≡ receiver.new }
+    ensures accepted { sender.old.next + length messages.old < 2 ^ 64 → IsOk result }
+    ensures counted { OnOk result (sender.new.next
+        ≡ sender.old.next + length messages.old) }
 {
     'each: for i in 0..messages.len() {
         let message = &mut messages[i];

@@ -39,7 +39,7 @@ returns-then-not-is_empty-clause-value g c =
     let all : 4 * (words / 4) + r ≡ length c.args.dst.now = omega (arith, split.front_len, split.back_len) in
     let fills = fill g.R.Rounds.COUNT c.args.self.now in
     filled-over _ (words / 4) r c.args.self.now (omega (arith, split.back_len, some))
-    (c.fill_words.ensures ∙ ap fills whole) c.next_u32.ensures.value
+    (c.fill_words.ensures.value ∙ ap fills whole) c.next_u32.ensures.value
     (c.copy_from_slice.ensures.after ∙ ap (take r) c.to_le_bytes-word.ensures)
     ∙ ap fills all
 
@@ -50,5 +50,5 @@ returns-else-not-is_empty-clause-value g c =
     let none = (Decides-eqb (length last) 0).0 (sym c.is_empty.ensures ∙ c.if-not-is_empty.false) in
     let all : length c.split_at_mut-words.result.0.now ≡ length c.args.dst.now =
     omega (arith, split.front_len, split.back_len, none) in
-    rw (nil_from_length last none, append-nil c.fill_words.new.dst) (c.fill_words.ensures
+    rw (nil_from_length last none, append-nil c.fill_words.new.dst) (c.fill_words.ensures.value
     ∙ ap (fill g.R.Rounds.COUNT c.args.self.now) all)

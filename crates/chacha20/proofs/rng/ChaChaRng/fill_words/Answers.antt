@@ -45,8 +45,8 @@ words-preserved g c =
       within = omega arith;
     }
 
-pub returns : goal.returns
-returns g c =
+pub returns-clause-value : goal.returns-clause-value
+returns-clause-value g c =
     let all : 4 * c.words.done ≡ length c.args.dst.now = omega arith in
     rw (take_all (4 * c.words.done) c.words.dst (omega arith)) at c.words.invariant.filled.filled
     ∙ ap (fill g.R.Rounds.COUNT c.args.self.now) all

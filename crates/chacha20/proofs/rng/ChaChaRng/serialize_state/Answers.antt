@@ -18,4 +18,5 @@ returns g c =
       value = state_is is;
       restored = ap of_state_bytes (state_is is)
           ∙ of_state_bytes-state_bytes c.args.self.now (sym (ap length is.seed) ∙ is.long) (omega arith) (omega arith);
+      within = omega (arith, c.get_word_pos-word_pos.ensures.value);
     }

@@ -1,4 +1,4 @@
-use Rattle.std.proofs.Common.{◌≡◌, [], ◌∙◌, get_or, sym, ap}
+use Rattle.std.proofs.Common.{◌≡◌, [], ◌∙◌, get_or, sym, ap, arith}
 use Rattle.std.specs.Prelude.{slice_set}
 use Rattle.std.proofs.lemmas.List.{set-get_or}
 use Rattle.examples.specs.Frames.{encrypted, after}
@@ -13,4 +13,5 @@ each-preserved c =
       messages = ap (slice_set c.each.messages c.each.i) (c.in_ok-decrypt.ensures.message message sent)
           ∙ set-get_or c.each.messages c.each.i [] ∙ c.each.invariant.messages;
       same = c.in_ok-encrypt.ensures.next ∙ ap after c.each.invariant.same ∙ sym c.in_ok-decrypt.ensures.next;
+      counted = omega (arith, ap (λ e. e.next) c.in_ok-encrypt.ensures.next, c.each.invariant.counted);
     }

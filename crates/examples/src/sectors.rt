@@ -1,0 +1,78 @@
+//! A disk of encrypted sectors, each of which can be overwritten.
+//!
+//! A sector is a part of the disk's bytes: that of number n begins at byte 512 · n. Beside the bytes is a version for
+//! each sector. A write raises it by one, and the number and the version make the nonce, as in `records.rt`, whose rules
+//! hold here too: a new key for each disk, no version rolled back, and a MAC where somebody else can change the disk.
+//! The contracts say that a write takes a nonce that no sector of the disk has had, that a read gives what was written,
+//! and that a write leaves all other sectors as they are.
+
+ghost use Rattle.std.specs.Prelude.{◌≡◌, ◌≢◌, ◌↔◌, ◌<◌, ◌≤◌, ◌+◌, ◌-◌, ◌*◌, ◌^◌, ℕ, length, IsOk, OnOk, OnErr};
+ghost use Rattle.examples.specs.Records.{nonce_of};
+ghost use Rattle.examples.specs.Sectors.{sector, version_of, text_of};
+
+use crate::records::nonce;
+use chacha20::cipher::{KeyIvInit, StreamCipher, StreamCipherError};
+use chacha20::{ChaCha20, Key};
+
+/// How many bytes a sector has (this crate).
+pub const SECTOR: usize = 512;
+
+/// Writes a sector: encrypts the text under the sector's next version. `Err` exactly where the disk or the versions have
+/// no sector of this number, counted from 0, or its versions are used up, after 2^64 - 1 writes; then nothing changes
+/// (this crate).
+pub fn write(
+    key: &Key,
+    versions: &mut [u64],
+    disk: &mut [u8],
+    number: u32,
+    text: &[u8; SECTOR],
+) -> Result<(), StreamCipherError>
+    ensures accepted { IsOk result ↔ ((number < length versions.old)
+        × (512 * number + 512 ≤ length disk.old)
+        × (version_of versions.old number < 2 ^ 64 - 1)) }
+    ensures version { OnOk result
+        (version_of versions.new number ≡ version_of versions.old number + 1) }
+    ensures fresh { OnOk result ((n v : ℕ) → n < 2 ^ 32 → v < 2 ^ 64
+        → v ≤ version_of versions.old n
+        → nonce_of n v ≢ nonce_of number (version_of versions.new number)) }
+    ensures text { OnOk result (text_of key.now versions.new disk.new number ≡ text.now) }
+    ensures others { OnOk result ((n : ℕ) → n ≢ number
+        → (version_of versions.new n ≡ version_of versions.old n)
+        × (sector disk.new n ≡ sector disk.old n)) }
+    ensures refused { OnErr result ((versions.new ≡ versions.old) × (disk.new ≡ disk.old)) }
+{
+    let place = number as usize;
+    if place >= versions.len() || place >= disk.len() / SECTOR || versions[place] == u64::MAX {
+        return Err(StreamCipherError);
+    }
+    let version = versions[place] + 1;
+    versions[place] = version;
+    let start = SECTOR * place;
+    let mut cipher = ChaCha20::new(key, &nonce(number, version));
+    cipher.apply_keystream_b2b(text, &mut disk[start..start + SECTOR]);
+    Ok(())
+}
+
+/// Reads the text of a sector. `Err` exactly where the disk has no sector of this number, or its version is 0: it has
+/// not been written. Then the text stays (this crate).
+pub fn read(
+    key: &Key,
+    versions: &[u64],
+    disk: &[u8],
+    number: u32,
+    text: &mut [u8; SECTOR],
+) -> Result<(), StreamCipherError>
+    ensures accepted { IsOk result ↔ ((512 * number + 512 ≤ length disk.now)
+        × (0 < version_of versions.now number)) }
+    ensures text { OnOk result (text.new ≡ text_of key.now versions.now disk.now number) }
+    ensures refused { OnErr result (text.new ≡ text.old) }
+{
+    let place = number as usize;
+    if place >= versions.len() || place >= disk.len() / SECTOR || versions[place] == 0 {
+        return Err(StreamCipherError);
+    }
+    let start = SECTOR * place;
+    let mut cipher = ChaCha20::new(key, &nonce(number, versions[place]));
+    cipher.apply_keystream_b2b(&disk[start..start + SECTOR], text);
+    Ok(())
+}
