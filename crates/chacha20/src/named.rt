@@ -1,10 +1,11 @@
 //! Facts on the named ciphers and generators, which hold by computation. A named type with a wrong number of rounds,
-//! layout, size or text would break one of them.
+//! layout, size, text or cost would break one of them.
 
-ghost use Rattle.std.specs.Prelude.{◌≡◌, length, replicate, Some, codes};
+ghost use Rattle.std.specs.Prelude.{◌≡◌, ◌*◌, length, replicate, Some, codes};
 ghost use Rattle.rand_core.specs.Steps.{stream_of};
 ghost use Rattle.rand_core.specs.Pcg32Seed.{pcg32_seed};
 ghost use Rattle.chacha_base.specs.Block.{block, start};
+ghost use Rattle.chacha_base.specs.Counts.{for_bytes};
 ghost use Rattle.chacha_base.specs.Layout.{ietf, legacy};
 ghost use Rattle.chacha20.specs.Generator.{of_seed, reads};
 ghost use Rattle.chacha20.specs.XChaCha.{subkey, subnonce};
@@ -13,10 +14,13 @@ use crate::chacha::{ChaCha8, ChaCha12, ChaCha20};
 use crate::chacha_core::ChaChaCore;
 use crate::legacy::ChaCha20Legacy;
 use crate::rng::{ChaCha8Rng, ChaCha12Rng, ChaCha20Rng, ChaChaRng};
-use crate::xchacha::{XChaCha8, XChaCha12, XChaCha20};
-use chacha_base::cipher::{IvSizeUser, KeyIvInit, KeySizeUser, RngBackend};
+use crate::xchacha::{XChaCha8, XChaCha12, XChaCha20, XChaChaCore};
+use chacha_base::cipher::{
+    IvSizeUser, KeyIvInit, KeySizeUser, Keystream, RngBackend, StreamCipher, StreamCipherBackend,
+    StreamCipherCore,
+};
 use chacha_base::rounds::{R8, R12, R20, Rounds};
-use chacha_base::variants::{Ietf, Legacy};
+use chacha_base::variants::{Ietf, Legacy, Variant};
 use rand_core::{Rng, SeedableRng};
 use std::fmt;
 
@@ -89,4 +93,22 @@ fn sizes(
     ensures legacy_nonce { length legacy_nonce.now ≡ ⟦<ChaCha20Legacy as IvSizeUser>⟧.IV_SIZE }
     ensures extended_key { length extended_key.now ≡ ⟦<XChaCha20 as KeySizeUser>⟧.KEY_SIZE }
     ensures extended_nonce { length extended_nonce.now ≡ ⟦<XChaCha20 as IvSizeUser>⟧.IV_SIZE }
+{}
+
+// What a core counts, over any backend, and where it starts.
+fn core_costs<R: Rounds, V: Variant, B: StreamCipherBackend<R, V>>()
+    ensures par { ⟦<ChaChaCore<R, V, B> as StreamCipherCore>⟧.par_cost ≡ B.PAR_STEPS * R.COUNT }
+    ensures one { ⟦<ChaChaCore<R, V, B> as StreamCipherCore>⟧.one_cost ≡ B.ONE_STEPS * R.COUNT }
+    ensures first { ⟦<ChaChaCore<R, V, B> as Keystream>⟧.first_position ≡ 0 }
+{}
+
+// What a core with nonces of 24 bytes counts, and where it starts; and what a cipher of each kind counts, at every
+// position.
+fn costs<R: Rounds, B: StreamCipherBackend<R, Ietf>>()
+    ensures par { ⟦<XChaChaCore<R, B> as StreamCipherCore>⟧.par_cost ≡ B.PAR_STEPS * R.COUNT }
+    ensures one { ⟦<XChaChaCore<R, B> as StreamCipherCore>⟧.one_cost ≡ B.ONE_STEPS * R.COUNT }
+    ensures first { ⟦<XChaChaCore<R, B> as Keystream>⟧.first_position ≡ 0 }
+    ensures chacha20 { ⟦<ChaCha20 as StreamCipher>⟧.cost ≡ for_bytes 16 80 20 }
+    ensures chacha20_legacy { ⟦<ChaCha20Legacy as StreamCipher>⟧.cost ≡ for_bytes 16 80 20 }
+    ensures xchacha20 { ⟦<XChaCha20 as StreamCipher>⟧.cost ≡ for_bytes 16 80 20 }
 {}

@@ -10,7 +10,6 @@ mod everywhere;
 mod faults;
 mod generator_runs;
 mod generator_traits;
-mod generators;
 mod odd_cuts;
 mod positions;
 mod report;

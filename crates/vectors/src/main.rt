@@ -2,11 +2,10 @@
 //! nothing. The status is 0 if each line says ok and could be written, and else 1.
 #![tactic(auto)]
 
-use std::process::ExitCode;
-use worked_rows::report::report;
+use worked_rows::report::{Outcome, report};
 use worked_rows::worked;
 
-fn main(rt: HostRuntime) -> ExitCode {
+fn main(rt: HostRuntime) -> Outcome {
     let (ciphertext, verdicts) = worked();
     report(&rt, &ciphertext, &verdicts)
 }

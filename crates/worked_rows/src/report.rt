@@ -1,4 +1,4 @@
-//! What the program `vectors` prints, and its status.
+//! What the program `vectors` prints, and how it ends.
 
 ghost use Rattle.std.specs.Prelude.{◌≡◌, ◌↔◌, All, IsNone, IsTrue};
 ghost use Rattle.std.specs.Option.{option_flatten};
@@ -6,7 +6,8 @@ ghost use Rattle.std.specs.Process.{exit_status};
 
 use crate::verdicts::{Verdicts, first_wrong_row};
 use std::fmt::{self, Display, Formatter};
-use std::process::ExitCode;
+use std::marker::Model;
+use std::process::{ExitCode, Termination};
 
 // The lines that the program prints.
 #[derive(Drop)]
@@ -28,26 +29,51 @@ impl Display for Lines<'_> {
     }
 }
 
-// Success exactly where the lines could be printed and no row is bad.
-fn status(printed: bool, verdicts: &Verdicts) -> ExitCode
-    ensures { exit_status result ≡ 0
-        ↔ (IsTrue printed × All (λ row. IsNone (option_flatten row)) verdicts.now) }
-{
-    if printed && first_wrong_row(verdicts).is_none() {
-        ExitCode::SUCCESS
-    } else {
-        ExitCode::FAILURE
+/// How the program ends. Only `report` makes one, so a `main` that returns it can't end in another way. Clauses see it
+/// as the number that the process ends with.
+#[derive(Drop)]
+pub struct Outcome {
+    status: ExitCode,
+}
+
+impl Model for Outcome {
+    ghost use Rattle.std.specs.Prelude.{ℕ};
+    ghost use Rattle.std.specs.Process.{exit_status};
+
+    ghost Value = { ℕ };
+
+    ghost view = { λ outcome. exit_status outcome.status };
+}
+
+impl Termination for Outcome {
+    fn report<R: Eprint>(self, _: &R) -> ExitCode
+        ensures { exit_status result ≡ self }
+    {
+        self.status
     }
 }
 
+// Success exactly where the lines could be printed and no row is bad.
+fn outcome_of(printed: bool, verdicts: &Verdicts) -> Outcome
+    ensures { result ≡ 0
+        ↔ (IsTrue printed × All (λ row. IsNone (option_flatten row)) verdicts.now) }
+{
+    let status = if printed && first_wrong_row(verdicts).is_none() {
+        ExitCode::SUCCESS
+    } else {
+        ExitCode::FAILURE
+    };
+    Outcome { status }
+}
+
 /// Prints the ciphertext of the first worked row, and then a line for each row in the table: `row N ok` or `row N bad`.
-/// Returns the status: success where the lines could be printed and no row is bad.
-pub fn report(rt: &impl Print, ciphertext: &[u8; 16], verdicts: &Verdicts) -> ExitCode
-    ensures { exit_status result ≡ 0 → All (λ row. IsNone (option_flatten row)) verdicts.now }
+/// The outcome is success where the lines could be printed and no row is bad.
+pub fn report(rt: &impl Print, ciphertext: &[u8; 16], verdicts: &Verdicts) -> Outcome
+    ensures { result ≡ 0 → All (λ row. IsNone (option_flatten row)) verdicts.now }
 {
     let lines = Lines {
         ciphertext,
         verdicts,
     };
-    status(print!(rt; "{lines}").is_ok(), verdicts)
+    outcome_of(print!(rt; "{lines}").is_ok(), verdicts)
 }

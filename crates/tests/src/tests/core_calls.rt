@@ -7,7 +7,7 @@ use chacha20::variants::{Ietf, Legacy, Variant};
 use chacha20::{ChaChaCore, Key, Steps};
 use worked_rows::R0;
 use worked_rows::published::COUNTING;
-use worked_rows::verdicts::{Verdict, failed, failed_for};
+use worked_rows::verdicts::{Verdict, failed, failed_for, first_failure};
 
 /// What is wrong with the blocks of a core of zeros.
 pub fn wrong_zeros<B: StreamCipherBackend<R0, Ietf>>() -> Verdict {
@@ -113,17 +113,22 @@ fn wrong_kind<C: StreamCipherSeekCore>(core: &mut C, start: C::Counter, end: u64
     None
 }
 
-/// What is wrong with calls of a new core for the four blocks from a counter on.
-pub fn wrong_blocks<N, T, K>(nonce: &N, start: T, end: u64) -> Verdict
+/// What is wrong with calls of a new core for the four blocks from a counter on, and with the number of blocks that it
+/// says are left: this one of all, and one of the last.
+pub fn wrong_blocks<N, T, K>(nonce: &N, start: T, end: u64, all: Option<usize>) -> Verdict
 where
     T: StreamCipherCounter,
     K: KeyIvInit<Key = Key, Iv = N> + StreamCipherSeekCore<Counter = T> + Drop,
 {
     let mut core = K::new(&COUNTING, nonce);
-    failed_for(
-        "four blocks by other calls",
-        wrong_kind(&mut core, start, end),
-    )
+    let left = core.remaining_blocks();
+    core.set_block_pos(T::from_u64(T::last()));
+    let left_at_last = core.remaining_blocks();
+    let kind = wrong_kind(&mut core, start, end);
+    first_failure(&[
+        failed("blocks left", &[left == all, left_at_last == Some(1)]),
+        failed_for("four blocks by other calls", kind),
+    ])
 }
 
 /// What is wrong with blocks 4 to 7 of a core, compared with those of another one.

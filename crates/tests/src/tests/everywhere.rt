@@ -8,7 +8,7 @@ use super::direct::{Directly, Fresh, stream_ends};
 use super::streams::legacy_stream;
 use super::{
     all_right, backends, beside, core_calls, derived, ends, generator_runs, generator_traits,
-    generators, odd_cuts, positions, rfc8439, runs, streams, wraps,
+    odd_cuts, positions, rfc8439, runs, streams, wraps,
 };
 use chacha20::backends::{Lanes4, Lanes8, Lanes16, Rows8, Soft};
 use chacha20::cipher::{
@@ -128,7 +128,7 @@ where
         first_wrong_row(&rows),
         wrong_ietf_calls::<Cipher<K>>(),
         wrong_ietf::<Cipher<K>>(),
-        core_calls::wrong_blocks::<Nonce, u32, K>(&[7; 12], 0, 4),
+        core_calls::wrong_blocks::<Nonce, u32, K>(&[7; 12], 0, 4, Some(0x1_0000_0000)),
         wrong_beside_core::<Nonce, u32, K, P>(&[7; 12]),
     ])
 }
@@ -156,7 +156,7 @@ where
         first_wrong_row(&rows),
         ends::wrong_legacy_types::<Cipher<K>>(),
         wrong_legacy::<Cipher<K>>(),
-        core_calls::wrong_blocks::<LegacyNonce, u64, K>(&[7; 8], 0xffff_ffff, 0x1_0000_0003),
+        core_calls::wrong_blocks::<LegacyNonce, u64, K>(&[7; 8], 0xffff_ffff, 0x1_0000_0003, None),
         wrong_beside_core::<LegacyNonce, u64, K, P>(&LEGACY_NONCE),
     ])
 }
@@ -171,7 +171,7 @@ where
     first_failure(&[
         first_wrong_row(&rows),
         wrong_x::<Cipher<K>>(),
-        core_calls::wrong_blocks::<XNonce, u32, K>(&[7; 24], 0, 4),
+        core_calls::wrong_blocks::<XNonce, u32, K>(&[7; 24], 0, 4, Some(0x1_0000_0000)),
         wrong_beside_core::<XNonce, u32, K, P>(&[7; 24]),
     ])
 }
@@ -265,7 +265,6 @@ where
         streams::wrong_generator_stream::<B>(),
         generator_traits::wrong_row_7::<B>(),
         generator_traits::wrong_reads::<B>(),
-        generators::wrong_reads::<B>(),
         generator_runs::wrong_run::<B>(),
         generator_runs::wrong_lists::<B>(),
         wraps::wrong_generator::<B>(),

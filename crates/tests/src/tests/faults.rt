@@ -1,34 +1,34 @@
-//! Checkers that are given known faults: each must find the list, the draw, the row or the byte that is wrong, at the
-//! front, in the middle and at the end, and nothing where all are right.
+//! Checkers that are given known faults: each must find the list, the row, the answer or the byte that is wrong, at the
+//! front, in the middle and at the end, and nothing where all are right. Checkers whose contracts say exactly what they
+//! find need no such tests.
 
-use super::direct::{Direct, Fresh};
+use super::direct::{Direct, Fresh, all_done, stream_ends};
 use super::everywhere::{wrong_lists, wrong_rows};
 use super::streams::legacy_stream;
 use chacha20::backends::Soft;
 use chacha20::cipher::{KeyIvInit, StreamCipherSeekCore};
 use chacha20::variants::Ietf;
-use chacha20::{
-    ChaChaCore, CipherAnswer, CipherCall, Key, Nonce, RngAnswer, RngCall, StreamCipherCoreWrapper,
-};
+use chacha20::{ChaChaCore, CipherAnswer, CipherCall, Key, Nonce, StreamCipherCoreWrapper};
 use worked_rows::R0;
 use worked_rows::ciphers::{NumberedLists, enter_table};
-use worked_rows::generators::wrong_table;
-use worked_rows::lists::{CipherList, Listed, RngList, wrong_list};
+use worked_rows::lists::{CipherList, Listed, wrong_list};
 use worked_rows::published::LEGACY_KEYSTREAM;
 use worked_rows::verdicts::{Verdict, first_wrong_row};
 
-// In the place of a cipher: call k after a seek answers position k, and sets byte k of the data to k. One of the two
-// ways to call it may fail.
+// In the place of a cipher: call k after a seek answers position k, and sets byte k of the data to k. Each list begins
+// with a seek. Of each of the two ways to call it one list may fail; lists count from 1.
 #[derive(Drop)]
 struct Counting {
+    list: u8,
     made: u8,
-    fails_directly: bool,
-    fails_by_lists: bool,
+    fails_directly: u8,
+    fails_by_lists: u8,
 }
 
 impl Counting {
     fn answer(&mut self, data: &mut [u8], call: CipherCall) -> CipherAnswer {
         if let CipherCall::Seek(_) = call {
+            self.list = self.list.wrapping_add(1);
             self.made = 0;
         }
         let number = self.made;
@@ -54,27 +54,29 @@ impl Listed for Counting {
         for i in 0..calls.len() {
             answers[i] = self.answer(data, calls[i]);
         }
-        !self.fails_by_lists
+        self.list != self.fails_by_lists
     }
 }
 
 impl Direct for Counting {
     fn answers(&mut self, _: &[u8], data: &mut [u8], call: CipherCall) -> CipherAnswer {
-        if self.fails_directly {
+        let answer = self.answer(data, call);
+        if self.list == self.fails_directly {
             CipherAnswer::Overflow
         } else {
-            self.answer(data, call)
+            answer
         }
     }
 }
 
-// The key's first byte says what fails.
+// The key's first two bytes say which lists fail.
 impl Fresh<Nonce> for Counting {
     fn fresh(key: &Key, _: &Nonce) -> Counting {
         Counting {
+            list: 0,
             made: 0,
-            fails_directly: key[0] == 1,
-            fails_by_lists: key[0] == 2,
+            fails_directly: key[0],
+            fails_by_lists: key[1],
         }
     }
 }
@@ -184,17 +186,41 @@ fn finds_lists() -> bool {
     found
 }
 
-// What is wrong with a right list, where one of the two ways to call the cipher fails, or none.
-fn wrong_way(way: u8) -> Verdict {
-    wrong_lists::<Nonce, Counting>(&[way; 32], &[0; 12], &RIGHT_LISTS)
+// The key with which these lists fail.
+fn failing(directly: u8, by_lists: u8) -> Key {
+    let mut key = [0; 32];
+    key[0] = directly;
+    key[1] = by_lists;
+    key
 }
 
-static RIGHT_LISTS: [CipherList; 1] = [RIGHT];
+// Whether the list of this name is found, of three right ones, where it fails in one of the two ways.
+fn finds_list(key: &Key, name: &str) -> bool {
+    let wrong = wrong_lists::<Nonce, Counting>(key, &[0; 12], &RIGHT_LISTS);
+    is_named(wrong, name)
+}
+
+static RIGHT_LISTS: [CipherList; 3] = [
+    RIGHT,
+    CipherList {
+        name: "second",
+        ..RIGHT
+    },
+    CipherList {
+        name: "third",
+        ..RIGHT
+    },
+];
 
 #[test]
 fn lists(rt: HostRuntime) {
-    assert!(rt; finds_lists() && wrong_way(0).is_none());
-    assert!(rt; is_named(wrong_way(1), "right") && is_named(wrong_way(2), "right"));
+    assert!(rt; finds_lists());
+    assert!(rt; wrong_lists::<Nonce, Counting>(&[0; 32], &[0; 12], &RIGHT_LISTS).is_none());
+    for number in 0..3usize {
+        let name = RIGHT_LISTS[number].name;
+        let at = number as u8 + 1;
+        assert!(rt; finds_list(&failing(at, 0), name) && finds_list(&failing(0, at), name));
+    }
 }
 
 const RIGHT_ROW: CipherList = CipherList {
@@ -227,9 +253,12 @@ where
 {
     let mut verdicts = [None; 24];
     enter_table::<StreamCipherCoreWrapper<K>>(&mut verdicts, &[0; 32], &[0; 12], rows);
+    let wrong = wrong_rows::<Nonce, StreamCipherCoreWrapper<K>>(&[0; 32], &[0; 12], rows);
     match first_wrong_row(&verdicts) {
-        Some(failure) => failure.number == number && failure.check == "wrong",
-        None => number == 3,
+        Some(failure) => {
+            failure.number == number && failure.check == "wrong" && is_named(wrong, "wrong")
+        }
+        None => number == 3 && wrong.is_none(),
     }
 }
 
@@ -244,162 +273,21 @@ where
     found
 }
 
-static ROWS_OF_ONE_LIST: [NumberedLists; 1] = [(0, &[RIGHT])];
+// The second of these rows has a list that may fail.
+static COUNTING_ROWS: [NumberedLists; 2] = [(0, &[]), (1, &[RIGHT])];
 
 #[test]
 fn rows(rt: HostRuntime) {
-    let wrong = wrong_rows::<Nonce, Counting>(&[2; 32], &[0; 12], &ROWS_OF_ONE_LIST);
-    assert!(rt; finds_rows::<ChaChaCore<R0, Ietf, Soft>>() && is_named(wrong, "right"));
+    let by_lists = wrong_rows::<Nonce, Counting>(&failing(0, 1), &[0; 12], &COUNTING_ROWS);
+    assert!(rt; finds_rows::<ChaChaCore<R0, Ietf, Soft>>() && is_named(by_lists, "right"));
 }
 
-const RIGHT_DRAW: RngList = RngList {
-    name: "right",
-    len: 3,
-    calls: &[
-        RngCall::SetWordPos(0),
-        RngCall::NextU32,
-        RngCall::Fill { at: 0, len: 3 },
-    ],
-    answers: &[
-        RngAnswer::Done,
-        RngAnswer::U32(0xade0_b876),
-        RngAnswer::Done,
-    ],
-    first: b"\xa0\xf1\x3d",
-    last: b"\xa0\xf1\x3d",
-};
-
-// Of each of these an answer, or one of the first or the last bytes, is wrong.
-const FIRST_DRAW: RngList = RngList {
-    name: "wrong",
-    answers: &[
-        RngAnswer::U64(0),
-        RngAnswer::U32(0xade0_b876),
-        RngAnswer::Done,
-    ],
-    ..RIGHT_DRAW
-};
-
-const SECOND_DRAW: RngList = RngList {
-    name: "wrong",
-    answers: &[
-        RngAnswer::Done,
-        RngAnswer::U32(0xade0_b877),
-        RngAnswer::Done,
-    ],
-    ..RIGHT_DRAW
-};
-
-const LAST_DRAW: RngList = RngList {
-    name: "wrong",
-    answers: &[
-        RngAnswer::Done,
-        RngAnswer::U32(0xade0_b876),
-        RngAnswer::U64(0),
-    ],
-    ..RIGHT_DRAW
-};
-
-const FIRST_OF_FIRST_BYTES: RngList = RngList {
-    name: "wrong",
-    answers: &[],
-    first: b"\xa1\xf1\x3d",
-    last: &[],
-    ..RIGHT_DRAW
-};
-
-const SECOND_OF_FIRST_BYTES: RngList = RngList {
-    name: "wrong",
-    answers: &[],
-    first: b"\xa0\xf0\x3d",
-    last: &[],
-    ..RIGHT_DRAW
-};
-
-const LAST_OF_FIRST_BYTES: RngList = RngList {
-    name: "wrong",
-    answers: &[],
-    first: b"\xa0\xf1\x3c",
-    last: &[],
-    ..RIGHT_DRAW
-};
-
-const FIRST_OF_LAST_BYTES: RngList = RngList {
-    name: "wrong",
-    answers: &[],
-    first: &[],
-    last: b"\xa1\xf1\x3d",
-    ..RIGHT_DRAW
-};
-
-const SECOND_OF_LAST_BYTES: RngList = RngList {
-    name: "wrong",
-    answers: &[],
-    first: &[],
-    last: b"\xa0\xf0\x3d",
-    ..RIGHT_DRAW
-};
-
-const LAST_OF_LAST_BYTES: RngList = RngList {
-    name: "wrong",
-    answers: &[],
-    first: &[],
-    last: b"\xa0\xf1\x3c",
-    ..RIGHT_DRAW
-};
-
-// Of each three in a row one is wrong.
-static FAULTY_DRAWS: [RngList; 29] = [
-    RIGHT_DRAW,
-    RIGHT_DRAW,
-    FIRST_DRAW,
-    RIGHT_DRAW,
-    RIGHT_DRAW,
-    SECOND_DRAW,
-    RIGHT_DRAW,
-    RIGHT_DRAW,
-    LAST_DRAW,
-    RIGHT_DRAW,
-    RIGHT_DRAW,
-    FIRST_OF_FIRST_BYTES,
-    RIGHT_DRAW,
-    RIGHT_DRAW,
-    SECOND_OF_FIRST_BYTES,
-    RIGHT_DRAW,
-    RIGHT_DRAW,
-    LAST_OF_FIRST_BYTES,
-    RIGHT_DRAW,
-    RIGHT_DRAW,
-    FIRST_OF_LAST_BYTES,
-    RIGHT_DRAW,
-    RIGHT_DRAW,
-    SECOND_OF_LAST_BYTES,
-    RIGHT_DRAW,
-    RIGHT_DRAW,
-    LAST_OF_LAST_BYTES,
-    RIGHT_DRAW,
-    RIGHT_DRAW,
-];
-
-fn finds_draws() -> bool {
-    let mut found = true;
-    for at in 0..27usize {
-        let draws = &FAULTY_DRAWS[at..at + 3];
-        found &= is_named(wrong_table::<Soft>([0; 32], draws), "wrong");
-    }
-    found
-}
-
-static RIGHT_DRAWS: [RngList; 2] = [RIGHT_DRAW, RIGHT_DRAW];
-
-#[test]
-fn draws(rt: HostRuntime) {
-    assert!(rt; wrong_table::<Soft>([0; 32], &RIGHT_DRAWS).is_none() && finds_draws());
-}
-
-// The legacy stream, of which one byte is wrong.
+// The legacy stream, of which one byte is wrong, or one answer.
 #[derive(Drop)]
-struct Spoiled(usize);
+struct Spoiled {
+    byte: usize,
+    answer: usize,
+}
 
 impl Listed for Spoiled {
     fn runs(
@@ -411,23 +299,59 @@ impl Listed for Spoiled {
     ) -> bool {
         if data.len() == 256 {
             data.copy_from_slice(LEGACY_KEYSTREAM);
-            if self.0 < 256 {
-                data[self.0] ^= 1;
+            if self.byte < 256 {
+                data[self.byte] ^= 1;
             }
         }
         answers.fill(CipherAnswer::Done);
+        if self.answer < answers.len() {
+            answers[self.answer] = CipherAnswer::Refused;
+        }
         true
     }
+}
+
+fn with_wrong(byte: usize) -> Spoiled {
+    Spoiled { byte, answer: 9 }
 }
 
 // With steps of 17 bytes: the first places between which the wrong byte lies.
 #[test]
 fn streams(rt: HostRuntime) {
     let found = [
-        legacy_stream(&mut Spoiled(0), 17),
-        legacy_stream(&mut Spoiled(127), 17),
-        legacy_stream(&mut Spoiled(255), 17),
-        legacy_stream(&mut Spoiled(256), 17),
+        legacy_stream(&mut with_wrong(0), 17),
+        legacy_stream(&mut with_wrong(127), 17),
+        legacy_stream(&mut with_wrong(255), 17),
+        legacy_stream(&mut with_wrong(256), 17),
     ];
     assert!(rt; found == [Some([0, 0, 17]), Some([0, 0, 136]), Some([0, 0, 256]), None]);
+}
+
+// Whether three calls are done, where the answer of this number is wrong.
+fn are_done(answer: usize) -> bool {
+    let mut cipher = Spoiled { byte: 256, answer };
+    all_done(&mut cipher, &[], &mut [], &[CipherCall::Seek(0); 3])
+}
+
+// Whether the stream ends with its last 128 bytes, where this byte is wrong.
+fn ends_right(byte: usize) -> bool {
+    let stream = LEGACY_KEYSTREAM.as_slice();
+    stream_ends(&mut with_wrong(byte), 256, &stream[128..])
+}
+
+#[test]
+fn calls(rt: HostRuntime) {
+    let done = [are_done(0), are_done(1), are_done(2), are_done(3)];
+    let right = [
+        ends_right(127),
+        ends_right(128),
+        ends_right(192),
+        ends_right(255),
+    ];
+    let refused = &mut Spoiled {
+        byte: 256,
+        answer: 0,
+    };
+    assert!(rt; done == [false, false, false, true] && right == [true, false, false, false]);
+    assert!(rt; !stream_ends(refused, 256, LEGACY_KEYSTREAM));
 }

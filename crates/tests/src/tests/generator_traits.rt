@@ -1,23 +1,38 @@
-//! Generators through the traits of `rand_core`, as generic code uses them.
+//! Reads of generators, by their own calls and through the traits of `rand_core`, as generic code uses them; seeds.
 
 use chacha20::cipher::{RngBackend, StreamCipherCore};
 use chacha20::rand_core::{self, CryptoRng, Rng, SeedableRng, TryRng};
 use chacha20::{ChaCha8Rng, ChaCha12Rng, ChaCha20LegacyCore, ChaCha20Rng, ChaChaRng, R20, Seed};
 use worked_rows::R0;
-use worked_rows::published::FROM_1;
+use worked_rows::published::{FROM_1, OF_8_ROUNDS, OF_12_ROUNDS, OF_20_ROUNDS};
 use worked_rows::verdicts::{Verdict, failed};
 
 // What a list of reads gives: a word, two words, 5 bytes, no bytes, a word.
 type Reads = (u32, u64, [u8; 5], u32);
 
-// By a generator that is fit for keys.
-fn reads<G: CryptoRng>(rng: &mut G) -> Reads {
+// By the generator's own calls.
+fn own_reads<B: RngBackend<R0>>(rng: &mut ChaChaRng<R0, B>) -> Reads {
     let word = rng.next_u32();
     let two_words = rng.next_u64();
     let mut bytes = [0; 5];
     rng.fill_bytes(&mut bytes);
     rng.fill_bytes(&mut []);
     (word, two_words, bytes, rng.next_u32())
+}
+
+// By any generator.
+fn reads<G: Rng>(rng: &mut G) -> Reads {
+    let word = rng.next_u32();
+    let two_words = rng.next_u64();
+    let mut bytes = [0; 5];
+    rng.fill_bytes(&mut bytes);
+    rng.fill_bytes(&mut []);
+    (word, two_words, bytes, rng.next_u32())
+}
+
+// By one that is fit for keys.
+fn key_reads<G: CryptoRng>(rng: &mut G) -> Reads {
+    reads(rng)
 }
 
 // By one whose reads may fail, and whether all bytes came. A word that doesn't come is 1, which none of `READS` is.
@@ -32,6 +47,7 @@ fn try_reads<G: TryRng>(rng: &mut G) -> (Reads, bool) {
     )
 }
 
+// Without rounds: the words of the start state, doubled.
 static READS: Reads = (
     0xc2e0_f0ca,
     0xf2c4_5a64_6640_c8dc,
@@ -39,38 +55,65 @@ static READS: Reads = (
     0,
 );
 
-/// What is wrong with the worked reads of a generator without rounds.
+/// What is wrong with reads of a generator without rounds.
 pub fn wrong_reads<B: RngBackend<R0>>() -> Verdict {
     let mut rng = ChaChaRng::<R0, B>::from_seed([0; 32]);
-    let mut other = ChaChaRng::<R0, B>::from_seed([0; 32]);
+    let mut second = ChaChaRng::<R0, B>::from_seed([0; 32]);
+    let mut third = ChaChaRng::<R0, B>::from_seed([0; 32]);
     failed(
-        "reads through CryptoRng and TryRng",
+        "reads by own calls, through Rng and CryptoRng, and through TryRng",
         &[
-            reads(&mut rng) == READS,
-            try_reads(&mut other) == (READS, true),
+            own_reads(&mut rng) == READS,
+            key_reads(&mut second) == READS,
+            try_reads(&mut third) == (READS, true),
         ],
     )
 }
 
-// Whether two reads give these bytes.
-fn fills<G: TryRng>(rng: &mut G, first: &[u8; 13], second: &[u8; 13]) -> bool {
-    let mut bytes = [0; 13];
-    let right = rng.try_fill_bytes(&mut bytes).is_ok() && bytes == *first;
-    right && rng.try_fill_bytes(&mut bytes).is_ok() && bytes == *second
+// The bytes of row 7, of two reads.
+static ROW_7: [[u8; 13]; 2] = [
+    *b"\xb1\x69\x7e\x9f\xc6\x46\x1e\x19\x83\xd1\x31\xcf\x69",
+    *b"\xa7\xa3\xfc\x13\x4f\x14\x98\x80\xe8\xbb\x2b\x5d\x23",
+];
+
+fn fills<G: Rng>(rng: &mut G) -> [[u8; 13]; 2] {
+    let mut bytes = [[0; 13]; 2];
+    rng.fill_bytes(&mut bytes[0]);
+    rng.fill_bytes(&mut bytes[1]);
+    bytes
+}
+
+// The same, and whether all bytes came.
+fn try_fills<G: TryRng>(rng: &mut G) -> ([[u8; 13]; 2], bool) {
+    let mut bytes = [[0; 13]; 2];
+    let filled = rng.try_fill_bytes(&mut bytes[0]).is_ok()
+        && rng.try_fill_bytes(&mut bytes[1]).is_ok();
+    (bytes, filled)
 }
 
 /// What is wrong with the reads of row 7.
 pub fn wrong_row_7<B: RngBackend<R20>>() -> Verdict {
     let mut rng = ChaChaRng::<R20, B>::from_seed(FROM_1);
-    let right = fills(
-        &mut rng,
-        b"\xb1\x69\x7e\x9f\xc6\x46\x1e\x19\x83\xd1\x31\xcf\x69",
-        b"\xa7\xa3\xfc\x13\x4f\x14\x98\x80\xe8\xbb\x2b\x5d\x23",
-    );
+    let mut other = ChaChaRng::<R20, B>::from_seed(FROM_1);
     failed(
-        "row 7 through TryRng, and the position after it",
-        &[right, rng.get_word_pos() == 8],
+        "row 7 through Rng and through TryRng, and the positions after it",
+        &[
+            fills(&mut rng) == ROW_7,
+            try_fills(&mut other) == (ROW_7, true),
+            rng.get_word_pos() == 8,
+            other.get_word_pos() == 8,
+        ],
     )
+}
+
+// The first bytes of a zero seed are those of the cipher with a zero key.
+#[test]
+fn rounds(rt: HostRuntime) {
+    let mut found = [[0; 32]; 3];
+    ChaCha8Rng::from_seed([0; 32]).fill_bytes(&mut found[0]);
+    ChaCha12Rng::from_seed([0; 32]).fill_bytes(&mut found[1]);
+    ChaCha20Rng::from_seed([0; 32]).fill_bytes(&mut found[2]);
+    assert!(rt; found == [OF_8_ROUNDS, OF_12_ROUNDS, OF_20_ROUNDS]);
 }
 
 // A generator that another one seeds.

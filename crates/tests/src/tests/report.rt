@@ -1,17 +1,18 @@
-//! What the program prints, and its status.
+//! What the program prints, and its status: 0 only if all rows are right and the lines could be printed.
 
 use std::alloc::Global;
 use std::cell::Cell;
 use std::fmt::Display;
 use std::io;
-use std::process::ExitCode;
+use std::process::{ExitCode, Termination};
 use worked_rows::report::report;
 use worked_rows::verdicts::{Verdict, failed_check};
 
-// In the place of the standard output: whether what is printed last is the expected text.
+// In the place of the standard output: whether what is printed last is the expected text. A full page takes no text.
 #[derive(Drop)]
 struct Page {
     alloc: Global,
+    is_full: bool,
     expected: &'static str,
     is_expected: Cell<bool>,
 }
@@ -20,7 +21,11 @@ impl Print for Page {
     fn print<D: Display + Drop>(&self, value: D) -> io::Result<()> {
         let text = format!(in self.alloc; "{value}")?;
         self.is_expected.set(text.as_str() == self.expected);
-        Ok(())
+        if self.is_full {
+            Err(io::ErrorKind::StorageFull.into())
+        } else {
+            Ok(())
+        }
     }
 
     fn println<D: Display + Drop>(&self, _: D) -> io::Result<()> {
@@ -32,13 +37,17 @@ impl Print for Page {
     }
 }
 
-// Whether this is printed, and this the status, where some rows are right and those of these numbers are as found.
-fn reports(alloc: Global, found: Verdict, expected: &'static str, status: ExitCode) -> bool {
-    let page = Page {
+fn page_of(alloc: Global, is_full: bool, expected: &'static str) -> Page {
+    Page {
         alloc,
+        is_full,
         expected,
         is_expected: Cell::new(false),
-    };
+    }
+}
+
+// Whether this status follows from rows of which some are right, and those of these numbers as found.
+fn ends(rt: &impl Eprint, page: &Page, found: Verdict, status: ExitCode) -> bool {
     let mut verdicts = [None; 24];
     for number in [0, 1, 12, 22, 23usize] {
         verdicts[number] = Some(if number == 1 || number == 22 {
@@ -50,26 +59,29 @@ fn reports(alloc: Global, found: Verdict, expected: &'static str, status: ExitCo
     let mut ciphertext = [0; 16];
     ciphertext[0] = 0xe4;
     ciphertext[15] = 0x0e;
-    report(&page, &ciphertext, &verdicts) == status && page.is_expected.get()
+    report(page, &ciphertext, &verdicts).report(rt) == status && page.is_expected.get()
 }
+
+const BAD_ROWS: &str =
+    "e400000000000000000000000000000e\nrow 0 bad\nrow 1 ok\nrow 12 bad\nrow 22 ok\nrow 23 bad\n";
+
+const RIGHT_ROWS: &str =
+    "e400000000000000000000000000000e\nrow 0 ok\nrow 1 ok\nrow 12 ok\nrow 22 ok\nrow 23 ok\n";
 
 #[test]
 fn bad_rows(rt: HostRuntime) {
-    let expected =
-        "e400000000000000000000000000000e\nrow 0 bad\nrow 1 ok\nrow 12 bad\nrow 22 ok\nrow 23 bad\n";
-    assert!(rt;
-        reports(
-            rt.alloc(),
-            failed_check("a check"),
-            expected,
-            ExitCode::FAILURE
-        )
-    );
+    let page = page_of(rt.alloc(), false, BAD_ROWS);
+    assert!(rt; ends(&rt, &page, failed_check("a check"), ExitCode::FAILURE));
 }
 
 #[test]
 fn right_rows(rt: HostRuntime) {
-    let expected =
-        "e400000000000000000000000000000e\nrow 0 ok\nrow 1 ok\nrow 12 ok\nrow 22 ok\nrow 23 ok\n";
-    assert!(rt; reports(rt.alloc(), None, expected, ExitCode::SUCCESS));
+    let page = page_of(rt.alloc(), false, RIGHT_ROWS);
+    assert!(rt; ends(&rt, &page, None, ExitCode::SUCCESS));
+}
+
+#[test]
+fn full_page(rt: HostRuntime) {
+    let page = page_of(rt.alloc(), true, RIGHT_ROWS);
+    assert!(rt; ends(&rt, &page, None, ExitCode::FAILURE));
 }

@@ -80,7 +80,7 @@ pub fn wrong_generator_stream<B: RngBackend<R20>>() -> Verdict {
     }
 }
 
-// The block after the last one is the first.
+// The block after the last one is the first, and positions count from it again.
 fn wraps_to_start<B: RngBackend<R20>>() -> bool {
     let mut first = ChaChaRng::<R20, B>::from_seed([0; 32]);
     let mut last = ChaChaRng::<R20, B>::from_seed([0; 32]);
@@ -89,7 +89,8 @@ fn wraps_to_start<B: RngBackend<R20>>() -> bool {
     let mut over_the_end = [0; 320];
     first.fill_bytes(&mut from_start);
     last.fill_bytes(&mut over_the_end);
-    over_the_end.ends_with(&from_start) && first == last && first.get_block_pos() == 4
+    let places = (first.get_word_pos(), first.get_block_pos());
+    over_the_end.ends_with(&from_start) && first == last && places == (64, 4)
 }
 
 // Seeds, and what their generators give: the first words, words from many blocks, and blocks on both sides of 2^32. The
