@@ -2,6 +2,7 @@
 
 mod backends;
 mod beside;
+mod calls;
 mod core_calls;
 mod derived;
 mod direct;
@@ -14,7 +15,6 @@ mod generators;
 mod odd_cuts;
 mod positions;
 mod report;
-mod rfc8439;
 mod runs;
 mod streams;
 mod toy;
