@@ -1,4 +1,5 @@
-//! The ciphers and generators of `chacha20` for C, and for what can call C. `include/chacha20.h` declares each function.
+//! The ciphers and generators of `chacha20` for C, and for what can call C. `include/chacha20.h` declares each
+//! function.
 //! `c/Makefile` makes a static library of this crate; here it is a library, so that `user_tests` can test the exports.
 //!
 //! A slice is passed as a pointer and then its length, an array as a pointer. No pointer is null, even where a length

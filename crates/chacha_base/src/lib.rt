@@ -1,4 +1,5 @@
-//! What holds for any stream cipher over blocks of 64 bytes, and the ChaCha block function.
+//! Two subjects: what holds for any stream cipher over blocks of 64 bytes, and the block function of ChaCha with its
+//! backends.
 //!
 //! The crate `chacha20` is built on this one, and exports what its users need.
 #![tactic(auto)]

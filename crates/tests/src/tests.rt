@@ -2,6 +2,7 @@
 
 mod backends;
 mod beside;
+mod calls;
 mod core_calls;
 mod derived;
 mod direct;
@@ -13,7 +14,6 @@ mod generator_traits;
 mod odd_cuts;
 mod positions;
 mod report;
-mod rfc8439;
 mod runs;
 mod streams;
 mod toy;

@@ -1,5 +1,5 @@
--- Tables of what fails in rows, and the rows that are entered in them. The proofs of the functions that enter rows
--- cite these. Read `Rows` first.
+-- Tables of what fails in worked rows, and the worked rows that are entered in them. The proofs of the functions that
+-- enter them cite these. Read `Verdicts` first.
 use Rattle.std.proofs.Common.{◌≡◌, ℕ, ◌<◌, ◌+◌, Bool, true, false, ◌&&◌, ◌||◌, eqb, ltb, List, [], ◌∷◌, ◌++◌, length, map, Option, None, IsNone, IsSome, is_some, All, slice_index_or, refl, ap, subst, sym, ◌∙◌}
 use Rattle.std.specs.List.{AllWithin}
 use Rattle.std.specs.Option.{option_flatten}
@@ -59,12 +59,12 @@ module _ {F : Type 0} where
       let here = at-number (IsEntered table) numbers n first.1 h ((Decides-ltb n 24).0 first.0) in
       All-cons (λ n. IsSome (slice_index_or table n None)) n ns here (chosen-each table numbers ns h parts.1)
 
-  -- some of the rows that are entered
+  -- some of the worked rows that are entered
   pub chosen : (table : List (Option (Option F))) (numbers wanted : List ℕ)
       → AreEnteredBy (λ n. n) numbers table → are_among numbers wanted ≡ true → AreEntered wanted table
   chosen table numbers wanted h among = record { each = chosen-each table numbers wanted h.each among }
 
-  -- rows by their numbers alone
+  -- worked rows by their numbers alone
   pub by-number : {X : Type 0} (number : X → ℕ) (entries : List X) (table : List (Option (Option F)))
       → AreEnteredBy number entries table → AreEnteredBy (λ n. n) (map number entries) table
   by-number number entries table h = record { each = All-map (IsEntered table) number entries h.each }
@@ -82,14 +82,14 @@ module _ {F : Type 0} where
         then.failures number (subst (λ row. IsSome (option_flatten row)) (sym same) is) ∙ same;
   }
 
-  -- nothing fails in a row in which nothing fails later
+  -- nothing fails in a worked row in which nothing fails later
   right-before : (a b : List (Option (Option F))) (n : ℕ) → Keeps a b
       → IsNone (option_flatten (slice_index_or b n None)) → IsNone (option_flatten (slice_index_or a n None))
   right-before a b n keeps none =
       not-true (is_some (option_flatten (slice_index_or a n None)))
       (λ some. false≢true (sym none ∙ ap (λ row. is_some (option_flatten row)) (keeps.failures n some) ∙ some))
 
-  -- rows that were entered before, and rows that are entered now
+  -- worked rows that were entered before, and those that are entered now
   pub joined : (a b : List (Option (Option F))) (xs ys : List ℕ) → Keeps a b
       → AreEnteredBy (λ n. n) xs a → AreEnteredBy (λ n. n) ys b → AreEnteredBy (λ n. n) (xs ++ ys) b
   joined a b xs ys keeps old new =
@@ -111,7 +111,7 @@ module _ {X F : Type 0} (number : X → ℕ) (a b : List (Option (Option F))) (e
   IsRight P table entry =
       number entry < 24 → IsNone (option_flatten (slice_index_or table (number entry) None)) → P entry
 
-  -- and it is right where nothing failed in its row
+  -- and it is right where nothing failed in its worked row
   pub right-next : (P : X → Type 0) → AllWithin (IsRight P a) entries 0 i → IsRight P b (slice_index_or entries i d)
       → AllWithin (IsRight P b) entries 0 (i + 1)
   right-next P =

@@ -1,11 +1,13 @@
-//! Rows of ciphers.
+//! Worked rows of ciphers.
 
 ghost use Rattle.std.specs.Prelude.{◌≡◌, ◌↔◌, ◌≤◌, ◌<◌, ◌^◌, ◌∷◌, [], IfSome, IsNone, IsTrue, Some};
 ghost use Rattle.chacha20.specs.Limit.{limit_of};
 ghost use Rattle.worked_rows.specs.Verdicts.{AreEntered, AreEnteredBy, Keeps};
 
 use crate::lists::{CipherList, Listed, wrong_list};
-use crate::published::{COUNTING, FROM_1, FROM_80, LEGACY_NONCE, NONCE, X_NONCE};
+use crate::published::{
+    COUNTING, FROM_1, FROM_80, HCHACHA_INPUT, LEGACY_NONCE, NONCE, SUBKEY, X_NONCE,
+};
 use crate::verdicts::{Verdict, Verdicts, enter, enter_all, failed, first_failure};
 use chacha20::cipher::{KeyIvInit, SeekNum, StreamCipherSeek, StreamCipherSeekCore};
 use chacha20::{
@@ -13,7 +15,7 @@ use chacha20::{
     hchacha,
 };
 
-/// Lists of a row, with its number.
+/// Lists of a worked row, with its number.
 pub type NumberedLists = (usize, &'static [CipherList]);
 
 static PLAINTEXT: [u8; 16] = [0, 1, 2, 3, 4, 5, 6, 7, 8, 9, 10, 11, 12, 13, 14, 15];
@@ -23,7 +25,7 @@ static CIPHERTEXT: [u8; 16] = *b"\xe4\x05\x62\x6e\x4f\x12\x36\xb3\x67\x0e\xe4\x2
 // These functions take a core as a type, and not its cipher: to prove a cipher's traits over any core costs a third of
 // proving them for a named cipher.
 
-/// The first row's ciphertext. Enters each row of the cipher of RFC 8439 over a core.
+/// The ciphertext of worked row 1. Enters each worked row of the cipher of RFC 8439 over a core.
 pub fn enter_ietf_rows<K>(verdicts: &mut Verdicts) -> [u8; 16]
 where
     K: KeyIvInit<Key = Key, Iv = Nonce> + StreamCipherSeekCore<Counter = u32> + Drop,
@@ -33,7 +35,7 @@ where
     enter_rows_of_ietf::<StreamCipherCoreWrapper<K>>(verdicts)
 }
 
-/// Enters each row of the cipher in the older layout over a core.
+/// Enters each worked row of the cipher in the older layout over a core.
 pub fn enter_legacy_rows<K>(verdicts: &mut Verdicts)
 where
     K: KeyIvInit<Key = Key, Iv = LegacyNonce> + StreamCipherSeekCore<Counter = u64> + Drop,
@@ -43,7 +45,7 @@ where
     enter_rows_of_legacy::<StreamCipherCoreWrapper<K>>(verdicts);
 }
 
-/// Enters each row of the cipher with nonces of 24 bytes over a core.
+/// Enters each worked row of the cipher with nonces of 24 bytes over a core.
 pub fn enter_x_rows<K>(verdicts: &mut Verdicts)
 where
     K: KeyIvInit<Key = Key, Iv = XNonce> + StreamCipherSeekCore + Drop,
@@ -84,7 +86,7 @@ where
     enter_table::<C>(verdicts, &FROM_1, &LEGACY_NONCE, &LEGACY_ROWS);
 }
 
-/// Enters rows, or parts of them, that are lists of calls on a new cipher alone.
+/// Enters worked rows, or parts of them, that are lists of calls on a new cipher alone.
 pub fn enter_table<C: KeyIvInit + Listed + Drop>(
     verdicts: &mut Verdicts,
     key: &C::Key,
@@ -100,7 +102,7 @@ pub fn enter_table<C: KeyIvInit + Listed + Drop>(
     }
 }
 
-/// Rows that are lists of calls on a new cipher of `COUNTING` and `NONCE`.
+/// Worked rows that are lists of calls on a new cipher of `COUNTING` and `NONCE`.
 pub static IETF_ROWS: [NumberedLists; 6] = [
     // A message from block 1 on (RFC 8439, section 2.4.2).
     (
@@ -238,7 +240,7 @@ pub static LEGACY_ROWS: [NumberedLists; 1] = [(
     }],
 )];
 
-/// Rows of a new cipher with a nonce of 24 bytes.
+/// Worked rows of a new cipher with a nonce of 24 bytes.
 pub static X_ROWS: [NumberedLists; 1] = [
     // XChaCha20 from block 1 on.
     (
@@ -294,12 +296,9 @@ fn row_1<C: KeyIvInit<Key = Key, Iv = Nonce> + StreamCipherSeek + Drop>() -> ([u
 
 // HChaCha (draft-irtf-cfrg-xchacha, section 2.2.1).
 fn row_3() -> Verdict {
-    let input = *b"\x00\x00\x00\x09\x00\x00\x00\x4a\x00\x00\x00\x00\x31\x41\x59\x27";
-    let expected = b"\x82\x41\x3b\x42\x27\xb2\x7b\xfe\xd3\x0e\x42\x50\x8a\x87\x7d\x73\
-        \xa0\xf9\xe4\xd5\x8a\x74\xa8\x53\xc1\x2e\xc4\x13\x26\xd3\xec\xdc";
     failed(
         "the subkey",
-        &[hchacha::<R20>(&COUNTING, &input) == *expected],
+        &[hchacha::<R20>(&COUNTING, &HCHACHA_INPUT) == SUBKEY],
     )
 }
 

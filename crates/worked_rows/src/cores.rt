@@ -1,4 +1,4 @@
-//! Rows of cores alone.
+//! The worked row of cores.
 
 ghost use Rattle.std.specs.Prelude.{◌≡◌, ◌↔◌, ◌+◌, ◌%◌, ◌∷◌, [], IsNone, drop, replicate};
 ghost use Rattle.worked_rows.specs.Cores.{CountsTo};

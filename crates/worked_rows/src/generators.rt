@@ -1,4 +1,4 @@
-//! Rows of generators.
+//! Worked rows of generators.
 
 ghost use Rattle.std.specs.Prelude.{◌↔◌, ◌∷◌, [], IsNone};
 ghost use Rattle.chacha20.specs.Generator.{of_seed};
@@ -11,7 +11,7 @@ use crate::verdicts::{Verdict, Verdicts, enter, enter_all, failed};
 use chacha20::cipher::RngBackend;
 use chacha20::{ChaChaRng, R8, R12, R20, RngAnswer, RngCall, Rounds, Seed};
 
-/// Enters each row for generators over a backend.
+/// Enters each worked row of generators over a backend.
 pub fn enter_rows<B: RngBackend<R8> + RngBackend<R12> + RngBackend<R20>>(verdicts: &mut Verdicts)
     ensures kept { Keeps verdicts.old verdicts.new }
     ensures entered { AreEntered
@@ -29,7 +29,7 @@ pub fn enter_rows<B: RngBackend<R8> + RngBackend<R12> + RngBackend<R20>>(verdict
     enter_tables::<B>(verdicts, &TABLES);
 }
 
-// Lists of calls on a new generator, with the row's number and the seed.
+// Lists of calls on a new generator, with the worked row's number and the seed.
 type NumberedTable = (usize, Seed, &'static [RngList]);
 
 fn enter_tables<B: RngBackend<R20>>(verdicts: &mut Verdicts, tables: &[NumberedTable])
@@ -45,7 +45,7 @@ fn enter_tables<B: RngBackend<R20>>(verdicts: &mut Verdicts, tables: &[NumberedT
     }
 }
 
-// Rows that are lists of calls on a new generator alone, with its seed.
+// Worked rows that are lists of calls on a new generator alone.
 static TABLES: [NumberedTable; 7] = [
     // Bytes in pieces: what is left of a word is lost.
     (
@@ -295,8 +295,8 @@ pub fn wrong_table<B: RngBackend<R20>>(seed: Seed, lists: &[RngList]) -> Verdict
     wrong_draw(&mut ChaChaRng::<R20, B>::from_seed(seed), lists)
 }
 
-// How many word positions there are.
-const POSITIONS: u128 = 1 << 68;
+/// How many word positions there are.
+pub const POSITIONS: u128 = 1 << 68;
 
 // The state after 100 words, whatever the number of rounds.
 fn row_14<R: Rounds, B: RngBackend<R>>() -> Verdict {

@@ -28,7 +28,7 @@ impl Rounds for R0 {
     const COUNT: usize = 0;
 }
 
-/// The first row's ciphertext, and each row's verdict, for the named ciphers and generators.
+/// The ciphertext of worked row 1, and each worked row's verdict, for the named ciphers and generators.
 pub fn worked() -> ([u8; 16], Verdicts)
     ensures { AreEntered (1 ∷ 3 ∷ 4 ∷ 5 ∷ 6 ∷ 7 ∷ 8 ∷ 9 ∷ 10 ∷ 11 ∷ 12 ∷ 13 ∷ 14 ∷ 15 ∷ 16 ∷ 17
         ∷ 18 ∷ 19 ∷ 20 ∷ 21 ∷ 22 ∷ 23 ∷ []) result.1 }

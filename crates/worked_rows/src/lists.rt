@@ -39,8 +39,8 @@ pub struct RngList {
     pub last: &'static [u8],
 }
 
-/// A cipher that is called by lists. It has no contract, so that the proofs of rows and tests don't carry that of
-/// `run_cipher`.
+/// A cipher that is called by lists. It has no contract, so that the proofs of worked rows and tests don't carry
+/// that of `run_cipher`.
 pub trait Listed {
     /// Makes the calls, writes their answers and returns true. Where a range lies past its slice, or there are not as
     /// many answers as calls, it does nothing and returns false.
@@ -54,7 +54,7 @@ pub trait Listed {
 }
 
 impl<K: StreamCipherSeekCore> Listed for StreamCipherCoreWrapper<K> {
-    // Compiled once for each cipher, and not into each row or test.
+    // Compiled once for each cipher, and not into each worked row or test.
     #[inline(never)]
     fn runs(
         &mut self,

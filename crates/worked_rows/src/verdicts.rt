@@ -1,4 +1,4 @@
-//! What came of worked rows: the first failure of each, in a table by the number of the row.
+//! What came of worked rows: the first failure of each, in a table by its number.
 
 ghost use Rattle.std.specs.Prelude.{◌≡◌, ◌↔◌, ◌<◌, All, IfSome, IsNone, IsSome, IsTrue, None, Some, SomeIndex, false, true, slice_index_or};
 ghost use Rattle.std.specs.Option.{option_flatten};
@@ -66,7 +66,7 @@ pub fn first_failure(verdicts: &[Verdict]) -> Verdict
 /// What fails in each worked row, at the place of its number. Other places are empty.
 pub type Verdicts = [Option<Verdict>; 24];
 
-/// Enters what fails in a row, or in a part of it. What failed in another part stays.
+/// Enters what fails in a worked row, or in a part of it. What failed in another part stays.
 pub fn enter(verdicts: &mut Verdicts, number: usize, failed: Verdict)
     ensures table { verdicts.new ≡ with_entry verdicts.old (number, failed) }
     ensures kept { Keeps verdicts.old verdicts.new }
@@ -79,7 +79,7 @@ pub fn enter(verdicts: &mut Verdicts, number: usize, failed: Verdict)
     }
 }
 
-/// Enters several verdicts, each with its row's number.
+/// Enters several verdicts, each with its worked row's number.
 pub fn enter_all(verdicts: &mut Verdicts, rows: &[(usize, Verdict)])
     ensures table { verdicts.new ≡ fold with_entry verdicts.old rows.now }
     ensures kept { Keeps verdicts.old verdicts.new }
@@ -90,7 +90,7 @@ pub fn enter_all(verdicts: &mut Verdicts, rows: &[(usize, Verdict)])
     }
 }
 
-/// The first failure in worked rows, with its row's number.
+/// The first failure in worked rows, with its worked row's number.
 pub fn first_wrong_row(verdicts: &Verdicts) -> Verdict
     ensures right { IsNone result ↔ All (λ row. IsNone (option_flatten row)) verdicts.now }
     ensures place { IfSome result (λ failure.

@@ -7,7 +7,7 @@ use chacha20::variants::{Ietf, Legacy, Variant};
 use chacha20::{ChaChaCore, Key, Steps};
 use worked_rows::R0;
 use worked_rows::published::COUNTING;
-use worked_rows::verdicts::{Verdict, failed, failed_for, first_failure};
+use worked_rows::verdicts::{Verdict, failed, first_failure};
 
 /// What is wrong with the blocks of a core of zeros.
 pub fn wrong_zeros<B: StreamCipherBackend<R0, Ietf>>() -> Verdict {
@@ -46,71 +46,44 @@ fn single_blocks<C: StreamCipherCore>(core: &mut C) -> [[u8; 64]; 4] {
     blocks
 }
 
-// None, one and three blocks at once.
-fn written_at_once<C: StreamCipherCore>(core: &mut C) -> [[u8; 64]; 4] {
-    let mut blocks = [[1; 64]; 4];
+// Writes none, one and three blocks at once.
+fn write_at_once<C: StreamCipherCore>(core: &mut C, blocks: &mut [[u8; 64]; 4]) {
     core.write_keystream_blocks(&mut []);
     core.write_keystream_blocks(&mut blocks[..1]);
     core.write_keystream_blocks(&mut blocks[1..]);
-    blocks
 }
 
-// The same applied to bytes 0xa5, and these taken away again.
-fn applied_at_once<C: StreamCipherCore>(core: &mut C) -> [[u8; 64]; 4] {
-    let mut blocks = [[0xa5; 64]; 4];
+// Applies the same.
+fn apply_at_once<C: StreamCipherCore>(core: &mut C, blocks: &mut [[u8; 64]; 4]) {
     core.apply_keystream_blocks(&mut []);
     core.apply_keystream_blocks(&mut blocks[..1]);
     core.apply_keystream_blocks(&mut blocks[1..]);
-    taken_away(blocks)
 }
 
-fn taken_away(mut blocks: [[u8; 64]; 4]) -> [[u8; 64]; 4] {
-    for byte in blocks.as_flattened_mut() {
-        *byte ^= 0xa5;
-    }
-    blocks
-}
-
-// A single block applied, and three counted: one written, and two applied.
-fn applied_and_counted<C: StreamCipherCore>(core: &mut C) -> [[u8; 64]; 4] {
-    let mut blocks = [[0; 64]; 4];
+// Applies a single block, and counts three: one written, and two applied.
+fn apply_and_count<C: StreamCipherCore>(core: &mut C, blocks: &mut [[u8; 64]; 4]) {
     core.apply_keystream_block(&mut blocks[0]);
     core.write_block_counted(&mut blocks[1], &mut Steps::new());
     core.apply_blocks_counted(blocks[2..].as_flattened_mut(), &mut Steps::new());
-    blocks
 }
 
-// By which calls four blocks come.
-#[derive(Clone, Copy)]
-enum By {
-    Single,
-    Written,
-    Applied,
-    Counted,
-}
-
-static KINDS: [By; 4] = [By::Single, By::Written, By::Applied, By::Counted];
-
-fn four_blocks<C: StreamCipherCore>(core: &mut C, by: By) -> [[u8; 64]; 4] {
-    match by {
-        By::Single => single_blocks(core),
-        By::Written => written_at_once(core),
-        By::Applied => applied_at_once(core),
-        By::Counted => applied_and_counted(core),
-    }
-}
-
-// The first kind of calls for four blocks that doesn't give four single ones, or doesn't move as far.
-fn wrong_kind<C: StreamCipherSeekCore>(core: &mut C, start: C::Counter, end: u64) -> Option<usize> {
+// Whether the four blocks from a counter on are the single ones where they are written over others, leave zeros where
+// they are applied to these, and come again where they are applied to the zeros; and whether the core is then at the
+// counter after them.
+fn are_right<C: StreamCipherSeekCore>(core: &mut C, start: C::Counter, end: u64) -> [bool; 3] {
     core.set_block_pos(start);
     let single = single_blocks(core);
-    for number in 0..KINDS.len() {
-        core.set_block_pos(start);
-        if four_blocks(core, KINDS[number]) != single || core.get_block_pos().to_u64() != end {
-            return Some(number);
-        }
-    }
-    None
+    let mut blocks = [[1; 64]; 4];
+    core.set_block_pos(start);
+    write_at_once(core, &mut blocks);
+    let written = blocks == single && core.get_block_pos().to_u64() == end;
+    core.set_block_pos(start);
+    apply_at_once(core, &mut blocks);
+    let applied = blocks == [[0; 64]; 4] && core.get_block_pos().to_u64() == end;
+    core.set_block_pos(start);
+    apply_and_count(core, &mut blocks);
+    let counted = blocks == single && core.get_block_pos().to_u64() == end;
+    [written, applied, counted]
 }
 
 /// What is wrong with calls of a new core for the four blocks from a counter on, and with the number of blocks that it
@@ -124,29 +97,12 @@ where
     let left = core.remaining_blocks();
     core.set_block_pos(T::from_u64(T::last()));
     let left_at_last = core.remaining_blocks();
-    let kind = wrong_kind(&mut core, start, end);
+    let right = are_right(&mut core, start, end);
     first_failure(&[
         failed("blocks left", &[left == all, left_at_last == Some(1)]),
-        failed_for("four blocks by other calls", kind),
+        failed(
+            "four blocks at once written and applied, and counted",
+            &right,
+        ),
     ])
-}
-
-/// What is wrong with blocks 4 to 7 of a core, compared with those of another one.
-pub fn wrong_beside<N, A, B>(nonce: &N) -> Verdict
-where
-    A: KeyIvInit<Key = Key, Iv = N> + StreamCipherCore + Drop,
-    B: KeyIvInit<Key = Key, Iv = N> + StreamCipherCore + Drop,
-{
-    let mut core = A::new(&COUNTING, nonce);
-    let mut other = B::new(&COUNTING, nonce);
-    failed(
-        "blocks beside another core's",
-        &[after_four(&mut core) == after_four(&mut other)],
-    )
-}
-
-// The four blocks after the first four.
-fn after_four<C: StreamCipherCore>(core: &mut C) -> [[u8; 64]; 4] {
-    let _ = single_blocks(core);
-    single_blocks(core)
 }

@@ -2,7 +2,7 @@
 
 use super::direct::{Fresh, all_done, stream_ends};
 use chacha20::{CipherCall, Nonce, Rounds, XNonce, hchacha};
-use worked_rows::published::{FROM_80, X_NONCE};
+use worked_rows::published::{DERIVED_NONCE, FROM_80, X_NONCE, X_NONCE_FRONT};
 use worked_rows::verdicts::{Verdict, failed};
 
 /// What is wrong with 130 bytes of a cipher with nonces of 24 bytes and so many rounds, compared with the cipher with
@@ -23,8 +23,3 @@ pub fn wrong_stream<R: Rounds, X: Fresh<XNonce>, C: Fresh<Nonce>>() -> Verdict {
         ],
     )
 }
-
-// The first 16 bytes of the nonce, and four zero bytes and its last eight.
-static X_NONCE_FRONT: [u8; 16] = *b"@ABCDEFGHIJKLMNO";
-
-static DERIVED_NONCE: Nonce = *b"\0\0\0\0PQRSTUVX";

@@ -72,6 +72,7 @@ fn of_outcome(outcome: Result<(), StreamCipherError>) -> CipherAnswer {
     }
 }
 
+// Makes a call as `run_cipher` does, but seeks in 64 bits where they hold the position.
 fn answered<C: StreamCipherSeek>(
     cipher: &mut C,
     input: &[u8],
@@ -97,7 +98,10 @@ fn answered<C: StreamCipherSeek>(
             &input[from..from + from_len],
             &mut data[at..at + len],
         )),
-        CipherCall::Seek(place) => of_outcome(cipher.try_seek(place)),
+        CipherCall::Seek(place) => match u64::try_from(place) {
+            Ok(place) => of_outcome(cipher.try_seek(place)),
+            Err(_) => of_outcome(cipher.try_seek(place)),
+        },
         CipherCall::SeekI32(place) => of_outcome(cipher.try_seek(place)),
         CipherCall::Pos => match cipher.try_current_pos() {
             Ok(place) => CipherAnswer::Position(place),

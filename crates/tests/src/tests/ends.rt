@@ -1,95 +1,77 @@
-//! Ends of streams and greatest values, for any cipher of a kind: called directly, and by lists of calls.
+//! Ends of streams, for any cipher of a kind.
 
-ghost use Rattle.std.specs.Prelude.{◌≤◌, ◌^◌, length};
-ghost use Rattle.chacha20.specs.Limit.{limit_of};
+ghost use Rattle.std.specs.Prelude.{◌≤◌, ◌^◌};
 
-use super::direct::{Directly, all_done};
-use chacha20::cipher::{KeyIvInit, StreamCipher, StreamCipherSeek};
-use chacha20::{CipherAnswer, CipherCall, Key, LegacyNonce, Nonce};
-use worked_rows::ciphers::is_at;
-use worked_rows::lists::{CipherList, Listed, answers_are, wrong_list};
-use worked_rows::published::{COUNTING, FROM_1, LEGACY_NONCE};
+use super::direct::all_done;
+use chacha20::{CipherAnswer, CipherCall};
+use worked_rows::lists::{CipherList, Listed, answers_are};
 use worked_rows::verdicts::{Verdict, failed, failed_for, first_failure};
 
-// The limits: 64 bytes for each counter of 32 and of 64 bits.
-const LIMIT: u128 = 274877906944;
+/// The limit of a cipher whose counter has 32 bits: 64 bytes for each counter.
+pub const LIMIT: u128 = 274877906944;
 
-const LEGACY_LIMIT: u128 = 1180591620717411303424;
-
-// The last bytes of a cipher without rounds whose counter has 32 bits, from the position 16 bytes before its limit on.
-const LAST_16: CipherList = CipherList {
-    name: "the last sixteen bytes, and none after them",
-    input: &[],
-    data: &[0; 17],
-    calls: &[
-        CipherCall::Apply { at: 0, len: 17 },
-        CipherCall::Pos,
-        CipherCall::Apply { at: 0, len: 16 },
-        CipherCall::Pos,
-        CipherCall::Apply { at: 16, len: 1 },
-        CipherCall::Apply { at: 17, len: 0 },
-    ],
-    answers: &[
-        CipherAnswer::Refused,
-        CipherAnswer::Position(274877906928),
-        CipherAnswer::Done,
-        CipherAnswer::Position(274877906944),
-        CipherAnswer::Refused,
-        CipherAnswer::Done,
-    ],
-    after: b"\xfe\xff\xff\xff\0\0\0\0\0\0\0\0\0\0\0\0\0",
-};
-
-// Its first bytes, from position 0 on.
-const FIRST_4: CipherList = CipherList {
-    name: "the first four bytes, after the end",
-    input: &[],
-    data: &[0; 4],
-    calls: &[CipherCall::Apply { at: 0, len: 4 }, CipherCall::Pos],
-    answers: &[CipherAnswer::Done, CipherAnswer::Position(4)],
-    after: b"\xca\xf0\xe0\xc2",
-};
-
-// From 16 bytes before its last block on.
-const INTO_LAST: CipherList = CipherList {
-    name: "into the last block",
-    input: &[],
-    data: &[0; 17],
-    calls: &[CipherCall::Apply { at: 0, len: 17 }, CipherCall::Pos],
-    answers: &[CipherAnswer::Done, CipherAnswer::Position(274877906881)],
-    after: b"\xfc\xff\xff\xff\0\0\0\0\0\0\0\0\0\0\0\0\xca",
-};
+/// The limit of a cipher whose counter has 64 bits.
+pub const LEGACY_LIMIT: u128 = 1180591620717411303424;
 
 /// At the end of a cipher without rounds whose counter has 32 bits. The limit itself is a position, and the next number
 /// isn't; what is refused changes nothing.
-pub static ZERO_ENDS: [CipherList; 7] = [
+pub static ZERO_ENDS: [CipherList; 4] = [
     CipherList {
-        name: "16 bytes before the limit",
+        name: "the last sixteen bytes, and none after them",
         input: &[],
-        data: &[],
-        calls: &[CipherCall::Seek(274877906928)],
-        answers: &[CipherAnswer::Done],
-        after: &[],
+        data: &[0; 17],
+        calls: &[
+            CipherCall::Seek(274877906928),
+            CipherCall::Apply { at: 0, len: 17 },
+            CipherCall::Pos,
+            CipherCall::Apply { at: 0, len: 16 },
+            CipherCall::Pos,
+            CipherCall::Apply { at: 16, len: 1 },
+            CipherCall::Apply { at: 17, len: 0 },
+        ],
+        answers: &[
+            CipherAnswer::Done,
+            CipherAnswer::Refused,
+            CipherAnswer::Position(274877906928),
+            CipherAnswer::Done,
+            CipherAnswer::Position(274877906944),
+            CipherAnswer::Refused,
+            CipherAnswer::Done,
+        ],
+        after: b"\xfe\xff\xff\xff\0\0\0\0\0\0\0\0\0\0\0\0\0",
     },
-    LAST_16,
     CipherList {
-        name: "the start",
+        name: "the first four bytes, after the end",
         input: &[],
-        data: &[],
-        calls: &[CipherCall::Seek(0)],
-        answers: &[CipherAnswer::Done],
-        after: &[],
+        data: &[0; 4],
+        calls: &[
+            CipherCall::Seek(0),
+            CipherCall::Apply { at: 0, len: 4 },
+            CipherCall::Pos,
+        ],
+        answers: &[
+            CipherAnswer::Done,
+            CipherAnswer::Done,
+            CipherAnswer::Position(4),
+        ],
+        after: b"\xca\xf0\xe0\xc2",
     },
-    FIRST_4,
     CipherList {
-        name: "16 bytes before the last block",
+        name: "from 16 bytes before the last block into it",
         input: &[],
-        data: &[],
-        calls: &[CipherCall::Seek(274877906864)],
-        answers: &[CipherAnswer::Done],
-        after: &[],
+        data: &[0; 17],
+        calls: &[
+            CipherCall::Seek(274877906864),
+            CipherCall::Apply { at: 0, len: 17 },
+            CipherCall::Pos,
+        ],
+        answers: &[
+            CipherAnswer::Done,
+            CipherAnswer::Done,
+            CipherAnswer::Position(274877906881),
+        ],
+        after: b"\xfc\xff\xff\xff\0\0\0\0\0\0\0\0\0\0\0\0\xca",
     },
-    INTO_LAST,
     CipherList {
         name: "at the limit",
         input: &[1, 2, 3],
@@ -327,11 +309,11 @@ pub static LEGACY_ENDS: [CipherList; 4] = [
     },
 ];
 
-// The last 33 blocks of a stream are two groups of the widest backend and one more.
+// The last 33 blocks of a stream: two groups of the widest backend, and one block more.
 const LENGTH: usize = 2112;
 
-// They without rounds, for a key and a nonce of zeros and a counter of 32 bits: the text "expand 32-byte k" and the
-// counter, doubled.
+// The last 33 blocks of a cipher without rounds, for a key and a nonce of zeros and a counter of 32 bits: the text
+// "expand 32-byte k" and the counter, doubled.
 fn last_blocks_without_rounds() -> [[u8; 64]; 33] {
     let mut blocks = [[0; 64]; 33];
     // Twice 2^32 - 33, without a carry.
@@ -346,8 +328,8 @@ fn last_blocks_without_rounds() -> [[u8; 64]; 33] {
     blocks
 }
 
-// They one by one, each after a seek.
-fn last_blocks_one_by_one<C: Listed>(cipher: &mut C, start: u128) -> [[u8; 64]; 33]
+// The 33 blocks from a position on, each after a seek to it.
+fn blocks_after_seeks<C: Listed>(cipher: &mut C, start: u128) -> [[u8; 64]; 33]
     requires { start ≤ 2 ^ 70 }
 {
     let mut blocks = [[0; 64]; 33];
@@ -359,6 +341,23 @@ fn last_blocks_one_by_one<C: Listed>(cipher: &mut C, start: u128) -> [[u8; 64]; 
         let _ = all_done(cipher, &[], &mut blocks[place], &calls);
     }
     blocks
+}
+
+// Whether a cipher is at a position, and takes so many bytes there and no more.
+fn has_left<C: Listed>(cipher: &mut C, position: u128, count: usize) -> bool
+    requires { count ≤ 2112 }
+{
+    let calls = [
+        CipherCall::Pos,
+        CipherCall::CheckRemaining(count),
+        CipherCall::CheckRemaining(count + 1),
+    ];
+    let answers = [
+        CipherAnswer::Position(position),
+        CipherAnswer::Done,
+        CipherAnswer::Refused,
+    ];
+    answers_are(cipher, &[], &mut [], &calls, &answers)
 }
 
 static ZEROS: [u8; LENGTH] = [0; LENGTH];
@@ -402,26 +401,24 @@ fn come_in_two<C: Listed>(
         CipherCall::Seek(start + from as u128),
         call(by, from, middle - from),
         call(by, middle, LENGTH - middle),
-        CipherCall::Pos,
     ];
-    let answers = [
-        CipherAnswer::Done,
-        CipherAnswer::Done,
-        CipherAnswer::Done,
-        CipherAnswer::Position(start + LENGTH as u128),
-    ];
-    answers_are(cipher, &ZEROS, &mut bytes, &calls, &answers) && bytes[from..] == last[from..]
+    all_done(cipher, &ZEROS, &mut bytes, &calls) && bytes[from..] == last[from..]
 }
 
-// The first number, from none to 33, for which they don't: so many whole blocks at once; from the middle of a block on,
-// with a last part of so many bytes; and from the front of one on, with 32 more in the last part.
+// The first number, from 0 to 33, for which the last bytes come out wrong: as so many whole blocks at once; from the
+// middle of a block on, with so many bytes in the last part; or from the front of a block on, with 32 bytes more in it.
+// After each the cipher is at its limit.
 fn wrong_end<C: Listed>(cipher: &mut C, start: u128, last: &[u8; LENGTH], by: By) -> Option<usize>
     requires { start ≤ 2 ^ 70 }
 {
+    let limit = start + LENGTH as u128;
     for number in 0..34usize {
         let right = come_in_two(cipher, start, last, by, LENGTH - 64 * number, LENGTH)
+            && has_left(cipher, limit, 0)
             && come_in_two(cipher, start, last, by, 27, LENGTH - number)
-            && come_in_two(cipher, start, last, by, 64, LENGTH - 32 - number);
+            && has_left(cipher, limit, 0)
+            && come_in_two(cipher, start, last, by, 64, LENGTH - 32 - number)
+            && has_left(cipher, limit, 0);
         if !right {
             return Some(number);
         }
@@ -429,48 +426,46 @@ fn wrong_end<C: Listed>(cipher: &mut C, start: u128, last: &[u8; LENGTH], by: By
     None
 }
 
-// The first number of bytes, from none to a block and one, that isn't all that is left so far before the limit, or that
-// doesn't come after all the others.
+// Whether so many bytes are all that is left, so far before the limit: after all the others, and after a seek.
+fn are_the_rest<C: Listed>(cipher: &mut C, start: u128, last: &[u8; LENGTH], count: usize) -> bool
+    requires start { start ≤ 2 ^ 70 }
+    requires count { count ≤ 2112 }
+{
+    let mut bytes = [0; LENGTH];
+    let from = LENGTH - count;
+    let place = start + from as u128;
+    all_done(
+        cipher,
+        &[],
+        &mut bytes,
+        &[
+            CipherCall::Seek(start),
+            CipherCall::Apply { at: 0, len: from },
+        ],
+    ) && has_left(cipher, place, count)
+        && all_done(
+            cipher,
+            &[],
+            &mut bytes,
+            &[
+                CipherCall::Apply {
+                    at: from,
+                    len: count,
+                },
+                CipherCall::Seek(place),
+            ],
+        )
+        && has_left(cipher, place, count)
+        && bytes == *last
+}
+
+// The first number of bytes, from none to a block and one, that aren't the rest.
 fn wrong_rest<C: Listed>(cipher: &mut C, start: u128, last: &[u8; LENGTH]) -> Option<usize>
     requires { start ≤ 2 ^ 70 }
 {
-    for rest in 0..66usize {
-        let from = LENGTH - rest;
-        let place = start + from as u128;
-        let mut bytes = [0; LENGTH];
-        let calls = [
-            CipherCall::Seek(start),
-            CipherCall::Apply { at: 0, len: from },
-            CipherCall::Pos,
-            CipherCall::CheckRemaining(rest),
-            CipherCall::CheckRemaining(rest + 1),
-            CipherCall::Apply {
-                at: from,
-                len: rest,
-            },
-            CipherCall::CheckRemaining(0),
-            CipherCall::CheckRemaining(1),
-            CipherCall::Seek(place),
-            CipherCall::Pos,
-            CipherCall::CheckRemaining(rest),
-            CipherCall::CheckRemaining(rest + 1),
-        ];
-        let answers = [
-            CipherAnswer::Done,
-            CipherAnswer::Done,
-            CipherAnswer::Position(place),
-            CipherAnswer::Done,
-            CipherAnswer::Refused,
-            CipherAnswer::Done,
-            CipherAnswer::Done,
-            CipherAnswer::Refused,
-            CipherAnswer::Done,
-            CipherAnswer::Position(place),
-            CipherAnswer::Done,
-            CipherAnswer::Refused,
-        ];
-        if !answers_are(cipher, &[], &mut bytes, &calls, &answers) || bytes != *last {
-            return Some(rest);
+    for count in 0..66usize {
+        if !are_the_rest(cipher, start, last, count) {
+            return Some(count);
         }
     }
     None
@@ -488,18 +483,8 @@ fn goes_on<C: Listed>(cipher: &mut C, limit: u128, last: &[u8; LENGTH]) -> bool
         CipherCall::Seek(0),
         CipherCall::CheckRemaining(LENGTH),
         CipherCall::Seek(limit),
-        CipherCall::CheckRemaining(1),
     ];
-    let answers = [
-        CipherAnswer::Done,
-        CipherAnswer::Done,
-        CipherAnswer::Done,
-        CipherAnswer::Done,
-        CipherAnswer::Done,
-        CipherAnswer::Done,
-        CipherAnswer::Refused,
-    ];
-    answers_are(cipher, &[], &mut byte, &calls, &answers) && last.ends_with(&byte)
+    all_done(cipher, &[], &mut byte, &calls) && has_left(cipher, limit, 0) && last.ends_with(&byte)
 }
 
 // What goes wrong in a cipher that is asked for bytes up to its limit, of which the last 33 blocks are given.
@@ -534,81 +519,8 @@ pub fn wrong_zero_groups<C: Listed>(cipher: &mut C) -> Verdict {
 /// What goes wrong at the end of a cipher with a counter of 64 bits.
 pub fn wrong_legacy_groups<C: Listed>(cipher: &mut C) -> Verdict {
     let start = LEGACY_LIMIT - LENGTH as u128;
-    let last = last_blocks_one_by_one(cipher, start);
+    let last = blocks_after_seeks(cipher, start);
     wrong_ends(cipher, start, &last)
-}
-
-static LAST_16_ALONE: [CipherList; 1] = [LAST_16];
-
-static FIRST_4_ALONE: [CipherList; 1] = [FIRST_4];
-
-static INTO_LAST_ALONE: [CipherList; 1] = [INTO_LAST];
-
-/// The same ends of a cipher without rounds, by direct calls with positions of 64 and of 32 bits.
-pub fn wrong_zero_types<C: StreamCipherSeek>(cipher: &mut C) -> Verdict
-    requires { 274877906944 ≤ limit_of C.modulus }
-{
-    cipher.seek(274877906928u64);
-    let last = wrong_list(&mut Directly(cipher), &LAST_16_ALONE);
-    cipher.seek(0u32);
-    let first = wrong_list(&mut Directly(cipher), &FIRST_4_ALONE);
-    cipher.seek(274877906864u64);
-    let into_last = wrong_list(&mut Directly(cipher), &INTO_LAST_ALONE);
-    first_failure(&[last, first, into_last, wrong_limit(cipher)])
-}
-
-// The limit is a position, and the next number isn't.
-fn wrong_limit<C: StreamCipherSeek>(cipher: &mut C) -> Verdict {
-    failed(
-        "the limit in 64 bits, no bytes and one, and a position after it",
-        &[
-            cipher.try_seek(274877906944u64).is_ok(),
-            cipher.check_remaining(0).is_ok(),
-            cipher.check_remaining(1).is_err(),
-            cipher.try_seek(274877906945u64).is_err(),
-            is_at::<C, u64>(cipher, Some(274877906944)),
-        ],
-    )
-}
-
-/// Positions of 31 bits and of a length, in their own types.
-pub fn wrong_ietf_types<C>() -> Verdict
-where
-    C: KeyIvInit<Key = Key, Iv = Nonce> + StreamCipherSeek + Drop,
-    requires { 2 ^ 32 ≤ limit_of C.modulus }
-{
-    let mut cipher = C::new(&COUNTING, &[0; 12]);
-    let far = cipher.try_seek(usize::MAX).is_err() && is_at::<C, i32>(&cipher, Some(0));
-    cipher.seek(2147483647i32);
-    let at = is_at::<C, i32>(&cipher, Some(2147483647));
-    let _ = cipher.try_apply_keystream(&mut [0]);
-    failed(
-        "the greatest length, 31 bits, and one more",
-        &[far, at, is_at::<C, i32>(&cipher, None)],
-    )
-}
-
-/// Positions of 64 bits and of a length, past them and at the limit, in their own types.
-pub fn wrong_legacy_types<C>() -> Verdict
-where
-    C: KeyIvInit<Key = Key, Iv = LegacyNonce> + StreamCipherSeek + Drop,
-    requires { 2 ^ 64 ≤ limit_of C.modulus }
-{
-    let mut cipher = C::new(&FROM_1, &LEGACY_NONCE);
-    cipher.seek(usize::MAX);
-    let at = is_at::<C, u64>(&cipher, Some(18446744073709551615));
-    let _ = cipher.try_apply_keystream(&mut [0]);
-    failed(
-        "64 bits; one more in 64 bits, as a length, and in 128; the limit in 128 and in 64",
-        &[
-            at,
-            is_at::<C, u64>(&cipher, None),
-            is_at::<C, usize>(&cipher, None),
-            is_at::<C, u128>(&cipher, Some(18446744073709551616)),
-            cipher.try_seek(LEGACY_LIMIT).is_ok(),
-            is_at::<C, u64>(&cipher, None),
-        ],
-    )
 }
 
 // Last blocks as OpenSSL 3.0.19 makes them: `openssl enc -chacha20` of zeros, under the key 00 to 1f with the iv

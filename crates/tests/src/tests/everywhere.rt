@@ -1,19 +1,15 @@
 //! Every test of a kind of cipher or generator, over each backend and a user's own. A proof meets each core once, here.
 
-ghost use Rattle.std.specs.Prelude.{◌≤◌, ◌^◌};
-ghost use Rattle.chacha20.specs.Limit.{limit_of};
-
 use super::beside::wrong_beside;
-use super::direct::{Directly, Fresh, stream_ends};
+use super::direct::{Directly, Fresh};
 use super::streams::legacy_stream;
 use super::{
-    all_right, backends, beside, core_calls, derived, ends, generator_runs, generator_traits,
-    odd_cuts, positions, rfc8439, runs, streams, wraps,
+    all_right, backends, beside, calls, core_calls, derived, ends, generator_runs,
+    generator_traits, odd_cuts, positions, runs, streams, wraps,
 };
 use chacha20::backends::{Lanes4, Lanes8, Lanes16, Rows8, Soft};
 use chacha20::cipher::{
-    KeyIvInit, RngBackend, StreamCipherBackend, StreamCipherCounter, StreamCipherSeek,
-    StreamCipherSeekCore,
+    KeyIvInit, RngBackend, StreamCipherBackend, StreamCipherCounter, StreamCipherSeekCore,
 };
 use chacha20::rand_core::SeedableRng;
 use chacha20::variants::{Ietf, Legacy};
@@ -23,11 +19,9 @@ use chacha20::{
 };
 use examples::backend::Width3;
 use worked_rows::ciphers::{self, IETF_ROWS, LEGACY_ROWS, NumberedLists, X_ROWS};
-use worked_rows::lists::{CipherList, Listed, wrong_list};
-use worked_rows::published::{
-    COUNTING, FROM_1, FROM_80, LEGACY_NONCE, NONCE, X_KEYSTREAM, X_NONCE,
-};
-use worked_rows::verdicts::{Verdict, failed, failed_for, first_failure, first_wrong_row};
+use worked_rows::lists::{CipherList, wrong_list};
+use worked_rows::published::{COUNTING, FROM_1, FROM_80, LEGACY_NONCE, NONCE, X_NONCE};
+use worked_rows::verdicts::{Verdict, failed, first_failure, first_wrong_row};
 use worked_rows::{R0, cores, generators as row_generators};
 
 type Cipher<K> = StreamCipherCoreWrapper<K>;
@@ -41,10 +35,10 @@ pub fn wrong_lists<N, C: Fresh<N>>(key: &Key, nonce: &N, lists: &[CipherList]) -
     wrong_list(&mut C::fresh(key, nonce), lists)
 }
 
-/// The same of rows.
+/// The same of worked rows.
 pub fn wrong_rows<N, C: Fresh<N>>(key: &Key, nonce: &N, rows: &[NumberedLists]) -> Verdict {
-    for (_, lists) in rows {
-        let wrong = wrong_lists::<N, C>(key, nonce, *lists);
+    for i in 0..rows.len() {
+        let wrong = wrong_lists::<N, C>(key, nonce, rows[i].1);
         if wrong.is_some() {
             return wrong;
         }
@@ -56,24 +50,20 @@ pub fn wrong_rows<N, C: Fresh<N>>(key: &Key, nonce: &N, rows: &[NumberedLists]) 
 fn wrong_ietf<C: Fresh<Nonce>>() -> Verdict {
     first_failure(&[
         wrong_rows::<Nonce, C>(&COUNTING, &NONCE, &IETF_ROWS),
-        wrong_lists::<Nonce, C>(&[0x42; 32], &[0x24; 12], &runs::ROW_1),
         wrong_lists::<Nonce, C>(&COUNTING, &[0; 12], &ends::IETF_ENDS),
-        wrong_lists::<Nonce, C>(&COUNTING, &[0; 12], &runs::RECORDS),
-        rfc8439::wrong_example::<C>(),
-        odd_cuts::wrong_cuts::<Nonce, C>(&[7; 12]),
+        wrong_lists::<Nonce, C>(&COUNTING, &NONCE, &streams::IETF_STREAM),
+        streams::wrong_block::<C>(),
     ])
 }
 
 // A cipher in the layout before it.
 fn wrong_legacy<C: Fresh<LegacyNonce>>() -> Verdict {
     let mut cipher = C::fresh(&FROM_1, &LEGACY_NONCE);
-    let place = legacy_stream(&mut Directly(&mut cipher), 17);
-    let direct = ends::wrong_legacy_groups(&mut Directly(&mut cipher));
+    let place = legacy_stream(&mut cipher, 17);
     first_failure(&[
         failed("the legacy stream", &[place.is_none()]),
         wrong_rows::<LegacyNonce, C>(&FROM_1, &LEGACY_NONCE, &LEGACY_ROWS),
         wrong_lists::<LegacyNonce, C>(&FROM_1, &LEGACY_NONCE, &ends::LEGACY_ENDS),
-        direct,
         ends::wrong_legacy_groups(&mut cipher),
         odd_cuts::wrong_cuts::<LegacyNonce, C>(&LEGACY_NONCE),
     ])
@@ -81,38 +71,18 @@ fn wrong_legacy<C: Fresh<LegacyNonce>>() -> Verdict {
 
 // A cipher with nonces of 24 bytes.
 fn wrong_x<C: Fresh<XNonce>>() -> Verdict {
-    let stream = stream_ends(&mut C::fresh(&FROM_80, &X_NONCE), 368, X_KEYSTREAM);
     first_failure(&[
         wrong_rows::<XNonce, C>(&FROM_80, &X_NONCE, &X_ROWS),
-        failed("XChaCha20's stream", &[stream]),
-        odd_cuts::wrong_cuts::<XNonce, C>(&[7; 24]),
+        wrong_lists::<XNonce, C>(&FROM_80, &X_NONCE, &streams::X_STREAM),
     ])
 }
 
 // A cipher without rounds.
 fn wrong_zero<C: Fresh<Nonce>>() -> Verdict {
-    let mut cipher = C::fresh(&[0; 32], &[0; 12]);
-    let direct_run = runs::wrong_end(&mut Directly(&mut cipher));
-    let direct = ends::wrong_zero_groups(&mut Directly(&mut cipher));
     first_failure(&[
-        failed_for("the run, called directly", direct_run),
-        failed_for("the run as a list", runs::wrong_end(&mut cipher)),
-        wrong_lists::<Nonce, C>(&[0; 32], &[0; 12], &runs::FIRST_BLOCKS),
-        direct,
-        ends::wrong_zero_groups(&mut cipher),
-    ])
-}
-
-// A core, and the cipher over it, compared with another one.
-fn wrong_beside_core<N, T, K, P>(nonce: &N) -> Verdict
-where
-    T: StreamCipherCounter,
-    K: KeyIvInit<Key = Key, Iv = N> + StreamCipherSeekCore<Counter = T> + Drop,
-    P: KeyIvInit<Key = Key, Iv = N> + StreamCipherSeekCore<Counter = T> + Drop,
-{
-    first_failure(&[
-        wrong_beside::<N, Cipher<K>, Cipher<P>>(nonce),
-        core_calls::wrong_beside::<N, K, P>(nonce),
+        wrong_lists::<Nonce, C>(&[0; 32], &[0; 12], &runs::RUNS),
+        wrong_lists::<Nonce, C>(&[0; 32], &[0; 12], &ends::ZERO_ENDS),
+        ends::wrong_zero_groups(&mut C::fresh(&[0; 32], &[0; 12])),
     ])
 }
 
@@ -126,22 +96,11 @@ where
     let _ = ciphers::enter_ietf_rows::<K>(&mut rows);
     first_failure(&[
         first_wrong_row(&rows),
-        wrong_ietf_calls::<Cipher<K>>(),
+        calls::wrong_calls::<Cipher<K>>(),
+        positions::wrong_positions(&mut Cipher::<K>::new(&COUNTING, &[0; 12])),
         wrong_ietf::<Cipher<K>>(),
         core_calls::wrong_blocks::<Nonce, u32, K>(&[7; 12], 0, 4, Some(0x1_0000_0000)),
-        wrong_beside_core::<Nonce, u32, K, P>(&[7; 12]),
-    ])
-}
-
-// What lists have no calls for: positions in other types, and calls that leave refusals to the caller.
-fn wrong_ietf_calls<C>() -> Verdict
-where
-    C: KeyIvInit<Key = Key, Iv = Nonce> + StreamCipherSeek + Listed + Drop,
-    requires { 2 ^ 32 ≤ limit_of C.modulus }
-{
-    first_failure(&[
-        ends::wrong_ietf_types::<C>(),
-        positions::wrong_positions::<C>(),
+        wrong_beside::<Nonce, Cipher<K>, Cipher<P>>(&[7; 12]),
     ])
 }
 
@@ -154,10 +113,10 @@ where
     ciphers::enter_legacy_rows::<K>(&mut rows);
     first_failure(&[
         first_wrong_row(&rows),
-        ends::wrong_legacy_types::<Cipher<K>>(),
+        positions::wrong_legacy_positions(&mut Cipher::<K>::new(&FROM_1, &LEGACY_NONCE)),
         wrong_legacy::<Cipher<K>>(),
         core_calls::wrong_blocks::<LegacyNonce, u64, K>(&[7; 8], 0xffff_ffff, 0x1_0000_0003, None),
-        wrong_beside_core::<LegacyNonce, u64, K, P>(&LEGACY_NONCE),
+        wrong_beside::<LegacyNonce, Cipher<K>, Cipher<P>>(&LEGACY_NONCE),
     ])
 }
 
@@ -172,22 +131,8 @@ where
         first_wrong_row(&rows),
         wrong_x::<Cipher<K>>(),
         core_calls::wrong_blocks::<XNonce, u32, K>(&[7; 24], 0, 4, Some(0x1_0000_0000)),
-        wrong_beside_core::<XNonce, u32, K, P>(&[7; 24]),
+        wrong_beside::<XNonce, Cipher<K>, Cipher<P>>(&[7; 24]),
     ])
-}
-
-// A cipher with nonces of 24 bytes, compared with the one under the derived key and nonce.
-fn wrong_derived<R: Rounds, B: StreamCipherBackend<R, Ietf>>() -> Verdict {
-    wrong_derived_core::<R, XChaChaCore<R, B>, ChaChaCore<R, Ietf, B>>()
-}
-
-fn wrong_derived_core<R, X, K>() -> Verdict
-where
-    R: Rounds,
-    X: KeyIvInit<Key = Key, Iv = XNonce> + StreamCipherSeekCore + Drop,
-    K: KeyIvInit<Key = Key, Iv = Nonce> + StreamCipherSeekCore + Drop,
-{
-    derived::wrong_stream::<R, Cipher<X>, Cipher<K>>()
 }
 
 // Compared with ciphers over the plain backend, which hand out the blocks of the RFC one by one.
@@ -202,27 +147,27 @@ where
     ])
 }
 
-// Both kinds with other numbers of rounds.
-fn wrong_cuts<R: Rounds, B: StreamCipherBackend<R, Ietf>>() -> Verdict {
+// Cuts of both kinds whose counter has 32 bits, and the kind with nonces of 24 bytes compared with the cipher under the
+// derived key and nonce.
+fn wrong_kinds<R, X, K>() -> Verdict
+where
+    R: Rounds,
+    X: KeyIvInit<Key = Key, Iv = XNonce> + StreamCipherSeekCore + Drop,
+    K: KeyIvInit<Key = Key, Iv = Nonce> + StreamCipherSeekCore + Drop,
+{
     first_failure(&[
-        cuts_of_core::<Nonce, ChaChaCore<R, Ietf, B>>(&[7; 12]),
-        cuts_of_core::<XNonce, XChaChaCore<R, B>>(&[7; 24]),
+        odd_cuts::wrong_cuts::<Nonce, Cipher<K>>(&[7; 12]),
+        odd_cuts::wrong_cuts::<XNonce, Cipher<X>>(&[7; 24]),
+        derived::wrong_stream::<R, Cipher<X>, Cipher<K>>(),
     ])
 }
 
-fn cuts_of_core<N, K>(nonce: &N) -> Verdict
-where
-    K: KeyIvInit<Key = Key, Iv = N> + StreamCipherSeekCore + Drop,
-{
-    odd_cuts::wrong_cuts::<N, Cipher<K>>(nonce)
+fn with_any_rounds<R: Rounds, B: StreamCipherBackend<R, Ietf>>() -> Verdict {
+    wrong_kinds::<R, XChaChaCore<R, B>, ChaChaCore<R, Ietf, B>>()
 }
 
-// At their ends both kinds are the same: the first and the last row of a block have no word of the key.
-fn wrong_zero_ends<N, C: Fresh<N>>(nonce: &N) -> Verdict {
-    wrong_lists::<N, C>(&[0; 32], nonce, &ends::ZERO_ENDS)
-}
-
-// Each kind without rounds.
+// Each kind without rounds. At their ends the two whose counter has 32 bits are the same: the first and the last row of
+// a block have no word of the key.
 fn wrong_zero_cores<I, L, X>() -> Verdict
 where
     I: KeyIvInit<Key = Key, Iv = Nonce> + StreamCipherSeekCore<Counter = u32> + Drop,
@@ -231,9 +176,7 @@ where
 {
     first_failure(&[
         wrong_zero::<Cipher<I>>(),
-        ends::wrong_zero_types(&mut Cipher::<I>::new(&[0; 32], &[0; 12])),
-        wrong_zero_ends::<Nonce, Cipher<I>>(&[0; 12]),
-        wrong_zero_ends::<XNonce, Cipher<X>>(&[0; 24]),
+        wrong_lists::<XNonce, Cipher<X>>(&[0; 32], &[0; 24], &ends::ZERO_ENDS),
         cores::row_13::<I, L>(),
         wraps::wrong_core::<I, L>(),
     ])
@@ -265,7 +208,6 @@ where
         streams::wrong_generator_stream::<B>(),
         generator_traits::wrong_row_7::<B>(),
         generator_traits::wrong_reads::<B>(),
-        generator_runs::wrong_run::<B>(),
         generator_runs::wrong_lists::<B>(),
         wraps::wrong_generator::<B>(),
         beside::wrong_fill::<ChaChaRng<R20, B>, ChaChaRng<R20, Soft>>(),
@@ -288,11 +230,9 @@ where
 {
     first_failure(&[
         without_rounds::<B>(),
-        wrong_cuts::<R8, B>(),
-        wrong_cuts::<R12, B>(),
-        wrong_derived::<R8, B>(),
-        wrong_derived::<R12, B>(),
-        wrong_derived::<R20, B>(),
+        with_any_rounds::<R8, B>(),
+        with_any_rounds::<R12, B>(),
+        with_any_rounds::<R20, B>(),
         with_20_rounds::<B>(),
         wrong_generators::<B>(),
         backends::wrong_beside_soft::<B>(),
@@ -341,5 +281,5 @@ where
     K: KeyIvInit<Key = Key, Iv = LegacyNonce> + StreamCipherSeekCore + Drop,
 {
     let mut cipher = Cipher::<K>::new(&FROM_1, &LEGACY_NONCE);
-    legacy_stream(&mut Directly(&mut cipher), 1).is_none()
+    legacy_stream(&mut cipher, 1).is_none()
 }

@@ -1,37 +1,17 @@
-//! Lists of calls on the generator without rounds, over each backend and a user's own; and a run of direct calls.
+//! Lists of calls on the generator without rounds.
 
 use chacha20::cipher::RngBackend;
 use chacha20::{ChaChaRng, RngAnswer, RngCall};
 use worked_rows::R0;
+use worked_rows::generators::POSITIONS;
 use worked_rows::lists::{RngList, wrong_draw};
-use worked_rows::verdicts::{Verdict, failed};
+use worked_rows::verdicts::Verdict;
 
-type ZeroGenerator<B> = ChaChaRng<R0, B>;
-
-// How many word positions there are.
-const POSITIONS: u128 = 1 << 68;
-
-const STREAM: u64 = 0x8000_0001_0000_0003;
+/// The stream of these lists.
+pub const STREAM: u64 = 0x8000_0001_0000_0003;
 
 // 2^68 + 14, which is position 14.
 const PAST_THE_LAST: u128 = 295147905179352825870;
-
-/// What is wrong with the run of direct calls.
-pub fn wrong_run<B: RngBackend<R0>>() -> Verdict {
-    let mut rng = ZeroGenerator::<B>::from_seed([0; 32]);
-    rng.set_stream(STREAM);
-    rng.set_word_pos(PAST_THE_LAST);
-    let words = rng.next_u64() == 0x0000_0002_0000_0006;
-    let positions = rng.get_word_pos() == 16 && rng.get_block_pos() == 1;
-    let mut data = [0; 5];
-    rng.fill_bytes(&mut data);
-    let rng = ZeroGenerator::<B>::deserialize_state(&rng.serialize_state());
-    let end = rng.get_word_pos() == 18 && rng.get_block_pos() == 1 && rng.get_stream() == STREAM;
-    failed(
-        "direct calls: two words, positions, bytes, and the end",
-        &[words, positions, data == *b"\xca\xf0\xe0\xc2\xdc", end],
-    )
-}
 
 // One after another on a generator of a zero seed. Each list sets what the one before it has left. The state is that of
 // position 2^68 - 16.
@@ -164,5 +144,5 @@ static LISTS: [RngList; 6] = [
 
 /// What is wrong with the lists.
 pub fn wrong_lists<B: RngBackend<R0>>() -> Verdict {
-    wrong_draw(&mut ZeroGenerator::<B>::from_seed([0; 32]), &LISTS)
+    wrong_draw(&mut ChaChaRng::<R0, B>::from_seed([0; 32]), &LISTS)
 }

@@ -1,8 +1,9 @@
 //! Odd cuts, for any cipher: called directly, and by lists of calls.
 
-ghost use Rattle.std.specs.Prelude.{◌≤◌};
+ghost use Rattle.std.specs.Prelude.{◌≤◌, ◌+◌};
 
 use super::direct::{Directly, Fresh, all_done};
+use super::streams::is_multiple;
 use chacha20::CipherCall;
 use worked_rows::lists::Listed;
 use worked_rows::published::COUNTING;
@@ -14,21 +15,27 @@ const LENGTH: usize = 2049;
 // One more and one fewer than blocks and groups have bytes, and less than a block.
 static SIZES: [usize; 9] = [1, 3, 63, 64, 65, 255, 257, 1023, 1025];
 
-// Whether pieces of a size, with an empty piece after each, come out as the whole.
+// Whether a piece is done, and an empty one after it.
+fn piece_is_done<C: Listed>(cipher: &mut C, data: &mut [u8; LENGTH], at: usize, len: usize) -> bool
+    requires { at + len ≤ 2049 }
+{
+    let calls = [
+        CipherCall::Apply { at, len },
+        CipherCall::Apply {
+            at: at + len,
+            len: 0,
+        },
+    ];
+    all_done(cipher, &[], data, &calls)
+}
+
+// Whether pieces of a size come out as the whole.
 fn same_in_pieces<C: Listed>(cipher: &mut C, whole: &[u8; LENGTH], size: usize) -> bool {
     let mut data = [0; LENGTH];
     let mut right = all_done(cipher, &[], &mut [], &[CipherCall::Seek(0)]);
     for at in 0..LENGTH {
-        if at % size.max(1) == 0 {
-            let len = size.min(LENGTH - at);
-            let calls = [
-                CipherCall::Apply { at, len },
-                CipherCall::Apply {
-                    at: at + len,
-                    len: 0,
-                },
-            ];
-            right &= all_done(cipher, &[], &mut data, &calls);
+        if is_multiple(at, size) {
+            right &= piece_is_done(cipher, &mut data, at, size.min(LENGTH - at));
         }
     }
     right && data == *whole

@@ -2,21 +2,65 @@
 
 ghost use Rattle.std.specs.Prelude.{◌≤◌};
 
-use super::direct::all_done;
+use super::direct::{Fresh, all_done, stream_ends};
 use chacha20::cipher::RngBackend;
-use chacha20::{ChaChaRng, CipherCall, R20, RngAnswer, RngCall, Seed};
+use chacha20::{ChaChaRng, CipherAnswer, CipherCall, Nonce, R20, RngAnswer, RngCall, Seed};
 use worked_rows::generators::wrong_table;
-use worked_rows::lists::{Listed, RngList};
-use worked_rows::published::LEGACY_KEYSTREAM;
-use worked_rows::verdicts::{Verdict, failed_check};
+use worked_rows::lists::{CipherList, Listed, RngList};
+use worked_rows::published::{
+    BLOCKS, CARRY_BLOCKS, CIPHERTEXT, KEYSTREAM, LEGACY_KEYSTREAM, MESSAGE, X_KEYSTREAM,
+};
+use worked_rows::verdicts::{Verdict, failed_check, failed_for};
+
+/// The message of RFC 8439, section 2.4.2, and its keystream, both from block 1 on, for `COUNTING` and `NONCE`.
+pub static IETF_STREAM: [CipherList; 2] = [
+    CipherList {
+        name: "the message",
+        input: &[],
+        data: MESSAGE,
+        calls: &[CipherCall::Seek(64), CipherCall::Apply { at: 0, len: 114 }],
+        answers: &[CipherAnswer::Done, CipherAnswer::Done],
+        after: CIPHERTEXT,
+    },
+    CipherList {
+        name: "the keystream",
+        input: &[],
+        data: &[0; 178],
+        calls: &[CipherCall::Seek(0), CipherCall::Apply { at: 0, len: 178 }],
+        answers: &[CipherAnswer::Done, CipherAnswer::Done],
+        after: KEYSTREAM,
+    },
+];
+
+/// A keystream from block 1 on, for `FROM_80` and `X_NONCE`.
+pub static X_STREAM: [CipherList; 1] = [CipherList {
+    name: "the keystream",
+    input: &[],
+    data: &[0; 368],
+    calls: &[CipherCall::Apply { at: 0, len: 368 }],
+    answers: &[CipherAnswer::Done],
+    after: X_KEYSTREAM,
+}];
+
+/// The first block of RFC 8439, appendix A.1, that comes out otherwise.
+pub fn wrong_block<C: Fresh<Nonce>>() -> Verdict {
+    for i in 0..BLOCKS.len() {
+        let (key, nonce, before, block) = &BLOCKS[i];
+        let mut cipher = C::fresh(key, nonce);
+        if !stream_ends(&mut cipher, 64 * *before + 64, block.as_flattened()) {
+            return failed_for("a block of appendix A.1", Some(i));
+        }
+    }
+    None
+}
 
 /// Four blocks with a nonce of 8 bytes, between any three places that are multiples of so many bytes, in two parts; the
 /// second part also ends with the last byte. It returns the first places between which the stream is wrong.
 pub fn legacy_stream<C: Listed>(cipher: &mut C, step: usize) -> Option<[usize; 3]> {
     for from in 0..256usize {
-        if from.is_multiple_of(step) {
+        if is_multiple(from, step) {
             for middle in from..256 {
-                if middle.is_multiple_of(step) {
+                if is_multiple(middle, step) {
                     if let Some(last) = wrong_last(cipher, from, middle, step) {
                         return Some([from, middle, last]);
                     }
@@ -27,8 +71,9 @@ pub fn legacy_stream<C: Listed>(cipher: &mut C, step: usize) -> Option<[usize; 3
     None
 }
 
-fn is_end(byte: usize, step: usize) -> bool {
-    byte == 256 || byte.is_multiple_of(step)
+/// Whether a place is a multiple of a step.
+pub fn is_multiple(byte: usize, step: usize) -> bool {
+    byte % step.max(1) == 0
 }
 
 // The first end, from the middle on, to which the stream is wrong.
@@ -36,7 +81,9 @@ fn wrong_last<C: Listed>(cipher: &mut C, from: usize, middle: usize, step: usize
     requires { from ≤ middle }
 {
     for last in middle..257 {
-        if is_end(last, step) && !is_part_of_legacy(cipher, from, middle, last) {
+        if (last == 256 || is_multiple(last, step))
+            && !is_part_of_legacy(cipher, from, middle, last)
+        {
             return Some(last);
         }
     }
@@ -221,17 +268,3 @@ static GENERATOR_STREAMS: [(Seed, &'static [RngList]); 3] = [
 const WORDS_0_TO_7: Seed = [
     0, 0, 0, 0, 1, 0, 0, 0, 2, 0, 0, 0, 3, 0, 0, 0, 4, 0, 0, 0, 5, 0, 0, 0, 6, 0, 0, 0, 7, 0, 0, 0,
 ];
-
-const CARRY_BLOCKS: &[u8; 192] = b"\
-    \xac\xe4\xcd\x09\xe2\x94\xd1\x91\x2d\x4a\xd2\x05\xd0\x6f\x95\xd9\
-    \xc2\xf2\xbf\xcf\x45\x3e\x87\x53\xf1\x28\x76\x5b\x62\x21\x5f\x4d\
-    \x92\xc7\x4f\x2f\x62\x6c\x6a\x64\x0c\x0b\x12\x84\xd8\x39\xec\x81\
-    \xf1\x69\x62\x81\xda\xfc\x3e\x68\x45\x93\x93\x70\x23\xb5\x8b\x1d\
-    \x3d\xb4\x1d\x3a\xa0\xd3\x29\x28\x5d\xe6\xf2\x25\xe6\xe2\x4b\xd5\
-    \x9c\x9a\x17\x00\x69\x43\xd5\xc9\xb6\x80\xe3\x87\x3b\xdc\x68\x3a\
-    \x58\x19\x46\x98\x99\x98\x96\x90\xc2\x81\xcd\x17\xc9\x61\x59\xaf\
-    \x06\x82\xb5\xb9\x03\x46\x8a\x61\xf5\x02\x28\xcf\x09\x62\x2b\x5a\
-    \x46\xf0\xf6\xef\xee\x15\xc8\xf1\xb1\x98\xcb\x49\xd9\x2b\x99\x08\
-    \x67\x90\x51\x59\x44\x0c\xc7\x23\x91\x6d\xc0\x01\x28\x26\x98\x10\
-    \x39\xce\x17\x66\xaa\x25\x42\xb0\x5d\xb3\xbd\x80\x9a\xb1\x42\x48\
-    \x9d\x5d\xbf\xe1\x27\x3e\x73\x99\x63\x7b\x4b\x32\x13\x76\x8a\xaa";

@@ -1,17 +1,19 @@
 //! Counters and positions that wrap, and states of any bytes, over each backend. Nothing here makes rounds, so that
 //! words can be computed by hand.
 
+use super::generator_runs::STREAM;
 use chacha20::cipher::{KeyIvInit, RngBackend, StreamCipherCounter, StreamCipherSeekCore};
 use chacha20::rand_core::SeedableRng;
 use chacha20::{ChaChaRng, Key, Nonce, Seed};
 use worked_rows::R0;
 use worked_rows::cores::last_row;
+use worked_rows::generators::POSITIONS;
 use worked_rows::verdicts::{Verdict, failed, failed_for, first_failure};
 
 // The last rows of blocks 0, 2, 3 and 19 of twenty, and the position after them.
 type Ends = ([[u8; 16]; 4], u64);
 
-// Of twenty blocks at once from a counter on.
+// The ends of the twenty blocks from a counter on, which one call makes.
 fn ends<C: StreamCipherSeekCore>(core: &mut C, start: C::Counter) -> Ends {
     let mut blocks = [[1; 64]; 20];
     core.set_block_pos(start);
@@ -75,11 +77,6 @@ where
         ],
     )
 }
-
-// How many word positions there are.
-const POSITIONS: u128 = 1 << 68;
-
-const STREAM: u64 = 0x8000_0001_0000_0003;
 
 // The first of 131 numbers of words around the wrap after which a position is wrong, or asking for it changes a word.
 fn wrong_position<B: RngBackend<R0>>() -> Option<usize> {

@@ -1,4 +1,4 @@
-use Rattle.chacha20.proofs.XChaChaLemmas.{subnonce_written}
+use Rattle.chacha20.proofs.StartLemmas.{subnonce_written}
 use Rattle.user_tests.proofs.users.xchacha.derived_nonce.Goals as goal
 
 pub returns : goal.returns
