@@ -77,6 +77,15 @@ def messages(said):
     return joined
 
 
+def unread(message, changed):
+    """Whether `rt must-fail` takes an edit of these files for one that can't be read: by an error in one of them that names no goal,
+    as for an answer that cites a refused one, or by a name that isn't there."""
+    error = re.match(r"(?:\./)?(\S+?):\d+:\d+: error: (?:(`[^`]*`): )?(.*)", message.split("\n")[0])
+    if not error or error[1] not in changed and not error[1].startswith(("src/", "specs/")):
+        return False
+    return not error[2] or bool(re.search(r"is not in scope|has no field|is no name", re.sub(r"`[^`]*`", "", error[3])))
+
+
 def goal_of(message, folder, has_twin=False):
     """The function and the goal of a message that says that the goal isn't proved (an answer that doesn't fit it, or a search that
     found none), and what kind of message that is: one of KINDS, 'lost', or 'cut' where too little of it is there. None for any other."""
