@@ -12,11 +12,16 @@ LOST = re.compile(
     r"has no field|is not in scope|has no `|^record `|(?:was|were) not (?:admitted|checked)|homogeneous path|settles argument"
     r"|no occurrence of the path|^expected type"
 )
-# What shows a mistake, by the words that a message begins with.
+# What shows a mistake: what a message of each kind begins with.
 KINDS = {
-    "numbers": re.compile(r"`(?:omega|grind)`: the goal does not follow"),
-    "two sides": re.compile(r"(?:as printed|computed as far as they go), the two types|give a proof of that as the last argument, `(?:rw|simp) L t`"),
-    "no proof found": re.compile(r"it is not proved that"),
+    "numbers": ("`omega`: the goal does not follow", "`grind`: the goal does not follow"),
+    "two sides": (
+        "as printed, the two types",
+        "computed as far as they go, the two types",
+        "give a proof of that as the last argument, `rw L t`",
+        "give a proof of that as the last argument, `simp L t`",
+    ),
+    "no proof found": ("it is not proved that",),
 }
 # The search stops without a verdict. That shows a mistake only where the edit without it is the code as it stands.
 GAVE_UP = "gave up at one of its limits"
@@ -72,6 +77,15 @@ def messages(said):
     return joined
 
 
+def unread(message, changed):
+    """Whether `rt must-fail` takes an edit of these files for one that can't be read: by an error in one of them that names no goal,
+    as for an answer that cites a refused one, or by a name that isn't there."""
+    error = re.match(r"(?:\./)?(\S+?):\d+:\d+: error: (?:(`[^`]*`): )?(.*)", message.split("\n")[0])
+    if not error or error[1] not in changed and not error[1].startswith(("src/", "specs/")):
+        return False
+    return not error[2] or bool(re.search(r"is not in scope|has no field|is no name", re.sub(r"`[^`]*`", "", error[3])))
+
+
 def goal_of(message, folder, has_twin=False):
     """The function and the goal of a message that says that the goal isn't proved (an answer that doesn't fit it, or a search that
     found none), and what kind of message that is: one of KINDS, 'lost', or 'cut' where too little of it is there. None for any other."""
@@ -86,11 +100,11 @@ def goal_of(message, folder, has_twin=False):
 
 
 def kind_of(said, has_twin):
-    """The kind of what a message says of a goal."""
+    """The kind of what a message says of a goal. It may be cut off, once it has ten characters."""
     if has_twin and GAVE_UP in said:
         return "lost"
-    for kind, words in KINDS.items():
-        if words.match(said):
+    for kind, beginnings in KINDS.items():
+        if any(said.startswith(it) or len(said) >= 10 and it.startswith(said) for it in beginnings):
             return kind
     return "lost" if LOST.search(said) else "cut"
 
