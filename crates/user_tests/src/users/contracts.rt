@@ -11,7 +11,7 @@ use chacha20::cipher::{
     StreamCipherSeek,
 };
 use chacha20::variants::{Ietf, Variant};
-use chacha20::{ChaChaCore, R20, Rounds, Steps, StreamCipherCoreWrapper};
+use chacha20::{ChaChaCore, R20, Rounds, Steps, StreamCipherCoreWrapper, XChaCha20};
 
 type Ietf20<B> = StreamCipherCoreWrapper<ChaChaCore<R20, Ietf, B>>;
 
@@ -182,6 +182,33 @@ fn apply_586_bytes_lanes16(steps: &mut Steps) -> Result<(), StreamCipherError>
     apply_586_bytes::<Lanes16>(steps)
 }
 
+// The same with a nonce of 24 bytes: to derive the key and the nonce counts nothing.
+fn apply_586_bytes_xchacha20(steps: &mut Steps) -> Result<(), StreamCipherError>
+    ensures accepted { IsOk result }
+    ensures par { steps.new.par ≤ steps.old.par + 0 }
+    ensures other { steps.new.other ≤ steps.old.other + 10 }
+    ensures rounds_from { steps.old.rounds + 40 ≤ steps.new.rounds }
+    ensures rounds_to { steps.new.rounds ≤ steps.old.rounds + 200 }
+{
+    XChaCha20::new(&[0; 32], &[0; 24]).try_apply_keystream_counted(&mut [0; 586], steps)
+}
+
+// Exact numbers of one backend, which the traits leave to it.
+
+// A tail of nine blocks: eight quarter rounds for each of ten double rounds.
+fn tail_of_nine_lanes16(state: &mut [u32; 16], blocks: &mut [[u8; 64]; 9], steps: &mut Steps)
+    ensures { steps.new.rounds ≡ steps.old.rounds + 80 }
+{
+    <Lanes16 as StreamCipherBackend<R20, Ietf>>::gen_tail_blocks(state, blocks, steps);
+}
+
+// The words of a generator: four.
+fn words_lanes8(state: &mut [u32; 16], words: &mut [u32; 64], steps: &mut Steps)
+    ensures { steps.new.rounds ≡ steps.old.rounds + 40 }
+{
+    <Lanes8 as RngBackend<R20>>::gen_ks_blocks(state, words, steps);
+}
+
 #[test]
 fn counted(rt: HostRuntime) {
     let mut steps = Steps::new();
@@ -191,6 +218,7 @@ fn counted(rt: HostRuntime) {
         apply_586_bytes_lanes8(&mut steps),
         apply_586_bytes_rows8(&mut steps),
         apply_586_bytes_lanes16(&mut steps),
+        apply_586_bytes_xchacha20(&mut steps),
     ];
-    assert!(rt; accepted == [Ok(()); 5]);
+    assert!(rt; accepted == [Ok(()); 6]);
 }

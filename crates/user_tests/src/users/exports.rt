@@ -25,7 +25,8 @@ use chacha20_c::xchacha::{
     xchacha20_keystream_raw, xchacha20_xor_between, xchacha20_xor_in_place,
 };
 use worked_rows::published::{
-    CIPHERTEXT, COUNTING, MESSAGE, NONCE, OF_8_ROUNDS, OF_12_ROUNDS, OF_20_ROUNDS, X_NONCE,
+    CIPHERTEXT, COUNTING, DERIVED_NONCE, HCHACHA_INPUT, MESSAGE, NONCE, OF_8_ROUNDS, OF_12_ROUNDS,
+    OF_20_ROUNDS, SUBKEY, X_NONCE, X_NONCE_FRONT,
 };
 
 static ZEROS: Key = [0; 32];
@@ -131,11 +132,6 @@ fn legacy_goes_far() -> bool {
         && !OF_20_ROUNDS.starts_with(&far)
 }
 
-// The front of the nonce of 24 bytes, and the nonce of 12 that is made of its end.
-static X_FRONT: [u8; 16] = *b"@ABCDEFGHIJKLMNO";
-
-static DERIVED_NONCE: Nonce = *b"\0\0\0\0PQRSTUVX";
-
 fn extended_in_place(rounds: u32, position: u64, data: &mut [u8]) -> u32 {
     match rounds {
         8 => xchacha8_xor_in_place(&COUNTING, &X_NONCE, position, data),
@@ -163,9 +159,9 @@ fn extended_keystream(rounds: u32, output: &mut [u8]) -> u32 {
 // The key that is made of the key and of the nonce's front.
 fn derived(rounds: u32) -> Key {
     match rounds {
-        8 => hchacha::<R8>(&COUNTING, &X_FRONT),
-        12 => hchacha::<R12>(&COUNTING, &X_FRONT),
-        _ => hchacha::<R20>(&COUNTING, &X_FRONT),
+        8 => hchacha::<R8>(&COUNTING, &X_NONCE_FRONT),
+        12 => hchacha::<R12>(&COUNTING, &X_NONCE_FRONT),
+        _ => hchacha::<R20>(&COUNTING, &X_NONCE_FRONT),
     }
 }
 
@@ -205,16 +201,11 @@ fn subkey(rounds: u32, input: &[u8; 16]) -> Key {
     key
 }
 
-static INPUT: [u8; 16] = *b"\x00\x00\x00\x09\x00\x00\x00\x4a\x00\x00\x00\x00\x31\x41\x59\x27";
-
-static SUBKEY: Key = *b"\x82\x41\x3b\x42\x27\xb2\x7b\xfe\xd3\x0e\x42\x50\x8a\x87\x7d\x73\
-    \xa0\xf9\xe4\xd5\x8a\x74\xa8\x53\xc1\x2e\xc4\x13\x26\xd3\xec\xdc";
-
 // HChaCha20 (draft-irtf-cfrg-xchacha, section 2.2.1); fewer rounds compared with the library's.
 fn subkeys() -> bool {
-    subkey(8, &X_FRONT) == derived(8)
-        && subkey(12, &X_FRONT) == derived(12)
-        && subkey(20, &INPUT) == SUBKEY
+    subkey(8, &X_NONCE_FRONT) == derived(8)
+        && subkey(12, &X_NONCE_FRONT) == derived(12)
+        && subkey(20, &HCHACHA_INPUT) == SUBKEY
 }
 
 fn refuses() -> bool {

@@ -7,11 +7,12 @@ use chacha20::{ChaChaCore, R20, StreamCipherCoreWrapper};
 use examples::file::{encrypt_record, read_at};
 use worked_rows::published::{CIPHERTEXT, COUNTING, NONCE};
 
-// Reads a window of the file: 112 zeros, and then bytes 48 to 79 of the message of RFC 8439, section 2.4.2, which begins
-// at block 1. So a block ends between them.
+// Reads a window of the file: 112 zeros, and then bytes 48 to 79 of the message of RFC 8439, section 2.4.2, which
+// begins at block 1. So a block ends between them.
 fn reads(start: usize, window: &mut [u8]) -> bool {
+    let ciphertext = CIPHERTEXT.as_slice();
     let mut file = [0; 144];
-    file[112..].copy_from_slice(&CIPHERTEXT[48..80]);
+    file[112..].copy_from_slice(&ciphertext[48..80]);
     read_at(&COUNTING, &NONCE, &file, start, window).is_ok()
 }
 

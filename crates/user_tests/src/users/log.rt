@@ -21,8 +21,9 @@ fn is_appended(len: u64, line: &mut [u8], end: u64) -> bool {
 fn message_in_lines(rt: HostRuntime) {
     let mut first = [0; 100];
     let mut second = [0; 78];
-    first[64..].copy_from_slice(&MESSAGE[..36]);
-    second.copy_from_slice(&MESSAGE[36..]);
+    let message = MESSAGE.as_slice();
+    first[64..].copy_from_slice(&message[..36]);
+    second.copy_from_slice(&message[36..]);
     let new = appends(&mut LogWriter::new(&COUNTING, &NONCE), &mut first, 100);
     assert!(rt; new && is_appended(100, &mut second, 178));
     assert!(rt; CIPHERTEXT.starts_with(&first[64..]) && CIPHERTEXT.ends_with(&second));

@@ -20,8 +20,9 @@ fn encrypts_in_pieces<C: KeyIvInit<Key = Key, Iv = Nonce> + StreamCipher + Drop>
     let applied = try_apply_in_pieces(&mut C::new(&COUNTING, &NONCE), &mut message, 1);
     let mut first = [0; 100];
     let mut rest = [0; 78];
-    first[64..].copy_from_slice(&MESSAGE[..36]);
-    rest.copy_from_slice(&MESSAGE[36..]);
+    let plaintext = MESSAGE.as_slice();
+    first[64..].copy_from_slice(&plaintext[..36]);
+    rest.copy_from_slice(&plaintext[36..]);
     apply_in_two(&mut C::new(&COUNTING, &NONCE), &mut first, &mut rest);
     [
         applied.is_ok() && message.ends_with(CIPHERTEXT),

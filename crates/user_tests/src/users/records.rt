@@ -1,6 +1,7 @@
 //! Records: published nonces and bytes, writes one over another, and what is refused.
 
 use examples::records::{LEN, Record, nonce, read, write};
+use worked_rows::published::BLOCKS;
 
 // The nonce of RFC 8439, section 2.3.2.
 #[test]
@@ -8,12 +9,8 @@ fn published_nonce(rt: HostRuntime) {
     assert!(rt; nonce(0x0900_0000, 0x4a00_0000) == [0, 0, 0, 9, 0, 0, 0, 0x4a, 0, 0, 0, 0]);
 }
 
-// RFC 8439, appendix A.1, number 5: the front of the block of a key of zeros and a nonce whose last byte is 2.
-static BLOCK: &[u8; LEN] = b"\
-    \xc2\xc6\x4d\x37\x8c\xd5\x36\x37\x4a\xe2\x04\xb9\xef\x93\x3f\xcd\
-    \x1a\x8b\x22\x88\xb3\xdf\xa4\x96\x72\xab\x76\x5b\x54\xee\x27\xc7";
-
-// Zeros that are written as version 2 * 2^56 of record 0, and read.
+// Zeros that are written as version 2 * 2^56 of record 0, and read. They give the front of the block of RFC 8439,
+// appendix A.1, number 5: that of a key of zeros and a nonce whose last byte is 2.
 #[test]
 fn published_bytes(rt: HostRuntime) {
     let mut records = [Record {
@@ -24,7 +21,7 @@ fn published_bytes(rt: HostRuntime) {
     let written = write(&[0; 32], &mut records, 0, &[0; LEN]).is_ok();
     let done = written && read(&[0; 32], &records, 0, &mut text).is_ok();
     assert!(rt; done && records[0].version == 0x0200_0000_0000_0000);
-    assert!(rt; records[0].bytes == *BLOCK && text == [0; LEN]);
+    assert!(rt; records[0].bytes == BLOCKS[4].3[0] && text == [0; LEN]);
 }
 
 // Two texts, one written over the other: their bytes differ by more than the texts do, and the other record stays.

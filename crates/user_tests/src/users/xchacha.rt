@@ -10,17 +10,13 @@ use chacha20::{
     ChaChaCore, Key, Nonce, Rounds, StreamCipherCoreWrapper, XChaChaCore, XNonce, hchacha,
 };
 use worked_rows::R0;
-
-// The 16 bytes of section 2.2.1.
-static INPUT: [u8; 16] = [
-    0x00, 0x00, 0x00, 0x09, 0x00, 0x00, 0x00, 0x4a, 0x00, 0x00, 0x00, 0x00, 0x31, 0x41, 0x59, 0x27,
-];
+use worked_rows::published::HCHACHA_INPUT;
 
 // The constants and the input as they were.
 #[test]
 fn hchacha_without_rounds(rt: HostRuntime) {
-    let subkey = hchacha::<R0>(&[0; 32], &INPUT);
-    assert!(rt; subkey.starts_with(b"expand 32-byte k") && subkey.ends_with(&INPUT));
+    let subkey = hchacha::<R0>(&[0; 32], &HCHACHA_INPUT);
+    assert!(rt; subkey.starts_with(b"expand 32-byte k") && subkey.ends_with(&HCHACHA_INPUT));
 }
 
 // Four zero bytes, and the last eight of a nonce of 24.
