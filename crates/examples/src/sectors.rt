@@ -18,9 +18,9 @@ use chacha20::{ChaCha20, Key};
 /// How many bytes a sector has (this crate).
 pub const SECTOR: usize = 512;
 
-/// Writes a sector: encrypts the text under the sector's next version. `Err` exactly where the disk or the versions have
-/// no sector of this number, counted from 0, or its versions are used up, after 2^64 - 1 writes; then nothing changes
-/// (this crate).
+/// Writes a sector: encrypts the text under the sector's next version. `Err` exactly where the disk or the versions
+/// have no sector of this number, counted from 0, or its versions are used up, after 2^64 - 1 writes; then nothing
+/// changes (this crate).
 pub fn write(
     key: &Key,
     versions: &mut [u64],
