@@ -1,10 +1,11 @@
 //! A disk of encrypted sectors, each of which can be overwritten.
 //!
-//! A sector is a part of the disk's bytes: that of number n begins at byte 512 · n. Beside the bytes is a version for
-//! each sector. A write raises it by one, and the number and the version make the nonce, as in `records.rt`, whose rules
-//! hold here too: a new key for each disk, no version rolled back, and a MAC where somebody else can change the disk.
-//! The contracts say that a write takes a nonce that no sector of the disk has had, that a read gives what was written,
-//! and that a write leaves all other sectors as they are.
+//! Sector n has the 512 bytes of the disk from byte 512 · n on. Beside the disk is a version for each sector, which
+//! every write raises by one. The number and the version make the nonce. The contracts say that a write takes a nonce
+//! that no sector of the disk has had, that a read gives what was written, and that a write leaves all other sectors as
+//! they are.
+//!
+//! The nonces are those of `records.rt`. What its head says of keys, versions and attackers holds here too.
 
 ghost use Rattle.std.specs.Prelude.{◌≡◌, ◌≢◌, ◌↔◌, ◌<◌, ◌≤◌, ◌+◌, ◌-◌, ◌*◌, ◌^◌, ℕ, length, IsOk, OnOk, OnErr};
 ghost use Rattle.examples.specs.Records.{nonce_of};
@@ -17,9 +18,9 @@ use chacha20::{ChaCha20, Key};
 /// How many bytes a sector has (this crate).
 pub const SECTOR: usize = 512;
 
-/// Writes a sector: encrypts the text under the sector's next version. `Err` exactly where the disk or the versions have
-/// no sector of this number, counted from 0, or its versions are used up, after 2^64 - 1 writes; then nothing changes
-/// (this crate).
+/// Writes a sector: encrypts the text under the sector's next version. `Err` exactly where the disk or the versions
+/// have no sector of this number, counted from 0, or its versions are used up, after 2^64 - 1 writes; then nothing
+/// changes (this crate).
 pub fn write(
     key: &Key,
     versions: &mut [u64],

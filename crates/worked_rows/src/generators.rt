@@ -288,7 +288,7 @@ static TABLES: [NumberedTable; 7] = [
     ),
 ];
 
-/// The name of the first list that differs on a new generator of a seed, of lists that are run one after another.
+/// Runs lists one after another on a new generator of a seed. Returns the name of the first that is wrong, or `None`.
 pub fn wrong_table<B: RngBackend<R20>>(seed: Seed, lists: &[RngList]) -> Verdict
     ensures { IsNone result ↔ AreDrawn ⟦<RngAnswer as PartialEq>⟧.eq 10 (of_seed seed) lists.now }
 {

@@ -1,5 +1,5 @@
-//! Tables of lists of calls with their answers. An entry of a `static` costs a proof a millisecond in each
-//! function that names it, and a call in code half a second.
+//! Lists of calls with their answers, and their checkers. A list is an entry of a `static`, since that costs a proof a
+//! millisecond in each function that names it, and a test function half a second or more.
 
 ghost use Rattle.std.specs.Prelude.{◌≡◌, ◌≤◌, ◌+◌, ◌↔◌, IsNone, IsTrue, All, length};
 ghost use Rattle.chacha20.specs.Runs.{InSlices};
@@ -42,8 +42,8 @@ pub struct RngList {
 /// A cipher that is called by lists. It has no contract, so that the proofs of worked rows and tests don't carry
 /// that of `run_cipher`.
 pub trait Listed {
-    /// Makes the calls, writes their answers and returns true. Where a range lies past its slice, or there are not as
-    /// many answers as calls, it does nothing and returns false.
+    /// Makes the calls, writes their answers and returns true. If a range lies past its slice, or there are not as many
+    /// answers as calls, it returns false; it may have made the calls before.
     fn runs(
         &mut self,
         input: &[u8],

@@ -15,7 +15,7 @@ use std::simd::prelude::*;
 pub trait Group: Copy {
     ghost BLOCKS: { ℕ };
 
-    // The quarter rounds that a round counts, one of the columns or one of the diagonals.
+    // How many quarter rounds a column round counts. A diagonal round counts as many.
     ghost ROUND_STEPS: { ℕ };
 
     // The sixteen words of state g.

@@ -1,4 +1,4 @@
-//! Four blocks at once, two in each vector of eight words.
+//! Four blocks at once, in vectors of eight words, each with the same row of two blocks.
 
 ghost use Rattle.std.specs.Prelude.{◌≡◌, ◌<◌, ◌+◌, ◌*◌, min, length};
 ghost use Rattle.chacha_base.specs.Counts.{Grows, for_tail};
@@ -17,7 +17,7 @@ use std::simd::prelude::*;
 #[derive(Clone, Copy, Debug)]
 pub struct Lanes8;
 
-// Four blocks in rows, two in each vector.
+// Four blocks in rows, the same row of two in each vector.
 type Four = Twice<Rows<u32x8, 1>>;
 
 impl ParBlocksSizeUser for Lanes8 {

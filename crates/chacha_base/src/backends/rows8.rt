@@ -17,7 +17,7 @@ use std::simd::prelude::*;
 #[derive(Clone, Copy, Debug)]
 pub struct Rows8;
 
-// Four blocks in rows, each in vectors of its own, and eight.
+// Four blocks in rows, each in vectors of its own, and eight. Row 0 stays, as in the Rust crate's code for NEON.
 type Four = Twice<Twice<Rows<u32x4, 0>>>;
 
 type Eight = Twice<Four>;

@@ -13,7 +13,7 @@ use worked_rows::R0;
 use worked_rows::published::COUNTING;
 use worked_rows::verdicts::{Verdict, failed_for, first_failure};
 
-// So many blocks from a counter on, the single block after them, and the position after the many.
+// So many blocks from a counter on, the single block after them, and the counter between.
 fn made<C: StreamCipherSeekCore>(
     core: &mut C,
     start: C::Counter,

@@ -18,12 +18,12 @@ pub fn wrong_zeros<B: StreamCipherBackend<R0, Ietf>>() -> Verdict {
     let mut second = [0; 64];
     second[48] = 2;
     failed(
-        "two blocks of zeros, and the position after them",
+        "two blocks of zeros, and the counter after them",
         &[blocks == [[0; 64], second], core.get_block_pos() == 2],
     )
 }
 
-// The block with the greatest counter counts. 2^64 blocks are more than a number of blocks says.
+// The block with the greatest counter is one of those that are left. A `usize` can't hold 2^64.
 #[test]
 fn remaining_blocks(rt: HostRuntime) {
     let of_ietf = [Ietf::remaining_blocks(0), Ietf::remaining_blocks(u32::MAX)];
@@ -60,7 +60,7 @@ fn apply_at_once<C: StreamCipherCore>(core: &mut C, blocks: &mut [[u8; 64]; 4]) 
     core.apply_keystream_blocks(&mut blocks[1..]);
 }
 
-// Applies a single block, and counts three: one written, and two applied.
+// Applies block 0; by the counting calls writes block 1, and applies 2 and 3.
 fn apply_and_count<C: StreamCipherCore>(core: &mut C, blocks: &mut [[u8; 64]; 4]) {
     core.apply_keystream_block(&mut blocks[0]);
     core.write_block_counted(&mut blocks[1], &mut Steps::new());
@@ -87,7 +87,7 @@ fn are_right<C: StreamCipherSeekCore>(core: &mut C, start: C::Counter, end: u64)
 }
 
 /// What is wrong with calls of a new core for the four blocks from a counter on, and with the number of blocks that it
-/// says are left: this one of all, and one of the last.
+/// says are left: `all` at first, and 1 at the last block.
 pub fn wrong_blocks<N, T, K>(nonce: &N, start: T, end: u64, all: Option<usize>) -> Verdict
 where
     T: StreamCipherCounter,

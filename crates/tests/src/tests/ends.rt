@@ -309,7 +309,7 @@ pub static LEGACY_ENDS: [CipherList; 4] = [
     },
 ];
 
-// The last 33 blocks of a stream: two groups of the widest backend, and one block more.
+// Bytes in the last 33 blocks of a stream: two groups of the widest backend, and one block more.
 const LENGTH: usize = 2112;
 
 // The last 33 blocks of a cipher without rounds, for a key and a nonce of zeros and a counter of 32 bits: the text
@@ -362,7 +362,7 @@ fn has_left<C: Listed>(cipher: &mut C, position: u128, count: usize) -> bool
 
 static ZEROS: [u8; LENGTH] = [0; LENGTH];
 
-// The calls for bytes, from zeros.
+// By which call bytes come, from zeros.
 #[derive(Clone, Copy)]
 enum By {
     Apply,
@@ -405,9 +405,8 @@ fn come_in_two<C: Listed>(
     all_done(cipher, &ZEROS, &mut bytes, &calls) && bytes[from..] == last[from..]
 }
 
-// The first number, from 0 to 33, for which the last bytes come out wrong: as so many whole blocks at once; from the
-// middle of a block on, with so many bytes in the last part; or from the front of a block on, with 32 bytes more in it.
-// After each the cipher is at its limit.
+// The first number n, from 0 to 33, for which two calls up to the limit go wrong: n whole blocks at once and nothing
+// after them; from inside a block on, with n bytes in the second call; or from the front of a block on, with n + 32.
 fn wrong_end<C: Listed>(cipher: &mut C, start: u128, last: &[u8; LENGTH], by: By) -> Option<usize>
     requires { start ≤ 2 ^ 70 }
 {
@@ -524,7 +523,7 @@ pub fn wrong_legacy_groups<C: Listed>(cipher: &mut C) -> Verdict {
 }
 
 // Last blocks as OpenSSL 3.0.19 makes them: `openssl enc -chacha20` of zeros, under the key 00 to 1f with the iv
-// ffffffff and twelve zeros, and under the key 01 to 20 with the iv ffffffffffffffff and the legacy nonce.
+// ffffffff and twelve zero bytes, and under the key 01 to 20 with the iv ffffffffffffffff and the legacy nonce.
 const LAST_BLOCK: &[u8; 64] = b"\
     \x1c\xe0\xde\xb8\x92\x5f\xcc\xea\x2d\x55\x87\xe8\x50\x05\x45\x59\
     \xed\xcb\xbe\xb1\xa6\xc8\xe1\xc0\x2c\x1e\x89\xab\xba\x08\xb0\x1c\

@@ -35,7 +35,7 @@ pub fn wrong_lists<N, C: Fresh<N>>(key: &Key, nonce: &N, lists: &[CipherList]) -
     wrong_list(&mut C::fresh(key, nonce), lists)
 }
 
-/// The same of worked rows.
+/// As `wrong_lists`, for the lists of each worked row.
 pub fn wrong_rows<N, C: Fresh<N>>(key: &Key, nonce: &N, rows: &[NumberedLists]) -> Verdict {
     for i in 0..rows.len() {
         let wrong = wrong_lists::<N, C>(key, nonce, rows[i].1);
@@ -56,7 +56,7 @@ fn wrong_ietf<C: Fresh<Nonce>>() -> Verdict {
     ])
 }
 
-// A cipher in the layout before it.
+// A cipher in the older layout.
 fn wrong_legacy<C: Fresh<LegacyNonce>>() -> Verdict {
     let mut cipher = C::fresh(&FROM_1, &LEGACY_NONCE);
     let place = legacy_stream(&mut cipher, 17);
@@ -166,8 +166,8 @@ fn with_any_rounds<R: Rounds, B: StreamCipherBackend<R, Ietf>>() -> Verdict {
     wrong_kinds::<R, XChaChaCore<R, B>, ChaChaCore<R, Ietf, B>>()
 }
 
-// Each kind without rounds. At their ends the two whose counter has 32 bits are the same: the first and the last row of
-// a block have no word of the key.
+// Each kind without rounds. `ZERO_ENDS` holds for both whose counter has 32 bits: it names only bytes of a block's first
+// and last row, which have no word of the key.
 fn wrong_zero_cores<I, L, X>() -> Verdict
 where
     I: KeyIvInit<Key = Key, Iv = Nonce> + StreamCipherSeekCore<Counter = u32> + Drop,

@@ -22,7 +22,7 @@ impl<C: StreamCipherSeek> Placed for C {
     }
 }
 
-// Where types end, 16 bytes before the last block and before the limit, and the limit.
+// 0, the ends of types, 16 bytes before the last block and before the limit, and the limit.
 static PLACES: [u128; 8] = [
     0,
     0x7fff_ffff,
@@ -42,8 +42,8 @@ static LEGACY_PLACES: [u128; 4] = [
     LEGACY_LIMIT,
 ];
 
-// Whether a cipher answers a place in a type, as this number, or as none where the type can't say it; and where it can,
-// whether a seek in it comes there from another position.
+// Whether a cipher at a position returns it as this number, or, for `None`, that the type can't represent it; and whether
+// a seek to the number comes back there.
 fn in_type<C: Placed, T: SeekNum>(cipher: &mut C, place: u128, number: Option<T>) -> bool {
     if !cipher.seeks(place) || !cipher.is_at(number) {
         return false;

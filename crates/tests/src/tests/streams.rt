@@ -42,7 +42,7 @@ pub static X_STREAM: [CipherList; 1] = [CipherList {
     after: X_KEYSTREAM,
 }];
 
-/// The first block of RFC 8439, appendix A.1, that comes out otherwise.
+/// The first block of RFC 8439, appendix A.1, that is wrong.
 pub fn wrong_block<C: Fresh<Nonce>>() -> Verdict {
     for i in 0..BLOCKS.len() {
         let (key, nonce, before, block) = &BLOCKS[i];
@@ -54,8 +54,8 @@ pub fn wrong_block<C: Fresh<Nonce>>() -> Verdict {
     None
 }
 
-/// Four blocks with a nonce of 8 bytes, between any three places that are multiples of so many bytes, in two parts; the
-/// second part also ends with the last byte. It returns the first places between which the stream is wrong.
+/// The first three positions from ≤ middle ≤ last of four blocks between which two calls give wrong bytes. All positions
+/// that are multiples of `step` are tried, and as the last one also 256.
 pub fn legacy_stream<C: Listed>(cipher: &mut C, step: usize) -> Option<[usize; 3]> {
     for from in 0..256usize {
         if is_multiple(from, step) {

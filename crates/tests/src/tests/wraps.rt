@@ -1,4 +1,4 @@
-//! Counters and positions that wrap, and states of any bytes, over each backend. Nothing here makes rounds, so that
+//! Counters and positions that wrap, and stored states of any bytes, over each backend. Nothing here makes rounds, so that
 //! words can be computed by hand.
 
 use super::generator_runs::STREAM;
@@ -10,7 +10,7 @@ use worked_rows::cores::last_row;
 use worked_rows::generators::POSITIONS;
 use worked_rows::verdicts::{Verdict, failed, failed_for, first_failure};
 
-// The last rows of blocks 0, 2, 3 and 19 of twenty, and the position after them.
+// The last rows of blocks 0, 2, 3 and 19 of twenty, and the counter after them.
 type Ends = ([[u8; 16]; 4], u64);
 
 // The ends of the twenty blocks from a counter on, which one call makes.
