@@ -5,8 +5,8 @@ ghost use Rattle.std.specs.Option.{option_flatten};
 ghost use Rattle.std.specs.List.{fold};
 ghost use Rattle.worked_rows.specs.Verdicts.{AreEnteredBy, Keeps, with_entry};
 
-/// A check that fails: its name, and a number that tells where. That is the number for which a loop failed, the place of
-/// the part that fails, a worked row's number, or 0.
+/// A check that fails: its name, and a number that tells where. That is the number for which a loop failed, the place
+/// of the part that fails, a worked row's number, or 0.
 #[derive(Clone, Copy)]
 pub struct Failure {
     pub check: &'static str,

@@ -166,8 +166,8 @@ fn with_any_rounds<R: Rounds, B: StreamCipherBackend<R, Ietf>>() -> Verdict {
     wrong_kinds::<R, XChaChaCore<R, B>, ChaChaCore<R, Ietf, B>>()
 }
 
-// Each kind without rounds. `ZERO_ENDS` holds for both whose counter has 32 bits: it names only bytes of a block's first
-// and last row, which have no word of the key.
+// Each kind without rounds. `ZERO_ENDS` holds for both whose counter has 32 bits: it names only bytes of a block's
+// first and last row, which have no word of the key.
 fn wrong_zero_cores<I, L, X>() -> Verdict
 where
     I: KeyIvInit<Key = Key, Iv = Nonce> + StreamCipherSeekCore<Counter = u32> + Drop,

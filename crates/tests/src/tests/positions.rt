@@ -42,8 +42,8 @@ static LEGACY_PLACES: [u128; 4] = [
     LEGACY_LIMIT,
 ];
 
-// Whether a cipher at a position returns it as this number, or, for `None`, that the type can't represent it; and whether
-// a seek to the number comes back there.
+// Whether a cipher at a position returns it as this number, or, for `None`, that the type can't represent it; and
+// whether a seek to the number comes back there.
 fn in_type<C: Placed, T: SeekNum>(cipher: &mut C, place: u128, number: Option<T>) -> bool {
     if !cipher.seeks(place) || !cipher.is_at(number) {
         return false;

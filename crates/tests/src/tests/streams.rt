@@ -54,8 +54,8 @@ pub fn wrong_block<C: Fresh<Nonce>>() -> Verdict {
     None
 }
 
-/// The first three positions from ≤ middle ≤ last of four blocks between which two calls give wrong bytes. All positions
-/// that are multiples of `step` are tried, and as the last one also 256.
+/// The first three positions from ≤ middle ≤ last of four blocks between which two calls give wrong bytes. All
+/// multiples of `step` are tried, and as the last one also 256.
 pub fn legacy_stream<C: Listed>(cipher: &mut C, step: usize) -> Option<[usize; 3]> {
     for from in 0..256usize {
         if is_multiple(from, step) {

@@ -1,4 +1,4 @@
-//! Counters and positions that wrap, and stored states of any bytes, over each backend. Nothing here makes rounds, so that
+//! Counters and positions that wrap, and stored states of any bytes, over each backend. Nothing here makes rounds, so
 //! words can be computed by hand.
 
 use super::generator_runs::STREAM;
