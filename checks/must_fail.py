@@ -6,11 +6,11 @@ import re
 
 from common import FUNCTION, TOP, text_of
 
-# What says nothing of a mistake: a proof that names what an edit took away, what cites that proof, and an answer of another form
-# than its place asks for.
+# What says nothing of a mistake: a proof that names what an edit took away, what cites that proof, and an answer that rewrites by
+# what is no equation.
 LOST = re.compile(
     r"has no field|is not in scope|has no `|^record `|(?:was|were) not (?:admitted|checked)|homogeneous path|settles argument"
-    r"|no occurrence of the path|^expected type"
+    r"|no occurrence of the path"
 )
 # What shows a mistake: what a message of each kind begins with.
 KINDS = {
@@ -18,13 +18,16 @@ KINDS = {
     "two sides": (
         "as printed, the two types",
         "computed as far as they go, the two types",
+        "computed as a goal is, one side reads",
         "give a proof of that as the last argument, `rw L t`",
         "give a proof of that as the last argument, `simp L t`",
     ),
-    "no proof found": ("it is not proved that",),
+    "two types": ("expected type `",),
+    "no proof found": ("it is not proved that", "`search`: no proof of", "`grind` stopped at its own limit"),
 }
-# The search stops without a verdict. That shows a mistake only where the edit without it is the code as it stands.
-GAVE_UP = "gave up at one of its limits"
+# What shows a mistake only where the edit without it is the code as it stands, so that the answers have its form: an answer of
+# another type than its place asks for, and a search that stops without a verdict.
+WEAK = re.compile(r"^expected type `|gave up at one of its limits|stopped at its own limit")
 # The place that a message of the prover begins with.
 PLACE = re.compile(r"(?:note: )?(?:\./)?(?:src|specs|proofs)/\S+?:\d+:\d+: ")
 
@@ -101,7 +104,7 @@ def goal_of(message, folder, has_twin=False):
 
 def kind_of(said, has_twin):
     """The kind of what a message says of a goal. It may be cut off, once it has ten characters."""
-    if has_twin and GAVE_UP in said:
+    if has_twin and WEAK.search(said):
         return "lost"
     for kind, beginnings in KINDS.items():
         if any(said.startswith(it) or len(said) >= 10 and it.startswith(said) for it in beginnings):
