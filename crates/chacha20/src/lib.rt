@@ -33,7 +33,7 @@ pub mod runs;
 mod xchacha;
 
 pub use chacha::{ChaCha8, ChaCha12, ChaCha20, Key, Nonce};
-pub use chacha_base::backends::{Lanes4, Lanes8, Lanes16, Rows8, Soft};
+pub use chacha_base::backends::{Columns8, Lanes4, Lanes8, Lanes16, Rows8, Soft};
 pub use chacha_base::cipher::{
     BlockSizeUser, IvSizeUser, KeyIvInit, KeySizeUser, Keystream, OverflowError, ParBlocksSizeUser,
     RngBackend, SeekNum, StreamCipher, StreamCipherBackend, StreamCipherCore, StreamCipherError,

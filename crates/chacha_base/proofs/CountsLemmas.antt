@@ -2,7 +2,7 @@
 -- these. Read `Grows` of `Counts` first, and then the bounds below it.
 use Rattle.std.proofs.Common.{◌≡◌, ℕ, ◌+◌, ◌-◌, ◌*◌, ◌/◌, ◌%◌, ◌<◌, ◌≤◌, min, ap, ◌∙◌, arith, subst, add-mul, mul_assoc, mul-le-mul_right}
 use Rattle.std.proofs.lemmas.Grind.{common_steps}
-use Rattle.chacha_base.specs.Counts.{Counts, Bounds, Grows, for_call, for_single, for_group, for_last_part, for_tail, tail_of_16, for_blocks, for_whole_blocks, for_bytes}
+use Rattle.chacha_base.specs.Counts.{Counts, Bounds, Grows, for_call, for_single, for_group, for_last_part, for_tail, tail_rounds, for_blocks, for_whole_blocks, for_bytes}
 use Rattle.chacha_base.specs.Buffered.{left_at}
 
 -- calls that grew exactly, and quarter rounds within bounds
@@ -105,14 +105,15 @@ grows-tail {a} {c = c} one k some call made =
     grows-then (grows-other one a (made ∙ ap (plus_rounds one) call)) (grows-none c)
     (omega arith) (omega (arith, few)) (omega (arith, least)) (omega (arith, most))
 
--- a tail where sixteen are the width, by its quarter rounds
-pub grows-of-16 : (one n k : ℕ) {a b : Counts} → Grows (for_tail one k) a b
-    → b.rounds ≡ a.rounds + tail_of_16 k * n → Grows (for_tail (2 * n) k) a b
-grows-of-16 one n k grows rounds =
-    let least : min 1 k * 2 ≤ tail_of_16 k = grind (arith, common_steps) in
-    let most : tail_of_16 k ≤ k * 2 = grind (arith, common_steps) in
-    let fewest : min 1 k * (2 * n) ≤ tail_of_16 k * n = rw (← mul_assoc (min 1 k) 2 n) (mul-le-mul_right n least) in
-    let greatest : tail_of_16 k * n ≤ k * (2 * n) = rw (← mul_assoc k 2 n) (mul-le-mul_right n most) in
+-- a tail by its quarter rounds, where a single block takes two
+pub grows-narrow : (one n eight k : ℕ) {a b : Counts} → 2 ≤ eight → eight ≤ 8 → Grows (for_tail one k) a b
+    → b.rounds ≡ a.rounds + tail_rounds eight k * n → Grows (for_tail (2 * n) k) a b
+grows-narrow one n eight k some few grows rounds =
+    let least : min 1 k * 2 ≤ tail_rounds eight k = grind (arith, common_steps) in
+    let most : tail_rounds eight k ≤ k * 2 = grind (arith, common_steps) in
+    let fewest : min 1 k * (2 * n) ≤ tail_rounds eight k * n =
+    rw (← mul_assoc (min 1 k) 2 n) (mul-le-mul_right n least) in
+    let greatest : tail_rounds eight k * n ≤ k * (2 * n) = rw (← mul_assoc k 2 n) (mul-le-mul_right n most) in
     record {
       par_from = grows.par_from;
       par_to = grows.par_to;

@@ -44,11 +44,20 @@ for_last_part one n = for_call 0 (min 1 n) (min 1 n * one)
 abbrev pub for_tail : (one k : ℕ) → Bounds
 for_tail one k = record { par = 0; other = k; least = min 1 k * one; most = k * one }
 
--- quarter rounds, for each double round, of a tail of k blocks where the width is sixteen: four
--- blocks fit in one vector for each row, eight in two, and more in four
+-- quarter rounds, for each double round, of a tail of k blocks: up to four take two, five to eight
+-- take `eight`, and more take eight
+abbrev pub tail_rounds : (eight k : ℕ) → ℕ
+tail_rounds eight k =
+    if nat_lt k 1 then 0 else (if nat_lt k 5 then 2 else (if nat_lt k 9 then eight else 8))
+
+-- where the width is sixteen: four blocks fit in one vector for each row, eight in two, and more in
+-- four
 abbrev pub tail_of_16 : ℕ → ℕ
-tail_of_16 k =
-    if nat_lt k 1 then 0 else (if nat_lt k 5 then 2 else (if nat_lt k 9 then 4 else 8))
+tail_of_16 k = tail_rounds 4 k
+
+-- where the width is eight: four blocks fit in one vector for each row, and more are in columns
+abbrev pub tail_of_8 : ℕ → ℕ
+tail_of_8 k = tail_rounds 8 k
 
 -- for m blocks in groups of w, with `par` quarter rounds for a group and `one` for a single block,
 -- and k single blocks after them

@@ -1,6 +1,7 @@
 //! Backends: empty types whose functions make the blocks of a state.
 
 mod columns;
+mod columns8;
 mod group;
 mod kernel;
 mod lanes16;
@@ -11,6 +12,7 @@ mod rows8;
 mod soft;
 mod vector;
 
+pub use columns8::Columns8;
 pub use lanes4::Lanes4;
 pub use lanes8::Lanes8;
 pub use lanes16::Lanes16;

@@ -1,12 +1,12 @@
 //! Sixteen blocks at once, in vectors of sixteen words.
 
-ghost use Rattle.std.specs.Prelude.{◌≡◌, ◌≤◌, ◌<◌, ◌+◌, ◌*◌, min, length};
+ghost use Rattle.std.specs.Prelude.{◌≡◌, ◌<◌, ◌+◌, ◌*◌, length};
 ghost use Rattle.chacha_base.specs.Counts.{Grows, for_tail, tail_of_16};
 ghost use Rattle.chacha_base.specs.State.{state_after, AreNextBlocks};
 
 use crate::backends::columns::Columns;
-use crate::backends::group::{Group, Twice};
-use crate::backends::kernel::{write_buffer, write_group, write_one, write_tail};
+use crate::backends::group::Twice;
+use crate::backends::kernel::{write_buffer, write_group, write_narrow_tail, write_one};
 use crate::backends::rows::Rows;
 use crate::cipher::{ParBlocksSizeUser, RngBackend, StreamCipherBackend};
 use crate::rounds::{Rounds, Steps};
@@ -30,27 +30,6 @@ type Four = Rows<u32x16, 1>;
 type Eight = Twice<Four>;
 
 type Sixteen = Twice<Eight>;
-
-// A tail by the narrowest group that holds it.
-#[inline(always)]
-fn tail_by<R: Rounds, V: Variant, G: Group, const W: usize>(
-    state: &mut [u32; 16],
-    blocks: &mut [[u8; 64]],
-    steps: &mut Steps,
-)
-    requires width { G.BLOCKS ≡ W }
-    requires few { W ≤ 16 }
-    requires within { length blocks.old ≤ W }
-    requires narrowest { min 1 (length blocks.old) * (2 * G.ROUND_STEPS)
-        ≡ tail_of_16 (length blocks.old) }
-    ensures blocks { AreNextBlocks R.COUNT V.layout state.old (length blocks.old) blocks.new }
-    ensures state { state.new ≡ state_after V.layout (length blocks.old) state.old }
-    ensures steps { Grows (for_tail (2 * R.COUNT) (length blocks.old)) steps.old steps.new }
-    ensures rounds { steps.new.rounds
-        ≡ steps.old.rounds + tail_of_16 (length blocks.old) * R.COUNT }
-{
-    write_tail::<R, V, G, W>(state, blocks, steps);
-}
 
 impl ParBlocksSizeUser for Lanes16 {
     ghost use Rattle.std.proofs.Common.{lit≤};
@@ -90,11 +69,11 @@ impl<R: Rounds, V: Variant> StreamCipherBackend<R, V> for Lanes16 {
             ≡ steps.old.rounds + tail_of_16 (length blocks.old) * R.COUNT }
     {
         match blocks.len() {
-            0 | 1 => tail_by::<R, V, One, 1>(state, blocks, steps),
-            2 => tail_by::<R, V, Two, 2>(state, blocks, steps),
-            3 | 4 => tail_by::<R, V, Four, 4>(state, blocks, steps),
-            5..=8 => tail_by::<R, V, Eight, 8>(state, blocks, steps),
-            _ => tail_by::<R, V, Sixteen, 16>(state, blocks, steps),
+            0 | 1 => write_narrow_tail::<R, V, One, 1, 4>(state, blocks, steps),
+            2 => write_narrow_tail::<R, V, Two, 2, 4>(state, blocks, steps),
+            3 | 4 => write_narrow_tail::<R, V, Four, 4, 4>(state, blocks, steps),
+            5..=8 => write_narrow_tail::<R, V, Eight, 8, 4>(state, blocks, steps),
+            _ => write_narrow_tail::<R, V, Sixteen, 16, 4>(state, blocks, steps),
         }
     }
 }

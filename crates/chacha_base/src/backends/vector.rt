@@ -265,6 +265,24 @@ impl Vector for u32x8 {
     }
 }
 
+impl ColumnVector for u32x8 {
+    #[inline(always)]
+    fn xor_rotated_8(self, other: u32x8) -> u32x8 {
+        let bytes = (self ^ other).to_le_bytes();
+        u32x8::from_le_bytes(bytes.swizzle([
+            3, 0, 1, 2, 7, 4, 5, 6, 11, 8, 9, 10, 15, 12, 13, 14, 19, 16, 17, 18, 23, 20, 21, 22,
+            27, 24, 25, 26, 31, 28, 29, 30,
+        ]))
+    }
+
+    #[inline(always)]
+    fn interleaved(self, other: u32x8) -> (u32x8, u32x8) {
+        let low = self.shuffle(other, [0, 8, 1, 9, 4, 12, 5, 13]);
+        let high = self.shuffle(other, [2, 10, 3, 11, 6, 14, 7, 15]);
+        (low, high)
+    }
+}
+
 impl Vector for u32x16 {
     ghost use Rattle.std.proofs.Common.{lit≤};
 

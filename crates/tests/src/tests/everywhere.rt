@@ -7,7 +7,7 @@ use super::{
     all_right, backends, beside, calls, core_calls, derived, ends, generator_runs,
     generator_traits, odd_cuts, positions, runs, streams, wraps,
 };
-use chacha20::backends::{Lanes4, Lanes8, Lanes16, Rows8, Soft};
+use chacha20::backends::{Columns8, Lanes4, Lanes8, Lanes16, Rows8, Soft};
 use chacha20::cipher::{
     KeyIvInit, RngBackend, StreamCipherBackend, StreamCipherCounter, StreamCipherSeekCore,
 };
@@ -262,6 +262,11 @@ fn rows8(rt: HostRuntime) {
 #[test]
 fn lanes16(rt: HostRuntime) {
     all_right(&rt, &[("Lanes16", over::<Lanes16>())]);
+}
+
+#[test]
+fn columns8(rt: HostRuntime) {
+    all_right(&rt, &[("Columns8", over::<Columns8>())]);
 }
 
 #[test]

@@ -5,7 +5,7 @@ ghost use Rattle.chacha20.specs.State.{fixed_words, state_counter};
 ghost use Rattle.chacha20.specs.Limit.{limit_of};
 ghost use Rattle.chacha20.specs.Counts.{Grows, for_bytes};
 
-use chacha20::backends::{Lanes4, Lanes8, Lanes16, Rows8, Soft};
+use chacha20::backends::{Columns8, Lanes4, Lanes8, Lanes16, Rows8, Soft};
 use chacha20::cipher::{
     KeyIvInit, RngBackend, StreamCipher, StreamCipherBackend, StreamCipherCore, StreamCipherError,
     StreamCipherSeek,
@@ -182,7 +182,17 @@ fn apply_586_bytes_lanes16(steps: &mut Steps) -> Result<(), StreamCipherError>
     apply_586_bytes::<Lanes16>(steps)
 }
 
-// The same with a nonce of 24 bytes: to derive the key and the nonce counts nothing.
+// One parallel call of eight blocks, a tail of one, and the last part.
+fn apply_586_bytes_columns8(steps: &mut Steps) -> Result<(), StreamCipherError>
+    ensures accepted { IsOk result }
+    ensures par { steps.new.par ≤ steps.old.par + 1 }
+    ensures other { steps.new.other ≤ steps.old.other + 2 }
+    ensures rounds { steps.new.rounds ≡ steps.old.rounds + 120 }
+{
+    apply_586_bytes::<Columns8>(steps)
+}
+
+// The same as `Lanes16` with a nonce of 24 bytes: to derive the key and the nonce counts nothing.
 fn apply_586_bytes_xchacha20(steps: &mut Steps) -> Result<(), StreamCipherError>
     ensures accepted { IsOk result }
     ensures par { steps.new.par ≤ steps.old.par + 0 }
@@ -202,6 +212,13 @@ fn tail_of_nine_lanes16(state: &mut [u32; 16], blocks: &mut [[u8; 64]; 9], steps
     <Lanes16 as StreamCipherBackend<R20, Ietf>>::gen_tail_blocks(state, blocks, steps);
 }
 
+// A tail of five blocks, in columns.
+fn tail_of_five_columns8(state: &mut [u32; 16], blocks: &mut [[u8; 64]; 5], steps: &mut Steps)
+    ensures { steps.new.rounds ≡ steps.old.rounds + 80 }
+{
+    <Columns8 as StreamCipherBackend<R20, Ietf>>::gen_tail_blocks(state, blocks, steps);
+}
+
 // The words of a generator: four.
 fn words_lanes8(state: &mut [u32; 16], words: &mut [u32; 64], steps: &mut Steps)
     ensures { steps.new.rounds ≡ steps.old.rounds + 40 }
@@ -218,7 +235,8 @@ fn counted(rt: HostRuntime) {
         apply_586_bytes_lanes8(&mut steps),
         apply_586_bytes_rows8(&mut steps),
         apply_586_bytes_lanes16(&mut steps),
+        apply_586_bytes_columns8(&mut steps),
         apply_586_bytes_xchacha20(&mut steps),
     ];
-    assert!(rt; accepted == [Ok(()); 6]);
+    assert!(rt; accepted == [Ok(()); 7]);
 }

@@ -1,6 +1,6 @@
 //! A published ciphertext that is read in parts, and records over each backend of the library.
 
-use chacha20::backends::{Lanes4, Lanes8, Lanes16, Rows8, Soft};
+use chacha20::backends::{Columns8, Lanes4, Lanes8, Lanes16, Rows8, Soft};
 use chacha20::cipher::{KeyIvInit, StreamCipherBackend, StreamCipherSeek};
 use chacha20::variants::Ietf;
 use chacha20::{ChaChaCore, R20, StreamCipherCoreWrapper};
@@ -70,6 +70,7 @@ fn records_over_each_backend(rt: HostRuntime) {
         over::<Lanes8>(),
         over::<Rows8>(),
         over::<Lanes16>(),
+        over::<Columns8>(),
     ];
-    assert!(rt; right == [true; 5]);
+    assert!(rt; right == [true; 6]);
 }

@@ -3,20 +3,20 @@
 
 use chacha20::{
     BlockSizeUser, ChaCha8, ChaCha8Rng, ChaCha12, ChaCha12Rng, ChaCha20, ChaCha20Legacy,
-    ChaCha20LegacyCore, ChaCha20Rng, ChaChaCore, ChaChaRng, CipherAnswer, CipherCall, Generator,
-    Ietf, IvSizeUser, Key, KeyIvInit, KeySizeUser, Keystream, Lanes4, Lanes8, Lanes16, Legacy,
-    LegacyNonce, Nonce, OverflowError, ParBlocksSizeUser, R8, R12, R20, RngAnswer, RngBackend,
-    RngCall, Rounds, Rows8, Seed, SeekNum, SerializedRngState, Soft, Steps, StreamCipher,
-    StreamCipherBackend, StreamCipherCore, StreamCipherCoreWrapper, StreamCipherCounter,
-    StreamCipherError, StreamCipherSeek, StreamCipherSeekCore, Variant, XChaCha8, XChaCha12,
-    XChaCha20, XChaChaCore, XNonce, backends, cipher, hchacha, rand_core, run_cipher, run_rng,
-    runs, variants,
+    ChaCha20LegacyCore, ChaCha20Rng, ChaChaCore, ChaChaRng, CipherAnswer, CipherCall, Columns8,
+    Generator, Ietf, IvSizeUser, Key, KeyIvInit, KeySizeUser, Keystream, Lanes4, Lanes8, Lanes16,
+    Legacy, LegacyNonce, Nonce, OverflowError, ParBlocksSizeUser, R8, R12, R20, RngAnswer,
+    RngBackend, RngCall, Rounds, Rows8, Seed, SeekNum, SerializedRngState, Soft, Steps,
+    StreamCipher, StreamCipherBackend, StreamCipherCore, StreamCipherCoreWrapper,
+    StreamCipherCounter, StreamCipherError, StreamCipherSeek, StreamCipherSeekCore, Variant,
+    XChaCha8, XChaCha12, XChaCha20, XChaChaCore, XNonce, backends, cipher, hchacha, rand_core,
+    run_cipher, run_rng, runs, variants,
 };
 use worked_rows::published::{OF_8_ROUNDS, OF_12_ROUNDS, OF_20_ROUNDS};
 
 // The same names by their modules.
 mod by_module {
-    use chacha20::backends::{Lanes4, Lanes8, Lanes16, Rows8, Soft};
+    use chacha20::backends::{Columns8, Lanes4, Lanes8, Lanes16, Rows8, Soft};
     use chacha20::cipher::{
         BlockSizeUser, IvSizeUser, KeyIvInit, KeySizeUser, Keystream, OverflowError,
         ParBlocksSizeUser, RngBackend, SeekNum, StreamCipher, StreamCipherBackend,

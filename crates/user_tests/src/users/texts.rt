@@ -3,8 +3,8 @@
 
 use chacha20::cipher::{KeyIvInit, OverflowError, RngBackend, StreamCipherError};
 use chacha20::{
-    ChaChaCore, ChaChaRng, CipherAnswer, CipherCall, Ietf, Lanes4, Lanes8, Lanes16, Legacy, R8,
-    R12, R20, RngAnswer, RngCall, Rows8, Soft, XChaChaCore,
+    ChaChaCore, ChaChaRng, CipherAnswer, CipherCall, Columns8, Ietf, Lanes4, Lanes8, Lanes16,
+    Legacy, R8, R12, R20, RngAnswer, RngCall, Rows8, Soft, XChaChaCore,
 };
 use examples::backend::Width3;
 use std::alloc::Global;
@@ -45,9 +45,10 @@ fn over_each_backend(rt: HostRuntime) {
         are_right::<Lanes8>(alloc),
         are_right::<Rows8>(alloc),
         are_right::<Lanes16>(alloc),
+        are_right::<Columns8>(alloc),
         are_right::<Width3>(alloc),
     ];
-    assert!(rt; right == [true; 6]);
+    assert!(rt; right == [true; 7]);
 }
 
 #[test]
@@ -63,6 +64,7 @@ fn derived(rt: HostRuntime) {
         has_text(alloc, &Lanes8, "Lanes8"),
         has_text(alloc, &Rows8, "Rows8"),
         has_text(alloc, &Lanes16, "Lanes16"),
+        has_text(alloc, &Columns8, "Columns8"),
         has_text(alloc, &StreamCipherError, "StreamCipherError"),
         has_text(alloc, &OverflowError, "OverflowError"),
         has_text(alloc, &CipherCall::Seek(9), "Seek(9)"),
@@ -79,5 +81,5 @@ fn derived(rt: HostRuntime) {
             "XChaChaCore { core: ChaChaCore<R: 10, V: 32-bit)> { ... } }",
         ),
     ];
-    assert!(rt; found == [true; 15]);
+    assert!(rt; found == [true; 16]);
 }

@@ -3,10 +3,10 @@ use Rattle.chacha_base.proofs.backends.lanes16.Lanes16StreamCipherBackend.gen_ta
 -- answered for speed, as the next one
 pub returns-in-3 : goal.returns-in-3
 returns-in-3 g c =
-    let made = c.tail_by-in-3.ensures in
+    let made = c.write_narrow_tail-in-3.ensures in
     record { blocks = made.blocks; state = made.state; steps = made.steps; rounds = made.rounds }
 
 pub returns-in_default : goal.returns-in_default
 returns-in_default g c =
-    let made = c.tail_by-in_default.ensures in
+    let made = c.write_narrow_tail-in_default.ensures in
     record { blocks = made.blocks; state = made.state; steps = made.steps; rounds = made.rounds }

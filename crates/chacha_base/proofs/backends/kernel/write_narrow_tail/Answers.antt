@@ -1,6 +1,6 @@
 use Rattle.std.proofs.Common.{◌+◌, ◌*◌, length, ap, ◌∙◌}
-use Rattle.chacha_base.proofs.CountsLemmas.{grows-of-16}
-use Rattle.chacha_base.proofs.backends.lanes16.tail_by.Goals as goal
+use Rattle.chacha_base.proofs.CountsLemmas.{grows-narrow}
+use Rattle.chacha_base.proofs.backends.kernel.write_narrow_tail.Goals as goal
 
 pub returns-clause-rounds : goal.returns-clause-rounds
 returns-clause-rounds g c =
@@ -8,5 +8,5 @@ returns-clause-rounds g c =
 
 pub returns-clause-steps : goal.returns-clause-steps
 returns-clause-steps g c =
-    grows-of-16 (2 * g.G.Group.ROUND_STEPS * g.R.Rounds.COUNT) g.R.Rounds.COUNT (length c.args.blocks.now)
-    c.write_tail.ensures.steps (returns-clause-rounds g c)
+    grows-narrow (2 * g.G.Group.ROUND_STEPS * g.R.Rounds.COUNT) g.R.Rounds.COUNT _ (length c.args.blocks.now)
+    c.requires.eight.0 c.requires.eight.1 c.write_tail.ensures.steps (returns-clause-rounds g c)
