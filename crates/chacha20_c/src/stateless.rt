@@ -6,7 +6,6 @@ ghost use Rattle.chacha20.specs.Keystream.{keystream, stream_part, xor_stream};
 ghost use Rattle.chacha20.specs.Limit.{limit_of};
 ghost use Rattle.chacha20_c.specs.Answers.{Checked, Written, Xored, XoredInto};
 
-use crate::backend::{first_part, first_part_in_pieces};
 use chacha20::StreamCipherCoreWrapper;
 use chacha20::cipher::{
     KeyIvInit, StreamCipher, StreamCipherError, StreamCipherSeek, StreamCipherSeekCore,
@@ -38,33 +37,7 @@ fn try_xor_in_place<K: KeyIvInit + StreamCipherSeekCore + Drop>(
 {
     let mut cipher = StreamCipherCoreWrapper::<K>::new(key, nonce);
     cipher.try_seek(position)?;
-    let first = first_part::<K>(position, data.len());
-    if first == data.len() {
-        return cipher.try_apply_keystream(data);
-    }
-    try_apply_in_two(&mut cipher, data, first)
-}
-
-// XORs bytes with the keystream in two parts. It isn't inlined, so that its callers need no registers for it.
-#[inline(never)]
-fn try_apply_in_two<C: StreamCipher>(
-    cipher: &mut C,
-    data: &mut [u8],
-    first: usize,
-) -> Result<(), StreamCipherError>
-    requires { first ≤ length «data».old }
-    ensures accepted { IsOk result
-        ↔ (C.position cipher.old + length «data».old ≤ limit_of C.modulus) }
-    ensures bytes { OnOk result («data».new
-        ≡ xor_stream (keystream C.modulus (C.block_at (C.fixed cipher.old)))
-        (C.position cipher.old) «data».old) }
-    ensures refused { OnErr result («data».new ≡ «data».old) }
-{
-    cipher.check_remaining(data.len())?;
-    let (front, rest) = data.split_at_mut(first);
-    cipher.apply_keystream(front);
-    cipher.apply_keystream(rest);
-    Ok(())
+    cipher.try_apply_keystream(data)
 }
 
 /// Writes an input, XORed with the keystream from a position on, into an output.
@@ -96,36 +69,7 @@ fn try_xor_between<K: KeyIvInit + StreamCipherSeekCore + Drop>(
 {
     let mut cipher = StreamCipherCoreWrapper::<K>::new(key, nonce);
     cipher.try_seek(position)?;
-    let first = first_part_in_pieces::<K>(position, input.len());
-    if first == input.len() || input.len() != output.len() {
-        return cipher.try_apply_keystream_b2b(input, output);
-    }
-    try_apply_between_in_two(&mut cipher, output, input, first)
-}
-
-// As `try_apply_in_two`, from one buffer into another of the same length.
-#[inline(never)]
-fn try_apply_between_in_two<C: StreamCipher>(
-    cipher: &mut C,
-    output: &mut [u8],
-    input: &[u8],
-    first: usize,
-) -> Result<(), StreamCipherError>
-    requires within { first ≤ length input.now }
-    requires same { length input.now ≡ length output.old }
-    ensures accepted { IsOk result
-        ↔ (C.position cipher.old + length input.now ≤ limit_of C.modulus) }
-    ensures bytes { OnOk result (output.new
-        ≡ xor_stream (keystream C.modulus (C.block_at (C.fixed cipher.old)))
-        (C.position cipher.old) input.now) }
-    ensures refused { OnErr result (output.new ≡ output.old) }
-{
-    cipher.check_remaining(input.len())?;
-    let (input_front, input_rest) = input.split_at(first);
-    let (front, rest) = output.split_at_mut(first);
-    cipher.apply_keystream_b2b(input_front, front);
-    cipher.apply_keystream_b2b(input_rest, rest);
-    Ok(())
+    cipher.try_apply_keystream_b2b(input, output)
 }
 
 /// Writes the keystream from a position on.
@@ -155,33 +99,7 @@ fn try_write_keystream<K: KeyIvInit + StreamCipherSeekCore + Drop>(
 {
     let mut cipher = StreamCipherCoreWrapper::<K>::new(key, nonce);
     cipher.try_seek(position)?;
-    let first = first_part_in_pieces::<K>(position, output.len());
-    if first == output.len() {
-        return cipher.try_write_keystream(output);
-    }
-    try_write_in_two(&mut cipher, output, first)
-}
-
-// As `try_apply_in_two`, and writes the keystream itself.
-#[inline(never)]
-fn try_write_in_two<C: StreamCipher>(
-    cipher: &mut C,
-    output: &mut [u8],
-    first: usize,
-) -> Result<(), StreamCipherError>
-    requires { first ≤ length output.old }
-    ensures accepted { IsOk result
-        ↔ (C.position cipher.old + length output.old ≤ limit_of C.modulus) }
-    ensures bytes { OnOk result (output.new
-        ≡ stream_part (keystream C.modulus (C.block_at (C.fixed cipher.old)))
-        (C.position cipher.old) (length output.old)) }
-    ensures refused { OnErr result (output.new ≡ output.old) }
-{
-    cipher.check_remaining(output.len())?;
-    let (front, rest) = output.split_at_mut(first);
-    cipher.write_keystream(front);
-    cipher.write_keystream(rest);
-    Ok(())
+    cipher.try_write_keystream(output)
 }
 
 // 0 for a call that was accepted, and 1 for one that was refused.
