@@ -383,6 +383,15 @@ CHACHA20_INLINE int chacha20_overlap(
     return (to < from ? from - to : to - from) < len;
 }
 
+/* Returns the answer of a call that wrote len bytes unless it was refused, and tells
+   MemorySanitizer. */
+CHACHA20_INLINE uint32_t chacha20_wrote(
+    uint32_t answer, uint8_t *output, size_t len) CHACHA20_NOEXCEPT {
+    (void)output, (void)len;
+    if (answer == CHACHA20_OK) CHACHA20_WROTE(output, len);
+    return answer;
+}
+
 #define CHACHA20_DEFINE(NAME, NONCE_BYTES)                                                      \
     CHACHA20_INLINE uint32_t NAME##_xor(                                                        \
         const uint8_t key[CHACHA20_MIN(32)], const uint8_t nonce[CHACHA20_MIN(NONCE_BYTES)],    \
@@ -390,13 +399,15 @@ CHACHA20_INLINE int chacha20_overlap(
         if (len == 0) return chacha20_check(position, 0);                                       \
         if (output == input) return NAME##_xor_in_place(key, nonce, position, output, len);     \
         if (chacha20_overlap(output, input, len)) return CHACHA20_REFUSED;                      \
-        return NAME##_xor_between(key, nonce, position, output, len, input, len);               \
+        return chacha20_wrote(                                                                  \
+            NAME##_xor_between(key, nonce, position, output, len, input, len), output, len);    \
     }                                                                                           \
     CHACHA20_INLINE uint32_t NAME##_keystream(                                                  \
         const uint8_t key[CHACHA20_MIN(32)], const uint8_t nonce[CHACHA20_MIN(NONCE_BYTES)],    \
         uint64_t position, uint8_t *output, size_t len) CHACHA20_NOEXCEPT {                     \
         if (len == 0) return chacha20_check(position, 0);                                       \
-        return NAME##_keystream_raw(key, nonce, position, output, len);                         \
+        return chacha20_wrote(                                                                  \
+            NAME##_keystream_raw(key, nonce, position, output, len), output, len);              \
     }
 
 CHACHA20_DEFINE(chacha20, 12)
@@ -416,13 +427,16 @@ CHACHA20_INLINE uint32_t chacha20_legacy_xor(
         return chacha20_legacy_xor_in_place(key, nonce, block, offset, output, len);
     }
     if (chacha20_overlap(output, input, len)) return CHACHA20_REFUSED;
-    return chacha20_legacy_xor_between(key, nonce, block, offset, output, len, input, len);
+    return chacha20_wrote(
+        chacha20_legacy_xor_between(key, nonce, block, offset, output, len, input, len), output,
+        len);
 }
 CHACHA20_INLINE uint32_t chacha20_legacy_keystream(
     const uint8_t key[CHACHA20_MIN(32)], const uint8_t nonce[CHACHA20_MIN(8)], uint64_t block,
     uint64_t offset, uint8_t *output, size_t len) CHACHA20_NOEXCEPT {
     if (len == 0) return chacha20_legacy_check(block, offset, 0);
-    return chacha20_legacy_keystream_raw(key, nonce, block, offset, output, len);
+    return chacha20_wrote(
+        chacha20_legacy_keystream_raw(key, nonce, block, offset, output, len), output, len);
 }
 
 /* A number that memory is unlikely to hold by accident; below 2^31 it fits into an instruction. */
@@ -443,6 +457,8 @@ CHACHA20_INLINE void chacha_rng_buffer_end(
     }
     for (i = 0; i < sizeof buffer->state; i++) state[i] = buffer->state[i];
     chacha_rng_get_word_pos(state, &low, &high);
+    CHACHA20_WROTE(&low, sizeof low);
+    CHACHA20_WROTE(&high, sizeof high);
     left = (CHACHA20_BEGUN + sizeof buffer->words - buffer->used) / 4;
     if (low < left) {
         high = (high + 15) % 16;
@@ -458,7 +474,9 @@ CHACHA20_INLINE void chacha_rng_buffer_end(
 #define CHACHA20_DEFINE(NAME)                                                                   \
     CHACHA20_INLINE void NAME##_fill(                                                           \
         uint8_t state[CHACHA20_MIN(49)], uint8_t *output, size_t len) CHACHA20_NOEXCEPT {       \
-        if (len != 0) NAME##_fill_raw(state, output, len);                                      \
+        if (len == 0) return;                                                                   \
+        NAME##_fill_raw(state, output, len);                                                    \
+        CHACHA20_WROTE(output, len);                                                            \
     }                                                                                           \
     CHACHA20_INLINE uint32_t NAME##_buffered_u32(                                               \
         struct chacha_rng_buffer *buffer) CHACHA20_NOEXCEPT {                                   \
@@ -468,8 +486,7 @@ CHACHA20_INLINE void chacha_rng_buffer_end(
         if (used < CHACHA20_BEGUN || used >= CHACHA20_BEGUN + sizeof buffer->words) {           \
             if (used != CHACHA20_BEGUN + sizeof buffer->words) CHACHA20_TRAP();                 \
             used = 4u * (buffer->state[40] & 15u);                                              \
-            NAME##_fill_raw(                                                                    \
-                buffer->state, buffer->words + used, sizeof buffer->words - used);              \
+            NAME##_fill(buffer->state, buffer->words + used, sizeof buffer->words - used);      \
             used += CHACHA20_BEGUN;                                                             \
         }                                                                                       \
         word = buffer->words + (used - CHACHA20_BEGUN);                                         \
@@ -489,6 +506,39 @@ CHACHA20_DEFINE(chacha8_rng)
 
 #undef CHACHA20_DEFINE
 #undef CHACHA20_BEGUN
+
+/* Under MemorySanitizer the calls of these exports go to functions that tell it what was written. */
+#if defined(CHACHA20_UNSEEN)
+#define CHACHA20_DEFINE(NAME)                                                                   \
+    CHACHA20_INLINE void NAME##_seen(                                                           \
+        const uint8_t key[CHACHA20_MIN(32)], const uint8_t input[CHACHA20_MIN(16)],             \
+        uint8_t subkey[CHACHA20_MIN_APART(32)]) CHACHA20_NOEXCEPT {                             \
+        NAME(key, input, subkey);                                                               \
+        CHACHA20_WROTE(subkey, HCHACHA20_SUBKEY_BYTES);                                         \
+    }
+CHACHA20_DEFINE(hchacha20)
+CHACHA20_DEFINE(hchacha12)
+CHACHA20_DEFINE(hchacha8)
+#undef CHACHA20_DEFINE
+CHACHA20_INLINE void chacha_rng_from_seed_seen(
+    const uint8_t seed[CHACHA20_MIN(32)],
+    uint8_t state[CHACHA20_MIN_APART(49)]) CHACHA20_NOEXCEPT {
+    chacha_rng_from_seed(seed, state);
+    CHACHA20_WROTE(state, CHACHA_RNG_STATE_BYTES);
+}
+CHACHA20_INLINE void chacha_rng_get_word_pos_seen(
+    const uint8_t state[CHACHA20_MIN(49)], uint64_t *CHACHA20_APART low,
+    uint64_t *CHACHA20_APART high) CHACHA20_NOEXCEPT {
+    chacha_rng_get_word_pos(state, low, high);
+    CHACHA20_WROTE(low, sizeof *low);
+    CHACHA20_WROTE(high, sizeof *high);
+}
+#define hchacha20 hchacha20_seen
+#define hchacha12 hchacha12_seen
+#define hchacha8 hchacha8_seen
+#define chacha_rng_from_seed chacha_rng_from_seed_seen
+#define chacha_rng_get_word_pos chacha_rng_get_word_pos_seen
+#endif
 
 #ifdef __cplusplus
 }
