@@ -14,10 +14,12 @@
 
    - Arguments come in one order: key, nonce, position, output, its length, input, its length. Where
      both have one length, it stands last.
-   - Pass no null pointer. The functions that this header defines make one exception: they take
-     null where the length is 0.
-   - A length of 0 reads and writes nothing. The pointer may then be any, for instance one past the
-     end of a buffer.
+   - No pointer may be null, with one exception: a function that this header defines takes null for
+     data of length 0. Of such data nothing is read or written, so any other pointer will do too,
+     for instance one past the end of a buffer.
+   - No function knows how long a buffer is. The ciphers with a nonce of 12 or 24 bytes refuse a
+     length of SIZE_MAX, since their streams are shorter. The legacy cipher and the fills of
+     generators have no such limit.
    - What a function writes may not overlap anything else that it is given, except that the output
      of NAME_xor may be its input. So a key can't be encrypted under itself. What a function only
      reads may overlap: a key and a nonce may be parts of one buffer.
@@ -238,12 +240,14 @@ void chacha_rng_set_stream(uint8_t state[CHACHA20_MIN(49)], uint64_t stream) CHA
    next_u64 from the same state; it makes four blocks at a time.
 
    begin puts a state into a buffer, the reads take words, and end writes the state that the next
-   word comes from. Without end, the state from before begin gives the same words again. All reads
-   after a begin are of one number of rounds. The buffer holds words that are to come and words that
-   came: it is as secret as the state, and a copy of it repeats the words.
+   word comes from. Without end, the state from before begin gives the same words again. A buffer
+   may be read on after end; those words also come from the state that end wrote. All reads after a
+   begin are of one number of rounds. The buffer holds words that are to come and words that came:
+   it is as secret as the state, and a copy of it repeats the words.
 
-   No word comes out of a buffer before begin. A read and end stop the program (SIGILL or SIGTRAP)
-   where the buffer is all zeros, or holds whatever was in memory before. */
+   Call begin first. A read and end stop the program (SIGILL or SIGTRAP) where the buffer is all
+   zeros, and nearly always where it holds other bytes. But a buffer that an earlier call left in
+   the same place on the stack still counts as begun: its words come again. */
 struct chacha_rng_buffer {
     uint8_t state[CHACHA_RNG_STATE_BYTES]; /* past the words */
     uint8_t words[256];
@@ -275,7 +279,7 @@ const char *chacha20_version(void) CHACHA20_NOEXCEPT;
 /* Exports
 
    The library exports the functions that are declared above and not defined here, and those below,
-   which the defined ones call. Other languages call the exports. A pointer may never be null here.
+   which the defined ones call. Other languages call the exports.
 
    NAME_xor_in_place    NAME_xor of one buffer
    NAME_xor_between     NAME_xor of two buffers that don't overlap; if their lengths differ, it
