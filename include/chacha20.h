@@ -14,10 +14,12 @@
 
    - Arguments come in one order: key, nonce, position, output, its length, input, its length. Where
      both have one length, it stands last.
-   - Pass no null pointer. The functions that this header defines make one exception: they take
-     null where the length is 0.
-   - A length of 0 reads and writes nothing. The pointer may then be any, for instance one past the
-     end of a buffer.
+   - No pointer may be null, with one exception: a function that this header defines takes null for
+     data of length 0. Of such data nothing is read or written, so any other pointer will do too,
+     for instance one past the end of a buffer.
+   - No function knows how long a buffer is. The ciphers with a nonce of 12 or 24 bytes refuse a
+     length of SIZE_MAX, since their streams are shorter. The legacy cipher and the fills of
+     generators have no such limit.
    - What a function writes may not overlap anything else that it is given, except that the output
      of NAME_xor may be its input. So a key can't be encrypted under itself. What a function only
      reads may overlap: a key and a nonce may be parts of one buffer.
@@ -238,12 +240,14 @@ void chacha_rng_set_stream(uint8_t state[CHACHA20_MIN(49)], uint64_t stream) CHA
    next_u64 from the same state; it makes four blocks at a time.
 
    begin puts a state into a buffer, the reads take words, and end writes the state that the next
-   word comes from. Without end, the state from before begin gives the same words again. All reads
-   after a begin are of one number of rounds. The buffer holds words that are to come and words that
-   came: it is as secret as the state, and a copy of it repeats the words.
+   word comes from. Without end, the state from before begin gives the same words again. A buffer
+   may be read on after end; those words also come from the state that end wrote. All reads after a
+   begin are of one number of rounds. The buffer holds words that are to come and words that came:
+   it is as secret as the state, and a copy of it repeats the words.
 
-   No word comes out of a buffer before begin. A read and end stop the program (SIGILL or SIGTRAP)
-   where the buffer is all zeros, or holds whatever was in memory before. */
+   Call begin first. A read and end stop the program (SIGILL or SIGTRAP) where the buffer is all
+   zeros, and nearly always where it holds other bytes. But a buffer that an earlier call left in
+   the same place on the stack still counts as begun: its words come again. */
 struct chacha_rng_buffer {
     uint8_t state[CHACHA_RNG_STATE_BYTES]; /* past the words */
     uint8_t words[256];
@@ -275,7 +279,7 @@ const char *chacha20_version(void) CHACHA20_NOEXCEPT;
 /* Exports
 
    The library exports the functions that are declared above and not defined here, and those below,
-   which the defined ones call. Other languages call the exports. A pointer may never be null here.
+   which the defined ones call. Other languages call the exports.
 
    NAME_xor_in_place    NAME_xor of one buffer
    NAME_xor_between     NAME_xor of two buffers that don't overlap; if their lengths differ, it
@@ -383,6 +387,15 @@ CHACHA20_INLINE int chacha20_overlap(
     return (to < from ? from - to : to - from) < len;
 }
 
+/* Returns the answer of a call that wrote len bytes unless it was refused, and tells
+   MemorySanitizer. */
+CHACHA20_INLINE uint32_t chacha20_wrote(
+    uint32_t answer, uint8_t *output, size_t len) CHACHA20_NOEXCEPT {
+    (void)output, (void)len;
+    if (answer == CHACHA20_OK) CHACHA20_WROTE(output, len);
+    return answer;
+}
+
 #define CHACHA20_DEFINE(NAME, NONCE_BYTES)                                                      \
     CHACHA20_INLINE uint32_t NAME##_xor(                                                        \
         const uint8_t key[CHACHA20_MIN(32)], const uint8_t nonce[CHACHA20_MIN(NONCE_BYTES)],    \
@@ -390,13 +403,15 @@ CHACHA20_INLINE int chacha20_overlap(
         if (len == 0) return chacha20_check(position, 0);                                       \
         if (output == input) return NAME##_xor_in_place(key, nonce, position, output, len);     \
         if (chacha20_overlap(output, input, len)) return CHACHA20_REFUSED;                      \
-        return NAME##_xor_between(key, nonce, position, output, len, input, len);               \
+        return chacha20_wrote(                                                                  \
+            NAME##_xor_between(key, nonce, position, output, len, input, len), output, len);    \
     }                                                                                           \
     CHACHA20_INLINE uint32_t NAME##_keystream(                                                  \
         const uint8_t key[CHACHA20_MIN(32)], const uint8_t nonce[CHACHA20_MIN(NONCE_BYTES)],    \
         uint64_t position, uint8_t *output, size_t len) CHACHA20_NOEXCEPT {                     \
         if (len == 0) return chacha20_check(position, 0);                                       \
-        return NAME##_keystream_raw(key, nonce, position, output, len);                         \
+        return chacha20_wrote(                                                                  \
+            NAME##_keystream_raw(key, nonce, position, output, len), output, len);              \
     }
 
 CHACHA20_DEFINE(chacha20, 12)
@@ -416,13 +431,16 @@ CHACHA20_INLINE uint32_t chacha20_legacy_xor(
         return chacha20_legacy_xor_in_place(key, nonce, block, offset, output, len);
     }
     if (chacha20_overlap(output, input, len)) return CHACHA20_REFUSED;
-    return chacha20_legacy_xor_between(key, nonce, block, offset, output, len, input, len);
+    return chacha20_wrote(
+        chacha20_legacy_xor_between(key, nonce, block, offset, output, len, input, len), output,
+        len);
 }
 CHACHA20_INLINE uint32_t chacha20_legacy_keystream(
     const uint8_t key[CHACHA20_MIN(32)], const uint8_t nonce[CHACHA20_MIN(8)], uint64_t block,
     uint64_t offset, uint8_t *output, size_t len) CHACHA20_NOEXCEPT {
     if (len == 0) return chacha20_legacy_check(block, offset, 0);
-    return chacha20_legacy_keystream_raw(key, nonce, block, offset, output, len);
+    return chacha20_wrote(
+        chacha20_legacy_keystream_raw(key, nonce, block, offset, output, len), output, len);
 }
 
 /* A number that memory is unlikely to hold by accident; below 2^31 it fits into an instruction. */
@@ -443,6 +461,8 @@ CHACHA20_INLINE void chacha_rng_buffer_end(
     }
     for (i = 0; i < sizeof buffer->state; i++) state[i] = buffer->state[i];
     chacha_rng_get_word_pos(state, &low, &high);
+    CHACHA20_WROTE(&low, sizeof low);
+    CHACHA20_WROTE(&high, sizeof high);
     left = (CHACHA20_BEGUN + sizeof buffer->words - buffer->used) / 4;
     if (low < left) {
         high = (high + 15) % 16;
@@ -458,7 +478,9 @@ CHACHA20_INLINE void chacha_rng_buffer_end(
 #define CHACHA20_DEFINE(NAME)                                                                   \
     CHACHA20_INLINE void NAME##_fill(                                                           \
         uint8_t state[CHACHA20_MIN(49)], uint8_t *output, size_t len) CHACHA20_NOEXCEPT {       \
-        if (len != 0) NAME##_fill_raw(state, output, len);                                      \
+        if (len == 0) return;                                                                   \
+        NAME##_fill_raw(state, output, len);                                                    \
+        CHACHA20_WROTE(output, len);                                                            \
     }                                                                                           \
     CHACHA20_INLINE uint32_t NAME##_buffered_u32(                                               \
         struct chacha_rng_buffer *buffer) CHACHA20_NOEXCEPT {                                   \
@@ -468,8 +490,7 @@ CHACHA20_INLINE void chacha_rng_buffer_end(
         if (used < CHACHA20_BEGUN || used >= CHACHA20_BEGUN + sizeof buffer->words) {           \
             if (used != CHACHA20_BEGUN + sizeof buffer->words) CHACHA20_TRAP();                 \
             used = 4u * (buffer->state[40] & 15u);                                              \
-            NAME##_fill_raw(                                                                    \
-                buffer->state, buffer->words + used, sizeof buffer->words - used);              \
+            NAME##_fill(buffer->state, buffer->words + used, sizeof buffer->words - used);      \
             used += CHACHA20_BEGUN;                                                             \
         }                                                                                       \
         word = buffer->words + (used - CHACHA20_BEGUN);                                         \
@@ -489,6 +510,39 @@ CHACHA20_DEFINE(chacha8_rng)
 
 #undef CHACHA20_DEFINE
 #undef CHACHA20_BEGUN
+
+/* Under MemorySanitizer the calls of these exports go to functions that tell it what was written. */
+#if defined(CHACHA20_UNSEEN)
+#define CHACHA20_DEFINE(NAME)                                                                   \
+    CHACHA20_INLINE void NAME##_seen(                                                           \
+        const uint8_t key[CHACHA20_MIN(32)], const uint8_t input[CHACHA20_MIN(16)],             \
+        uint8_t subkey[CHACHA20_MIN_APART(32)]) CHACHA20_NOEXCEPT {                             \
+        NAME(key, input, subkey);                                                               \
+        CHACHA20_WROTE(subkey, HCHACHA20_SUBKEY_BYTES);                                         \
+    }
+CHACHA20_DEFINE(hchacha20)
+CHACHA20_DEFINE(hchacha12)
+CHACHA20_DEFINE(hchacha8)
+#undef CHACHA20_DEFINE
+CHACHA20_INLINE void chacha_rng_from_seed_seen(
+    const uint8_t seed[CHACHA20_MIN(32)],
+    uint8_t state[CHACHA20_MIN_APART(49)]) CHACHA20_NOEXCEPT {
+    chacha_rng_from_seed(seed, state);
+    CHACHA20_WROTE(state, CHACHA_RNG_STATE_BYTES);
+}
+CHACHA20_INLINE void chacha_rng_get_word_pos_seen(
+    const uint8_t state[CHACHA20_MIN(49)], uint64_t *CHACHA20_APART low,
+    uint64_t *CHACHA20_APART high) CHACHA20_NOEXCEPT {
+    chacha_rng_get_word_pos(state, low, high);
+    CHACHA20_WROTE(low, sizeof *low);
+    CHACHA20_WROTE(high, sizeof *high);
+}
+#define hchacha20 hchacha20_seen
+#define hchacha12 hchacha12_seen
+#define hchacha8 hchacha8_seen
+#define chacha_rng_from_seed chacha_rng_from_seed_seen
+#define chacha_rng_get_word_pos chacha_rng_get_word_pos_seen
+#endif
 
 #ifdef __cplusplus
 }

@@ -70,6 +70,18 @@
 #define CHACHA20_TRAP() abort()
 #endif
 
+/* Tells MemorySanitizer that bytes are initialized: it doesn't see what the library writes. */
+#if defined(__has_feature)
+#if __has_feature(memory_sanitizer)
+#include <sanitizer/msan_interface.h>
+#define CHACHA20_UNSEEN
+#define CHACHA20_WROTE(bytes, len) __msan_unpoison(bytes, len)
+#endif
+#endif
+#if !defined(CHACHA20_WROTE)
+#define CHACHA20_WROTE(bytes, len) ((void)0)
+#endif
+
 /* What a compiler can report of a call: a null pointer, a length past the end of a buffer, an array
    that is too short, and an output that is also an input. gcc reports lengths from version 10 on,
    where it optimizes; clang reports them where they are constants. */
@@ -169,6 +181,8 @@
 #undef CHACHA20_INLINE
 #undef CHACHA20_ADDRESS
 #undef CHACHA20_TRAP
+#undef CHACHA20_UNSEEN
+#undef CHACHA20_WROTE
 #undef CHACHA20_NEVER_NULL
 #undef CHACHA20_KEY_NEVER_NULL
 #undef CHACHA20_STATE_NEVER_NULL

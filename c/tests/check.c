@@ -353,7 +353,7 @@ static int is_stopped(const struct library *library, int content, int ends) {
     return child > 0 && waitpid(child, &status, 0) == child && WIFSIGNALED(status);
 }
 
-/* No word comes out of a buffer that was not begun, whatever was in memory. */
+/* No word comes out of a buffer that was not begun, where memory holds these bytes. */
 static void not_begun(struct run *run, const struct library *library) {
     static const int contents[] = {0, 1, 0x40, 0xaa, 0xff};
     for (size_t i = 0; i < sizeof contents / sizeof contents[0]; i++) {

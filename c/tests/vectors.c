@@ -27,7 +27,8 @@ static void is(const char *name, const uint8_t *found, const char *hex) {
     wrong++;
 }
 
-/* Each counter of the RFC has a position; where 64 times a block doesn't fit, the position is refused. */
+/* Each counter of the RFC has a position; where 64 times a block doesn't fit, the position is refused. The greatest length
+   ends past the RFC's stream, and within a legacy one. */
 static void positions(void) {
     uint64_t past = (uint64_t)1 << 32;
     wrong += chacha20_block_position(past - 1) != CHACHA20_STREAM_BYTES - 64;
@@ -35,6 +36,8 @@ static void positions(void) {
     wrong += chacha20_check(chacha20_block_position(past), 1) != CHACHA20_REFUSED;
     wrong += chacha20_check(chacha20_block_position((uint64_t)1 << 58), 0) != CHACHA20_REFUSED;
     wrong += chacha20_check(chacha20_block_position(UINT64_MAX), 0) != CHACHA20_REFUSED;
+    wrong += chacha20_check(0, SIZE_MAX) != CHACHA20_REFUSED;
+    wrong += chacha20_legacy_check(0, 0, SIZE_MAX) != CHACHA20_OK;
 }
 
 static void counting(uint8_t *bytes, size_t len, int first) {
