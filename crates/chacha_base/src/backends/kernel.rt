@@ -141,8 +141,8 @@ pub fn write_tail<R: Rounds, V: Variant, G: Group, const W: usize>(
     }
 }
 
-/// As `write_tail`, for a backend whose single block takes two quarter rounds in a double round. `EIGHT` is what its tails
-/// of five to eight blocks take.
+/// As `write_tail`, for a backend whose single block takes two quarter rounds in a double round. `EIGHT` is what its
+/// tails of five to eight blocks take.
 #[inline(always)]
 pub fn write_narrow_tail<R: Rounds, V: Variant, G: Group, const W: usize, const EIGHT: usize>(
     state: &mut [u32; 16],

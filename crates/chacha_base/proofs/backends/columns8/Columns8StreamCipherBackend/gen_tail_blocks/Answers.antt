@@ -1,0 +1,12 @@
+use Rattle.chacha_base.proofs.backends.columns8.Columns8StreamCipherBackend.gen_tail_blocks.Goals as goal
+
+-- answered for speed, as the next one
+pub returns-in-3 : goal.returns-in-3
+returns-in-3 g c =
+    let made = c.write_narrow_tail-in-3.ensures in
+    record { blocks = made.blocks; state = made.state; steps = made.steps; rounds = made.rounds }
+
+pub returns-in_default : goal.returns-in_default
+returns-in_default g c =
+    let made = c.write_narrow_tail-in_default.ensures in
+    record { blocks = made.blocks; state = made.state; steps = made.steps; rounds = made.rounds }
