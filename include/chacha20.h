@@ -26,8 +26,8 @@
    - Bytes need no alignment. The two uint64_t of chacha_rng_get_word_pos are aligned as C has them.
    - No function keeps anything between calls, allocates, takes a lock or throws. Threads and signal
      handlers may call each function at any time, as long as none writes memory that another uses.
-   - A call takes at most 4,608 bytes of the stack (CHACHA20_DEEPEST of chacha20_wipe.h). A signal
-     handler with a stack of its own needs these and what the system puts there, which is
+   - A call takes at most CHACHA20_DEEPEST bytes of the stack (chacha20_wipe.h). A signal handler with
+     a stack of its own needs these and what the system puts there, which is
      sysconf(_SC_MINSIGSTKSZ). With AVX-512 6,144 bytes are too few; 16,384 are enough.
    - Keys, nonces and seeds are not wiped from the stack; chacha20_wipe.h has a recipe.
 

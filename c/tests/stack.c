@@ -1,7 +1,8 @@
 /* SPDX-License-Identifier: Apache-2.0 OR MIT
 
-   How deep the calls go: each runs on a stack of its own that was painted, and the lowest byte that changed tells. And
-   whether chacha20_wipe_stack reaches the copies of keys that calls leave. */
+   How deep the calls go: each runs on a stack of its own that was painted, and the lowest byte that changed tells. A
+   long call aligns its stack, so each runs from two places. And whether chacha20_wipe_stack reaches the copies of keys
+   that calls leave. */
 
 #define _DEFAULT_SOURCE
 
@@ -15,7 +16,7 @@
 
 enum { STACK = 1 << 16, MOST = (1 << 16) + 1000, KINDS = 15 };
 
-static const size_t lengths[] = {0, 35, 70, 105, 140, 550, 960, 1370, 1780, 2190, 2600, MOST};
+static const size_t lengths[] = {0, 35, 70, 105, 140, 550, 960, 1370, 1780, 2190, 2600, 4096, MOST};
 static uint8_t stack[STACK] __attribute__((aligned(64)));
 static uint8_t key[32], nonce[24], state[CHACHA_RNG_STATE_BYTES], input[MOST], output[MOST];
 static struct chacha_rng_buffer buffer;
@@ -23,7 +24,7 @@ static const struct library *library;
 static const uint8_t *begin;
 static uint32_t answer;
 static size_t len;
-static int kind, at_rounds, layout, wipes;
+static int kind, at_rounds, layout, wipes, moved;
 static ucontext_t home, away;
 
 static __attribute__((noinline)) void one_call(void) {
@@ -61,12 +62,24 @@ static size_t depth(uint8_t paint) {
     library->buffer_begin(&buffer, state);
     getcontext(&away);
     away.uc_stack.ss_sp = stack;
-    away.uc_stack.ss_size = sizeof stack;
+    away.uc_stack.ss_size = sizeof stack - (size_t)moved;
     away.uc_link = &home;
     makecontext(&away, on_stack, 0);
     swapcontext(&home, &away);
     while (at < sizeof stack && stack[at] == paint) at++;
     return (size_t)(begin - (stack + at));
+}
+
+/* The most of two places and two paints. */
+static size_t most_depth(void) {
+    size_t most = 0;
+    for (moved = 16; moved >= 0; moved -= 16) {
+        size_t one = depth(0xa5), other = depth(0x5a);
+        if (one > most) most = one;
+        if (other > most) most = other;
+    }
+    moved = 0;
+    return most;
 }
 
 /* Whether eight bytes of the key are below the frame that made the call. */
@@ -95,9 +108,8 @@ int main(void) {
                     for (size_t j = 0; j < sizeof lengths / sizeof lengths[0]; j++) {
                         len = lengths[j];
                         memcpy(state, key, 32);
-                        size_t one = depth(0xa5), other = depth(0x5a);
-                        if (other > one) one = other;
-                        if (one > deepest_here) deepest_here = one;
+                        size_t most = most_depth();
+                        if (most > deepest_here) deepest_here = most;
                         left += holds_key();
                         wipes = 1;
                         depth(0xa5);
