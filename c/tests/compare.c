@@ -19,10 +19,8 @@ int main(int argc, char **argv) {
     }
     if (is_time) hide_avx();
     machine.build_count = find_builds(machine.builds);
-    /* The one that chooses makes a call of another, so it is compared and not timed. */
-    if (is_time && machine.build_count > 1) machine.build_count--;
     machine.other_count = find_others(machine.others);
-    if (is_time) return time_all(&machine, argc > 2 ? atoi(argv[2]) : 300);
+    if (is_time) return time_all(&machine, argc > 2 ? atoi(argv[2]) : 8192);
     return check(&machine, argc > 3 ? strtoull(argv[3], NULL, 10) : 20260101,
                  argc > 2 ? strtoull(argv[2], NULL, 10) : 1000000000);
 }

@@ -35,8 +35,10 @@ static int (*evp_init)(void *, void *, void *, const uint8_t *, const uint8_t *)
 static int (*evp_update)(void *, uint8_t *, int *, const uint8_t *, int);
 static void *evp_context;
 
-static void openssl_xor(const uint8_t *key, const uint8_t iv[16], uint8_t *output, const uint8_t *input, size_t len) {
-    int done = evp_init(evp_context, NULL, NULL, key, iv);
+/* Without a cipher, the context keeps the one that it has. */
+static void openssl_xor(void *cipher, const uint8_t *key, const uint8_t iv[16], uint8_t *output, const uint8_t *input,
+                        size_t len) {
+    int done = evp_init(evp_context, cipher, NULL, key, iv);
     while (done && len > 0) {
         int part = len < 1 << 30 ? (int)len : 1 << 30, out = 0;
         done = evp_update(evp_context, output, &out, input, part) && out == part;
@@ -56,15 +58,34 @@ static void openssl_ietf(int rounds, const uint8_t *key, const uint8_t *nonce, u
     (void)rounds;
     store_le(iv, block, 4);
     memcpy(iv + 4, nonce, 12);
-    openssl_xor(key, iv, data, data, len);
+    openssl_xor(NULL, key, iv, data, data, len);
 }
 
 static void openssl_between(const uint8_t *key, const uint8_t *nonce, uint8_t *output, const uint8_t *input,
                             size_t len) {
     uint8_t iv[16] = {0};
     memcpy(iv + 4, nonce, 12);
-    openssl_xor(key, iv, output, input, len);
+    openssl_xor(NULL, key, iv, output, input, len);
 }
+
+static void fetching_ietf(int rounds, const uint8_t *key, const uint8_t *nonce, uint64_t block, uint8_t *data,
+                          size_t len) {
+    uint8_t iv[16];
+    (void)rounds;
+    store_le(iv, block, 4);
+    memcpy(iv + 4, nonce, 12);
+    openssl_xor(evp_chacha20(), key, iv, data, data, len);
+}
+
+static void fetching_between(const uint8_t *key, const uint8_t *nonce, uint8_t *output, const uint8_t *input,
+                             size_t len) {
+    uint8_t iv[16] = {0};
+    memcpy(iv + 4, nonce, 12);
+    openssl_xor(evp_chacha20(), key, iv, output, input, len);
+}
+
+const struct other openssl_fetching = {
+    .name = "OpenSSL", .xor_from_block = {[IETF] = fetching_ietf}, .xor_between = fetching_between};
 
 static void openssl_legacy(int rounds, const uint8_t *key, const uint8_t *nonce, uint64_t block, uint8_t *data,
                            size_t len) {
@@ -72,7 +93,7 @@ static void openssl_legacy(int rounds, const uint8_t *key, const uint8_t *nonce,
     (void)rounds;
     store_le(iv, block, 8);
     memcpy(iv + 8, nonce, 8);
-    openssl_xor(key, iv, data, data, len);
+    openssl_xor(NULL, key, iv, data, data, len);
 }
 
 int find_openssl(struct other *found) {

@@ -1,10 +1,10 @@
 /* SPDX-License-Identifier: Apache-2.0 OR MIT
 
-   Times, all contestants by turns, the making of the cipher included. The figure is the least of the turns, in
-   processor time, so that what else runs on the machine disturbs it least. A call's time also depends on where its
-   stack and its buffers lie modulo 4096. So each turn has another place, and a second table has the median and the most
-   of the places. OpenSSL runs once more in another process, which hides AVX from it, since it looks at the processor
-   when it is loaded. */
+   Times, all contestants by turns, the making of the cipher included. A call's time also depends on where its stack and
+   its buffers lie modulo 4096. So each turn has another place. The time at a place is the least of its turns, in
+   processor time, so that what else runs on the machine disturbs it least. The figure is the median of the places, since
+   a single turn can also be too short. Other tables have the most of the places, and many lengths. OpenSSL runs once more in another process, which hides AVX from it, since it looks at the processor when it is
+   loaded. */
 
 #define _POSIX_C_SOURCE 200809L
 
@@ -17,22 +17,37 @@
 
 #include "compare.h"
 
-enum { MOST_CONTESTANTS = MOST_BUILDS + MOST_OTHERS + 1, TASKS = 9, PASSES = 30, PLACES = 64, PAGE = 4096 };
+enum { MOST_CONTESTANTS = MOST_BUILDS + MOST_OTHERS + 2, PASSES = 32, PAGE = 4096 };
 
-/* What is timed: so many bytes in place, or from one buffer to another. */
+/* Every multiple of 16 bytes in a page is a place. Where there are fewer turns, there are fewer places. */
+enum { PLACES = PAGE / 16, FEWER_PLACES = 16, FEW_PLACES = 4 };
+
+/* What is timed: so many bytes in place, or from one buffer to another. The tasks of the last table have no name. */
 static const struct task {
     const char *name;
     size_t len;
     int is_between;
-} tasks[TASKS] = {{"64 bytes", 64, 0},
-                  {"512 bytes", 512, 0},
-                  {"576 bytes", 576, 0},
-                  {"1500 bytes", 1500, 0},
-                  {"64 KiB", 64 << 10, 0},
-                  {"64 MiB", 64 << 20, 0},
-                  {"1500 bytes, two buffers", 1500, 1},
-                  {"64 KiB, two buffers", 64 << 10, 1},
-                  {"1 MiB, two buffers", 1 << 20, 1}};
+} tasks[] = {{"64 bytes", 64, 0},
+             {"256 bytes", 256, 0},
+             {"512 bytes", 512, 0},
+             {"576 bytes", 576, 0},
+             {"1024 bytes", 1024, 0},
+             {"1500 bytes", 1500, 0},
+             {"4096 bytes", 4096, 0},
+             {"64 KiB", 64 << 10, 0},
+             {"64 MiB", 64 << 20, 0},
+             {"1500 bytes, two buffers", 1500, 1},
+             {"64 KiB, two buffers", 64 << 10, 1},
+             {"1 MiB, two buffers", 1 << 20, 1},
+#define LENGTH(BYTES) {NULL, BYTES, 0}
+#define FOUR_LENGTHS(STEP) LENGTH(5 * (STEP)), LENGTH(6 * (STEP)), LENGTH(7 * (STEP)), LENGTH(8 * (STEP))
+             LENGTH(1), LENGTH(2), LENGTH(4), LENGTH(8), LENGTH(16), LENGTH(32), LENGTH(64),
+             LENGTH(128), LENGTH(192), LENGTH(256),
+             FOUR_LENGTHS(64), FOUR_LENGTHS(128), FOUR_LENGTHS(256), FOUR_LENGTHS(512), FOUR_LENGTHS(1 << 10),
+             FOUR_LENGTHS(1 << 11), FOUR_LENGTHS(1 << 12), FOUR_LENGTHS(1 << 13), FOUR_LENGTHS(1 << 14),
+             FOUR_LENGTHS(1 << 15), FOUR_LENGTHS(1 << 16), FOUR_LENGTHS(1 << 17)};
+
+enum { TASKS = sizeof tasks / sizeof tasks[0], NAMED = 12 };
 
 /* The most bytes in place and between buffers, and a page to move them in. */
 enum { OUTPUT_ROOM = (64 << 20) + PAGE, INPUT_ROOM = (1 << 20) + PAGE };
@@ -75,12 +90,14 @@ static void call(const struct contestant *it, const struct task *task, uint8_t *
     }
 }
 
-/* The time of a call at a place, which moves the stack by a multiple of 16 bytes and each buffer by one of 64. */
+/* The time of a call at a place, which moves the stack by a multiple of 16 bytes and each buffer by one of 64. A call
+   before them brings code and data near. */
 static double calls_here(const struct contestant *it, const struct task *task, int place, int calls) {
     volatile uint8_t moved[80 * place + 1];
-    uint8_t *output = output_room + 64 * (30 * place % PLACES);
-    const uint8_t *input = input_room + 64 * (44 * place % PLACES);
+    uint8_t *output = output_room + 64 * (30 * place % (PAGE / 64));
+    const uint8_t *input = input_room + 64 * (44 * place % (PAGE / 64));
     moved[0] = 0;
+    if (calls > 1) call(it, task, output, input);
     double begin = seconds();
     for (int i = 0; i < calls; i++) call(it, task, output, input);
     return (seconds() - begin) * 1e9 / calls + moved[0];
@@ -149,17 +166,17 @@ static double nanoseconds_a_call(const struct contestant *it, int task, int plac
 static double times[TASKS][MOST_CONTESTANTS][PLACES];
 
 /* Turns of a task, of which each begins with another contestant and has the next place. */
-static void take_turns(const struct contestant *all, int count, int task, int first_turn, int turns) {
+static void take_turns(const struct contestant *all, int count, int task, int first_turn, int turns, int places) {
     int calls[MOST_CONTESTANTS];
     for (int i = 0; i < count; i++) {
         nanoseconds_a_call(&all[i], task, 0, 1);
-        calls[i] = (int)(1 + 4e5 / (1 + nanoseconds_a_call(&all[i], task, 0, 1)));
+        calls[i] = (int)(1 + 1e5 / (1 + nanoseconds_a_call(&all[i], task, 0, 1)));
     }
     for (int turn = first_turn; turn < first_turn + turns; turn++) {
         for (int i = 0; i < count; i++) {
-            int at = (turn + i) % count;
-            double *least = &times[task][at][turn % PLACES];
-            double time = nanoseconds_a_call(&all[at], task, turn % PLACES, calls[at]);
+            int at = (turn + i) % count, place = turn % places;
+            double *least = &times[task][at][place];
+            double time = nanoseconds_a_call(&all[at], task, place, calls[at]);
             if (*least == 0 || time < *least) *least = time;
         }
     }
@@ -188,67 +205,112 @@ static void print_head(const char *first, const char *const *rest, int count) {
     putchar('\n');
 }
 
+static void add(struct contestant *all, int *count, struct contestant it, const char *name, const char *how) {
+    all[*count] = it;
+    snprintf(all[(*count)++].name, sizeof it.name, "%s%s", name, how);
+}
+
 static int gather(const struct machine *machine, struct contestant *all) {
-    int count = 0;
+    int count = 0, has_openssl = 0;
     for (int i = 0; i < machine->build_count; i++) {
-        all[count] = (struct contestant){.library = machine->builds[i]};
-        snprintf(all[count++].name, sizeof all[0].name, "%s", machine->builds[i]->level);
+        add(all, &count, (struct contestant){.library = machine->builds[i]}, machine->builds[i]->level, "");
     }
     for (int i = 0; i < machine->other_count; i++) {
-        all[count] = (struct contestant){.other = &machine->others[i]};
-        snprintf(all[count++].name, sizeof all[0].name, "%s", machine->others[i].name);
+        const struct other *other = &machine->others[i];
+        int is_openssl = strcmp(other->name, openssl_fetching.name) == 0;
+        add(all, &count, (struct contestant){.other = other}, other->name, is_openssl ? ", cipher fetched once" : "");
+        has_openssl |= is_openssl;
     }
-    if (to_hidden >= 0) all[count++] = (struct contestant){.name = "OpenSSL without AVX", .is_hidden = 1};
+    if (has_openssl) {
+        add(all, &count, (struct contestant){.other = &openssl_fetching}, "OpenSSL", ", EVP_chacha20() in each call");
+    }
+    if (to_hidden >= 0) {
+        add(all, &count, (struct contestant){.is_hidden = 1}, "OpenSSL without AVX", ", cipher fetched once");
+    }
     return count;
 }
 
-/* Three tables: the least time of a call; the median and the most of the places; the library's least time divided by
-   the other's. */
-static void print_times(const struct contestant *all, int count, int ours) {
-    const char *names[MOST_CONTESTANTS], *of_tasks[TASKS];
-    int places[TASKS];
-    for (int i = 0; i < count; i++) names[i] = all[i].name;
-    for (int task = 0; task < TASKS; task++) {
-        of_tasks[task] = tasks[task].name;
-        for (int i = 0; i < count; i++) places[task] = sort_places(times[task][i]);
-    }
+static void print_medians(const char *const *names, int count, const int *places) {
     print_head("nanoseconds a call", names, count);
-    for (int task = 0; task < TASKS; task++) {
-        printf("| %s |", of_tasks[task]);
-        for (int i = 0; i < count; i++) printf(" %.0f |", times[task][i][0]);
+    for (int task = 0; task < NAMED; task++) {
+        printf("| %s |", tasks[task].name);
+        for (int i = 0; i < count; i++) printf(" %.0f |", times[task][i][places[task] / 2]);
         putchar('\n');
     }
-    print_head("median and most of the places, divided by the least", names, count);
-    for (int task = 0; task < TASKS; task++) {
-        printf("| %s |", of_tasks[task]);
+}
+
+static void print_most(const char *const *names, int count, const int *places) {
+    print_head("most of the places, divided by the median", names, count);
+    for (int task = 0; task < NAMED; task++) {
+        printf("| %s |", tasks[task].name);
         for (int i = 0; i < count; i++) {
             const double *it = times[task][i];
-            printf(" %.2f, %.2f |", it[places[task] / 2] / it[0], it[places[task] - 1] / it[0]);
+            printf(" %.2f |", it[places[task] - 1] / it[places[task] / 2]);
         }
         putchar('\n');
     }
-    print_head("time divided by", of_tasks, TASKS);
+}
+
+/* For each of ours, beside each other. */
+static void print_ratios(const char *const *names, int count, const int *places, int ours) {
+    const char *of_tasks[NAMED];
+    for (int task = 0; task < NAMED; task++) of_tasks[task] = tasks[task].name;
+    print_head("median and most of the places, divided by the other's median", of_tasks, NAMED);
     for (int i = 0; i < ours; i++) {
         for (int j = ours; j < count; j++) {
             printf("| %s / %s |", names[i], names[j]);
-            for (int task = 0; task < TASKS; task++) printf(" %.2f |", times[task][i][0] / times[task][j][0]);
+            for (int task = 0; task < NAMED; task++) {
+                const double *it = times[task][i], median = times[task][j][places[task] / 2];
+                printf(" %.2f, %.2f |", it[places[task] / 2] / median, it[places[task] - 1] / median);
+            }
             putchar('\n');
         }
     }
 }
 
+static void print_lengths(const char *const *names, int count, const int *places) {
+    print_head("bytes: nanoseconds a byte", names, count);
+    for (int task = NAMED; task < TASKS; task++) {
+        printf("| %zu |", tasks[task].len);
+        for (int i = 0; i < count; i++) {
+            printf(" %.4g |", times[task][i][places[task] / 2] / (double)tasks[task].len);
+        }
+        putchar('\n');
+    }
+}
+
+static void print_times(const struct contestant *all, int count, int ours) {
+    const char *names[MOST_CONTESTANTS];
+    int places[TASKS];
+    for (int i = 0; i < count; i++) names[i] = all[i].name;
+    for (int task = 0; task < TASKS; task++) {
+        for (int i = 0; i < count; i++) places[task] = sort_places(times[task][i]);
+    }
+    print_medians(names, count, places);
+    print_most(names, count, places);
+    print_ratios(names, count, places, ours);
+    print_lengths(names, count, places);
+}
+
 static void time_calls(const struct machine *machine, int turns) {
     struct contestant all[MOST_CONTESTANTS];
-    int count = gather(machine, all), share = (turns + PASSES - 1) / PASSES, few = (share + 9) / 10;
+    int count = gather(machine, all), share = (turns + PASSES - 1) / PASSES;
+    int fewer = (share + 31) / 32, few = (share + 127) / 128;
     /* A task has its turns over the whole time, so that a minute in which the machine is busy isn't that of one task. */
     for (int pass = 0; pass < PASSES; pass++) {
         for (int task = 0; task < TASKS; task++) {
-            int part = tasks[task].len > 1 << 20 ? few : share;
-            take_turns(all, count, task, pass * part, part);
+            if (tasks[task].len > 1 << 20) {
+                take_turns(all, count, task, pass * few, few, FEW_PLACES);
+            } else if (task >= NAMED || tasks[task].len == 1 << 20) {
+                take_turns(all, count, task, pass * fewer, fewer, FEWER_PLACES);
+            } else {
+                take_turns(all, count, task, pass * share, share, PLACES);
+            }
         }
     }
-    printf("\nChaCha20, in place but where two buffers are named: the least of %d turns, of %d for 64 MiB, at %d places\n",
-           share * PASSES, few * PASSES, PLACES);
+    printf("\nChaCha20, in place but where two buffers are named: %d turns at %d places; for 1 MiB and in the table of"
+           " bytes %d turns at %d places; for 64 MiB %d turns at %d places\n",
+           share * PASSES, PLACES, fewer * PASSES, FEWER_PLACES, few * PASSES, FEW_PLACES);
     print_times(all, count, machine->build_count);
 }
 
