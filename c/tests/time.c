@@ -3,7 +3,8 @@
    Times, all contestants by turns, the making of the cipher included. A call's time also depends on where its stack and
    its buffers lie modulo 4096. So each turn has another place. The time at a place is the least of its turns, in
    processor time, so that what else runs on the machine disturbs it least. The figure is the median of the places, since
-   a single turn can also be too short. Other tables have the most of the places, and many lengths. OpenSSL runs once more in another process, which hides AVX from it, since it looks at the processor when it is
+   a single turn can also be too short. Other tables have the most of the places, and many lengths, which `picture`
+   draws. OpenSSL runs once more in another process, which hides AVX from it, since it looks at the processor when it is
    loaded. */
 
 #define _POSIX_C_SOURCE 200809L
