@@ -1,6 +1,7 @@
 -- Reads of a generator, one after another, for proofs about simulations that draw in parts.
-use Rattle.std.proofs.Common.{◌≡◌, ℕ, zero, suc, ◌+◌, ◌*◌, ◌/◌, ◌%◌, ◌<◌, List, [], ◌∷◌, ◌++◌, length, take, slice_index, arith, refl, sym, ap, ap₂, ◌∙◌, take_all}
-use Rattle.std.proofs.Math.Seq.{take-append-add}
+use Rattle.std.proofs.Common.{◌≡◌, ℕ, zero, suc, ◌+◌, ◌*◌, ◌/◌, ◌-◌, ◌%◌, ◌<◌, List, [], ◌∷◌, ◌++◌, length, take, slice_index, arith, refl, sym, ap, ap₂, ◌∙◌, drop_at, take_all, length-take-le}
+use Rattle.std.proofs.Math.Seq.{get_or-append_seam, take-append-add}
+use Rattle.std.specs.List.{slice_range}
 use Rattle.std.specs.Int.{w64, to_le_bytes}
 use Rattle.chacha_base.specs.Block.{start}
 use Rattle.chacha_base.specs.Bytes.{bytes}
@@ -55,6 +56,17 @@ pub reads-more : {A : Type 0} {h i : GeneratorState} {xs : List A} {x : A} (read
 reads-more {A} read k g before now =
     reads-then read k 1 g before (ap (λ (a : A × GeneratorState). (a.0 ∷ [], a.1)) now)
 
+-- of i reads and then more, number i is the first after those i
+pub reads-nth : (read : GeneratorState → ℕ × GeneratorState) (i m : ℕ) (g : GeneratorState)
+    → slice_index (repeated read (i + suc m) g).0 i ≡ (read (repeated read i g).1).0
+reads-nth read i m g =
+    let first = repeated read i g in
+    let here = read first.1 in
+    let rest = repeated read m here.1 in
+    ap (λ (a : List ℕ × GeneratorState). slice_index a.0 i) (reads-add read i (suc m) g)
+    ∙ ap (λ j. slice_index (first.0 ++ here.0 ∷ rest.0) j) (sym (length-repeated read i g))
+    ∙ get_or-append_seam first.0 here.0 rest.0 0
+
 -- k words, read one by one
 pub reads-next_u32 : (n k : ℕ) (g : GeneratorState) → g.word_pos < positions
     → repeated (next_u32 n) k g ≡ (stream_part (word n g) g.word_pos k, at_word_pos g (g.word_pos + k))
@@ -75,6 +87,13 @@ fill-words n k g =
     (omega (arith, length-bytes words, length-stream_part (word n g) g.word_pos k)) in
     rw (count, whole)
 
+-- a fill has as many bytes as are wanted
+pub length-fill : (n len : ℕ) (g : GeneratorState) → length (fill n g len).0 ≡ len
+length-fill n len g =
+    let words = stream_part (word n g) g.word_pos ((len + 3) / 4) in
+    length-take-le len (bytes words)
+    (omega (arith, length-bytes words, length-stream_part (word n g) g.word_pos ((len + 3) / 4)))
+
 -- a fill of whole words, and then another, are one fill
 pub fill-add : (n k len : ℕ) (g : GeneratorState)
     → fill n g (4 * k + len)
@@ -94,6 +113,21 @@ fill-add n k len g =
     let after : (w + (k + m)) % positions ≡ ((w + k) % positions + m) % positions = omega arith in
     let again = words-same n g _ _ m wrapped in
     rw (none, count, whole, stream_part-add (word n g) w k m, bytes-append front behind, cut, again, after)
+
+-- the bytes of a fill behind its first k words are a fill from word k on
+pub fill-window : (n k len : ℕ) (g : GeneratorState)
+    → slice_range (fill n g (4 * k + len)).0 (4 * k) (4 * k + len) ≡ (fill n (at_word_pos g (g.word_pos + k)) len).0
+fill-window n k len g =
+    let front = bytes (stream_part (word n g) g.word_pos k) in
+    let rest = (fill n (at_word_pos g (g.word_pos + k)) len).0 in
+    let long : length front ≡ 4 * k =
+    omega (arith, length-bytes (stream_part (word n g) g.word_pos k), length-stream_part (word n g) g.word_pos k) in
+    let whole : (fill n g (4 * k + len)).0 ≡ front ++ rest =
+    ap (λ (a : List ℕ × GeneratorState). a.0) (fill-add n k len g)
+    ∙ ap (λ (a : List ℕ × GeneratorState). a.0 ++ (fill n a.1 len).0) (fill-words n k g) in
+    ap (λ xs. slice_range xs (4 * k) (4 * k + len)) whole
+    ∙ ap (take (4 * k + len - 4 * k)) (drop_at front rest (4 * k) long)
+    ∙ take_all (4 * k + len - 4 * k) rest (omega (arith, length-fill n len (at_word_pos g (g.word_pos + k))))
 
 -- the same of two calls, one after another
 pub fill-then : {h i : GeneratorState} {xs ys : List ℕ} (n k len : ℕ) (g : GeneratorState)

@@ -11,3 +11,9 @@ on_ok-holds (Err e) accepted holds = elim (false≢true accepted) [ ]
 pub on_ok_given : {T E P Q : Type 0} (r : Result T E) → (IsOk r → P → Q) → OnOk r P → OnOk r Q
 on_ok_given (Ok x) next holds = next refl holds
 on_ok_given (Err e) next holds = tt
+
+-- and what another call that is accepted then has, such as the same one with another error
+pub on_ok_from : {T U E D P Q : Type 0} (r : Result T E) (s : Result U D) → (IsOk s → IsOk r) → (P → Q) → OnOk r P
+    → OnOk s Q
+on_ok_from r (Ok x) accepted next holds = next (on_ok-holds r (accepted refl) holds)
+on_ok_from r (Err e) accepted next holds = tt
