@@ -104,14 +104,21 @@ fn all_in_slices(calls: &[CipherCall], input: usize, bytes: usize) -> bool
     true
 }
 
+fn in_data(call: RngCall, bytes: usize) -> bool
+    ensures { IsTrue result ↔ InData bytes call }
+{
+    match call {
+        RngCall::Fill { at, len } => in_range(at, len, bytes),
+        _ => true,
+    }
+}
+
 fn all_in_data(calls: &[RngCall], bytes: usize) -> bool
     ensures { IsTrue result ↔ All (InData bytes) calls.now }
 {
     'each: for i in 0..calls.len() {
-        if let RngCall::Fill { at, len } = calls[i] {
-            if !in_range(at, len, bytes) {
-                return false;
-            }
+        if !in_data(calls[i], bytes) {
+            return false;
         }
     }
     true

@@ -42,6 +42,11 @@ static LEGACY_PLACES: [u128; 4] = [
     LEGACY_LIMIT,
 ];
 
+// Whether a seek to this number goes to this position.
+fn goes_to<C: Placed, T: SeekNum>(cipher: &mut C, number: T, place: u128) -> bool {
+    cipher.seeks(70u32) && cipher.seeks(number) && cipher.is_at(Some(place))
+}
+
 // Whether a cipher at a position returns it as this number, or, for `None`, that the type can't represent it; and
 // whether a seek to the number comes back there.
 fn in_type<C: Placed, T: SeekNum>(cipher: &mut C, place: u128, number: Option<T>) -> bool {
@@ -49,7 +54,7 @@ fn in_type<C: Placed, T: SeekNum>(cipher: &mut C, place: u128, number: Option<T>
         return false;
     }
     match number {
-        Some(number) => cipher.seeks(70u32) && cipher.seeks(number) && cipher.is_at(Some(place)),
+        Some(number) => goes_to(cipher, number, place),
         None => true,
     }
 }

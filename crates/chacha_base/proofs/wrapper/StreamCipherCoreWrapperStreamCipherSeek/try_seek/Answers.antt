@@ -1,10 +1,15 @@
-use Rattle.std.proofs.Common.{◌≡◌, ◌≤◌, subst, refl, arith, IsSomeAnd, IfSome}
-use Rattle.std.proofs.lemmas.Grind.{common_steps}
+use Rattle.std.proofs.Common.{ℕ, Option, ◌≡◌, ◌≤◌, subst, sym, refl, arith, IsSomeAnd, IfSome}
+use Rattle.std.proofs.lemmas.Bool.{false≢true}
 use Rattle.chacha_base.specs.Limit.{limit_of}
 use Rattle.chacha_base.proofs.wrapper.StreamCipherCoreWrapperStreamCipherSeek.try_seek.Goals as goal
 
 pub returns-in_default-clause-accepted : goal.returns-in_default-clause-accepted
-returns-in_default-clause-accepted g c = grind (arith, common_steps)
+returns-in_default-clause-accepted g c =
+    let within = λ (o : Option ℕ). IsSomeAnd o (λ p. p ≤ limit_of g.C.Keystream.modulus) in
+    let past = c.if-position-limit.false in (
+      λ e. absurd (false≢true e),
+      λ some. absurd (omega (arith, c.limit.ensures, past, subst within (sym c.in-Some.ensures.value) some)),
+    )
 
 pub returns-in-Some-clause-accepted : goal.returns-in-Some-clause-accepted
 returns-in-Some-clause-accepted g c =
