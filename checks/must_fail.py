@@ -22,13 +22,10 @@ KINDS = {
         "give a proof of that as the last argument, `rw L t`",
         "give a proof of that as the last argument, `simp L t`",
     ),
-    "two types": ("expected type `",),
-    "no proof found": ("it is not proved that", "`search`: no proof of", "`grind` stopped at its own limit"),
 }
-# What shows a mistake only where the edit without it is the code as it stands, so that the answers have its form: an answer of
-# another type than its place asks for, and a search that stops without a verdict.
-WEAK = re.compile(r"^expected type `|gave up at one of its limits|stopped at its own limit")
-# A search that finds no proof shows a mistake only where the edit without it is the code as it stands. This shows one anywhere.
+# What shows no mistake by itself: an answer of another type than its place asks for, and a search that finds no proof.
+WEAK = re.compile(r"^expected type `|^`search`: no proof of|gave up at one of its limits|stopped at its own limit")
+# These are numbers too, where a goal without an answer isn't proved.
 VALUES = "the facts known there allow values at which this goal is false"
 # Goals of a body besides those of its contract. One that fails at these, or a function that the edit adds, fails by its form.
 BESIDE = re.compile(r"(?:slice_|offset_)?bounds-|overflow_|nonzero_|\S+-requires\b")
@@ -104,13 +101,13 @@ def unread(message, changed):
     return not error[2] or bool(re.search(r"is not in scope|has no field|is no name", re.sub(r"`[^`]*`", "", error[3])))
 
 
-def goal_of(message, folder, changed, has_twin):
+def goal_of(message, folder, changed):
     """The function and the goal of a message that says that the goal isn't proved (an answer that doesn't fit it, or a search that
     found none), and what kind of message that is: one of KINDS, 'lost', 'cut' where more of it may show a mistake, or 'its form' where
     the edit fails by that. None for any other message. `changed` has the texts of the files that the edit changes."""
     answer = re.match(r"(?:\./)?proofs/(?:\S+/)?([^/\s]+)/\w+\.antt:\d+:\d+: error: (?:`([^`]+)`(?:: |$))?(.*)", message)
     if answer and (answer[2] or LOST.search(answer[3])):
-        kind = kind_of(answer[3], has_twin)
+        kind = kind_of(answer[3])
         return answer[1], answer[2] or "?", "its form" if answer[2] and BESIDE.match(answer[2]) and kind != "lost" else kind
     search = re.match(r"(?:note: )?(?:\./)?(src/\S+?):(\d+):(\d+): (it is not proved .*)", message)
     if not search:
@@ -121,19 +118,18 @@ def goal_of(message, folder, changed, has_twin):
     goal = re.search(r"\(`([^`]+)`\)", search[4])
     is_added = declares(after, function) and not declares(before, function)
     by_form = is_added or goal and BESIDE.match(goal[1])
-    return function, goal[1] if goal else "?", "its form" if by_form else kind_of(search[4], has_twin)
+    return function, goal[1] if goal else "?", "its form" if by_form else kind_of(search[4])
 
 
-def kind_of(said, has_twin):
+def kind_of(said):
     """The kind of what a message says of a goal. It may be cut off, once it has ten characters."""
     if VALUES in said:
         return "numbers"
-    if has_twin and WEAK.search(said):
+    if WEAK.search(said):
         return "lost"
     for kind, beginnings in KINDS.items():
         if any(said.startswith(it) or len(said) >= 10 and it.startswith(said) for it in beginnings):
-            if not (has_twin and kind in ("no proof found", "two types")):
-                return kind
+            return kind
     return "lost" if LOST.search(said) else "cut"
 
 
