@@ -21,6 +21,7 @@ use chacha_base::cipher::{
 };
 use chacha_base::rounds::{R8, R12, R20, Rounds};
 use chacha_base::variants::{Ietf, Legacy, Variant};
+use chacha_base::wrapper::StreamCipherCoreWrapper;
 use rand_core::{Rng, SeedableRng};
 use std::fmt;
 
@@ -95,20 +96,20 @@ fn sizes(
     ensures extended_nonce { length extended_nonce.now ≡ ⟦<XChaCha20 as IvSizeUser>⟧.IV_SIZE }
 {}
 
-// What a core counts, over any backend, and where it starts.
+// What a core counts, and a cipher over it, with any backend, and where the core starts.
 fn core_costs<R: Rounds, V: Variant, B: StreamCipherBackend<R, V>>()
     ensures par { ⟦<ChaChaCore<R, V, B> as StreamCipherCore>⟧.par_cost ≡ B.PAR_STEPS * R.COUNT }
     ensures one { ⟦<ChaChaCore<R, V, B> as StreamCipherCore>⟧.one_cost ≡ B.ONE_STEPS * R.COUNT }
     ensures first { ⟦<ChaChaCore<R, V, B> as Keystream>⟧.first_position ≡ 0 }
+    ensures cipher { ⟦<StreamCipherCoreWrapper<ChaChaCore<R, V, B>> as StreamCipher>⟧.cost
+        ≡ for_bytes B.PAR_BLOCKS (B.PAR_STEPS * R.COUNT) (B.ONE_STEPS * R.COUNT) }
 {}
 
-// What a core with nonces of 24 bytes counts, and where it starts; and what a cipher of each kind counts, at every
-// position.
-fn costs<R: Rounds, B: StreamCipherBackend<R, Ietf>>()
+// The same of a core with nonces of 24 bytes.
+fn extended_core_costs<R: Rounds, B: StreamCipherBackend<R, Ietf>>()
     ensures par { ⟦<XChaChaCore<R, B> as StreamCipherCore>⟧.par_cost ≡ B.PAR_STEPS * R.COUNT }
     ensures one { ⟦<XChaChaCore<R, B> as StreamCipherCore>⟧.one_cost ≡ B.ONE_STEPS * R.COUNT }
     ensures first { ⟦<XChaChaCore<R, B> as Keystream>⟧.first_position ≡ 0 }
-    ensures chacha20 { ⟦<ChaCha20 as StreamCipher>⟧.cost ≡ for_bytes 16 80 20 }
-    ensures chacha20_legacy { ⟦<ChaCha20Legacy as StreamCipher>⟧.cost ≡ for_bytes 16 80 20 }
-    ensures xchacha20 { ⟦<XChaCha20 as StreamCipher>⟧.cost ≡ for_bytes 16 80 20 }
+    ensures cipher { ⟦<StreamCipherCoreWrapper<XChaChaCore<R, B>> as StreamCipher>⟧.cost
+        ≡ for_bytes B.PAR_BLOCKS (B.PAR_STEPS * R.COUNT) (B.ONE_STEPS * R.COUNT) }
 {}

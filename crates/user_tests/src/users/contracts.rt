@@ -11,7 +11,9 @@ use chacha20::cipher::{
     StreamCipherSeek,
 };
 use chacha20::variants::{Ietf, Variant};
-use chacha20::{ChaChaCore, R20, Rounds, Steps, StreamCipherCoreWrapper, XChaCha20};
+use chacha20::{
+    ChaCha20, ChaCha20Legacy, ChaChaCore, R20, Rounds, Steps, StreamCipherCoreWrapper, XChaCha20,
+};
 
 type Ietf20<B> = StreamCipherCoreWrapper<ChaChaCore<R20, Ietf, B>>;
 
@@ -202,6 +204,13 @@ fn apply_586_bytes_xchacha20(steps: &mut Steps) -> Result<(), StreamCipherError>
 {
     XChaCha20::new(&[0; 32], &[0; 24]).try_apply_keystream_counted(&mut [0; 586], steps)
 }
+
+// Bounds on what the named ciphers count, at every position: those of `Lanes16`.
+fn named_costs()
+    ensures chacha20 { ⟦<ChaCha20 as StreamCipher>⟧.cost ≡ for_bytes 16 80 20 }
+    ensures chacha20_legacy { ⟦<ChaCha20Legacy as StreamCipher>⟧.cost ≡ for_bytes 16 80 20 }
+    ensures xchacha20 { ⟦<XChaCha20 as StreamCipher>⟧.cost ≡ for_bytes 16 80 20 }
+{}
 
 // Exact numbers of one backend, which the traits leave to it.
 

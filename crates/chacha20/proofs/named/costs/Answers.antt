@@ -1,7 +1,0 @@
-use Rattle.std.proofs.Common.{refl}
-use Rattle.chacha20.proofs.named.costs.Goals as goal
-
--- answered for speed
-pub returns : goal.returns
-returns g c =
-    record { par = refl; one = refl; first = refl; chacha20 = refl; chacha20_legacy = refl; xchacha20 = refl }
