@@ -3,10 +3,9 @@
 use Rattle.std.proofs.Common.{◌≡◌, ℕ, ◌+◌, ◌*◌, ◌/◌, ◌%◌, ◌<◌, ◌≤◌, Some, List, [], ◌++◌, length, take, drop, slice_get, slice_index, slice_index_or, arith, refl, ap, ap₂, ◌∙◌, length-drop, length-take-le}
 use borrow.Rule.Slice.PartMut.{put_mid, same_len_mid}
 use Rattle.std.proofs.lemmas.Option.{get_or_from_slice_get}
-use Rattle.chacha_base.specs.Layout.{Layout, modulus}
+use Rattle.chacha_base.specs.ChaCha.{Layout, modulus, keystream, xor_stream}
 use Rattle.chacha_base.specs.State.{state_counter, fixed_words, state_block, state_after, AreNextBlocks}
 use Rattle.chacha_base.proofs.StateLemmas.{fixed_words-state_after, state_counter-state_after, state_after-more, next_blocks-more}
-use Rattle.chacha_base.specs.Keystream.{keystream, xor_stream}
 use Rattle.chacha_base.proofs.KeystreamLemmas.{xor_stream-same, xor_stream-more, keystream-wrapped, length-xor_stream}
 use Rattle.chacha_base.proofs.ListLemmas.{part_long}
 use Rattle.chacha20.specs.Blocks.{byte_of, xored_at, state_stream, applied}

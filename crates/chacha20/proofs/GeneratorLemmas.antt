@@ -5,16 +5,13 @@ use Rattle.std.proofs.Common.{◌≡◌, Decides, ℕ, ◌*◌, ◌/◌, ◌%◌
 use Rattle.std.specs.Cmp.Lexicographic.{pointwise_decides}
 use Rattle.std.specs.Int.{w64, to_le_bytes, from_le_bytes}
 use Rattle.std.proofs.lemmas.Bool.Decides.{Decides-and, Decides-eqb, Decides-like}
-use Rattle.chacha_base.specs.Bytes.{bytes, words}
-use Rattle.chacha_base.specs.Block.{constants, start}
-use Rattle.chacha_base.specs.Layout.{legacy}
+use Rattle.chacha_base.specs.ChaCha.{bytes, words, constants, start, legacy}
 use Rattle.chacha_base.specs.State.{state_counter, state_at, fixed_words}
 use Rattle.chacha_base.proofs.StateLemmas.{length-state_at, fixed_words-state_at, fixed_words-start, state_counter-start}
 use Rattle.chacha_base.proofs.BytesLemmas.{Bytes, bytes-below, bytes-words, length-words, words-to_le_bytes, from_le_bytes-bytes}
 use Rattle.chacha_base.proofs.ListLemmas.{by_words}
 use Rattle.chacha20.specs.Generator.{GeneratorState, same_generator}
-use Rattle.chacha20.specs.GeneratorCore.{seed_in, stream_in, IsStart}
-use Rattle.chacha20.specs.Unread.{generator_of, IsUnread}
+use Rattle.chacha20.specs.GeneratorCore.{seed_in, stream_in, IsStart, generator_of, IsUnread}
 
 pub length-seed_in : (core : List ℕ) → length core ≡ 16 → length (seed_in (fixed_words legacy core)) ≡ 32
 length-seed_in core long = by_words 16 (λ s. length (seed_in (fixed_words legacy s)) ≡ 32) core long refl

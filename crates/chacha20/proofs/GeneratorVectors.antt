@@ -1,11 +1,8 @@
 -- Worked answers of generators with ten double rounds, so that a wrong place of stream or counter in a definition, or a
 -- position that doesn't wrap, does not check.
 use Rattle.std.proofs.Common.{◌≡◌, ℕ, ◌-◌, ◌*◌, ◌^◌, List, [], ◌∷◌, ◌++◌, replicate, refl}
-use Rattle.chacha_base.specs.Keystream.{stream_part}
-use Rattle.chacha_base.specs.QuarterRound.{quarter}
-use Rattle.chacha_base.specs.Rounds.{columns, diagonals, rounds, add_states}
-use Rattle.chacha20.specs.Generator.{GeneratorState, of_seed, next_u32, next_u64, fill, word, at_word_pos}
-use Rattle.chacha20.specs.StateBytes.{state_bytes, of_state_bytes}
+use Rattle.chacha_base.specs.ChaCha.{stream_part, quarter, columns, diagonals, rounds, add_states}
+use Rattle.chacha20.specs.Generator.{GeneratorState, of_seed, next_u32, next_u64, fill, word, at_word_pos, state_bytes, of_state_bytes}
 
 -- the seed 01 to 20
 abbrev pub seed : List ℕ

@@ -4,21 +4,16 @@ use Rattle.std.proofs.Common.{◌≡◌, ℕ, ◌+◌, ◌*◌, ◌/◌, ◌%◌
 use Rattle.std.proofs.lemmas.Slice.{take-put_mid}
 use Rattle.std.specs.Int.{w64, to_le_bytes}
 use borrow.Rule.Slice.PartMut.{put_mid}
-use Rattle.chacha_base.specs.Block.{start}
-use Rattle.chacha_base.specs.Bytes.{word_bytes, bytes}
+use Rattle.chacha_base.specs.ChaCha.{start, word_bytes, bytes, stream_part, legacy, mix}
 use Rattle.chacha_base.proofs.BytesLemmas.{length-bytes, length-words}
-use Rattle.chacha_base.specs.Keystream.{stream_part}
 use Rattle.chacha_base.proofs.KeystreamLemmas.{streamed_is}
 use Rattle.chacha_base.proofs.ListLemmas.{part_long}
-use Rattle.chacha_base.specs.Layout.{legacy}
-use Rattle.chacha_base.specs.Rounds.{mix}
 use Rattle.chacha_base.specs.State.{fixed_words, state_of, state_at, counter_after, state_after, next_words}
 use Rattle.chacha_base.proofs.StateLemmas.{length-state_at, fixed_words-state_after, state_counter-state_after, state_of-start, next_words-at}
 use Rattle.chacha20.proofs.GeneratorLemmas.{length-seed_in, generator_is}
 use Rattle.chacha20.proofs.RepeatedLemmas.{word-same, fill-words, fill-then}
 use Rattle.chacha20.specs.Generator.{GeneratorState, positions, at_word_pos, word, next_u32, next_u64, fill}
-use Rattle.chacha20.specs.GeneratorCore.{seed_in, stream_in}
-use Rattle.chacha20.specs.Unread.{generator_of, IsUnread}
+use Rattle.chacha20.specs.GeneratorCore.{seed_in, stream_in, generator_of, IsUnread}
 
 -- j words more are used
 pub generator_of-taken : (core : List ℕ) (i j e : ℕ) → e ≡ i + j

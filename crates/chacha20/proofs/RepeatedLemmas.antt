@@ -3,11 +3,7 @@ use Rattle.std.proofs.Common.{◌≡◌, ℕ, zero, suc, ◌+◌, ◌*◌, ◌/�
 use Rattle.std.proofs.Math.Seq.{get_or-append_seam, take-append-add}
 use Rattle.std.specs.List.{slice_range}
 use Rattle.std.specs.Int.{w64, to_le_bytes}
-use Rattle.chacha_base.specs.Block.{start}
-use Rattle.chacha_base.specs.Bytes.{bytes}
-use Rattle.chacha_base.specs.Keystream.{stream_part}
-use Rattle.chacha_base.specs.Layout.{legacy}
-use Rattle.chacha_base.specs.Rounds.{mix}
+use Rattle.chacha_base.specs.ChaCha.{start, bytes, stream_part, legacy, mix}
 use Rattle.chacha_base.proofs.BytesLemmas.{bytes-append, length-bytes}
 use Rattle.chacha_base.proofs.KeystreamLemmas.{length-stream_part, stream_part-same, stream_part-add}
 use Rattle.chacha20.specs.Generator.{GeneratorState, positions, at_word_pos, word, next_u32, next_u64, fill, repeated}

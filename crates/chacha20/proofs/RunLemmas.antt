@@ -8,9 +8,8 @@ use Rattle.std.proofs.lemmas.List.Sums.{sum_by-cons}
 use Rattle.std.proofs.lemmas.Bool.{le-leb, leb-true, cases_Bool, false≢true}
 use Rattle.std.proofs.lemmas.Bool.Decides.{Decides-and, Decides-eqb, Decides-like}
 use Rattle.chacha_base.proofs.ListLemmas.{part_long}
-use Rattle.chacha_base.specs.Cipher.{Cipher}
-use Rattle.chacha_base.specs.Keystream.{xor_stream}
-use Rattle.chacha_base.specs.SeekNum.{signed_position}
+use Rattle.chacha_base.specs.Cipher.{Cipher, signed_position}
+use Rattle.chacha_base.specs.ChaCha.{xor_stream}
 use Rattle.chacha_base.proofs.KeystreamLemmas.{xor_stream-append, length-xor_stream, xor_stream-xor_stream}
 use Rattle.chacha20.proofs.ResultLemmas.{on_ok_given}
 use Rattle.chacha20.specs.declared.runs.CipherCall.{CipherCall}

@@ -5,10 +5,7 @@ use Rattle.std.proofs.Math.Nat.{zero-mod}
 use Rattle.std.proofs.Math.Path.{fun_ext}
 use borrow.Rule.Slice.PartMut.{put_mid}
 use lib.Lanes.{chunk, put_chunk}
-use Rattle.chacha_base.specs.Block.{constants, start, block}
-use Rattle.chacha_base.specs.Bytes.{bytes}
-use Rattle.chacha_base.specs.Layout.{Layout, modulus}
-use Rattle.chacha_base.specs.Rounds.{mix}
+use Rattle.chacha_base.specs.ChaCha.{constants, start, block, bytes, Layout, modulus, mix}
 use Rattle.chacha_base.specs.State.{state_counter, state_block, fixed_words}
 use Rattle.chacha_base.proofs.BytesLemmas.{length-words}
 use Rattle.chacha_base.proofs.ListLemmas.{words_of, by_words}

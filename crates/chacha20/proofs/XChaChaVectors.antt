@@ -1,10 +1,7 @@
 -- Examples of draft-irtf-cfrg-xchacha, and of the draft before it (draft-arciszewski-xchacha-03), so that a wrong row,
 -- order or place of a byte in a definition does not check.
 use Rattle.std.proofs.Common.{◌≡◌, ℕ, List, [], ◌∷◌, take, refl}
-use Rattle.chacha_base.specs.QuarterRound.{quarter}
-use Rattle.chacha_base.specs.Rounds.{columns, diagonals, rounds, add_states}
-use Rattle.chacha_base.specs.Layout.{ietf}
-use Rattle.chacha_base.specs.Block.{block}
+use Rattle.chacha_base.specs.ChaCha.{quarter, columns, diagonals, rounds, add_states, ietf, block}
 use Rattle.chacha20.specs.XChaCha.{hchacha, subkey, subnonce}
 
 -- the key of section 2.2.1

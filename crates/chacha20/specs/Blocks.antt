@@ -1,9 +1,8 @@
 -- Bytes XORed with a list of blocks, or with the keystream of a state (this crate).
 use Rattle.std.specs.Prelude.{ℕ, ◌*◌, ◌/◌, ◌%◌, List, [], length, slice_index, slice_index_or}
 use borrow.Rule.Slice.PartMut.{mid_of, put_mid}
-use Rattle.chacha_base.specs.Layout.{Layout, modulus}
+use Rattle.chacha_base.specs.ChaCha.{Layout, modulus, keystream, xor_stream}
 use Rattle.chacha_base.specs.State.{state_counter, fixed_words, state_block}
-use Rattle.chacha_base.specs.Keystream.{keystream, xor_stream}
 
 -- byte p of a list of blocks of 64 bytes
 abbrev pub byte_of : List (List ℕ) → ℕ → ℕ

@@ -1,14 +1,11 @@
 -- Generators of words: a seed, a stream, and a position that counts words and wraps (this crate).
-use Rattle.std.specs.Prelude.{ℕ, zero, suc, ◌+◌, ◌*◌, ◌/◌, ◌%◌, ◌^◌, ◌==◌, Bool, List, [], ◌∷◌, take, slice_index}
+use Rattle.std.specs.Prelude.{ℕ, zero, suc, ◌+◌, ◌*◌, ◌/◌, ◌%◌, ◌^◌, ◌==◌, Bool}
+use Rattle.std.specs.Prelude.{List, [], ◌∷◌, ◌++◌, take, drop, slice_index}
 use Rattle.std.specs.Ordering.{on, eq_of_both}
 use Rattle.std.specs.Cmp.Lexicographic.{pointwise}
-use Rattle.std.specs.Int.{w64, to_le_bytes}
+use Rattle.std.specs.Int.{w64, to_le_bytes, from_le_bytes}
 use Rattle.rand_core.specs.Steps.{Steps}
-use Rattle.chacha_base.specs.Bytes.{bytes}
-use Rattle.chacha_base.specs.Block.{start}
-use Rattle.chacha_base.specs.Keystream.{stream_part}
-use Rattle.chacha_base.specs.Layout.{legacy}
-use Rattle.chacha_base.specs.Rounds.{mix}
+use Rattle.chacha_base.specs.ChaCha.{bytes, start, stream_part, legacy, mix}
 
 pub record GeneratorState : Type 0 where
   pub seed : List ℕ
@@ -28,7 +25,7 @@ abbrev pub at_word_pos : GeneratorState → ℕ → GeneratorState
 at_word_pos g w = record g { word_pos = w % positions }
 
 -- the word at a position, after n double rounds: that of the block whose key is the seed and whose
--- nonce is the stream's 8 bytes, the low byte first
+-- nonce is the stream's 8 little-endian bytes
 abbrev pub word : ℕ → GeneratorState → ℕ → ℕ
 word n g w =
     let nonce = to_le_bytes w64 g.stream in
@@ -69,3 +66,17 @@ abbrev pub same_generator : GeneratorState → GeneratorState → Bool
 same_generator =
     eq_of_both (on (λ g. g.word_pos) ◌==◌)
     (eq_of_both (on (λ g. g.stream) ◌==◌) (on (λ g. g.seed) (pointwise ◌==◌)))
+
+-- the state in 49 bytes: seed, stream and position, each number little-endian
+abbrev pub state_bytes : GeneratorState → List ℕ
+state_bytes g =
+    let low = to_le_bytes w64 (g.word_pos % 2 ^ 64) in
+    g.seed ++ (to_le_bytes w64 g.stream ++ (low ++ (g.word_pos / 2 ^ 64 ∷ [])))
+
+-- the generator of 49 bytes; the upper half of the last byte is ignored
+abbrev pub of_state_bytes : List ℕ → GeneratorState
+of_state_bytes bs = record {
+  seed = take 32 bs;
+  stream = from_le_bytes w64 (take 8 (drop 32 bs));
+  word_pos = (from_le_bytes w64 (take 8 (drop 40 bs)) + 2 ^ 64 * slice_index bs 48) % positions;
+}

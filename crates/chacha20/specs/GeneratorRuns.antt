@@ -1,7 +1,6 @@
 -- Lists of calls on a generator, taken from the left (this crate).
 use Rattle.std.specs.Prelude.{ℕ, ◌+◌, ◌*◌, ◌/◌, ◌≤◌, List, [], ◌∷◌}
-use Rattle.chacha20.specs.Generator.{GeneratorState, at_word_pos, next_u32, next_u64, fill}
-use Rattle.chacha20.specs.StateBytes.{state_bytes, of_state_bytes}
+use Rattle.chacha20.specs.Generator.{GeneratorState, at_word_pos, next_u32, next_u64, fill, state_bytes, of_state_bytes}
 use Rattle.chacha20.specs.Runs.{put}
 use Rattle.chacha20.specs.declared.runs.rng.RngCall.{RngCall}
 use Rattle.chacha20.specs.declared.runs.rng.RngCall.TheVariants.{NextU32, NextU64, Fill, GetWordPos, SetWordPos, GetBlockPos, SetBlockPos, GetStream, SetStream, GetSeed, Serialize, Reload}

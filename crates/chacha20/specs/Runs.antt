@@ -1,9 +1,8 @@
 -- Lists of calls on a cipher, taken from the left (this crate).
 use Rattle.std.specs.Prelude.{ℕ, ◌+◌, ◌-◌, ◌^◌, ◌≤◌, nat_le, ◌==◌, ◌&&◌, Bool, if◌then◌else◌, List, [], ◌∷◌, pos, negsuc}
 use borrow.Rule.Slice.PartMut.{mid_of, put_mid}
-use Rattle.chacha_base.specs.Cipher.{Cipher}
-use Rattle.chacha_base.specs.Keystream.{keystream, xor_stream, stream_part}
-use Rattle.chacha_base.specs.Limit.{limit_of}
+use Rattle.chacha_base.specs.Cipher.{Cipher, limit_of}
+use Rattle.chacha_base.specs.ChaCha.{keystream, xor_stream, stream_part}
 use Rattle.chacha20.specs.declared.runs.CipherCall.{CipherCall}
 use Rattle.chacha20.specs.declared.runs.CipherCall.TheVariants.{CheckRemaining, Apply, Write, ApplyFrom, Seek, SeekI32, Pos, PosI32}
 use Rattle.chacha20.specs.declared.runs.CipherAnswer.{CipherAnswer}

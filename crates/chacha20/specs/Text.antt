@@ -1,7 +1,8 @@
 -- How a core prints (this crate).
 use Rattle.std.specs.Prelude.{ℕ, ◌*◌, List, ◌++◌, codes}
 use Rattle.std.specs.Fmt.{decimal}
-use Rattle.chacha_base.specs.Layout.{Layout, counter_len}
+use Rattle.chacha_base.specs.ChaCha.{Layout}
+use Rattle.chacha_base.specs.State.{counter_len}
 
 -- the number of double rounds and the bits of a counter; the parenthesis that closes nothing is the
 -- Rust crate's

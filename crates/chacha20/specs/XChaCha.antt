@@ -1,8 +1,6 @@
 -- HChaCha and XChaCha (draft-irtf-cfrg-xchacha, 2.2 and 2.3).
 use Rattle.std.specs.Prelude.{ℕ, List, ◌++◌, take, drop, replicate}
-use Rattle.chacha_base.specs.Block.{constants}
-use Rattle.chacha_base.specs.Bytes.{bytes, words}
-use Rattle.chacha_base.specs.Rounds.{rounds}
+use Rattle.chacha_base.specs.ChaCha.{bytes, words, constants, rounds, ietf, chacha_stream}
 
 -- the 32 bytes of a key and 16 more bytes: the first and the last row after n double rounds,
 -- without the start state added
@@ -17,3 +15,7 @@ subkey n key nonce = hchacha n key (take 16 nonce)
 -- the nonce of its blocks: four zeros, and then what the subkey has not used
 abbrev pub subnonce : List ℕ → List ℕ
 subnonce nonce = replicate 4 0 ++ drop 16 nonce
+
+-- byte p of the keystream of a key and a nonce of 24 bytes, after n double rounds
+abbrev pub xchacha_stream : ℕ → List ℕ → List ℕ → ℕ → ℕ
+xchacha_stream n key nonce = chacha_stream n ietf (subkey n key nonce) (subnonce nonce)

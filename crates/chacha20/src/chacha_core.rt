@@ -1,9 +1,7 @@
 //! A state of sixteen words as a core: its counter, and how a key and a nonce make it. Its blocks are in `engine.rt`.
 
 ghost use Rattle.std.specs.Prelude.{◌≡◌, ◌<◌, ℕ, ◌*◌, List, ◌++◌, replicate, Some};
-ghost use Rattle.chacha_base.specs.Layout.{ietf, legacy, modulus};
-ghost use Rattle.chacha_base.specs.Block.{constants, start, block};
-ghost use Rattle.chacha_base.specs.Bytes.{words};
+ghost use Rattle.chacha_base.specs.ChaCha.{ietf, legacy, modulus, constants, start, block, words};
 ghost use Rattle.chacha_base.specs.State.{state_counter, fixed_words, state_at, state_block};
 ghost use Rattle.chacha20.specs.Text.{core_text};
 

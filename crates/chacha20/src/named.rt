@@ -4,9 +4,8 @@
 ghost use Rattle.std.specs.Prelude.{◌≡◌, ◌*◌, length, replicate, Some, codes};
 ghost use Rattle.rand_core.specs.Steps.{stream_of};
 ghost use Rattle.rand_core.specs.Pcg32Seed.{pcg32_seed};
-ghost use Rattle.chacha_base.specs.Block.{block, start};
+ghost use Rattle.chacha_base.specs.ChaCha.{block, start, ietf, legacy};
 ghost use Rattle.chacha_base.specs.Counts.{for_bytes};
-ghost use Rattle.chacha_base.specs.Layout.{ietf, legacy};
 ghost use Rattle.chacha20.specs.Generator.{of_seed, reads};
 ghost use Rattle.chacha20.specs.XChaCha.{subkey, subnonce};
 

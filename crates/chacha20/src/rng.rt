@@ -5,9 +5,8 @@ ghost use Rattle.std.specs.Prelude.{◌≡◌, ◌↔◌, ◌≤◌, ◌<◌, �
 ghost use Rattle.std.specs.Int.{w64, from_le_bytes};
 ghost use Rattle.rand_core.specs.Steps.{stream_of};
 ghost use Rattle.rand_core.specs.Pcg32Seed.{pcg32_seed};
-ghost use Rattle.chacha20.specs.Generator.{at_word_pos, next_u32, next_u64, fill, reads, of_seed, same_generator};
-ghost use Rattle.chacha20.specs.StateBytes.{state_bytes, of_state_bytes};
-ghost use Rattle.chacha20.specs.Unread.{generator_of, IsUnread};
+ghost use Rattle.chacha20.specs.Generator.{at_word_pos, next_u32, next_u64, fill, reads, of_seed, same_generator, state_bytes, of_state_bytes};
+ghost use Rattle.chacha20.specs.GeneratorCore.{generator_of, IsUnread};
 
 use crate::chacha_core::{ChaChaCore, Generator, joined};
 use chacha_base::backends::Lanes8;
@@ -82,7 +81,7 @@ impl<R: Rounds, B> Drop for ChaChaRng<R, B> {
 
 impl<R: Rounds, B> Model for ChaChaRng<R, B> {
     ghost use Rattle.chacha20.specs.Generator.{GeneratorState};
-    ghost use Rattle.chacha20.specs.Unread.{generator_of, IsUnread};
+    ghost use Rattle.chacha20.specs.GeneratorCore.{generator_of, IsUnread};
 
     ghost Value = { GeneratorState };
 

@@ -2,8 +2,8 @@
 //! that speaks of any list of calls on a generator.
 
 ghost use Rattle.std.specs.Prelude.{◌≡◌, ◌≤◌, ◌+◌, ℕ, List, [], ◌∷◌, All, length, sum, OnOk, OnErr};
-ghost use Rattle.chacha_base.specs.Keystream.{keystream};
-ghost use Rattle.chacha_base.specs.Limit.{limit_of};
+ghost use Rattle.chacha_base.specs.ChaCha.{keystream};
+ghost use Rattle.chacha_base.specs.Cipher.{limit_of};
 ghost use Rattle.chacha20.specs.declared.runs.CipherCall.TheVariants.{Apply, Seek};
 ghost use Rattle.chacha20.specs.declared.runs.CipherAnswer.TheVariants.{Done, Refused};
 ghost use Rattle.chacha20.specs.Runs.{setting, cipher_outcome, cipher_run, InSlices, pieces};

@@ -70,7 +70,7 @@ impl<R: Rounds, B> Model for XChaChaCore<R, B> {
 }
 
 impl<R: Rounds, B> Keystream for XChaChaCore<R, B> {
-    ghost use Rattle.chacha_base.specs.Layout.{ietf, modulus};
+    ghost use Rattle.chacha_base.specs.ChaCha.{ietf, modulus};
     ghost use Rattle.chacha_base.specs.State.{state_counter, fixed_words, state_block};
     ghost use Rattle.std.specs.Prelude.{◌*◌};
 
@@ -114,8 +114,7 @@ impl<R: Rounds, B> IvSizeUser for XChaChaCore<R, B> {
 }
 
 impl<R: Rounds, B> KeyIvInit for XChaChaCore<R, B> {
-    ghost use Rattle.chacha_base.specs.Layout.{ietf};
-    ghost use Rattle.chacha_base.specs.Block.{start, block};
+    ghost use Rattle.chacha_base.specs.ChaCha.{ietf, start, block};
     ghost use Rattle.chacha20.specs.XChaCha.{subkey, subnonce};
 
     type Key = Key;
@@ -140,7 +139,7 @@ impl<R: Rounds, B> KeyIvInit for XChaChaCore<R, B> {
 
 impl<R: Rounds, B: StreamCipherBackend<R, Ietf>> StreamCipherCore for XChaChaCore<R, B> {
     ghost use Rattle.std.specs.Prelude.{refl, ◌*◌};
-    ghost use Rattle.chacha_base.specs.Layout.{ietf};
+    ghost use Rattle.chacha_base.specs.ChaCha.{ietf};
     ghost use Rattle.chacha_base.specs.State.{state_counter};
 
     ghost counter = { state_counter ietf };

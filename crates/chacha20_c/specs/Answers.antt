@@ -1,7 +1,7 @@
 -- What calls on a cipher from a position on return, and what they leave: 0 exactly where the bytes
 -- end at the limit or before it, and else 1, and then nothing is written (this crate).
 use Rattle.std.specs.Prelude.{ℕ, List, ◌≡◌, ◌↔◌, ◌⊎◌, ◌≤◌, ◌+◌, length}
-use Rattle.chacha20.specs.Keystream.{stream_part, xor_stream}
+use Rattle.chacha20.specs.ChaCha.{stream_part, xor_stream}
 
 -- a call that is accepted exactly where P holds, and then leaves the bytes `made`
 pub record Answered (P : Type 0) (answer : ℕ) (made old new : List ℕ) : Type 0 where

@@ -1,9 +1,7 @@
 //! ChaCha with a nonce of 12 bytes (RFC 8439).
 
-ghost use Rattle.chacha20.specs.Block.{block};
-ghost use Rattle.chacha20.specs.Keystream.{keystream};
-ghost use Rattle.chacha20.specs.Layout.{ietf, modulus};
-ghost use Rattle.chacha20.specs.Limit.{limit_of};
+ghost use Rattle.chacha20.specs.ChaCha.{block, keystream, ietf, modulus};
+ghost use Rattle.chacha20.specs.Cipher.{limit_of};
 ghost use Rattle.chacha20_c.specs.Answers.{Checked, Written, Xored, XoredInto};
 
 use crate::backend::Chosen;

@@ -7,8 +7,7 @@
 
 ghost use Rattle.std.specs.Prelude.{◌≡◌, ◌<◌, ◌+◌, ◌*◌, ◌/◌, ◌%◌, ◌^◌, length, take, drop, slice_index};
 ghost use Rattle.std.specs.Int.{w64, from_le_bytes};
-ghost use Rattle.chacha20.specs.Generator.{of_seed, at_word_pos, next_u32, next_u64, fill};
-ghost use Rattle.chacha20.specs.StateBytes.{state_bytes, of_state_bytes};
+ghost use Rattle.chacha20.specs.Generator.{of_seed, at_word_pos, next_u32, next_u64, fill, state_bytes, of_state_bytes};
 
 use chacha20::cipher::RngBackend;
 use chacha20::{ChaCha8Rng, ChaCha12Rng, ChaCha20Rng, ChaChaRng, Rounds, Seed, SerializedRngState};

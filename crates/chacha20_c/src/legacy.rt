@@ -2,10 +2,8 @@
 //! number of a block and a number of bytes from there on, since one number of 64 bits does not reach the end.
 
 ghost use Rattle.std.specs.Prelude.{◌≡◌, ◌+◌, ◌*◌};
-ghost use Rattle.chacha20.specs.Block.{block};
-ghost use Rattle.chacha20.specs.Keystream.{keystream};
-ghost use Rattle.chacha20.specs.Layout.{legacy, modulus};
-ghost use Rattle.chacha20.specs.Limit.{limit_of};
+ghost use Rattle.chacha20.specs.ChaCha.{block, keystream, legacy, modulus};
+ghost use Rattle.chacha20.specs.Cipher.{limit_of};
 ghost use Rattle.chacha20_c.specs.Answers.{Checked, Written, Xored, XoredInto};
 
 use crate::backend::Chosen;

@@ -2,8 +2,8 @@
 //! 1 where it is refused. A position has 128 bits, so that it reaches the end of each stream.
 
 ghost use Rattle.std.specs.Prelude.{◌≡◌, ◌↔◌, ◌≤◌, ◌+◌, cond, length, is_ok, IsOk, OnOk, OnErr};
-ghost use Rattle.chacha20.specs.Keystream.{keystream, stream_part, xor_stream};
-ghost use Rattle.chacha20.specs.Limit.{limit_of};
+ghost use Rattle.chacha20.specs.ChaCha.{keystream, stream_part, xor_stream};
+ghost use Rattle.chacha20.specs.Cipher.{limit_of};
 ghost use Rattle.chacha20_c.specs.Answers.{Checked, Written, Xored, XoredInto};
 
 use chacha20::StreamCipherCoreWrapper;

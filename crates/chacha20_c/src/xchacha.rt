@@ -1,10 +1,8 @@
 //! HChaCha, and ChaCha with a nonce of 24 bytes (draft-irtf-cfrg-xchacha).
 
 ghost use Rattle.std.specs.Prelude.{◌≡◌};
-ghost use Rattle.chacha20.specs.Block.{block};
-ghost use Rattle.chacha20.specs.Keystream.{keystream};
-ghost use Rattle.chacha20.specs.Layout.{ietf, modulus};
-ghost use Rattle.chacha20.specs.Limit.{limit_of};
+ghost use Rattle.chacha20.specs.ChaCha.{block, keystream, ietf, modulus};
+ghost use Rattle.chacha20.specs.Cipher.{limit_of};
 ghost use Rattle.chacha20.specs.XChaCha.{hchacha, subkey, subnonce};
 ghost use Rattle.chacha20_c.specs.Answers.{Written, Xored, XoredInto};
 

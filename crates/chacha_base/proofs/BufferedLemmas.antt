@@ -3,8 +3,8 @@
 use Rattle.std.proofs.Common.{◌≡◌, ◌+◌, ◌-◌, ◌*◌, ◌/◌, ◌%◌, ◌<◌, ◌≤◌, ◌∙◌, ℕ, zero, suc, Bool, false, nat_eq, List, length, take, drop, slice_index, arith, sym, ap, get_or-take, get_or-drop, mod-eq_of_lt}
 use Rattle.std.proofs.lemmas.Bool.{false≢true}
 use Rattle.std.proofs.Math.Nat.{mod-add-mod}
-use Rattle.chacha_base.specs.Keystream.{keystream, xor_stream}
-use Rattle.chacha_base.specs.Limit.{limit_of}
+use Rattle.chacha_base.specs.ChaCha.{keystream, xor_stream}
+use Rattle.chacha_base.specs.Cipher.{limit_of}
 use Rattle.chacha_base.specs.Buffered.{IsBuffered, left_at}
 use Rattle.chacha_base.proofs.KeystreamLemmas.{xor_stream-same, xor_stream-part, xor_stream-block}
 

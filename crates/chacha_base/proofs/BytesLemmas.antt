@@ -7,7 +7,7 @@ use Rattle.std.proofs.lemmas.Slice.{take-put_mid}
 use borrow.Rule.Slice.PartMut.{put_mid}
 use Rattle.std.specs.Simd.Lanes.{Each1, number_l, digits_l}
 use Rattle.std.specs.Int.{w64, to_le_bytes, from_le_bytes}
-use Rattle.chacha_base.specs.Bytes.{word_bytes, bytes, words}
+use Rattle.chacha_base.specs.ChaCha.{word_bytes, bytes, words}
 
 pub bytes-append : (xs ys : List ℕ) → bytes (xs ++ ys) ≡ bytes xs ++ bytes ys
 bytes-append [] ys = refl

@@ -6,10 +6,7 @@ use Rattle.std.specs.Int.Bits.{xor_assoc, xor_self, xor_zero_l, xor_zero_r}
 use Rattle.std.proofs.lemmas.List.{get_or-replicate, length-replicate, take-replicate, drop-replicate, drop_all}
 use Rattle.std.proofs.lemmas.Slice.{drop-put_mid}
 use borrow.Rule.Slice.PartMut.{put_mid}
-use Rattle.chacha_base.specs.Block.{block}
-use Rattle.chacha_base.specs.Keystream.{keystream, xor_stream, stream_part}
-use Rattle.chacha_base.specs.Layout.{Layout}
-use Rattle.chacha_base.specs.Rounds.{add_states}
+use Rattle.chacha_base.specs.ChaCha.{block, keystream, xor_stream, stream_part, Layout, add_states}
 use Rattle.chacha_base.proofs.ListLemmas.{Written, written_more, part_long}
 
 -- two streams that agree on the bytes that are combined

@@ -6,9 +6,8 @@ use Rattle.std.specs.Simd.Lanes.{zip2, Each1, pick_l, number_l, digits_l}
 use Rattle.std.proofs.lemmas.List.{get_or-map}
 use Rattle.std.proofs.lemmas.Nat.{xor_lt}
 use Rattle.std.proofs.lemmas.Simd.{below_from_Fits, Each1-get_or, get_or-zip2, get_or-replicate, length-zip2, length-replicate}
-use Rattle.chacha_base.specs.Words.{rotl}
+use Rattle.chacha_base.specs.ChaCha.{rotl, bytes}
 use Rattle.chacha_base.specs.Lanes.{quad, turned}
-use Rattle.chacha_base.specs.Bytes.{bytes}
 use Rattle.chacha_base.proofs.ListLemmas.{words_of, by_words}
 use Rattle.chacha_base.proofs.WordLemmas.{rotate_left_is}
 use Rattle.chacha_base.proofs.BytesLemmas.{digits-bytes}

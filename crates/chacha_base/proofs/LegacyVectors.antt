@@ -1,10 +1,7 @@
 -- Published blocks of the layout from before RFC 8439 (tests of the Rust crate), so that a wrong place of the counter's
 -- words or of the nonce in a definition does not check.
 use Rattle.std.proofs.Common.{◌≡◌, ℕ, ◌+◌, ◌-◌, ◌^◌, List, [], ◌∷◌, replicate, refl}
-use Rattle.chacha_base.specs.QuarterRound.{quarter}
-use Rattle.chacha_base.specs.Rounds.{columns, diagonals, rounds, add_states}
-use Rattle.chacha_base.specs.Layout.{legacy}
-use Rattle.chacha_base.specs.Block.{block}
+use Rattle.chacha_base.specs.ChaCha.{quarter, columns, diagonals, rounds, add_states, legacy, block}
 
 -- the key 01 to 20
 abbrev pub key : List ℕ

@@ -5,7 +5,7 @@ use Rattle.std.proofs.lemmas.Slice.{take-put_mid, drop-put_mid}
 use borrow.Rule.Slice.PartMut.{put_mid}
 use Rattle.chacha_base.proofs.ListLemmas.{part_long}
 use Rattle.chacha_base.proofs.KeystreamLemmas.{xor_stream-append, stream_part-add}
-use Rattle.chacha_base.specs.Keystream.{xor_stream, stream_part}
+use Rattle.chacha_base.specs.ChaCha.{xor_stream, stream_part}
 
 -- n bytes more of a stream, written behind those before them
 pub stream_part-written : (stream : ℕ → ℕ) (p done n k : ℕ) (buf piece : List ℕ)

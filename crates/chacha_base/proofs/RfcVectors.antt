@@ -1,10 +1,6 @@
 -- Examples of RFC 8439, so that a wrong constant, rotation, index or byte order in a definition does not check.
 use Rattle.std.proofs.Common.{◌≡◌, ℕ, ◌^◌, List, [], ◌∷◌, ◌++◌, codes, replicate, refl}
-use Rattle.chacha_base.specs.QuarterRound.{quarter, quarter_round}
-use Rattle.chacha_base.specs.Rounds.{columns, diagonals, rounds, add_states, mix}
-use Rattle.chacha_base.specs.Layout.{ietf}
-use Rattle.chacha_base.specs.Block.{start, block}
-use Rattle.chacha_base.specs.Keystream.{keystream, xor_stream}
+use Rattle.chacha_base.specs.ChaCha.{quarter, quarter_round, columns, diagonals, rounds, add_states, mix, ietf, start, block, keystream, xor_stream}
 
 -- the key of RFC 8439, 2.3.2 and 2.4.2
 abbrev pub key : List ℕ

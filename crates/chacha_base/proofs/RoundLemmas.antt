@@ -2,9 +2,7 @@
 -- `rounds` and of `Soft` cite these. Read `Rounds` first.
 use Rattle.std.proofs.Common.{◌≡◌, ℕ, ◌<◌, List, length, slice_index, refl}
 use Rattle.chacha_base.proofs.ListLemmas.{by_words}
-use Rattle.chacha_base.specs.QuarterRound.{quarter_round}
-use Rattle.chacha_base.specs.Words.{add}
-use Rattle.chacha_base.specs.Rounds.{columns, diagonals, add_states}
+use Rattle.chacha_base.specs.ChaCha.{quarter_round, add, columns, diagonals, add_states}
 use Rattle.std.proofs.lemmas.List.FromFn.{fill_by_all}
 
 -- the columns one after another, and the diagonals

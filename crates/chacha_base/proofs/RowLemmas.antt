@@ -2,12 +2,9 @@
 -- cite these. Read `Lanes` and `Vectors` first.
 use Rattle.std.proofs.Common.{◌≡◌, ℕ, ◌<◌, ◌≤◌, ◌≢◌, ◌+◌, ◌-◌, ◌*◌, ◌%◌, Bool, true, false, List, [], ◌∷◌, ◌++◌, length, drop, slice_index, refl, ap, ◌∙◌, arith, set, length-set, get_or-set_same, get_or-set_other, if◌then◌else◌}
 use Rattle.chacha_base.specs.declared.backends.vector.FourVectors.{FourVectors}
-use Rattle.chacha_base.specs.Layout.{Layout, row_at}
-use Rattle.chacha_base.specs.Lanes.{quad, state_row, with_last_row, rows_turned, diagonalized, undiagonalized}
-use Rattle.chacha_base.specs.QuarterRound.{quarter}
-use Rattle.chacha_base.specs.Rounds.{columns, diagonals, add_states}
-use Rattle.chacha_base.specs.Vectors.{lanes_at, sums_at, block_in_rows}
-use Rattle.chacha_base.specs.State.{state_at, state_after}
+use Rattle.chacha_base.specs.ChaCha.{Layout, quarter, columns, diagonals, add_states}
+use Rattle.chacha_base.specs.Lanes.{quad, state_row, with_last_row, rows_turned, diagonalized, undiagonalized, lanes_at, sums_at, block_in_rows}
+use Rattle.chacha_base.specs.State.{row_at, state_at, state_after}
 use Rattle.chacha_base.proofs.ListLemmas.{below_four, four_listed}
 use Rattle.chacha_base.proofs.StateLemmas.{by_layout}
 

@@ -9,12 +9,8 @@ use borrow.Rule.Slice.PartMut.{put_mid}
 use lib.Lanes.{chunk, put_chunk, zip2}
 use Rattle.std.specs.Int.Bits.{bit_and, bit_or, and_zero_r, or_zero_l, or_zero_r}
 use Rattle.std.proofs.lemmas.Nat.{and_mask}
-use Rattle.chacha_base.specs.Layout.{row_counter, Layout, ietf, legacy, modulus, counter_words, row_at}
-use Rattle.chacha_base.specs.Bytes.{bytes, words}
-use Rattle.chacha_base.specs.Block.{constants, start}
-use Rattle.chacha_base.specs.Rounds.{rounds, add_states, mix}
-use Rattle.chacha_base.specs.Words.{add}
-use Rattle.chacha_base.specs.State.{state_counter, fixed_words, state_of, state_at, counter_after, state_after, state_block, next_block, AreNextBlocks, next_word, next_words}
+use Rattle.chacha_base.specs.ChaCha.{Layout, ietf, legacy, modulus, counter_words, bytes, words, constants, start, rounds, add_states, mix, add}
+use Rattle.chacha_base.specs.State.{row_counter, row_at, state_counter, fixed_words, state_of, state_at, counter_after, state_after, state_block, next_block, AreNextBlocks, next_word, next_words}
 use Rattle.chacha_base.proofs.ListLemmas.{words_of, by_words, one_more, written_more}
 
 -- each word is below 2 ^ 32

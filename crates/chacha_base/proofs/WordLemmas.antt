@@ -4,7 +4,7 @@ use Rattle.std.proofs.Common.{◌≡◌, ℕ, ◌+◌, ◌-◌, ◌*◌, ◌/◌
 use Rattle.std.proofs.lemmas.Nat.{mod-pow-add, or_shifted, shr_below}
 use Rattle.std.proofs.Math.Nat.{mul-mod_left}
 use Rattle.std.specs.Int.{rotate_left}
-use Rattle.chacha_base.specs.Words.{rotl}
+use Rattle.chacha_base.specs.ChaCha.{rotl}
 
 -- a rotation by shifts and an or is one by products and quotients
 pub rotate_left_is : (x k : ℕ) → x < 2 ^ 32 → 0 < k → k < 32 → rotate_left w32 x k ≡ rotl x k

@@ -1,6 +1,6 @@
 -- How a core and one block kept in a buffer stand for a position in bytes (this crate).
 use Rattle.std.specs.Prelude.{ℕ, ◌+◌, ◌-◌, ◌/◌, ◌%◌, ◌≤◌, ◌<◌, ◌≡◌, List}
-use Rattle.chacha_base.specs.Limit.{limit_of}
+use Rattle.chacha_base.specs.Cipher.{limit_of}
 
 -- how many bytes are left of the block that a position is in; none at the front of a block
 abbrev pub left_at : ℕ → ℕ

@@ -1,11 +1,23 @@
 -- A state as a counter and its other words, and the blocks that it gives one after another (this
 -- crate).
-use Rattle.std.specs.Prelude.{ℕ, ◌+◌, ◌/◌, ◌%◌, ◌<◌, ◌≡◌, Some, slice_get, slice_index}
+use Rattle.std.specs.Prelude.{ℕ, ◌+◌, ◌*◌, ◌/◌, ◌%◌, ◌^◌, ◌<◌, ◌≡◌, Some, slice_get, slice_index}
 use Rattle.std.specs.Prelude.{List, ◌++◌, map, take, drop}
 use Rattle.std.specs.List.{range_with_len}
-use Rattle.chacha_base.specs.Bytes.{bytes}
-use Rattle.chacha_base.specs.Layout.{Layout, modulus, counter_words, counter_len, row_counter}
-use Rattle.chacha_base.specs.Rounds.{mix}
+use Rattle.chacha_base.specs.ChaCha.{bytes, mix, Layout, ietf, legacy, modulus, counter_words}
+
+-- how many words a counter has
+abbrev pub counter_len : Layout → ℕ
+counter_len ietf = 1
+counter_len legacy = 2
+
+-- the counter at the front of a row
+abbrev pub row_counter : Layout → List ℕ → ℕ
+row_counter ietf row = slice_index row 0
+row_counter legacy row = slice_index row 0 + 2 ^ 32 * slice_index row 1
+
+-- the row with another counter at its front, and the other words as they were
+abbrev pub row_at : Layout → ℕ → List ℕ → List ℕ
+row_at layout c row = counter_words layout c ++ drop (counter_len layout) row
 
 -- the counter of a state of sixteen words
 abbrev pub state_counter : Layout → List ℕ → ℕ

@@ -2,8 +2,7 @@
 //! proves that the lengths fit.
 
 ghost use Rattle.std.specs.Prelude.{◌≡◌, ◌*◌, length, slice_index};
-ghost use Rattle.chacha_base.specs.Bytes.{bytes, words};
-ghost use Rattle.chacha_base.specs.Keystream.{xor_stream};
+ghost use Rattle.chacha_base.specs.ChaCha.{bytes, words, xor_stream};
 
 /// Writes words as bytes, four for each.
 #[inline(always)]

@@ -1,9 +1,7 @@
 //! Numbers of double rounds, and the quarter round (RFC 8439, sections 2.1 to 2.3).
 
 ghost use Rattle.std.specs.Prelude.{◌≡◌, ◌≢◌, ◌<◌, ℕ, ◌+◌, ◌*◌, slice_index};
-ghost use Rattle.chacha_base.specs.Words.{rotl};
-ghost use Rattle.chacha_base.specs.QuarterRound.{quarter, quarter_of, quarter_round};
-ghost use Rattle.chacha_base.specs.Rounds.{columns, diagonals, rounds};
+ghost use Rattle.chacha_base.specs.ChaCha.{rotl, quarter, quarter_of, quarter_round, columns, diagonals, rounds};
 
 mod steps;
 
@@ -70,7 +68,7 @@ fn rotated(word: u32, by: u32) -> u32
 
 // The quarter round of four words.
 #[inline(always)]
-#[tactic(auto, unfolding(crate::specs::QuarterRound::quarter))]
+#[tactic(auto, unfolding(crate::specs::ChaCha::quarter))]
 fn quarter_words(a: u32, b: u32, c: u32, d: u32) -> (u32, u32, u32, u32)
     ensures { result ≡ quarter a b c d }
 {
@@ -145,7 +143,7 @@ fn diagonal_round(state: &mut [u32; 16], steps: &mut Steps)
 /// `count` double rounds on a state, each of the columns and then of the diagonals (RFC 8439, section 2.3). Each counts
 /// as eight quarter rounds. Nothing is refused.
 #[inline(always)]
-#[tactic(auto, unfolding(crate::specs::Rounds::rounds))]
+#[tactic(auto, unfolding(crate::specs::ChaCha::rounds))]
 pub fn double_rounds(count: usize, state: &mut [u32; 16], steps: &mut Steps)
     ensures state { state.new ≡ rounds count state.old }
     ensures steps { steps.new ≡ record steps.old { rounds = steps.old.rounds + 8 * count } }

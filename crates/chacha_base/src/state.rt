@@ -1,7 +1,7 @@
 //! Reads, sets and advances the counter of a state of sixteen words (RFC 8439, section 2.3). Nothing is refused.
 
 ghost use Rattle.std.specs.Prelude.{◌≡◌, ◌<◌};
-ghost use Rattle.chacha_base.specs.Layout.{modulus};
+ghost use Rattle.chacha_base.specs.ChaCha.{modulus};
 ghost use Rattle.chacha_base.specs.State.{state_counter, fixed_words, state_at, state_after};
 
 use crate::variants::{StreamCipherCounter, Variant};

@@ -1,8 +1,9 @@
 //! The layouts of a state's last row: where the counter is, and how many counters there are.
 
 ghost use Rattle.std.specs.Prelude.{◌≡◌, ◌≤◌, ◌<◌, ◌+◌, ◌-◌, ◌*◌, ◌%◌, ◌^◌, ◌⊎◌, ℕ, length, Some};
-ghost use Rattle.chacha_base.specs.Layout.{Layout, ietf, legacy, modulus, counter_len, row_counter, row_at};
-ghost use Rattle.chacha_base.specs.Limit.{remaining};
+ghost use Rattle.chacha_base.specs.ChaCha.{Layout, ietf, legacy, modulus};
+ghost use Rattle.chacha_base.specs.State.{counter_len, row_counter, row_at};
+ghost use Rattle.chacha_base.specs.Cipher.{remaining};
 
 mod sealed {
     pub trait Sealed {}

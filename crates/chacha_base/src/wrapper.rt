@@ -1,8 +1,8 @@
 //! A byte stream over a core of blocks.
 
 ghost use Rattle.std.specs.Prelude.{◌≡◌, ◌+◌, ◌/◌, ◌%◌, ◌≤◌, ◌<◌, length, min};
-ghost use Rattle.chacha_base.specs.Keystream.{keystream, xor_stream};
-ghost use Rattle.chacha_base.specs.Limit.{limit_of};
+ghost use Rattle.chacha_base.specs.ChaCha.{keystream, xor_stream};
+ghost use Rattle.chacha_base.specs.Cipher.{limit_of};
 ghost use Rattle.chacha_base.specs.Buffered.{left_at};
 ghost use Rattle.chacha_base.specs.Counts.{Grows, for_bytes, for_last_part, for_whole_blocks};
 

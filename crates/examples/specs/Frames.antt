@@ -1,9 +1,7 @@
 -- Frames under one key: their numbers, their nonces, and what is sent.
 use Rattle.std.specs.Prelude.{ℕ, ◌+◌, ◌^◌, List, ◌++◌}
 use Rattle.std.specs.Int.{to_le_bytes, w64}
-use Rattle.chacha20.specs.Layout.{ietf}
-use Rattle.chacha20.specs.Block.{block}
-use Rattle.chacha20.specs.Keystream.{keystream, xor_stream}
+use Rattle.chacha20.specs.ChaCha.{ietf, block, keystream, xor_stream}
 
 -- a sender or a receiver: its key, its channel, and the number of its next frame
 pub record Endpoint : Type 0 where

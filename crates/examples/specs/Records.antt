@@ -1,9 +1,7 @@
 -- Records that are overwritten: what makes their nonces, and what text each one has.
 use Rattle.std.specs.Prelude.{ℕ, ◌^◌, List, [], ◌++◌, slice_index_or}
 use Rattle.std.specs.Int.{to_le_bytes, w32, w64}
-use Rattle.chacha20.specs.Block.{block}
-use Rattle.chacha20.specs.Keystream.{keystream, xor_stream}
-use Rattle.chacha20.specs.Layout.{ietf}
+use Rattle.chacha20.specs.ChaCha.{block, keystream, xor_stream, ietf}
 use Rattle.examples.specs.declared.records.Record.{Record}
 
 -- the number of a record in 4 bytes and a version in 8, the low byte first

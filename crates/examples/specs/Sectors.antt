@@ -1,9 +1,7 @@
 -- Sectors of 512 bytes, each with a version: what bytes and what text each one has.
 use Rattle.std.specs.Prelude.{ℕ, ◌+◌, ◌*◌, ◌^◌, List, slice_index_or}
 use Rattle.std.specs.List.{slice_range}
-use Rattle.chacha20.specs.Block.{block}
-use Rattle.chacha20.specs.Keystream.{keystream, xor_stream}
-use Rattle.chacha20.specs.Layout.{ietf}
+use Rattle.chacha20.specs.ChaCha.{block, keystream, xor_stream, ietf}
 use Rattle.examples.specs.Records.{nonce_of}
 
 -- the stored bytes of the sector of this number

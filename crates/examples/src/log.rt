@@ -12,9 +12,7 @@
 //! XOR of their texts. Nothing is authenticated: where a bit of the log is changed, that bit of its text changes.
 
 ghost use Rattle.std.specs.Prelude.{◌≡◌, ◌≤◌, ◌↔◌, ◌+◌, ◌^◌, length, IsOk, IfOk, OnOk, OnErr};
-ghost use Rattle.chacha20.specs.Block.{block};
-ghost use Rattle.chacha20.specs.Keystream.{keystream, xor_stream};
-ghost use Rattle.chacha20.specs.Layout.{ietf};
+ghost use Rattle.chacha20.specs.ChaCha.{block, keystream, xor_stream, ietf};
 
 use chacha20::cipher::{KeyIvInit, Keystream, StreamCipher, StreamCipherError, StreamCipherSeek};
 use chacha20::{ChaCha20, Key, Nonce};

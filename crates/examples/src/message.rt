@@ -15,10 +15,8 @@
 //! Decryption is the same call. Never use a nonce twice under one key. Nothing here authenticates a message: add a MAC.
 
 ghost use Rattle.std.specs.Prelude.{◌≡◌, ◌≤◌, ◌^◌, ◌↔◌, length, IsOk, OnOk, OnErr};
-ghost use Rattle.chacha20.specs.Block.{block};
-ghost use Rattle.chacha20.specs.Keystream.{keystream, xor_stream};
-ghost use Rattle.chacha20.specs.Layout.{ietf, legacy};
-ghost use Rattle.chacha20.specs.Limit.{limit_of};
+ghost use Rattle.chacha20.specs.ChaCha.{block, keystream, xor_stream, ietf, legacy};
+ghost use Rattle.chacha20.specs.Cipher.{limit_of};
 ghost use Rattle.chacha20.specs.XChaCha.{subkey, subnonce};
 
 use chacha20::backends::Lanes16;

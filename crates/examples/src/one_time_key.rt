@@ -14,9 +14,7 @@
 //! or that make its check quicker.
 
 ghost use Rattle.std.specs.Prelude.{◌≡◌, ◌≤◌, ◌+◌, ◌^◌, ◌↔◌, take, length, IsOk, OnOk, OnErr};
-ghost use Rattle.chacha20.specs.Block.{block};
-ghost use Rattle.chacha20.specs.Keystream.{keystream, xor_stream};
-ghost use Rattle.chacha20.specs.Layout.{ietf};
+ghost use Rattle.chacha20.specs.ChaCha.{block, keystream, xor_stream, ietf};
 
 use chacha20::cipher::{KeyIvInit, StreamCipher, StreamCipherError, StreamCipherSeek};
 use chacha20::{ChaCha20, Key, Nonce};

@@ -12,8 +12,8 @@
 //! each turn, and `Answers.antt` why it still holds after it.
 
 ghost use Rattle.std.specs.Prelude.{◌≡◌, ◌≤◌, ◌<◌, ◌+◌, ◌↔◌, ◌++◌, length, IsOk, OnOk, OnErr};
-ghost use Rattle.chacha20.specs.Keystream.{keystream, xor_stream};
-ghost use Rattle.chacha20.specs.Limit.{limit_of};
+ghost use Rattle.chacha20.specs.ChaCha.{keystream, xor_stream};
+ghost use Rattle.chacha20.specs.Cipher.{limit_of};
 
 use chacha20::cipher::{StreamCipher, StreamCipherError};
 

@@ -14,9 +14,7 @@
 //! authenticated: where a bit of a record is changed, that bit of its text changes, and no read notices it.
 
 ghost use Rattle.std.specs.Prelude.{◌≡◌, ◌≢◌, ◌↔◌, ◌<◌, ◌≤◌, ◌+◌, ◌-◌, ◌^◌, ℕ, length, IsOk, OnOk, OnErr};
-ghost use Rattle.chacha20.specs.Block.{block};
-ghost use Rattle.chacha20.specs.Keystream.{keystream, xor_stream};
-ghost use Rattle.chacha20.specs.Layout.{ietf};
+ghost use Rattle.chacha20.specs.ChaCha.{block, keystream, xor_stream, ietf};
 ghost use Rattle.examples.specs.Records.{nonce_of, record_at, text_of};
 
 use chacha20::cipher::{KeyIvInit, StreamCipher, StreamCipherError};

@@ -6,7 +6,7 @@
 //! many quarter rounds they count.
 
 ghost use Rattle.std.specs.Prelude.{◌≡◌, ◌+◌, ◌*◌};
-ghost use Rattle.chacha20.specs.Rounds.{mix};
+ghost use Rattle.chacha20.specs.ChaCha.{mix};
 ghost use Rattle.chacha20.specs.State.{state_after, next_block};
 
 use chacha_base::bytes::write_bytes;

@@ -12,8 +12,7 @@ ghost use Rattle.std.specs.Prelude.{◌≡◌, ℕ, ◌<◌, ◌≤◌, ◌+◌,
 ghost use Rattle.std.specs.Int.{w64, to_le_bytes};
 ghost use Rattle.std.specs.List.{enumerate_from};
 ghost use Rattle.std.specs.List.Sorted.{IsPermutation};
-ghost use Rattle.chacha20.specs.Generator.{next_u64, repeated};
-ghost use Rattle.chacha20.specs.StateBytes.{of_state_bytes};
+ghost use Rattle.chacha20.specs.Generator.{next_u64, repeated, of_state_bytes};
 
 use chacha20::cipher::RngBackend;
 use chacha20::{ChaCha20Rng, ChaChaRng, Rounds, Seed, SerializedRngState};

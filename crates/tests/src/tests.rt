@@ -22,8 +22,8 @@ mod wraps;
 
 ghost use Rattle.std.specs.Prelude.{All, IsNone};
 
+use known_answers::verdicts::Verdict;
 use std::process::Abort;
-use worked_rows::verdicts::Verdict;
 
 // Stops the test at the first of these that fails: what is named first, a backend or a type, and then the check.
 fn all_right(rt: &impl Abort, verdicts: &[(&'static str, Verdict)])

@@ -2,8 +2,8 @@
 //! nothing. The status is 0 if each line says ok and could be written, and else 1.
 #![tactic(auto)]
 
-use worked_rows::report::{Outcome, report};
-use worked_rows::worked;
+use known_answers::report::{Outcome, report};
+use known_answers::worked;
 
 fn main(rt: HostRuntime) -> Outcome {
     let (ciphertext, verdicts) = worked();

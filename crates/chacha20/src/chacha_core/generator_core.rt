@@ -4,9 +4,7 @@
 ghost use Rattle.std.specs.Prelude.{◌≡◌, ◌+◌, ◌*◌, ◌^◌, ℕ, List, ◌++◌, replicate, take};
 ghost use Rattle.std.specs.Int.{w64, to_le_bytes};
 ghost use Rattle.rand_core.specs.Pcg32Seed.{pcg32_seed};
-ghost use Rattle.chacha_base.specs.Bytes.{words};
-ghost use Rattle.chacha_base.specs.Layout.{legacy};
-ghost use Rattle.chacha_base.specs.Block.{start};
+ghost use Rattle.chacha_base.specs.ChaCha.{words, legacy, start};
 ghost use Rattle.chacha_base.specs.State.{fixed_words, state_after, next_words};
 ghost use Rattle.chacha20.specs.GeneratorCore.{seed_in, stream_in};
 

@@ -1,10 +1,8 @@
 //! Groups of blocks in columns: a vector for each word of a state, and a lane for each block.
 
 ghost use Rattle.std.specs.Prelude.{◌≡◌, ◌<◌, ℕ, ◌+◌, ◌*◌, ⊤, [], ◌∷◌, length, slice_index, slice_index_or};
-ghost use Rattle.chacha_base.specs.Rounds.{columns, diagonals, rounds};
-ghost use Rattle.chacha_base.specs.ColumnVectors.{block_in_columns};
-ghost use Rattle.chacha_base.specs.Lanes.{quad};
-ghost use Rattle.chacha_base.specs.Vectors.{words_at, block_in_rows};
+ghost use Rattle.chacha_base.specs.ChaCha.{columns, diagonals, rounds};
+ghost use Rattle.chacha_base.specs.Lanes.{block_in_columns, quad, words_at, block_in_rows};
 
 use crate::backends::group::{BlockBuffer, Group, write_block};
 use crate::backends::vector::{ByBytes, ColumnVector, FourVectors, Vector, quarter_round, sums};

@@ -1,10 +1,8 @@
 //! What the kernel needs of a group of blocks, in rows or in columns, and groups of two halves.
 
 ghost use Rattle.std.specs.Prelude.{◌≡◌, ◌<◌, ℕ, ◌+◌, ◌-◌, ◌*◌, ⊤, nat_lt, if◌then◌else◌, List, [], length, slice_get, slice_index, slice_index_or, Some};
-ghost use Rattle.chacha_base.specs.Bytes.{bytes};
-ghost use Rattle.chacha_base.specs.Rounds.{columns, diagonals, rounds, add_states};
-ghost use Rattle.chacha_base.specs.Lanes.{quad, with_last_row};
-ghost use Rattle.chacha_base.specs.Vectors.{block_in_rows};
+ghost use Rattle.chacha_base.specs.ChaCha.{bytes, columns, diagonals, rounds, add_states};
+ghost use Rattle.chacha_base.specs.Lanes.{quad, with_last_row, block_in_rows};
 
 use crate::backends::vector::{FourVectors, Vector};
 use crate::rounds::Steps;

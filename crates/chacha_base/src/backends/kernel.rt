@@ -1,8 +1,7 @@
 //! From a state to its next blocks: a whole group is made, of which a caller takes what it needs.
 
 ghost use Rattle.std.specs.Prelude.{◌≡◌, ◌≤◌, ◌<◌, ◌≢◌, ℕ, ◌+◌, ◌*◌, min, [], length, drop, slice_index_or};
-ghost use Rattle.chacha_base.specs.Layout.{legacy};
-ghost use Rattle.chacha_base.specs.Rounds.{mix};
+ghost use Rattle.chacha_base.specs.ChaCha.{legacy, mix};
 ghost use Rattle.chacha_base.specs.State.{state_after, next_block, AreNextBlocks, next_words};
 ghost use Rattle.chacha_base.specs.Counts.{Grows, for_tail, tail_rounds};
 

@@ -1,8 +1,7 @@
 //! Groups of blocks in rows: a vector for each row of a state, and a quad for each block.
 
 ghost use Rattle.std.specs.Prelude.{◌≡◌, ◌<◌, ℕ, ◌*◌, ⊤, [], ◌∷◌, slice_index};
-ghost use Rattle.chacha_base.specs.Lanes.{quad, state_row, rows_turned};
-ghost use Rattle.chacha_base.specs.Vectors.{block_in_rows};
+ghost use Rattle.chacha_base.specs.Lanes.{quad, state_row, rows_turned, block_in_rows};
 
 use crate::backends::group::{BlockBuffer, Group, write_block};
 use crate::backends::vector::{ByShifts, FourVectors, Vector, quarter_round, sums};

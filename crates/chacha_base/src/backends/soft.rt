@@ -1,8 +1,7 @@
 //! The plain backend: one block at a time, on words.
 
 ghost use Rattle.std.specs.Prelude.{◌≡◌, ◌<◌, ◌+◌, ◌*◌, length};
-ghost use Rattle.chacha_base.specs.Rounds.{add_states, mix};
-ghost use Rattle.chacha_base.specs.Bytes.{bytes};
+ghost use Rattle.chacha_base.specs.ChaCha.{add_states, mix, bytes};
 ghost use Rattle.chacha_base.specs.Counts.{Grows, for_tail};
 ghost use Rattle.chacha_base.specs.State.{state_after, AreNextBlocks};
 

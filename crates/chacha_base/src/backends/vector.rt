@@ -1,10 +1,8 @@
 //! Vectors of words, and the quarter round of four of them.
 
 ghost use Rattle.std.specs.Prelude.{◌≡◌, ◌≤◌, ◌<◌, ℕ, ◌+◌, ◌*◌, ⊤, bit_xor, slice_index};
-ghost use Rattle.chacha_base.specs.Words.{add, rotl};
-ghost use Rattle.chacha_base.specs.QuarterRound.{quarter};
-ghost use Rattle.chacha_base.specs.Lanes.{quad, interleaved_low, interleaved_high, turned};
-ghost use Rattle.chacha_base.specs.Vectors.{lanes_at, sums_at};
+ghost use Rattle.chacha_base.specs.ChaCha.{add, rotl, quarter};
+ghost use Rattle.chacha_base.specs.Lanes.{quad, interleaved_low, interleaved_high, turned, lanes_at, sums_at};
 
 use crate::rounds::Steps;
 use std::alloc::AllocError;

@@ -1,7 +1,7 @@
 //! The traits of backends.
 
 ghost use Rattle.std.specs.Prelude.{◌≡◌, ◌<◌, ◌+◌, ◌*◌, ℕ, length};
-ghost use Rattle.chacha_base.specs.Layout.{legacy};
+ghost use Rattle.chacha_base.specs.ChaCha.{legacy};
 ghost use Rattle.chacha_base.specs.State.{state_after, next_block, AreNextBlocks, next_words};
 ghost use Rattle.chacha_base.specs.Counts.{Grows, for_single, for_group, for_tail};
 

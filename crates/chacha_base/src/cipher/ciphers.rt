@@ -1,8 +1,8 @@
 //! The traits of ciphers over bytes.
 
 ghost use Rattle.std.specs.Prelude.{◌≡◌, ◌↔◌, ◌≤◌, ◌+◌, ℕ, length, Some, IsOk, IfOk, OnOk, OnErr, IsSomeAnd, IfSome};
-ghost use Rattle.chacha_base.specs.Limit.{limit_of};
-ghost use Rattle.chacha_base.specs.Keystream.{keystream, xor_stream, stream_part};
+ghost use Rattle.chacha_base.specs.Cipher.{limit_of};
+ghost use Rattle.chacha_base.specs.ChaCha.{keystream, xor_stream, stream_part};
 ghost use Rattle.chacha_base.specs.Counts.{Bounds, Grows};
 
 use crate::cipher::errors::{OverflowError, StreamCipherError};

@@ -1,8 +1,8 @@
 //! The traits of cores.
 
 ghost use Rattle.std.specs.Prelude.{◌≡◌, ◌<◌, ◌+◌, ◌*◌, ◌/◌, ◌%◌, ℕ, [], length, slice_get, slice_index, slice_index_or, Some};
-ghost use Rattle.chacha_base.specs.Limit.{remaining};
-ghost use Rattle.chacha_base.specs.Keystream.{keystream, xor_stream};
+ghost use Rattle.chacha_base.specs.Cipher.{remaining};
+ghost use Rattle.chacha_base.specs.ChaCha.{keystream, xor_stream};
 ghost use Rattle.chacha_base.specs.Counts.{Grows, for_single, for_whole_blocks};
 
 use crate::bytes::xor_bytes;

@@ -40,7 +40,7 @@ impl Sealed for u128 {}
 impl Sealed for usize {}
 
 impl SeekNum for i32 {
-    ghost use Rattle.chacha_base.specs.SeekNum.{signed_position};
+    ghost use Rattle.chacha_base.specs.Cipher.{signed_position};
 
     ghost position = { signed_position };
 

@@ -9,9 +9,9 @@ use chacha20::cipher::{
 use chacha20::rand_core::SeedableRng;
 use chacha20::variants::{Ietf, Legacy};
 use chacha20::{ChaChaCore, R20, Rounds};
-use worked_rows::R0;
-use worked_rows::published::COUNTING;
-use worked_rows::verdicts::{Verdict, failed_for, first_failure};
+use known_answers::R0;
+use known_answers::published::COUNTING;
+use known_answers::verdicts::{Verdict, failed_for, first_failure};
 
 // So many blocks from a counter on, the single block after them, and the counter between.
 fn made<C: StreamCipherSeekCore>(

@@ -5,9 +5,9 @@ ghost use Rattle.std.specs.Prelude.{◌≤◌};
 use super::direct::{Fresh, all_done};
 use chacha20::rand_core::{Rng, SeedableRng};
 use chacha20::{CipherCall, Seed};
-use worked_rows::lists::Listed;
-use worked_rows::published::COUNTING;
-use worked_rows::verdicts::{Verdict, failed_for};
+use known_answers::lists::Listed;
+use known_answers::published::COUNTING;
+use known_answers::verdicts::{Verdict, failed_for};
 
 // Whether one cipher decrypts what the other encrypts: ten blocks and a last part of 63 bytes, by two calls each, the
 // first of so many bytes.

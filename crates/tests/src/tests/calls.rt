@@ -2,13 +2,13 @@
 //! without `try_`.
 
 ghost use Rattle.std.specs.Prelude.{◌≤◌, ◌^◌};
-ghost use Rattle.chacha20.specs.Limit.{limit_of};
+ghost use Rattle.chacha20.specs.Cipher.{limit_of};
 
 use chacha20::cipher::{KeyIvInit, StreamCipher, StreamCipherSeek};
 use chacha20::{CipherAnswer, CipherCall, Key, Nonce};
-use worked_rows::lists::{Listed, answers_are};
-use worked_rows::published::{COUNTING, OF_20_ROUNDS};
-use worked_rows::verdicts::{Verdict, failed, first_failure};
+use known_answers::lists::{Listed, answers_are};
+use known_answers::published::{COUNTING, OF_20_ROUNDS};
+use known_answers::verdicts::{Verdict, failed, first_failure};
 
 static ZEROS: [u8; 70000] = [0; 70000];
 

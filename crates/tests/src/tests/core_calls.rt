@@ -5,9 +5,9 @@ use chacha20::cipher::{
 };
 use chacha20::variants::{Ietf, Legacy, Variant};
 use chacha20::{ChaChaCore, Key, Steps};
-use worked_rows::R0;
-use worked_rows::published::COUNTING;
-use worked_rows::verdicts::{Verdict, failed, first_failure};
+use known_answers::R0;
+use known_answers::published::COUNTING;
+use known_answers::verdicts::{Verdict, failed, first_failure};
 
 /// What is wrong with the blocks of a core of zeros.
 pub fn wrong_zeros<B: StreamCipherBackend<R0, Ietf>>() -> Verdict {

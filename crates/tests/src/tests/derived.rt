@@ -2,8 +2,8 @@
 
 use super::direct::{Fresh, all_done, stream_ends};
 use chacha20::{CipherCall, Nonce, Rounds, XNonce, hchacha};
-use worked_rows::published::{DERIVED_NONCE, FROM_80, X_NONCE, X_NONCE_FRONT};
-use worked_rows::verdicts::{Verdict, failed};
+use known_answers::published::{DERIVED_NONCE, FROM_80, X_NONCE, X_NONCE_FRONT};
+use known_answers::verdicts::{Verdict, failed};
 
 /// What is wrong with 130 bytes of a cipher with nonces of 24 bytes and so many rounds, compared with the cipher with
 /// nonces of 12 bytes over the same backend.

@@ -7,7 +7,7 @@ use chacha20::cipher::{
     KeyIvInit, StreamCipher, StreamCipherError, StreamCipherSeek, StreamCipherSeekCore,
 };
 use chacha20::{CipherAnswer, CipherCall, Key, StreamCipherCoreWrapper};
-use worked_rows::lists::{Listed, answers_are, in_slices};
+use known_answers::lists::{Listed, answers_are, in_slices};
 
 /// A cipher that makes the calls of a list directly, one after another.
 #[derive(Drop)]

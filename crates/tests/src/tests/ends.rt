@@ -4,8 +4,8 @@ ghost use Rattle.std.specs.Prelude.{◌≤◌, ◌^◌};
 
 use super::direct::all_done;
 use chacha20::{CipherAnswer, CipherCall};
-use worked_rows::lists::{CipherList, Listed, answers_are};
-use worked_rows::verdicts::{Verdict, failed, failed_for, first_failure};
+use known_answers::lists::{CipherList, Listed, answers_are};
+use known_answers::verdicts::{Verdict, failed, failed_for, first_failure};
 
 /// The limit of a cipher whose counter has 32 bits: 64 bytes for each counter.
 pub const LIMIT: u128 = 274877906944;

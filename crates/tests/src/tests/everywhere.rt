@@ -18,11 +18,11 @@ use chacha20::{
     StreamCipherCoreWrapper, XChaChaCore, XNonce,
 };
 use examples::backend::Width3;
-use worked_rows::ciphers::{self, IETF_ROWS, LEGACY_ROWS, NumberedLists, X_ROWS};
-use worked_rows::lists::{CipherList, wrong_list};
-use worked_rows::published::{COUNTING, FROM_1, FROM_80, LEGACY_NONCE, NONCE, X_NONCE};
-use worked_rows::verdicts::{Verdict, failed, first_failure, first_wrong_row};
-use worked_rows::{R0, cores, generators as row_generators};
+use known_answers::ciphers::{self, IETF_ROWS, LEGACY_ROWS, NumberedLists, X_ROWS};
+use known_answers::lists::{CipherList, wrong_list};
+use known_answers::published::{COUNTING, FROM_1, FROM_80, LEGACY_NONCE, NONCE, X_NONCE};
+use known_answers::verdicts::{Verdict, failed, first_failure, first_wrong_row};
+use known_answers::{R0, cores, generators as row_generators};
 
 type Cipher<K> = StreamCipherCoreWrapper<K>;
 

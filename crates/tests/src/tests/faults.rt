@@ -9,11 +9,11 @@ use chacha20::backends::Soft;
 use chacha20::cipher::{KeyIvInit, StreamCipherSeekCore};
 use chacha20::variants::Ietf;
 use chacha20::{ChaChaCore, CipherAnswer, CipherCall, Key, Nonce, StreamCipherCoreWrapper};
-use worked_rows::R0;
-use worked_rows::ciphers::{NumberedLists, enter_table};
-use worked_rows::lists::{CipherList, Listed, wrong_list};
-use worked_rows::published::LEGACY_KEYSTREAM;
-use worked_rows::verdicts::{Verdict, first_wrong_row};
+use known_answers::R0;
+use known_answers::ciphers::{NumberedLists, enter_table};
+use known_answers::lists::{CipherList, Listed, wrong_list};
+use known_answers::published::LEGACY_KEYSTREAM;
+use known_answers::verdicts::{Verdict, first_wrong_row};
 
 // In the place of a cipher: call k after a seek answers position k, and sets byte k of the data to k. Each list begins
 // with a seek. Of each of the two ways to call it one list may fail; lists count from 1.

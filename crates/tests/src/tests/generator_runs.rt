@@ -2,10 +2,10 @@
 
 use chacha20::cipher::RngBackend;
 use chacha20::{ChaChaRng, RngAnswer, RngCall};
-use worked_rows::R0;
-use worked_rows::generators::POSITIONS;
-use worked_rows::lists::{RngList, wrong_draw};
-use worked_rows::verdicts::Verdict;
+use known_answers::R0;
+use known_answers::generators::POSITIONS;
+use known_answers::lists::{RngList, wrong_draw};
+use known_answers::verdicts::Verdict;
 
 /// The stream of these lists.
 pub const STREAM: u64 = 0x8000_0001_0000_0003;

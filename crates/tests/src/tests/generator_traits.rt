@@ -3,9 +3,9 @@
 use chacha20::cipher::{RngBackend, StreamCipherCore};
 use chacha20::rand_core::{self, CryptoRng, Rng, SeedableRng, TryRng};
 use chacha20::{ChaCha8Rng, ChaCha12Rng, ChaCha20LegacyCore, ChaCha20Rng, ChaChaRng, R20, Seed};
-use worked_rows::R0;
-use worked_rows::published::{FROM_1, OF_8_ROUNDS, OF_12_ROUNDS, OF_20_ROUNDS};
-use worked_rows::verdicts::{Verdict, failed};
+use known_answers::R0;
+use known_answers::published::{FROM_1, OF_8_ROUNDS, OF_12_ROUNDS, OF_20_ROUNDS};
+use known_answers::verdicts::{Verdict, failed};
 
 // What a list of reads gives: a word, two words, 5 bytes, no bytes, a word.
 type Reads = (u32, u64, [u8; 5], u32);

@@ -5,9 +5,9 @@ ghost use Rattle.std.specs.Prelude.{◌≤◌, ◌+◌};
 use super::direct::{Directly, Fresh, all_done};
 use super::streams::is_multiple;
 use chacha20::CipherCall;
-use worked_rows::lists::Listed;
-use worked_rows::published::COUNTING;
-use worked_rows::verdicts::{Verdict, failed_for, first_failure};
+use known_answers::lists::Listed;
+use known_answers::published::COUNTING;
+use known_answers::verdicts::{Verdict, failed_for, first_failure};
 
 // A message of some blocks and one byte more than a group of any backend.
 const LENGTH: usize = 2049;

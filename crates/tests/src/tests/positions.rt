@@ -2,8 +2,8 @@
 
 use super::ends::{LEGACY_LIMIT, LIMIT};
 use chacha20::cipher::{SeekNum, StreamCipherSeek};
-use worked_rows::ciphers::is_at;
-use worked_rows::verdicts::{Verdict, failed, first_failure};
+use known_answers::ciphers::is_at;
+use known_answers::verdicts::{Verdict, failed, first_failure};
 
 /// A cipher that is sought, and asked for its position, in any type. It has no contract, as `Listed` has none.
 pub trait Placed {

@@ -1,12 +1,12 @@
 //! What the program prints, and its status: 0 only if all rows are right and the lines could be printed.
 
+use known_answers::report::report;
+use known_answers::verdicts::{Verdict, failed_check};
 use std::alloc::Global;
 use std::cell::Cell;
 use std::fmt::Display;
 use std::io;
 use std::process::{ExitCode, Termination};
-use worked_rows::report::report;
-use worked_rows::verdicts::{Verdict, failed_check};
 
 // In the place of the standard output: whether what is printed last is the expected text. A full page takes no text.
 #[derive(Drop)]

@@ -2,7 +2,7 @@
 //! two blocks.
 
 use chacha20::{CipherAnswer, CipherCall};
-use worked_rows::lists::CipherList;
+use known_answers::lists::CipherList;
 
 // One call of the run, after all those before it. The data don't change, except where a list says so.
 const CALL: CipherList = CipherList {

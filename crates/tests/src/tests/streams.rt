@@ -5,12 +5,12 @@ ghost use Rattle.std.specs.Prelude.{◌≤◌};
 use super::direct::{Fresh, all_done, stream_ends};
 use chacha20::cipher::RngBackend;
 use chacha20::{ChaChaRng, CipherAnswer, CipherCall, Nonce, R20, RngAnswer, RngCall, Seed};
-use worked_rows::generators::wrong_table;
-use worked_rows::lists::{CipherList, Listed, RngList};
-use worked_rows::published::{
+use known_answers::generators::wrong_table;
+use known_answers::lists::{CipherList, Listed, RngList};
+use known_answers::published::{
     BLOCKS, CARRY_BLOCKS, CIPHERTEXT, KEYSTREAM, LEGACY_KEYSTREAM, MESSAGE, X_KEYSTREAM,
 };
-use worked_rows::verdicts::{Verdict, failed_check, failed_for};
+use known_answers::verdicts::{Verdict, failed_check, failed_for};
 
 /// The message of RFC 8439, section 2.4.2, and its keystream, both from block 1 on, for `COUNTING` and `NONCE`.
 pub static IETF_STREAM: [CipherList; 2] = [

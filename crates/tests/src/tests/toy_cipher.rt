@@ -5,8 +5,8 @@ use super::ends::LIMIT;
 use super::toy::Toy;
 use chacha20::cipher::{KeyIvInit, StreamCipher, StreamCipherSeekCore};
 use chacha20::{CipherAnswer, CipherCall, StreamCipherCoreWrapper};
-use worked_rows::lists::{CipherList, wrong_list};
-use worked_rows::verdicts::Verdict;
+use known_answers::lists::{CipherList, wrong_list};
+use known_answers::verdicts::Verdict;
 
 // A new core is at block 5, and a cipher over it begins at block 0.
 #[test]

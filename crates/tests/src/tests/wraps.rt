@@ -5,10 +5,10 @@ use super::generator_runs::STREAM;
 use chacha20::cipher::{KeyIvInit, RngBackend, StreamCipherCounter, StreamCipherSeekCore};
 use chacha20::rand_core::SeedableRng;
 use chacha20::{ChaChaRng, Key, Nonce, Seed};
-use worked_rows::R0;
-use worked_rows::cores::last_row;
-use worked_rows::generators::POSITIONS;
-use worked_rows::verdicts::{Verdict, failed, failed_for, first_failure};
+use known_answers::R0;
+use known_answers::cores::last_row;
+use known_answers::generators::POSITIONS;
+use known_answers::verdicts::{Verdict, failed, failed_for, first_failure};
 
 // The last rows of blocks 0, 2, 3 and 19 of twenty, and the counter after them.
 type Ends = ([[u8; 16]; 4], u64);

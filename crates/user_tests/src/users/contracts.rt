@@ -2,7 +2,7 @@
 
 ghost use Rattle.std.specs.Prelude.{◌≡◌, ◌+◌, ◌≤◌, ◌<◌, ℕ, ◌*◌, length, slice_get, IsOk, OnOk};
 ghost use Rattle.chacha20.specs.State.{fixed_words, state_counter};
-ghost use Rattle.chacha20.specs.Limit.{limit_of};
+ghost use Rattle.chacha20.specs.Cipher.{limit_of};
 ghost use Rattle.chacha20.specs.Counts.{Grows, for_bytes};
 
 use chacha20::backends::{Columns8, Lanes4, Lanes8, Lanes16, Rows8, Soft};

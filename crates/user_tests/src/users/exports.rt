@@ -24,7 +24,7 @@ use chacha20_c::xchacha::{
     xchacha8_xor_in_place, xchacha12_keystream_raw, xchacha12_xor_between, xchacha12_xor_in_place,
     xchacha20_keystream_raw, xchacha20_xor_between, xchacha20_xor_in_place,
 };
-use worked_rows::published::{
+use known_answers::published::{
     CIPHERTEXT, COUNTING, DERIVED_NONCE, HCHACHA_INPUT, MESSAGE, NONCE, OF_8_ROUNDS, OF_12_ROUNDS,
     OF_20_ROUNDS, SUBKEY, X_NONCE, X_NONCE_FRONT,
 };

@@ -5,7 +5,7 @@ use chacha20::cipher::{KeyIvInit, StreamCipherBackend, StreamCipherSeek};
 use chacha20::variants::Ietf;
 use chacha20::{ChaChaCore, R20, StreamCipherCoreWrapper};
 use examples::file::{encrypt_record, read_at};
-use worked_rows::published::{CIPHERTEXT, COUNTING, NONCE};
+use known_answers::published::{CIPHERTEXT, COUNTING, NONCE};
 
 // Reads a window of the file: 112 zeros, and then bytes 48 to 79 of the message of RFC 8439, section 2.4.2, which
 // begins at block 1. So a block ends between them.

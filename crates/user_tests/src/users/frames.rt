@@ -3,7 +3,7 @@
 ghost use Rattle.std.specs.Prelude.{◌≡◌, ◌<◌, ◌+◌, ◌^◌, length, IsOk, OnOk};
 
 use examples::frames::{FrameError, Receiver, Sender};
-use worked_rows::published::{BLOCKS, CIPHERTEXT, COUNTING, MESSAGE};
+use known_answers::published::{BLOCKS, CIPHERTEXT, COUNTING, MESSAGE};
 
 // RFC 8439: a block (section 2.3.2) and the front of a ciphertext (2.4.2), both from block 1, and block 0 under a nonce
 // that ends in 2 (A.1).

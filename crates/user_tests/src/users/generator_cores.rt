@@ -5,7 +5,7 @@ use chacha20::cipher::StreamCipherSeekCore;
 use chacha20::rand_core::SeedableRng;
 use chacha20::variants::Legacy;
 use chacha20::{ChaCha20LegacyCore, ChaChaCore, ChaChaRng, Generator, R20};
-use worked_rows::R0;
+use known_answers::R0;
 
 type NoRounds = ChaChaCore<R0, Legacy, Soft>;
 

@@ -1,7 +1,7 @@
 //! Equality and stored states of generators.
 
 use chacha20::ChaCha20Rng;
-use worked_rows::published::{COUNTING, FROM_1};
+use known_answers::published::{COUNTING, FROM_1};
 
 // A state that is taken and given back at each place of a buffer, and past it, with the same words after it.
 #[test]

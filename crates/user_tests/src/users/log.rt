@@ -1,7 +1,7 @@
 //! A published message as lines of a log, and what a writer refuses.
 
 use examples::log::LogWriter;
-use worked_rows::published::{CIPHERTEXT, COUNTING, MESSAGE, NONCE};
+use known_answers::published::{CIPHERTEXT, COUNTING, MESSAGE, NONCE};
 
 // Whether a writer takes a line, and how many bytes the log then has.
 fn appends(writer: &mut LogWriter, line: &mut [u8], end: u64) -> bool {

@@ -1,7 +1,7 @@
 //! Published messages and keystreams.
 
 use examples::message::{encrypt, encrypt_6, encrypt_legacy, encrypt_xchacha};
-use worked_rows::published::{
+use known_answers::published::{
     CIPHERTEXT, COUNTING, FROM_1, FROM_80, LEGACY_KEYSTREAM, LEGACY_NONCE, MESSAGE, NONCE,
     X_KEYSTREAM, X_NONCE,
 };

@@ -12,7 +12,7 @@ use chacha20::{
     XChaCha8, XChaCha12, XChaCha20, XChaChaCore, XNonce, backends, cipher, hchacha, rand_core,
     run_cipher, run_rng, runs, variants,
 };
-use worked_rows::published::{OF_8_ROUNDS, OF_12_ROUNDS, OF_20_ROUNDS};
+use known_answers::published::{OF_8_ROUNDS, OF_12_ROUNDS, OF_20_ROUNDS};
 
 // The same names by their modules.
 mod by_module {

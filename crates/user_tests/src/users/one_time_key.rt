@@ -2,7 +2,7 @@
 
 use chacha20::Nonce;
 use examples::one_time_key::{encrypt_from_block_1, one_time_key};
-use worked_rows::published::{FROM_80, MESSAGE};
+use known_answers::published::{FROM_80, MESSAGE};
 
 #[test]
 fn one_time_keys(rt: HostRuntime) {

@@ -2,14 +2,14 @@
 //! backend of the library.
 
 ghost use Rattle.std.specs.Prelude.{◌≤◌, ◌^◌};
-ghost use Rattle.chacha20.specs.Limit.{limit_of};
+ghost use Rattle.chacha20.specs.Cipher.{limit_of};
 
 use chacha20::cipher::{KeyIvInit, StreamCipher};
 use chacha20::variants::Ietf;
 use chacha20::{ChaChaCore, Key, Nonce, R20, StreamCipherCoreWrapper};
 use examples::pieces::{apply_in_two, try_apply_in_pieces};
 use examples::scalar::Scalar;
-use worked_rows::published::{CIPHERTEXT, COUNTING, MESSAGE, NONCE};
+use known_answers::published::{CIPHERTEXT, COUNTING, MESSAGE, NONCE};
 
 // The message in pieces of one byte, and in two buffers.
 fn encrypts_in_pieces<C: KeyIvInit<Key = Key, Iv = Nonce> + StreamCipher + Drop>() -> [bool; 2]

@@ -1,7 +1,7 @@
 //! Records: published nonces and bytes, writes one over another, and what is refused.
 
 use examples::records::{LEN, Record, nonce, read, write};
-use worked_rows::published::BLOCKS;
+use known_answers::published::BLOCKS;
 
 // The nonce of RFC 8439, section 2.3.2.
 #[test]

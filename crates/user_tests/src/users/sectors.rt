@@ -1,7 +1,7 @@
 //! Sectors: a published ciphertext, one write over another, and what is refused.
 
 use examples::sectors::{SECTOR, read, write};
-use worked_rows::published::{CIPHERTEXT, COUNTING, MESSAGE};
+use known_answers::published::{CIPHERTEXT, COUNTING, MESSAGE};
 
 // RFC 8439, section 2.4.2: the message stands from block 1 on, and the nonce is that of version 0x4a000000 of sector 0.
 #[test]

@@ -9,8 +9,8 @@ use chacha20::variants::Ietf;
 use chacha20::{
     ChaChaCore, Key, Nonce, Rounds, StreamCipherCoreWrapper, XChaChaCore, XNonce, hchacha,
 };
-use worked_rows::R0;
-use worked_rows::published::HCHACHA_INPUT;
+use known_answers::R0;
+use known_answers::published::HCHACHA_INPUT;
 
 // The constants and the input as they were.
 #[test]

@@ -1,4 +1,4 @@
-use Rattle.chacha_base.specs.Bytes.{words}
+use Rattle.chacha_base.specs.ChaCha.{words}
 use Rattle.chacha_base.proofs.BytesLemmas.{length-words}
 use Rattle.chacha20.proofs.StartLemmas.{written}
 use Rattle.chacha20.proofs.chacha_core.start_state.Goals as goal

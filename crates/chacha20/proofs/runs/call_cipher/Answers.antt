@@ -1,5 +1,5 @@
 use Rattle.std.proofs.Common.{◌≡◌, ◌≤◌, ◌^◌, false, true, inl, inr, refl, arith, rules, to_z-of_z, SFits, w32}
-use Rattle.chacha_base.specs.Keystream.{xor_stream, stream_part}
+use Rattle.chacha_base.specs.ChaCha.{xor_stream, stream_part}
 use Rattle.chacha20.specs.Runs.{setting}
 use Rattle.chacha20.proofs.RunLemmas.{le-outcome-is, check-leaves, seek-leaves, seek_i32-is, wrote-is, wrote_from-is, pos-is, pos_i32-is}
 use Rattle.chacha20.proofs.runs.call_cipher.Goals as goal

@@ -1,6 +1,6 @@
 use Rattle.std.proofs.Common.{◌≡◌, ◌∙◌, ◌++◌, take, drop, replicate, refl, arith, drop_at}
 use borrow.Rule.Slice.PartMut.{put_mid}
-use Rattle.chacha_base.specs.Bytes.{bytes}
+use Rattle.chacha_base.specs.ChaCha.{bytes}
 use Rattle.chacha_base.proofs.ListLemmas.{by_words, part_long}
 use Rattle.chacha20.proofs.xchacha.hchacha.Goals as goal
 

@@ -1,5 +1,5 @@
 use Rattle.std.proofs.Common.{◌%◌, ◌^◌, refl, sym, ap, arith, ◌∙◌}
-use Rattle.chacha20.specs.StateBytes.{state_bytes, of_state_bytes}
+use Rattle.chacha20.specs.Generator.{state_bytes, of_state_bytes}
 use Rattle.chacha20.proofs.StateBytesLemmas.{IsWritten, state_is, of_state_bytes-state_bytes}
 use Rattle.chacha20_c.proofs.generators.stored.Goals as goal
 

@@ -1,5 +1,5 @@
 use Rattle.std.proofs.Common.{◌≡◌, ◌*◌, take}
-use Rattle.chacha_base.specs.Bytes.{words}
+use Rattle.chacha_base.specs.ChaCha.{words}
 use Rattle.chacha_base.proofs.bytes.read_words.Given as goal
 
 abbrev pub invariant-loop-i : goal.invariant-loop-i

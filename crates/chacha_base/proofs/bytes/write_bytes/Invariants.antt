@@ -1,5 +1,5 @@
 use Rattle.std.proofs.Common.{◌≡◌, ◌*◌, take}
-use Rattle.chacha_base.specs.Bytes.{bytes}
+use Rattle.chacha_base.specs.ChaCha.{bytes}
 use Rattle.chacha_base.proofs.bytes.write_bytes.Given as goal
 
 abbrev pub invariant-loop-i : goal.invariant-loop-i

@@ -1,5 +1,5 @@
 use Rattle.std.proofs.Common.{refl}
-use Rattle.chacha_base.specs.QuarterRound.{quarter}
+use Rattle.chacha_base.specs.ChaCha.{quarter}
 use Rattle.chacha_base.proofs.rounds.quarter_words.Goals as goal
 
 -- answered for speed

@@ -1,9 +1,7 @@
 use Rattle.std.proofs.Common.{◌≡◌, ◌+◌, ◌^◌, ◌-◌, take, drop, length, ap, arith, zero-add, ◌∙◌}
 use Rattle.std.specs.Prelude.{OnOk}
 use Rattle.std.specs.List.{slice_range}
-use Rattle.chacha20.specs.Block.{block}
-use Rattle.chacha20.specs.Keystream.{keystream, xor_stream}
-use Rattle.chacha20.specs.Layout.{ietf}
+use Rattle.chacha20.specs.ChaCha.{block, keystream, xor_stream, ietf}
 use Rattle.chacha20.proofs.KeystreamLemmas.{xor_stream-xor_stream, window-xor_stream}
 use Rattle.std.proofs.lemmas.Result.{on_err_weaker}
 use Rattle.examples.proofs.file.read_at.Goals as goal

@@ -1,7 +1,5 @@
 use Rattle.std.proofs.Common.{◌^◌, arith, ap₂, ◌∙◌}
-use Rattle.chacha20.specs.Block.{block}
-use Rattle.chacha20.specs.Keystream.{keystream, stream_part}
-use Rattle.chacha20.specs.Layout.{ietf}
+use Rattle.chacha20.specs.ChaCha.{block, keystream, stream_part, ietf}
 use Rattle.chacha20.proofs.KeystreamLemmas.{length-block, stream_part-block}
 use Rattle.examples.proofs.one_time_key.one_time_key.Goals as goal
 

@@ -1,6 +1,6 @@
 use Rattle.std.proofs.Common.{◌≡◌, ◌+◌, ◌-◌, ◌≤◌, length, take, drop, arith, sym, ap, ◌∙◌}
 use Rattle.std.proofs.Math.Seq.{take-length}
-use Rattle.chacha20.specs.Keystream.{keystream, xor_stream}
+use Rattle.chacha20.specs.ChaCha.{keystream, xor_stream}
 use Rattle.chacha20.proofs.CipherLemmas.{moved_on}
 use Rattle.chacha20.proofs.PieceLemmas.{xor_stream-written, rest-written, piece-long}
 use Rattle.examples.proofs.pieces.apply_in_pieces.Goals as goal

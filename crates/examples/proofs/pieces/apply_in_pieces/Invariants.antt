@@ -1,5 +1,5 @@
 use Rattle.std.proofs.Common.{◌≡◌, ◌+◌, ◌-◌, ◌≤◌, length, take, drop}
-use Rattle.chacha20.specs.Keystream.{keystream, xor_stream}
+use Rattle.chacha20.specs.ChaCha.{keystream, xor_stream}
 use Rattle.examples.proofs.pieces.apply_in_pieces.Given as goal
 
 abbrev pub invariant-pieces : goal.invariant-pieces

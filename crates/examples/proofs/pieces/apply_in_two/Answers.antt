@@ -1,5 +1,5 @@
 use Rattle.std.proofs.Common.{◌≡◌, ◌+◌, length, sym, ap₂, ◌++◌, ◌∙◌}
-use Rattle.chacha20.specs.Keystream.{keystream, xor_stream}
+use Rattle.chacha20.specs.ChaCha.{keystream, xor_stream}
 use Rattle.chacha20.proofs.KeystreamLemmas.{xor_stream-append}
 use Rattle.examples.proofs.pieces.apply_in_two.Goals as goal
 

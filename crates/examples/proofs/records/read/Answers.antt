@@ -1,7 +1,5 @@
 use Rattle.std.proofs.Common.{◌^◌, ap, ◌∙◌}
-use Rattle.chacha20.specs.Block.{block}
-use Rattle.chacha20.specs.Keystream.{keystream, xor_stream}
-use Rattle.chacha20.specs.Layout.{ietf}
+use Rattle.chacha20.specs.ChaCha.{block, keystream, xor_stream, ietf}
 use Rattle.examples.specs.Records.{record_at}
 use Rattle.examples.proofs.records.read.Goals as goal
 

@@ -1,7 +1,5 @@
 use Rattle.std.proofs.Common.{◌≡◌, ◌<◌, ◌+◌, ◌^◌, sym, ap, ◌∙◌, arith, get_or-set_same, get_or-set_other}
-use Rattle.chacha20.specs.Block.{block}
-use Rattle.chacha20.specs.Keystream.{keystream, xor_stream}
-use Rattle.chacha20.specs.Layout.{ietf}
+use Rattle.chacha20.specs.ChaCha.{block, keystream, xor_stream, ietf}
 use Rattle.chacha20.proofs.KeystreamLemmas.{xor_stream-xor_stream}
 use Rattle.examples.specs.Records.{nonce_of, record_at, text_of}
 use Rattle.examples.proofs.records.write.Goals as goal

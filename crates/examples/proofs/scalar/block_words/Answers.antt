@@ -1,5 +1,5 @@
 use Rattle.std.proofs.Common.{◌≡◌, ◌∙◌, ap, arith}
-use Rattle.chacha20.specs.Rounds.{rounds, add_states}
+use Rattle.chacha20.specs.ChaCha.{rounds, add_states}
 use Rattle.chacha20.proofs.BackendLaws.{add_states_are}
 use Rattle.examples.proofs.scalar.block_words.Goals as goal
 

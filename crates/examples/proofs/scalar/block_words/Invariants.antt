@@ -1,5 +1,5 @@
 use Rattle.std.proofs.Common.{◌≡◌, ℕ, ◌<◌, ◌≤◌, length, slice_index}
-use Rattle.chacha20.specs.Words.{add}
+use Rattle.chacha20.specs.ChaCha.{add}
 use Rattle.examples.proofs.scalar.block_words.Given as goal
 
 abbrev pub invariant-each : goal.invariant-each

@@ -1,6 +1,5 @@
 use Rattle.std.proofs.Common.{sym, ap, ◌∙◌}
-use Rattle.chacha20.specs.Bytes.{bytes}
-use Rattle.chacha20.specs.Rounds.{mix}
+use Rattle.chacha20.specs.ChaCha.{bytes, mix}
 use Rattle.chacha20.proofs.BackendLaws.{state_after-zero}
 use Rattle.examples.proofs.scalar.next_block.Goals as goal
 

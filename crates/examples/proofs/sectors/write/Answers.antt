@@ -1,8 +1,6 @@
 use Rattle.std.proofs.Common.{inl, inr, ◌≡◌, ◌<◌, ◌+◌, ◌*◌, ◌^◌, List, ℕ, sym, ap, ap₂, ◌∙◌, arith, get_or-set_same, get_or-set_other}
 use Rattle.std.proofs.lemmas.Bool.{cases_lt}
-use Rattle.chacha20.specs.Block.{block}
-use Rattle.chacha20.specs.Keystream.{keystream, xor_stream}
-use Rattle.chacha20.specs.Layout.{ietf}
+use Rattle.chacha20.specs.ChaCha.{block, keystream, xor_stream, ietf}
 use Rattle.chacha20.proofs.KeystreamLemmas.{xor_stream-xor_stream}
 use Rattle.chacha20.proofs.PartLemmas.{slice_range-before, slice_range-behind, slice_range-written}
 use Rattle.examples.specs.Records.{nonce_of}

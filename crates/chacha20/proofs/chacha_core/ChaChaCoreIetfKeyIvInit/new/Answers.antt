@@ -1,5 +1,5 @@
 use Rattle.std.proofs.Common.{◌∙◌, append_assoc, append-nil}
-use Rattle.chacha_base.specs.Layout.{ietf}
+use Rattle.chacha_base.specs.ChaCha.{ietf}
 use Rattle.chacha20.proofs.StartLemmas.{blocks-of-start, first-of-start}
 use Rattle.chacha20.proofs.chacha_core.ChaChaCoreIetfKeyIvInit.new.Goals as goal
 

@@ -1,5 +1,5 @@
 use Rattle.std.proofs.Common.{◌≡◌, ◌*◌, ◌++◌, take, drop}
-use Rattle.chacha_base.specs.Keystream.{xor_stream}
+use Rattle.chacha_base.specs.ChaCha.{xor_stream}
 use Rattle.chacha20.specs.Blocks.{byte_of}
 use Rattle.chacha20.proofs.chacha_core.engine.xor_blocks.Given as goal
 

@@ -1,5 +1,5 @@
 use Rattle.std.proofs.Common.{ap, arith, ◌∙◌}
-use Rattle.chacha20.specs.StateBytes.{state_bytes}
+use Rattle.chacha20.specs.Generator.{state_bytes}
 use Rattle.chacha20.proofs.StateBytesLemmas.{read_back, state_bytes-of_state_bytes}
 use Rattle.chacha20.proofs.rng.ChaChaRng.deserialize_state.Goals as goal
 

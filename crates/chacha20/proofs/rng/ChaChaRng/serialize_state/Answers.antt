@@ -1,5 +1,5 @@
 use Rattle.std.proofs.Common.{length, sym, ap, arith, ◌∙◌}
-use Rattle.chacha20.specs.StateBytes.{of_state_bytes}
+use Rattle.chacha20.specs.Generator.{of_state_bytes}
 use Rattle.chacha20.proofs.StateBytesLemmas.{IsWritten, state_is, of_state_bytes-state_bytes}
 use Rattle.chacha20.proofs.rng.ChaChaRng.serialize_state.Goals as goal
 

@@ -1,6 +1,5 @@
 use Rattle.std.proofs.Common.{◌≡◌, ℕ, List, ◌∙◌, length, ap, ap₂, arith}
-use Rattle.chacha_base.specs.Layout.{ietf}
-use Rattle.chacha_base.specs.Block.{start}
+use Rattle.chacha_base.specs.ChaCha.{ietf, start}
 use Rattle.chacha20.specs.XChaCha.{subkey, subnonce}
 use Rattle.chacha20.proofs.StartLemmas.{blocks-of-start, subnonce_written}
 use Rattle.chacha20.proofs.xchacha.XChaChaCoreKeyIvInit.new.Goals as goal

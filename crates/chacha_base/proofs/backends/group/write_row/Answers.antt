@@ -1,7 +1,7 @@
 use Rattle.std.proofs.Common.{◌≡◌, ◌*◌, ◌^◌, refl, sym, ap, ◌∙◌, slice_index, w32}
 use Rattle.std.specs.Simd.Lanes.{number_l, digits_l}
 use Rattle.std.proofs.lemmas.Simd.{put_chunk_whole, below_from_Fits}
-use Rattle.chacha_base.specs.Bytes.{bytes}
+use Rattle.chacha_base.specs.ChaCha.{bytes}
 use Rattle.chacha_base.specs.Lanes.{quad}
 use Rattle.chacha_base.proofs.BytesLemmas.{digits-bytes}
 use Rattle.chacha_base.proofs.ListLemmas.{by_words}

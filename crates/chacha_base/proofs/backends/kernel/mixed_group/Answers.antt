@@ -1,6 +1,6 @@
 use Rattle.std.proofs.Common.{◌<◌, ◌∙◌, ap, ap₂, arith}
 use Rattle.chacha_base.specs.Lanes.{with_last_row}
-use Rattle.chacha_base.specs.Rounds.{rounds, add_states}
+use Rattle.chacha_base.specs.ChaCha.{rounds, add_states}
 use Rattle.chacha_base.proofs.RowLemmas.{with_last_row-state_after}
 use Rattle.chacha_base.proofs.backends.kernel.mixed_group.Goals as goal
 

@@ -1,6 +1,6 @@
 use Rattle.std.proofs.Common.{◌≡◌, ◌+◌, ◌*◌, ◌-◌, ◌<◌, refl, ◌∙◌, arith, rules}
 use Rattle.std.proofs.lemmas.Slice.{overwrites}
-use Rattle.chacha_base.specs.Layout.{legacy}
+use Rattle.chacha_base.specs.ChaCha.{legacy}
 use Rattle.chacha_base.specs.State.{state_after}
 use Rattle.chacha_base.proofs.StateLemmas.{next_words-more, next_words-are}
 use Rattle.chacha_base.proofs.backends.kernel.write_buffer.Goals as goal

@@ -1,5 +1,5 @@
 use Rattle.std.proofs.Common.{◌≡◌, ℕ, ◌*◌, ◌<◌, length, slice_get, Some}
-use Rattle.chacha_base.specs.Layout.{legacy}
+use Rattle.chacha_base.specs.ChaCha.{legacy}
 use Rattle.chacha_base.specs.State.{next_word}
 use Rattle.chacha_base.proofs.backends.kernel.write_buffer.Given as goal
 

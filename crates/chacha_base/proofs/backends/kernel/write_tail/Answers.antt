@@ -1,6 +1,6 @@
 use Rattle.std.proofs.Common.{◌≡◌, ◌*◌, [], min, length, slice_index_or, Some, sym, ap, ◌∙◌, arith}
 use Rattle.std.proofs.lemmas.Grind.{common_steps}
-use Rattle.chacha_base.specs.Bytes.{bytes}
+use Rattle.chacha_base.specs.ChaCha.{bytes}
 use Rattle.chacha_base.specs.State.{state_after}
 use Rattle.chacha_base.proofs.CountsLemmas.{grows-tail}
 use Rattle.chacha_base.proofs.ListLemmas.{one_more}

@@ -1,5 +1,5 @@
 use Rattle.std.proofs.Common.{◌≡◌, ℕ, ◌<◌, [], slice_index_or, slice_get, Some}
-use Rattle.chacha_base.specs.Bytes.{bytes}
+use Rattle.chacha_base.specs.ChaCha.{bytes}
 use Rattle.chacha_base.proofs.backends.kernel.write_tail.Given as goal
 
 abbrev pub invariant-each : goal.invariant-each

@@ -1,5 +1,5 @@
 use Rattle.std.proofs.Common.{◌≡◌, ℕ, ◌<◌, ◌≤◌, length, slice_index}
-use Rattle.chacha_base.specs.Words.{add}
+use Rattle.chacha_base.specs.ChaCha.{add}
 use Rattle.chacha_base.proofs.backends.soft.add_words.Given as goal
 
 abbrev pub invariant-loop-i : goal.invariant-loop-i

@@ -1,5 +1,5 @@
 use Rattle.std.proofs.Common.{ap, ◌∙◌}
-use Rattle.chacha_base.specs.Rounds.{rounds, add_states}
+use Rattle.chacha_base.specs.ChaCha.{rounds, add_states}
 use Rattle.chacha_base.proofs.backends.soft.block_words.Goals as goal
 
 -- answered for speed

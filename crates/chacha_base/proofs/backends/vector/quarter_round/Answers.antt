@@ -1,5 +1,5 @@
 use Rattle.std.proofs.Common.{refl}
-use Rattle.chacha_base.specs.QuarterRound.{quarter}
+use Rattle.chacha_base.specs.ChaCha.{quarter}
 use Rattle.chacha_base.proofs.backends.vector.quarter_round.Goals as goal
 
 pub returns-clause-lanes : goal.returns-clause-lanes

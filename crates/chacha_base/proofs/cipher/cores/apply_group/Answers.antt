@@ -1,6 +1,6 @@
 use Rattle.std.proofs.Common.{◌≢◌, ◌∙◌, [], Some, slice_index, slice_index_or, ap, arith, get_or-set_other}
 use Rattle.std.proofs.lemmas.Option.{get_or_from_slice_get}
-use Rattle.chacha_base.specs.Keystream.{xor_stream}
+use Rattle.chacha_base.specs.ChaCha.{xor_stream}
 use Rattle.chacha_base.proofs.ListLemmas.{one_more}
 use Rattle.chacha_base.proofs.cipher.cores.apply_group.Goals as goal
 

@@ -1,5 +1,5 @@
 use Rattle.std.proofs.Common.{◌≡◌, ℕ, ◌≤◌, [], slice_index, slice_index_or}
-use Rattle.chacha_base.specs.Keystream.{xor_stream}
+use Rattle.chacha_base.specs.ChaCha.{xor_stream}
 use Rattle.chacha_base.proofs.ListLemmas.{Written}
 use Rattle.chacha_base.proofs.cipher.cores.apply_group.Given as goal
 

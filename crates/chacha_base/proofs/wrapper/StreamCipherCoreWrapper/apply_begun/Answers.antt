@@ -1,5 +1,5 @@
 use Rattle.std.proofs.Common.{ap, ◌∙◌}
-use Rattle.chacha_base.specs.Keystream.{keystream, xor_stream}
+use Rattle.chacha_base.specs.ChaCha.{keystream, xor_stream}
 use Rattle.chacha_base.proofs.BufferedLemmas.{at-begun, xor_stream-begun}
 use Rattle.chacha_base.proofs.wrapper.StreamCipherCoreWrapper.apply_begun.Goals as goal
 

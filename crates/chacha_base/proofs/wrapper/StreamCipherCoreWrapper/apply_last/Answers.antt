@@ -1,5 +1,5 @@
 use Rattle.std.proofs.Common.{length, ap, sym, ◌∙◌, arith}
-use Rattle.chacha_base.specs.Keystream.{keystream, xor_stream}
+use Rattle.chacha_base.specs.ChaCha.{keystream, xor_stream}
 use Rattle.chacha_base.proofs.BufferedLemmas.{at-last, begins-not_empty, xor_stream-front}
 use Rattle.chacha_base.proofs.CountsLemmas.{grows-last}
 use Rattle.chacha_base.proofs.wrapper.StreamCipherCoreWrapper.apply_last.Goals as goal

@@ -1,5 +1,5 @@
 use Rattle.std.proofs.Common.{length, ap, ap₂, ◌∙◌}
-use Rattle.chacha_base.specs.Keystream.{keystream, xor_stream}
+use Rattle.chacha_base.specs.ChaCha.{keystream, xor_stream}
 use Rattle.chacha_base.proofs.BufferedLemmas.{at-whole, counter-at_front, begins-not_empty}
 use Rattle.chacha_base.proofs.wrapper.StreamCipherCoreWrapper.apply_whole.Goals as goal
 

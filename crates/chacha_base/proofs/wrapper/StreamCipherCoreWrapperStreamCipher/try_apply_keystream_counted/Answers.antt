@@ -1,5 +1,5 @@
 use Rattle.std.proofs.Common.{length, ap, ◌∙◌, refl}
-use Rattle.chacha_base.specs.Keystream.{keystream, xor_stream}
+use Rattle.chacha_base.specs.ChaCha.{keystream, xor_stream}
 use Rattle.chacha_base.proofs.CountsLemmas.{grows-rest, grows-bytes}
 use Rattle.chacha_base.proofs.KeystreamLemmas.{xor_stream-parts}
 use Rattle.chacha_base.proofs.wrapper.StreamCipherCoreWrapperStreamCipher.try_apply_keystream_counted.Goals as goal

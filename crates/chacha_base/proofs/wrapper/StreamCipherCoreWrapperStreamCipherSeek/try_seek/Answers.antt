@@ -1,6 +1,6 @@
 use Rattle.std.proofs.Common.{ℕ, Option, ◌≡◌, ◌≤◌, subst, sym, refl, arith, IsSomeAnd, IfSome}
 use Rattle.std.proofs.lemmas.Bool.{false≢true}
-use Rattle.chacha_base.specs.Limit.{limit_of}
+use Rattle.chacha_base.specs.Cipher.{limit_of}
 use Rattle.chacha_base.proofs.wrapper.StreamCipherCoreWrapperStreamCipherSeek.try_seek.Goals as goal
 
 pub returns-in_default-clause-accepted : goal.returns-in_default-clause-accepted

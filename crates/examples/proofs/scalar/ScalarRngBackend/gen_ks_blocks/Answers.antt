@@ -1,6 +1,6 @@
 use Rattle.std.proofs.Common.{◌≡◌, ◌+◌, ◌*◌, ◌-◌, ◌∙◌, sym, refl, arith, rules}
 use Rattle.std.proofs.lemmas.Slice.{overwrites}
-use Rattle.chacha20.specs.Layout.{legacy}
+use Rattle.chacha20.specs.ChaCha.{legacy}
 use Rattle.chacha20.proofs.BackendLaws.{state_after-zero, state_after-more, next_words-more, next_words-are, counted-none, counted-more}
 use Rattle.examples.proofs.scalar.ScalarRngBackend.gen_ks_blocks.Goals as goal
 

@@ -1,5 +1,5 @@
 use Rattle.std.proofs.Common.{◌≡◌, ℕ, ◌*◌, ◌<◌, length, slice_get, Some}
-use Rattle.chacha20.specs.Layout.{legacy}
+use Rattle.chacha20.specs.ChaCha.{legacy}
 use Rattle.chacha20.specs.State.{state_after, next_word}
 use Rattle.chacha20.proofs.BackendLaws.{plus_rounds}
 use Rattle.examples.proofs.scalar.ScalarRngBackend.gen_ks_blocks.Given as goal

@@ -1,6 +1,5 @@
 use Rattle.std.proofs.Common.{◌≡◌, ◌∙◌, ℕ, List, sym, ap, ap₂}
-use Rattle.chacha20.specs.Layout.{ietf}
-use Rattle.chacha20.specs.Block.{start}
+use Rattle.chacha20.specs.ChaCha.{ietf, start}
 use Rattle.chacha20.specs.Cipher.{Cipher}
 use Rattle.chacha20.specs.State.{fixed_words}
 use Rattle.chacha20.specs.XChaCha.{hchacha, subkey}

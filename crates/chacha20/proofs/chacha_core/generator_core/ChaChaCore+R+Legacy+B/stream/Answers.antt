@@ -1,7 +1,6 @@
 use Rattle.std.proofs.Common.{◌≡◌, [], ◌∷◌, ◌∙◌, slice_index, sym, arith, refl}
 use Rattle.std.specs.Int.{w64, from_le_bytes}
-use Rattle.chacha_base.specs.Bytes.{bytes}
-use Rattle.chacha_base.specs.Layout.{legacy}
+use Rattle.chacha_base.specs.ChaCha.{bytes, legacy}
 use Rattle.chacha_base.specs.State.{fixed_words}
 use Rattle.chacha_base.proofs.BytesLemmas.{from_le_bytes-bytes}
 use Rattle.chacha_base.proofs.ListLemmas.{by_words}

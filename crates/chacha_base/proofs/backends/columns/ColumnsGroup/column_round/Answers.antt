@@ -1,4 +1,4 @@
-use Rattle.chacha_base.specs.Rounds.{columns}
+use Rattle.chacha_base.specs.ChaCha.{columns}
 use Rattle.chacha_base.proofs.RowLemmas.{of_columns-same}
 use Rattle.chacha_base.proofs.backends.columns.ColumnsGroup.column_round.Goals as goal
 

@@ -1,5 +1,5 @@
 use Rattle.std.proofs.Common.{refl}
-use Rattle.chacha_base.specs.Rounds.{diagonals}
+use Rattle.chacha_base.specs.ChaCha.{diagonals}
 use Rattle.chacha_base.proofs.backends.columns.ColumnsGroup.diagonal_round.Goals as goal
 
 pub returns-clause-blocks : goal.returns-clause-blocks

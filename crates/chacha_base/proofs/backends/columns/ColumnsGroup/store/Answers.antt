@@ -1,5 +1,5 @@
 use Rattle.std.proofs.Common.{◌*◌, ◌<◌, ◌≤◌, ◌∙◌, ap, arith, length}
-use Rattle.chacha_base.specs.ColumnVectors.{block_in_columns}
+use Rattle.chacha_base.specs.Lanes.{block_in_columns}
 use Rattle.chacha_base.proofs.ListLemmas.{four_listed, four_more}
 use Rattle.chacha_base.proofs.backends.columns.ColumnsGroup.store.Goals as goal
 

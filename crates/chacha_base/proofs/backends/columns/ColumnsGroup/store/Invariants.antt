@@ -1,5 +1,5 @@
 use Rattle.std.proofs.Common.{◌≡◌, ℕ, ◌*◌, ◌<◌, slice_get, Some}
-use Rattle.chacha_base.specs.ColumnVectors.{block_in_columns}
+use Rattle.chacha_base.specs.Lanes.{block_in_columns}
 use Rattle.chacha_base.proofs.backends.columns.ColumnsGroup.store.Given as goal
 
 abbrev pub invariant-each : goal.invariant-each

@@ -1,4 +1,4 @@
-use Rattle.chacha_base.specs.Rounds.{add_states}
+use Rattle.chacha_base.specs.ChaCha.{add_states}
 use Rattle.chacha_base.proofs.RowLemmas.{of_columns-same}
 use Rattle.chacha_base.proofs.backends.columns.ColumnsGroup.sums.Goals as goal
 

@@ -1,5 +1,5 @@
 use Rattle.std.proofs.Common.{◌≡◌, ◌+◌, ◌*◌, refl, ap, ◌∙◌, arith, add-one}
-use Rattle.chacha_base.specs.Rounds.{columns, diagonals, rounds}
+use Rattle.chacha_base.specs.ChaCha.{columns, diagonals, rounds}
 use Rattle.chacha_base.proofs.CountsLemmas.{counted-double_round}
 use Rattle.chacha_base.proofs.backends.group.Group.double_rounds.Goals as goal
 

@@ -1,5 +1,5 @@
 use Rattle.std.proofs.Common.{◌≡◌, ℕ, ◌<◌, ◌+◌, ◌*◌}
-use Rattle.chacha_base.specs.Rounds.{rounds}
+use Rattle.chacha_base.specs.ChaCha.{rounds}
 use Rattle.chacha_base.proofs.backends.group.Group.double_rounds.Given as goal
 
 abbrev pub invariant-rounds : goal.invariant-rounds

@@ -1,5 +1,5 @@
 use Rattle.std.proofs.Common.{◌-◌, arith, nat_lt, ltb-true, ltb-false}
-use Rattle.chacha_base.specs.Rounds.{add_states}
+use Rattle.chacha_base.specs.ChaCha.{add_states}
 use Rattle.chacha_base.proofs.RowLemmas.{either-same}
 use Rattle.chacha_base.proofs.backends.group.TwiceGroup.sums.Goals as goal
 

@@ -1,5 +1,5 @@
 use Rattle.std.proofs.Common.{◌∙◌, ap}
-use Rattle.chacha_base.specs.Rounds.{columns}
+use Rattle.chacha_base.specs.ChaCha.{columns}
 use Rattle.chacha_base.specs.Lanes.{undiagonalized}
 use Rattle.chacha_base.proofs.RowLemmas.{columns-of-lanes, columns-diagonalized}
 use Rattle.chacha_base.proofs.backends.rows.RowsGroup.diagonal_round.Goals as goal

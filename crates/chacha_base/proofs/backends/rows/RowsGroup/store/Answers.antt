@@ -1,5 +1,5 @@
 use Rattle.std.proofs.Common.{arith}
-use Rattle.chacha_base.specs.Vectors.{block_in_rows}
+use Rattle.chacha_base.specs.Lanes.{block_in_rows}
 use Rattle.chacha_base.proofs.ListLemmas.{one_more}
 use Rattle.chacha_base.proofs.backends.rows.RowsGroup.store.Goals as goal
 

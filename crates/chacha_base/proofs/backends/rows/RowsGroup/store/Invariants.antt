@@ -1,5 +1,5 @@
 use Rattle.std.proofs.Common.{◌≡◌, ℕ, ◌<◌, slice_get, Some}
-use Rattle.chacha_base.specs.Vectors.{block_in_rows}
+use Rattle.chacha_base.specs.Lanes.{block_in_rows}
 use Rattle.chacha_base.proofs.backends.rows.RowsGroup.store.Given as goal
 
 abbrev pub invariant-each : goal.invariant-each

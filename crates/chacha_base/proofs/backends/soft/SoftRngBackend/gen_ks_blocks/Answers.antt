@@ -1,7 +1,7 @@
 use Rattle.std.proofs.Common.{◌≡◌, ◌+◌, ◌*◌, ◌-◌, sym, ap, ◌∙◌, arith, rules}
 use Rattle.std.proofs.lemmas.Slice.{overwrites}
 use Rattle.chacha_base.proofs.CountsLemmas.{counted-none, counted-more}
-use Rattle.chacha_base.specs.Layout.{legacy}
+use Rattle.chacha_base.specs.ChaCha.{legacy}
 use Rattle.chacha_base.specs.State.{state_after}
 use Rattle.chacha_base.proofs.StateLemmas.{state_after-zero, state_after-state_after, next_words-more, next_words-are}
 use Rattle.chacha_base.proofs.backends.soft.SoftRngBackend.gen_ks_blocks.Goals as goal

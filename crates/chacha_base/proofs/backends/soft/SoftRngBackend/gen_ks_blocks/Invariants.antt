@@ -1,5 +1,5 @@
 use Rattle.std.proofs.Common.{◌≡◌, ℕ, ◌*◌, ◌<◌, length, slice_get, Some}
-use Rattle.chacha_base.specs.Layout.{legacy}
+use Rattle.chacha_base.specs.ChaCha.{legacy}
 use Rattle.chacha_base.specs.State.{state_after, next_word}
 use Rattle.chacha_base.proofs.CountsLemmas.{plus_rounds}
 use Rattle.chacha_base.proofs.backends.soft.SoftRngBackend.gen_ks_blocks.Given as goal

@@ -1,6 +1,5 @@
 use Rattle.std.proofs.Common.{sym, ap, ◌∙◌}
-use Rattle.chacha_base.specs.Bytes.{bytes}
-use Rattle.chacha_base.specs.Rounds.{mix}
+use Rattle.chacha_base.specs.ChaCha.{bytes, mix}
 use Rattle.chacha_base.proofs.StateLemmas.{state_after-zero}
 use Rattle.chacha_base.proofs.backends.soft.SoftStreamCipherBackend.gen_ks_block.Goals as goal
 

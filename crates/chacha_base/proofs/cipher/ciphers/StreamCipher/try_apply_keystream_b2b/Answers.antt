@@ -1,5 +1,5 @@
 use Rattle.std.proofs.Common.{◌≡◌, ◌≤◌, length, refl, sym, ap, subst, ◌∙◌}
-use Rattle.chacha_base.specs.Keystream.{keystream}
+use Rattle.chacha_base.specs.ChaCha.{keystream}
 use Rattle.chacha_base.proofs.CipherLemmas.{moved_on}
 use Rattle.chacha_base.proofs.PieceLemmas.{xor_stream-written, piece-within, piece-long}
 use Rattle.chacha_base.proofs.cipher.ciphers.StreamCipher.try_apply_keystream_b2b.Goals as goal

@@ -1,5 +1,5 @@
 use Rattle.std.proofs.Common.{◌≡◌, ◌+◌, ◌-◌, ◌≤◌, length, take}
-use Rattle.chacha_base.specs.Keystream.{keystream, xor_stream}
+use Rattle.chacha_base.specs.ChaCha.{keystream, xor_stream}
 use Rattle.chacha_base.proofs.cipher.ciphers.StreamCipher.try_apply_keystream_b2b.Given as goal
 
 abbrev pub invariant-pieces : goal.invariant-pieces

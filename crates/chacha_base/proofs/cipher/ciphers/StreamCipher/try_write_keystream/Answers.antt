@@ -1,5 +1,5 @@
 use Rattle.std.proofs.Common.{◌≡◌, ◌+◌, ◌≤◌, length, replicate, sym, subst, ◌∙◌}
-use Rattle.chacha_base.specs.Keystream.{keystream}
+use Rattle.chacha_base.specs.ChaCha.{keystream}
 use Rattle.chacha_base.proofs.CipherLemmas.{moved_on}
 use Rattle.chacha_base.proofs.KeystreamLemmas.{xor_stream-zeros}
 use Rattle.chacha_base.proofs.PieceLemmas.{stream_part-written, piece-within, piece-long}

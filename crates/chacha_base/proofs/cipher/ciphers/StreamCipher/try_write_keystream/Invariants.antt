@@ -1,5 +1,5 @@
 use Rattle.std.proofs.Common.{◌≡◌, ◌+◌, ◌-◌, ◌≤◌, length, take}
-use Rattle.chacha_base.specs.Keystream.{keystream, stream_part}
+use Rattle.chacha_base.specs.ChaCha.{keystream, stream_part}
 use Rattle.chacha_base.proofs.cipher.ciphers.StreamCipher.try_write_keystream.Given as goal
 
 abbrev pub invariant-pieces : goal.invariant-pieces

@@ -1,7 +1,7 @@
 use Rattle.std.proofs.Common.{◌≡◌, ℕ, ◌+◌, ◌*◌, ◌/◌, ◌%◌, ◌^◌, map, slice_index, bit_xor, arith, ap, sym, ◌∙◌}
 use Rattle.std.specs.List.{range_with_len}
 use Rattle.std.proofs.lemmas.List.FromFn.{get_or-map-range_with_len}
-use Rattle.chacha20.specs.Keystream.{keystream}
+use Rattle.chacha20.specs.ChaCha.{keystream}
 use Rattle.chacha20.proofs.KeystreamLemmas.{xor_stream-is}
 use Rattle.tests.proofs.tests.toy.ToyStreamCipherCore.apply_blocks_counted.Goals as goal
 
