@@ -1,7 +1,7 @@
 -- Sectors of 512 bytes, each with a version: what bytes and what text each one has.
-use Rattle.std.specs.Prelude.{ℕ, ◌+◌, ◌*◌, ◌^◌, List, slice_index_or}
+use Rattle.std.specs.Prelude.{ℕ, ◌+◌, ◌*◌, List, slice_index_or}
 use Rattle.std.specs.List.{slice_range}
-use Rattle.chacha20.specs.ChaCha.{block, keystream, xor_stream, ietf}
+use Rattle.chacha20.specs.ChaCha.{chacha_stream, xor_stream, ietf}
 use Rattle.examples.specs.Records.{nonce_of}
 
 -- the stored bytes of the sector of this number
@@ -16,4 +16,4 @@ version_of versions number = slice_index_or versions number 0
 abbrev pub text_of : List ℕ → List ℕ → List ℕ → ℕ → List ℕ
 text_of key versions disk number =
     let nonce = nonce_of number (version_of versions number) in
-    xor_stream (keystream (2 ^ 32) (block 10 ietf key nonce)) 0 (sector disk number)
+    xor_stream (chacha_stream 10 ietf key nonce) 0 (sector disk number)

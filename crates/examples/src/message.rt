@@ -14,10 +14,10 @@
 //!
 //! Decryption is the same call. Never use a nonce twice under one key. Nothing here authenticates a message: add a MAC.
 
-ghost use Rattle.std.specs.Prelude.{◌≡◌, ◌≤◌, ◌^◌, ◌↔◌, length, IsOk, OnOk, OnErr};
-ghost use Rattle.chacha20.specs.ChaCha.{block, keystream, xor_stream, ietf, legacy};
+ghost use Rattle.std.specs.Prelude.{◌≡◌, ◌≤◌, ◌↔◌, length, IsOk, OnOk, OnErr};
+ghost use Rattle.chacha20.specs.ChaCha.{chacha_stream, keystream, xor_stream, ietf, legacy};
 ghost use Rattle.chacha20.specs.Cipher.{limit_of};
-ghost use Rattle.chacha20.specs.XChaCha.{subkey, subnonce};
+ghost use Rattle.chacha20.specs.XChaCha.{xchacha_stream};
 
 use chacha20::backends::Lanes16;
 use chacha20::cipher::{KeyIvInit, StreamCipher, StreamCipherError};
@@ -32,7 +32,7 @@ use chacha20::{
 pub fn encrypt(key: &Key, nonce: &Nonce, message: &mut [u8]) -> Result<(), StreamCipherError>
     ensures accepted { IsOk result ↔ (length message.old ≤ 274877906944) }
     ensures bytes { OnOk result (message.new
-        ≡ xor_stream (keystream (2 ^ 32) (block 10 ietf key.now nonce.now)) 0 message.old) }
+        ≡ xor_stream (chacha_stream 10 ietf key.now nonce.now) 0 message.old) }
     ensures refused { OnErr result (message.new ≡ message.old) }
 {
     ChaCha20::new(key, nonce).try_apply_keystream(message)
@@ -62,8 +62,7 @@ pub fn encrypt_xchacha(
 ) -> Result<(), StreamCipherError>
     ensures accepted { IsOk result ↔ (length message.old ≤ 274877906944) }
     ensures bytes { OnOk result (message.new
-        ≡ xor_stream (keystream (2 ^ 32)
-        (block 10 ietf (subkey 10 key.now nonce.now) (subnonce nonce.now))) 0 message.old) }
+        ≡ xor_stream (xchacha_stream 10 key.now nonce.now) 0 message.old) }
     ensures refused { OnErr result (message.new ≡ message.old) }
 {
     encrypt_by::<XChaCha20>(key, nonce, message)
@@ -78,7 +77,7 @@ pub fn encrypt_legacy(
 ) -> Result<(), StreamCipherError>
     ensures accepted { IsOk result }
     ensures bytes { OnOk result (message.new
-        ≡ xor_stream (keystream (2 ^ 64) (block 10 legacy key.now nonce.now)) 0 message.old) }
+        ≡ xor_stream (chacha_stream 10 legacy key.now nonce.now) 0 message.old) }
 {
     encrypt_by::<ChaCha20Legacy>(key, nonce, message)
 }
@@ -101,7 +100,7 @@ pub type ChaCha6 = StreamCipherCoreWrapper<ChaChaCore<R6, Ietf, Lanes16>>;
 pub fn encrypt_6(key: &Key, nonce: &Nonce, message: &mut [u8]) -> Result<(), StreamCipherError>
     ensures accepted { IsOk result ↔ (length message.old ≤ 274877906944) }
     ensures bytes { OnOk result (message.new
-        ≡ xor_stream (keystream (2 ^ 32) (block 3 ietf key.now nonce.now)) 0 message.old) }
+        ≡ xor_stream (chacha_stream 3 ietf key.now nonce.now) 0 message.old) }
     ensures refused { OnErr result (message.new ≡ message.old) }
 {
     encrypt_by::<ChaCha6>(key, nonce, message)

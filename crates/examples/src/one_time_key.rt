@@ -13,8 +13,8 @@
 //! and `refused` that on `Err` the message is as it was. `proofs/one_time_key` has the answers that the prover needs,
 //! or that make its check quicker.
 
-ghost use Rattle.std.specs.Prelude.{◌≡◌, ◌≤◌, ◌+◌, ◌^◌, ◌↔◌, take, length, IsOk, OnOk, OnErr};
-ghost use Rattle.chacha20.specs.ChaCha.{block, keystream, xor_stream, ietf};
+ghost use Rattle.std.specs.Prelude.{◌≡◌, ◌≤◌, ◌+◌, ◌↔◌, take, length, IsOk, OnOk, OnErr};
+ghost use Rattle.chacha20.specs.ChaCha.{block, chacha_stream, xor_stream, ietf};
 
 use chacha20::cipher::{KeyIvInit, StreamCipher, StreamCipherError, StreamCipherSeek};
 use chacha20::{ChaCha20, Key, Nonce};
@@ -38,7 +38,7 @@ pub fn encrypt_from_block_1(
 ) -> Result<(), StreamCipherError>
     ensures accepted { IsOk result ↔ (64 + length message.old ≤ 274877906944) }
     ensures bytes { OnOk result (message.new
-        ≡ xor_stream (keystream (2 ^ 32) (block 10 ietf key.now nonce.now)) 64 message.old) }
+        ≡ xor_stream (chacha_stream 10 ietf key.now nonce.now) 64 message.old) }
     ensures refused { OnErr result (message.new ≡ message.old) }
 {
     let mut cipher = ChaCha20::new(key, nonce);
