@@ -13,18 +13,18 @@
    For every function:
 
    - Arguments come in one order: key, nonce, position, output, input, length.
-   - A position and a length count bytes. Those of generators count words of 32 bits or blocks of 64
+   - Positions and lengths count bytes. Those of generators count words of 32 bits or blocks of 64
      bytes where their names say so.
    - Data of length 0 may be null. No other pointer may be null.
-   - An output may not overlap another argument, except that the output of NAME_xor may be its input.
-     Other arguments may overlap: a key and a nonce may be parts of one buffer.
+   - An output may not overlap another argument, except that the output of NAME_xor may be its
+     input. Other arguments may overlap: a key and a nonce may be parts of one buffer.
    - Bytes need no alignment.
    - No function allocates, takes a lock, throws or keeps anything between calls. Threads and signal
      handlers may call any function at any time if none writes memory that another uses.
-   - A call takes at most CHACHA20_DEEPEST bytes of the stack. A signal handler on a stack of its own
-     also needs sysconf(_SC_MINSIGSTKSZ) bytes: with AVX-512, SIGSTKSZ is too small for both.
-   - Copies of keys and keystream stay on the stack, within CHACHA20_DEEPEST bytes below the caller's
-     frame, and in registers. Overwriting that part of the stack is up to the caller.
+   - A call takes at most CHACHA20_DEEPEST bytes of the stack. A signal handler with a stack of its
+     own needs these and sysconf(_SC_MINSIGSTKSZ) bytes; SIGSTKSZ is too small.
+   - Copies of keys and keystream stay in that part of the stack and in registers. To overwrite them
+     is up to the caller.
    - The proved code has no unwind tables. A thread that is cancelled asynchronously during a call
      doesn't run its cleanup handlers, and a backtrace from within a call can show keystream. */
 
@@ -61,8 +61,8 @@ extern "C" {
    keystream has 2^64 blocks. */
 #define CHACHA20_STREAM_BYTES (UINT64_C(1) << 38)
 
-/* An upper bound on the bytes of the stack that a call takes. The dynamic linker takes a third of them
-   when it binds memcpy and memset, in a program's first calls. */
+/* An upper bound on the bytes of the stack that a call takes. A third of them is for the dynamic
+   linker, which may bind memcpy and memset in a program's first calls. */
 #define CHACHA20_DEEPEST 8704
 
 /* What a cipher returns. After CHACHA20_REFUSED no byte has changed: the data are NOT encrypted and
@@ -91,13 +91,13 @@ typedef char chacha20_size_t_has_64_bits[sizeof(size_t) == 8 ? 1 : -1];
 /* chacha20_xor XORs |len| bytes of |input| with the keystream of ChaCha20 (RFC 8439), from byte
    |position| of the keystream on, and writes them to |output|. Decryption is the same call.
 
-   A message may be cut anywhere, and its parts may be passed in any order: part by part, the bytes
-   are those of one call. A part that begins or ends within a block takes as long as the whole block.
+   A message may be processed in parts, in any order, and the bytes are those of one call. A part
+   that begins or ends within a block takes as long as the whole block.
 
    |output| and |input| are the same pointer or don't overlap.
 
-   It returns CHACHA20_OK, or CHACHA20_REFUSED if |position| + |len|, a sum that doesn't wrap, exceeds
-   CHACHA20_STREAM_BYTES, or if |output| and |input| overlap in part.
+   It returns CHACHA20_OK, or CHACHA20_REFUSED if |position| + |len|, a sum that doesn't wrap, is
+   greater than CHACHA20_STREAM_BYTES, or if |output| and |input| overlap in part.
 
    Never use a nonce twice under one key: the XOR of the two messages would show. Nothing here
    authenticates a message: whoever can change it can flip any bit, so add a MAC. */
@@ -112,9 +112,9 @@ uint32_t chacha20_keystream(const uint8_t key[32], const uint8_t nonce[12], uint
    CHACHA20_REFUSED otherwise. It serves every cipher with a nonce of 12 or 24 bytes. */
 uint32_t chacha20_check(uint64_t position, size_t len) CHACHA20_MUST_USE;
 
-/* chacha20_block_position returns the position of the first byte of |block|, 64 * |block|, or
-   UINT64_MAX if that exceeds 64 bits; every cipher refuses UINT64_MAX. RFC 8439 encrypts messages
-   from block 1 on. */
+/* chacha20_block_position returns the position of the first byte of |block|, 64 * |block|. If that
+   needs more than 64 bits, it returns UINT64_MAX, which every cipher refuses. RFC 8439 encrypts
+   messages from block 1 on. */
 uint64_t chacha20_block_position(uint64_t block);
 
 /* The other ciphers, called in the same way.
@@ -154,36 +154,38 @@ uint32_t chacha20_legacy_check(uint64_t block, uint64_t offset, size_t len) CHAC
 
 /* HChaCha */
 
-/* hchacha20 derives a subkey from |key| and 16 bytes of |input| (draft-irtf-cfrg-xchacha, section
-   2.2). hchacha12 and hchacha8 have 12 and 8 rounds, which the draft doesn't have.
+/* hchacha20 derives a subkey from |key| and |input| (draft-irtf-cfrg-xchacha, section 2.2).
+   hchacha12 and hchacha8 have 12 and 8 rounds, which the draft doesn't have.
 
-   With the subkey of a key and the first 16 bytes of a nonce, and the nonce of four zero bytes and the
-   last 8 bytes, chacha20_xor makes the bytes of xchacha20_xor, without the subkey's cost in each
-   call. */
-void hchacha20(const uint8_t key[32], const uint8_t input[16], uint8_t subkey[32]) CHACHA20_NONNULL;
-void hchacha12(const uint8_t key[32], const uint8_t input[16], uint8_t subkey[32]) CHACHA20_NONNULL;
-void hchacha8(const uint8_t key[32], const uint8_t input[16], uint8_t subkey[32]) CHACHA20_NONNULL;
+   xchacha20_xor derives the subkey of the first 16 bytes of its nonce in each call. To derive it
+   once, call chacha20_xor with the subkey, and as nonce four zero bytes and the last 8 bytes. */
+void hchacha20(
+    const uint8_t key[32], const uint8_t input[16], uint8_t subkey[32]) CHACHA20_NONNULL;
+void hchacha12(
+    const uint8_t key[32], const uint8_t input[16], uint8_t subkey[32]) CHACHA20_NONNULL;
+void hchacha8(
+    const uint8_t key[32], const uint8_t input[16], uint8_t subkey[32]) CHACHA20_NONNULL;
 
 /* Generators
 
-   A generator's state is 49 bytes, which the caller owns, copies and stores: a seed of 32 bytes, the
-   stream in 8 and the word position in 9, both little-endian. Any 49 bytes are a state. The upper four
-   bits of the last byte are ignored, and cleared by a call that writes the state.
+   A generator's state is 49 bytes, which the caller owns, copies and stores: 32 of seed, 8 of
+   stream and 9 of word position, both little-endian. Any 49 bytes are a state. The upper four bits
+   of the last byte are ignored, and a call that writes the state clears them.
 
-   The words of a stream are those of ChaCha's blocks with a counter of 64 bits, the seed as key and the
-   stream as nonce. After 2^68 words the first comes again. A state has no number of rounds: each read
-   names its own. No call is refused.
+   The words of a stream are those of ChaCha's blocks with a counter of 64 bits, the seed as key and
+   the stream as nonce. After 2^68 words the first comes again. A state has no number of rounds:
+   each read names its own. No call is refused.
 
-   The state is secret: it determines all words, past and future. A copy of it repeats the stream, and
-   so does a process after fork; give each its own stream or seed. */
+   The state is secret: it determines all words, past and future. A copy of it repeats the stream,
+   and so does a process after fork; give each its own stream or seed. */
 
 /* chacha_rng_from_seed writes the state of |seed|: word 0 of stream 0. */
 void chacha_rng_from_seed(const uint8_t seed[32], uint8_t state[49]) CHACHA20_NONNULL;
 
-/* chacha20_rng_fill writes the next |len| bytes, those of each word in little-endian order. Unused bytes
-   of the last word are lost; length 0 takes no word.
+/* chacha20_rng_fill writes the next |len| bytes, each word little-endian. Unused bytes of the last
+   word are lost. Length 0 takes no word.
 
-   Each read computes four blocks. To take single words, read them from an array:
+   Each read computes four blocks. To take words one by one, fill an array:
 
        static uint8_t words[256]; static size_t used = sizeof words;
        if (used == sizeof words) chacha20_rng_fill(state, words, sizeof words), used = 0;
@@ -192,8 +194,8 @@ void chacha20_rng_fill(uint8_t state[49], uint8_t *output, size_t len) CHACHA20_
 void chacha12_rng_fill(uint8_t state[49], uint8_t *output, size_t len) CHACHA20_FILL;
 void chacha8_rng_fill(uint8_t state[49], uint8_t *output, size_t len) CHACHA20_FILL;
 
-/* chacha20_rng_next_u32 returns the next word, and chacha20_rng_next_u64 the next two, of which the first
-   is the low half. */
+/* chacha20_rng_next_u32 returns the next word, and chacha20_rng_next_u64 the next two, the first as
+   the low half. */
 uint32_t chacha20_rng_next_u32(uint8_t state[49]) CHACHA20_NONNULL;
 uint32_t chacha12_rng_next_u32(uint8_t state[49]) CHACHA20_NONNULL;
 uint32_t chacha8_rng_next_u32(uint8_t state[49]) CHACHA20_NONNULL;
@@ -201,9 +203,10 @@ uint64_t chacha20_rng_next_u64(uint8_t state[49]) CHACHA20_NONNULL;
 uint64_t chacha12_rng_next_u64(uint8_t state[49]) CHACHA20_NONNULL;
 uint64_t chacha8_rng_next_u64(uint8_t state[49]) CHACHA20_NONNULL;
 
-/* The word position, |*low| + 2^64 * |*high| with |*high| below 16. Setting takes any two numbers, modulo
-   2^68. |low| and |high| are different objects. */
-void chacha_rng_get_word_pos(const uint8_t state[49], uint64_t *low, uint64_t *high) CHACHA20_NONNULL;
+/* The word position, |*low| + 2^64 * |*high| with |*high| below 16. Setting takes any two numbers,
+   modulo 2^68. |low| and |high| are different objects. */
+void chacha_rng_get_word_pos(
+    const uint8_t state[49], uint64_t *low, uint64_t *high) CHACHA20_NONNULL;
 void chacha_rng_set_word_pos(uint8_t state[49], uint64_t low, uint64_t high) CHACHA20_NONNULL;
 
 /* The block of the next word. Setting moves to the first word of the block. */
