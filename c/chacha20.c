@@ -84,7 +84,7 @@ enum { LONG = 512, NEAR = 3072, PAGE = 4096 };
     PROVED(RESULT, NAME, PARAMETERS, ARGUMENTS)   \
     RESULT NAME PARAMETERS { RETURN_##RESULT NAME##_proved ARGUMENTS; }
 
-/* A function that returns what MOVE_STACK took, so it isn't inlined into a caller's loop. */
+/* A function that calls MOVE_STACK isn't inlined: its return gives back what that took. */
 #define OWN_FRAME __attribute__((noinline))
 
 static int overlap(const uint8_t *output, const uint8_t *input, size_t len) {
@@ -160,8 +160,9 @@ SUBKEY(hchacha8)
     CALL(uint32_t, NAME##_next_u32, (STATE), (state))                                                  \
     CALL(uint64_t, NAME##_next_u64, (STATE), (state))                                                  \
     PROVED(void, NAME##_fill, (STATE, uint8_t *output, size_t len), (state, output, len))              \
-    void NAME##_fill(STATE, uint8_t *output, size_t len) {                                             \
+    OWN_FRAME void NAME##_fill(STATE, uint8_t *output, size_t len) {                                   \
         if (len == 0) return;                                                                          \
+        MOVE_STACK(len, 0u)                                                                            \
         NAME##_fill_proved(state, output, len);                                                        \
         WROTE(output, len);                                                                            \
     }

@@ -26,7 +26,7 @@
    - Copies of keys and keystream stay in that part of the stack and in registers. To overwrite them
      is up to the caller.
    - The proved code has no unwind tables. A thread that is cancelled asynchronously during a call
-     doesn't run its cleanup handlers, and a backtrace from within a call can show keystream. */
+     may skip its cleanup handlers, and a backtrace from within a call can show keystream. */
 
 #ifndef CHACHA20_H
 #define CHACHA20_H
