@@ -23,8 +23,8 @@
 #define RETURN_uint32_t return
 #define RETURN_uint64_t return
 
-/* PROVED(RESULT, NAME, ..) defines NAME_proved, which calls the proved function NAME. The Makefile adds
-   the level to the names of each build. */
+/* PROVED(RESULT, NAME, ..) defines NAME_proved, which calls the proved function NAME; LONG_PROVED does
+   so for a function with a |len|. The Makefile adds the level to the names of each build. */
 #if defined(__x86_64__)
 #include "processor.h"
 
@@ -41,51 +41,56 @@ __attribute__((constructor)) static void choose_level(void) {
 }
 #endif
 
-#define PROVED(RESULT, NAME, PARAMETERS, ARGUMENTS)           \
-    HIDDEN RESULT NAME##_x86_64 PARAMETERS;                   \
-    HIDDEN RESULT NAME##_x86_64_v2 PARAMETERS;                \
-    HIDDEN RESULT NAME##_x86_64_v3 PARAMETERS;                \
-    static inline RESULT NAME##_proved PARAMETERS {           \
-        if (level == 3) {                                     \
-            RETURN_##RESULT NAME##_x86_64_v3 ARGUMENTS;       \
-        } else if (level == 2) {                              \
-            RETURN_##RESULT NAME##_x86_64_v2 ARGUMENTS;       \
-        } else {                                              \
-            RETURN_##RESULT NAME##_x86_64 ARGUMENTS;          \
-        }                                                     \
+#define BUILDS(RESULT, NAME, PARAMETERS)                               \
+    HIDDEN RESULT NAME##_x86_64 PARAMETERS;                            \
+    HIDDEN RESULT NAME##_x86_64_v2 PARAMETERS;                         \
+    HIDDEN RESULT NAME##_x86_64_v3 PARAMETERS;
+#define CHOICE(RESULT, NAME, PARAMETERS, ARGUMENTS, FIRST)             \
+    static inline RESULT NAME##_proved PARAMETERS {                    \
+        FIRST if (level == 3) {                                        \
+            RETURN_##RESULT NAME##_x86_64_v3 ARGUMENTS;                \
+        } else if (level == 2) {                                       \
+            RETURN_##RESULT NAME##_x86_64_v2 ARGUMENTS;                \
+        } else {                                                       \
+            RETURN_##RESULT NAME##_x86_64 ARGUMENTS;                   \
+        }                                                              \
     }
+#define PROVED(RESULT, NAME, PARAMETERS, ARGUMENTS)                    \
+    BUILDS(RESULT, NAME, PARAMETERS)                                   \
+    CHOICE(RESULT, NAME, PARAMETERS, ARGUMENTS, )
 
 /* The build for x86-64-v3 stores vectors of 32 bytes on the stack, and is slow where they cross a
    page. So if the page boundary below is near, a long call, with PUSHED bytes of arguments on the
    stack, begins 32 bytes below it. Compilers agree on what alloca takes for sizes of 16 n + 8. */
 enum { LONG = 512, NEAR = 3072, PAGE = 4096 };
 
-#define MOVE_STACK(LEN, PUSHED)                                        \
-    if ((LEN) >= LONG && level == 3) {                                 \
+#define LONG_PROVED(RESULT, NAME, PUSHED, PARAMETERS, ARGUMENTS)       \
+    BUILDS(RESULT, NAME, PARAMETERS)                                   \
+    static __attribute__((noinline)) RESULT NAME##_moved PARAMETERS {  \
         char *here = __builtin_alloca(8);                              \
         __asm__ volatile("" : "+r"(here));                             \
-        size_t to_boundary = (uintptr_t)here % PAGE;                   \
-        if (to_boundary < NEAR) {                                      \
-            here = __builtin_alloca(to_boundary + 24 - (PUSHED));      \
+        size_t above = (uintptr_t)here % PAGE;                         \
+        if (above < NEAR) {                                            \
+            here = __builtin_alloca(above + 24 - PUSHED);              \
             __asm__ volatile("" : : "r"(here) : "memory");             \
         }                                                              \
-    }
+        RETURN_##RESULT NAME##_x86_64_v3 ARGUMENTS;                    \
+    }                                                                  \
+    CHOICE(RESULT, NAME, PARAMETERS, ARGUMENTS,                        \
+           if (level == 3 && len >= LONG) { RETURN_##RESULT NAME##_moved ARGUMENTS; } else)
 #else
 #define PROVED(RESULT, NAME, PARAMETERS, ARGUMENTS)  \
     HIDDEN RESULT NAME##_generic PARAMETERS;         \
     static inline RESULT NAME##_proved PARAMETERS {  \
         RETURN_##RESULT NAME##_generic ARGUMENTS;    \
     }
-#define MOVE_STACK(LEN, PUSHED)
+#define LONG_PROVED(RESULT, NAME, PUSHED, PARAMETERS, ARGUMENTS) PROVED(RESULT, NAME, PARAMETERS, ARGUMENTS)
 #endif
 
 /* A function of chacha20.h that checks nothing. */
 #define CALL(RESULT, NAME, PARAMETERS, ARGUMENTS) \
     PROVED(RESULT, NAME, PARAMETERS, ARGUMENTS)   \
     RESULT NAME PARAMETERS { RETURN_##RESULT NAME##_proved ARGUMENTS; }
-
-/* A function that calls MOVE_STACK isn't inlined: its return gives back what that took. */
-#define OWN_FRAME __attribute__((noinline))
 
 static int overlap(const uint8_t *output, const uint8_t *input, size_t len) {
     uintptr_t to = (uintptr_t)output, from = (uintptr_t)input;
@@ -107,27 +112,25 @@ uint64_t chacha20_block_position(uint64_t block) {
 
 #define KEY(NONCE) const uint8_t key[32], const uint8_t nonce[NONCE]
 #define CIPHER(NAME, NONCE, CHECK, AT, ...)                                                            \
-    PROVED(uint32_t, NAME##_xor_in_place, (KEY(NONCE), AT, uint8_t *data, size_t len),                 \
-           (key, nonce, __VA_ARGS__, data, len))                                                       \
-    PROVED(uint32_t, NAME##_xor_between,                                                               \
-           (KEY(NONCE), AT, uint8_t *output, size_t len, const uint8_t *input, size_t input_len),      \
-           (key, nonce, __VA_ARGS__, output, len, input, input_len))                                   \
-    PROVED(uint32_t, NAME##_keystream, (KEY(NONCE), AT, uint8_t *output, size_t len),                  \
-           (key, nonce, __VA_ARGS__, output, len))                                                     \
-    OWN_FRAME uint32_t NAME##_xor(KEY(NONCE), AT, uint8_t *output, const uint8_t *input, size_t len) { \
+    LONG_PROVED(uint32_t, NAME##_xor_in_place, 0, (KEY(NONCE), AT, uint8_t *data, size_t len),         \
+                (key, nonce, __VA_ARGS__, data, len))                                                  \
+    LONG_PROVED(uint32_t, NAME##_xor_between, 16,                                                      \
+                (KEY(NONCE), AT, uint8_t *output, size_t len, const uint8_t *input, size_t input_len), \
+                (key, nonce, __VA_ARGS__, output, len, input, input_len))                              \
+    LONG_PROVED(uint32_t, NAME##_keystream, 0, (KEY(NONCE), AT, uint8_t *output, size_t len),          \
+                (key, nonce, __VA_ARGS__, output, len))                                                \
+    uint32_t NAME##_xor(KEY(NONCE), AT, uint8_t *output, const uint8_t *input, size_t len) {           \
         uint32_t result;                                                                               \
         if (len == 0) return CHECK##_proved(__VA_ARGS__, 0);                                           \
-        if (output != input && overlap(output, input, len)) return CHACHA20_REFUSED;                   \
-        MOVE_STACK(len, output == input ? 0u : 16u)                                                    \
         if (output == input) return NAME##_xor_in_place_proved(key, nonce, __VA_ARGS__, output, len);  \
+        if (overlap(output, input, len)) return CHACHA20_REFUSED;                                      \
         result = NAME##_xor_between_proved(key, nonce, __VA_ARGS__, output, len, input, len);          \
         if (result == CHACHA20_OK) WROTE(output, len);                                                 \
         return result;                                                                                 \
     }                                                                                                  \
-    OWN_FRAME uint32_t NAME##_keystream(KEY(NONCE), AT, uint8_t *output, size_t len) {                 \
+    uint32_t NAME##_keystream(KEY(NONCE), AT, uint8_t *output, size_t len) {                           \
         uint32_t result;                                                                               \
         if (len == 0) return CHECK##_proved(__VA_ARGS__, 0);                                           \
-        MOVE_STACK(len, 0u)                                                                            \
         result = NAME##_keystream_proved(key, nonce, __VA_ARGS__, output, len);                        \
         if (result == CHACHA20_OK) WROTE(output, len);                                                 \
         return result;                                                                                 \
@@ -159,10 +162,9 @@ SUBKEY(hchacha8)
 #define GENERATOR(NAME)                                                                                \
     CALL(uint32_t, NAME##_next_u32, (STATE), (state))                                                  \
     CALL(uint64_t, NAME##_next_u64, (STATE), (state))                                                  \
-    PROVED(void, NAME##_fill, (STATE, uint8_t *output, size_t len), (state, output, len))              \
-    OWN_FRAME void NAME##_fill(STATE, uint8_t *output, size_t len) {                                   \
+    LONG_PROVED(void, NAME##_fill, 0, (STATE, uint8_t *output, size_t len), (state, output, len))      \
+    void NAME##_fill(STATE, uint8_t *output, size_t len) {                                             \
         if (len == 0) return;                                                                          \
-        MOVE_STACK(len, 0u)                                                                            \
         NAME##_fill_proved(state, output, len);                                                        \
         WROTE(output, len);                                                                            \
     }
