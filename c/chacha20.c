@@ -41,43 +41,44 @@ __attribute__((constructor)) static void choose_level(void) {
 }
 #endif
 
-#define BUILDS(RESULT, NAME, PARAMETERS)                               \
-    HIDDEN RESULT NAME##_x86_64 PARAMETERS;                            \
-    HIDDEN RESULT NAME##_x86_64_v2 PARAMETERS;                         \
+#define BUILDS(RESULT, NAME, PARAMETERS)                                              \
+    HIDDEN RESULT NAME##_x86_64 PARAMETERS;                                           \
+    HIDDEN RESULT NAME##_x86_64_v2 PARAMETERS;                                        \
     HIDDEN RESULT NAME##_x86_64_v3 PARAMETERS;
-#define CHOICE(RESULT, NAME, PARAMETERS, ARGUMENTS, FIRST)             \
-    static inline RESULT NAME##_proved PARAMETERS {                    \
-        FIRST if (level == 3) {                                        \
-            RETURN_##RESULT NAME##_x86_64_v3 ARGUMENTS;                \
-        } else if (level == 2) {                                       \
-            RETURN_##RESULT NAME##_x86_64_v2 ARGUMENTS;                \
-        } else {                                                       \
-            RETURN_##RESULT NAME##_x86_64 ARGUMENTS;                   \
-        }                                                              \
+#define CHOICE(RESULT, NAME, PARAMETERS, ARGUMENTS, CALL_V3)                          \
+    static inline RESULT NAME##_proved PARAMETERS {                                   \
+        if (level == 3) {                                                             \
+            CALL_V3                                                                   \
+        } else if (level == 2) {                                                      \
+            RETURN_##RESULT NAME##_x86_64_v2 ARGUMENTS;                               \
+        } else {                                                                      \
+            RETURN_##RESULT NAME##_x86_64 ARGUMENTS;                                  \
+        }                                                                             \
     }
-#define PROVED(RESULT, NAME, PARAMETERS, ARGUMENTS)                    \
-    BUILDS(RESULT, NAME, PARAMETERS)                                   \
-    CHOICE(RESULT, NAME, PARAMETERS, ARGUMENTS, )
+#define PROVED(RESULT, NAME, PARAMETERS, ARGUMENTS)                                   \
+    BUILDS(RESULT, NAME, PARAMETERS)                                                  \
+    CHOICE(RESULT, NAME, PARAMETERS, ARGUMENTS, RETURN_##RESULT NAME##_x86_64_v3 ARGUMENTS;)
 
 /* The build for x86-64-v3 stores vectors of 32 bytes on the stack, and is slow where they cross a
    page. So if the page boundary below is near, a long call, with PUSHED bytes of arguments on the
    stack, begins 32 bytes below it. Compilers agree on what alloca takes for sizes of 16 n + 8. */
 enum { LONG = 512, NEAR = 3072, PAGE = 4096 };
 
-#define LONG_PROVED(RESULT, NAME, PUSHED, PARAMETERS, ARGUMENTS)       \
-    BUILDS(RESULT, NAME, PARAMETERS)                                   \
-    static __attribute__((noinline)) RESULT NAME##_moved PARAMETERS {  \
-        char *here = __builtin_alloca(8);                              \
-        __asm__ volatile("" : "+r"(here));                             \
-        size_t above = (uintptr_t)here % PAGE;                         \
-        if (above < NEAR) {                                            \
-            here = __builtin_alloca(above + 24 - PUSHED);              \
-            __asm__ volatile("" : : "r"(here) : "memory");             \
-        }                                                              \
-        RETURN_##RESULT NAME##_x86_64_v3 ARGUMENTS;                    \
-    }                                                                  \
-    CHOICE(RESULT, NAME, PARAMETERS, ARGUMENTS,                        \
-           if (level == 3 && len >= LONG) { RETURN_##RESULT NAME##_moved ARGUMENTS; } else)
+#define LONG_PROVED(RESULT, NAME, PUSHED, PARAMETERS, ARGUMENTS)                      \
+    BUILDS(RESULT, NAME, PARAMETERS)                                                  \
+    static __attribute__((noinline)) RESULT NAME##_moved PARAMETERS {                 \
+        char *here = __builtin_alloca(8);                                             \
+        __asm__ volatile("" : "+r"(here));                                            \
+        size_t above = (uintptr_t)here % PAGE;                                        \
+        if (above < NEAR) {                                                           \
+            here = __builtin_alloca(above + 24 - PUSHED);                             \
+            __asm__ volatile("" : : "r"(here) : "memory");                            \
+        }                                                                             \
+        RETURN_##RESULT NAME##_x86_64_v3 ARGUMENTS;                                   \
+    }                                                                                 \
+    CHOICE(RESULT, NAME, PARAMETERS, ARGUMENTS,                                       \
+           if (len < LONG) { RETURN_##RESULT NAME##_x86_64_v3 ARGUMENTS; }            \
+           else { RETURN_##RESULT NAME##_moved ARGUMENTS; })
 #else
 #define PROVED(RESULT, NAME, PARAMETERS, ARGUMENTS)  \
     HIDDEN RESULT NAME##_generic PARAMETERS;         \
