@@ -87,8 +87,8 @@ fn apply_through<R: Rounds, V: Variant, B: StreamCipherBackend<R, V>>(
     xor_blocks(data, count - rest, made);
 }
 
-// XORs bytes with whole blocks. The room for blocks is as wide as the backend needs, and a single block has its own
-// room.
+// XORs bytes with whole blocks. There is room for as many blocks as a parallel call makes, or for all of a short message:
+// room that isn't used would be zeroed too.
 #[inline(always)]
 fn apply_blocks<R: Rounds, V: Variant, B: StreamCipherBackend<R, V>>(
     state: &mut [u32; 16],
@@ -104,8 +104,10 @@ fn apply_blocks<R: Rounds, V: Variant, B: StreamCipherBackend<R, V>>(
 {
     if B::PAR_BLOCKS == 1 || data.len() == 64 {
         apply_through::<R, V, B>(state, &mut [[0; 64]; 1], data, steps);
-    } else if B::PAR_BLOCKS <= 4 {
+    } else if B::PAR_BLOCKS <= 4 || data.len() <= 256 {
         apply_through::<R, V, B>(state, &mut [[0; 64]; 4], data, steps);
+    } else if B::PAR_BLOCKS <= 8 || data.len() <= 512 {
+        apply_through::<R, V, B>(state, &mut [[0; 64]; 8], data, steps);
     } else {
         apply_through::<R, V, B>(state, &mut [[0; 64]; 16], data, steps);
     }
