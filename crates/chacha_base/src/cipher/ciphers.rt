@@ -10,9 +10,10 @@ use crate::cipher::keystream::Keystream;
 use crate::cipher::seek_num::SeekNum;
 use crate::rounds::Steps;
 
-// How many bytes are filled or copied before the keystream goes over them: few enough to stay in a near cache, so that
-// they come from memory once.
-const PIECE: usize = 0x2000;
+// How many bytes are written at a time: as many zeros stay in the L1 cache.
+const PIECE: usize = 0x1000;
+
+static ZEROS: [u8; PIECE] = [0; PIECE];
 
 /// A cipher that XORs (exclusive or) bytes with a keystream, from its position on, and moves on past them. Positions
 /// and lengths are in bytes; the limit is the greatest position. The keystream is the blocks of the cipher's fixed
@@ -82,17 +83,16 @@ pub trait StreamCipher: Keystream {
         let mut done = 0;
         'pieces: while done < buf.len() {
             let end = done + PIECE.min(buf.len() - done);
-            let piece = &mut buf[done..end];
-            piece.fill(0);
-            self.apply_keystream(piece);
+            self.apply_keystream_b2b(&ZEROS[..end - done], &mut buf[done..end]);
             done = end;
         }
         Ok(())
     }
 
     /// Writes the input XORed with the keystream into the output (RFC 8439, section 2.4). `Err` exactly where the
-    /// lengths differ or the bytes would pass the limit; then nothing changes.
-    final fn try_apply_keystream_b2b(
+    /// lengths differ or the bytes would pass the limit; then nothing changes. By default it copies the input and applies
+    /// the keystream in place.
+    fn try_apply_keystream_b2b(
         &mut self,
         input: &[u8],
         output: &mut [u8],
@@ -113,15 +113,8 @@ pub trait StreamCipher: Keystream {
         if let Err(refusal) = self.check_remaining(input.len()) {
             return Err(refusal);
         }
-        let mut done = 0;
-        'pieces: while done < input.len() {
-            let end = done + PIECE.min(input.len() - done);
-            let piece = &mut output[done..end];
-            piece.copy_from_slice(&input[done..end]);
-            self.apply_keystream(piece);
-            done = end;
-        }
-        Ok(())
+        output.copy_from_slice(input);
+        self.try_apply_keystream_counted(output, &mut Steps::new())
     }
 
     /// XORs bytes with the keystream (RFC 8439, section 2.4). The caller proves that they stay within the limit.

@@ -4,7 +4,7 @@ use Rattle.chacha_base.proofs.KeystreamLemmas.{xor_stream-more, xor_stream-whole
 use Rattle.chacha_base.proofs.ListLemmas.{part_long}
 use Rattle.chacha20.specs.Blocks.{byte_of}
 use Rattle.chacha20.proofs.BlocksLemmas.{xor_stream-one}
-use Rattle.chacha20.proofs.chacha_core.engine.xor_blocks.Goals as goal
+use Rattle.chacha20.proofs.chacha_core.engine.InPlaceTarget.xor_blocks.Goals as goal
 
 pub loop-i-preserved : goal.loop-i-preserved
 loop-i-preserved c =
