@@ -9,6 +9,7 @@ pub mod frames;
 pub mod log;
 pub mod message;
 pub mod one_time_key;
+pub mod own_core;
 pub mod pieces;
 pub mod records;
 pub mod scalar;
