@@ -46,6 +46,11 @@ def tracked(*endings):
     return [it for it in said.split("\n") if it.endswith(endings) and os.path.isfile(f"{TOP}/{it}")]
 
 
+def backends():
+    """The names of the backends."""
+    return re.findall(r"(?m)^pub use \w+::(\w+);", text_of("crates/chacha_base/src/backends.rt"))
+
+
 @contextlib.contextmanager
 def copied(*crates):
     """A copy of these crates, or of all, with their lines of crates.txt. It is deleted where the `with` block ends."""
@@ -58,10 +63,32 @@ def copied(*crates):
         yield room
 
 
+@contextlib.contextmanager
+def written(texts):
+    """Writes texts to files, by their paths, for as long as the `with` block lasts."""
+    before = {path: text_of(path) for path in texts}
+    try:
+        for path, text in texts.items():
+            write(path, text)
+        yield
+    finally:
+        for path, text in before.items():
+            write(path, text)
+
+
 def checked(crate, *words):
     """The status of `rt check` in the folder of a crate, and what it said."""
     ran = subprocess.run(["rt", "check", *words], cwd=crate, stdout=subprocess.PIPE, stderr=subprocess.STDOUT, text=True)
     return ran.returncode, ran.stdout
+
+
+def with_those_below(*crates):
+    """These crates and the crates of the repository that they use, by crates.txt."""
+    uses = dict(re.match(r"(\w+)[^:]*:(.*)", it).groups() for it in text_of("crates.txt").split("\n") if ":" in it)
+    found = list(crates)
+    for it in found:
+        found += [other for other in uses[it].split() if other in uses and other not in found]
+    return found
 
 
 def messages(said):
