@@ -12,7 +12,7 @@ pub put_mid-at : {X : Type 0} (n k : ℕ) (xs zs ys : List X) → length xs ≡ 
     → put_mid n k (xs ++ zs) ys ≡ xs ++ (ys ++ drop k zs)
 put_mid-at n k xs zs ys long = ap₂ (λ a b. a ++ (ys ++ drop k b)) (take_at xs zs n long) (drop_at xs zs n long)
 
--- a part of a fixed length and then a number, low byte first: equal lists have the same part and the same number, for
+-- a part of a fixed length and then a little-endian number: equal lists have the same part and the same number, for
 -- every width at which the bytes can be read back
 ending-same : (w : Width) (limit : ℕ) → ((n : ℕ) → n < limit → from_le_bytes w (to_le_bytes w n) ≡ n)
     → (xs ys : List ℕ) (i j : ℕ) → length xs ≡ length ys → i < limit → j < limit

@@ -1,5 +1,5 @@
 //! Seekable generators of random words (this crate). A generator is a seed, a stream and a position that counts words
-//! of 32 bits; the words are those of ChaCha's blocks in the layout with a counter of 64 bits.
+//! of 32 bits; the words are those of ChaCha's blocks in the legacy layout.
 
 ghost use Rattle.std.specs.Prelude.{◌≡◌, ◌↔◌, ◌≤◌, ◌<◌, ◌+◌, ◌-◌, ◌*◌, ◌/◌, ◌%◌, ◌^◌, [], ◌∷◌, ◌++◌, length, take, drop, slice_index, Some, IsTrue, codes};
 ghost use Rattle.std.specs.Int.{w64, from_le_bytes};
@@ -21,7 +21,7 @@ use std::marker::Model;
 /// The seed of a generator: a key of 32 bytes.
 pub type Seed = [u8; 32];
 
-/// The state of a generator: 32 bytes of seed, then 8 bytes of stream and 9 of word position, the low byte first. The
+/// The state of a generator: 32 bytes of seed, then 8 bytes of stream and 9 of word position, both little-endian. The
 /// word position has 68 bits: in a stored state the upper half of the last byte is 0, and a restored generator doesn't
 /// depend on it.
 pub type SerializedRngState = [u8; 49];
@@ -57,7 +57,7 @@ const TOP_AT: usize = 48;
 ///
 /// Clauses see it as a seed, a stream and a word position (`GeneratorState`). A block has 16 words. The word at
 /// position w is in the block with counter w div 16, at place w mod 16; the key of all blocks is the seed, and their
-/// nonce the stream's 8 bytes, the low byte first.
+/// nonce the stream's 8 little-endian bytes.
 /// After the last of a stream's 2^68 words (1 ZiB) comes its first one again. A stream's number has 64 bits. `R` is the
 /// number of double rounds, `B` the backend that makes the words. No call is refused.
 pub struct ChaChaRng<R: Rounds, B> {
@@ -132,8 +132,8 @@ impl<R: Rounds, B: RngBackend<R>> ChaChaRng<R, B> {
         }
     }
 
-    /// Fills a slice with the bytes of the next words, the low byte of each first. The bytes of the last word that the
-    /// slice has no room for are lost; a fill of no bytes takes no word.
+    /// Fills a slice with the little-endian bytes of the next words. The bytes of the last word that the slice has no
+    /// room for are lost; a fill of no bytes takes no word.
     pub fn fill_bytes(&mut self, dst: &mut [u8])
         ensures value { (dst.new, self.new) ≡ fill R.COUNT self.old (length dst.old) }
         ensures kept { (self.new.seed ≡ self.old.seed) × (self.new.stream ≡ self.old.stream) }
@@ -163,7 +163,8 @@ impl<R: Rounds, B: RngBackend<R>> ChaChaRng<R, B> {
         ensures position { self.new.word_pos ≡ word_pos % 2 ^ 68 }
     {
         let position = word_pos % POSITIONS;
-        self.core.set_block_pos((position / BLOCK_WORDS) as u64);
+        self.core
+            .set_counter_by_words((position / BLOCK_WORDS) as u64);
         self.core.generate(&mut self.buffer);
         self.index = (position % BLOCK_WORDS) as usize;
     }
@@ -179,7 +180,7 @@ impl<R: Rounds, B: RngBackend<R>> ChaChaRng<R, B> {
     pub fn set_block_pos(&mut self, block_pos: u64)
         ensures { self.new ≡ record self.old { word_pos = 16 * block_pos } }
     {
-        self.core.set_block_pos(block_pos);
+        self.core.set_counter_by_words(block_pos);
         self.index = BUFFER_WORDS;
     }
 
@@ -195,7 +196,7 @@ impl<R: Rounds, B: RngBackend<R>> ChaChaRng<R, B> {
         ensures { self.new ≡ record self.old { stream = stream; word_pos = 0 } }
     {
         self.core.set_stream(stream);
-        self.core.set_block_pos(0);
+        self.core.set_counter_by_words(0);
         self.index = BUFFER_WORDS;
     }
 

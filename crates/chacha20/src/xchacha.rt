@@ -181,7 +181,6 @@ impl<R: Rounds, B: StreamCipherBackend<R, Ietf>> StreamCipherSeekCore for XChaCh
     }
 
     fn set_block_pos(&mut self, pos: u32) {
-        // By its path: `self.core.set_block_pos` is the inherent call, which writes words and is slower for ciphers.
-        StreamCipherSeekCore::set_block_pos(&mut self.core, pos);
+        self.core.set_block_pos(pos)
     }
 }

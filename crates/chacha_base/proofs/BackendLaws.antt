@@ -8,7 +8,7 @@ pub use Rattle.chacha_base.proofs.StateLemmas.{Words, state_after-zero, state_af
 pub use Rattle.chacha_base.proofs.StateLemmas.{next_block-state_after}
 -- a list of blocks, written from its front on: one block more, and k blocks more
 pub use Rattle.chacha_base.proofs.StateLemmas.{next_block-more, next_blocks-more}
--- the words of a generator, written likewise: one block more, and all of them
+-- the words of a generator, written in the same way: one block more, and all of them
 pub use Rattle.chacha_base.proofs.StateLemmas.{next_words-more, next_words-are}
 -- the sums of two states, word by word
 pub use Rattle.chacha_base.proofs.RoundLemmas.{add_states_are}

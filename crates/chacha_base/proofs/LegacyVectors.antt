@@ -1,4 +1,4 @@
--- Published blocks of the layout from before RFC 8439 (tests of the Rust crate), so that a wrong place of the counter's
+-- Published blocks of the legacy layout (tests of the Rust crate), so that a wrong place of the counter's
 -- words or of the nonce in a definition does not check.
 use Rattle.std.proofs.Common.{◌≡◌, ℕ, ◌+◌, ◌-◌, ◌^◌, List, [], ◌∷◌, replicate, refl}
 use Rattle.chacha_base.specs.ChaCha.{quarter, columns, diagonals, rounds, add_states, legacy, block}

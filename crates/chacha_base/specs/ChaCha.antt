@@ -1,4 +1,10 @@
--- ChaCha (RFC 8439, sections 2.1 to 2.4).
+-- ChaCha (RFC 8439, sections 2.1 to 2.4), for any number of double rounds and for two layouts of the
+-- counter. The RFC's ChaCha20 has ten double rounds and the layout `ietf`.
+--
+-- Words, bytes, counters and positions are natural numbers, and a state is a list of sixteen words.
+-- A key has 32 bytes, and a nonce 12 (`ietf`) or 8 (`legacy`): the types of calls say so. `*`, `/` and
+-- `%` associate to the left. A proof unfolds an `unfoldable` definition only where it says so. The RFC's
+-- examples are facts of RfcVectors.
 use Rattle.std.specs.Prelude.{ℕ, zero, suc, ◌+◌, ◌-◌, ◌*◌, ◌/◌, ◌%◌, ◌^◌, bit_xor}
 use Rattle.std.specs.Prelude.{List, [], ◌∷◌, ◌++◌, map, slice_index, slice_set}
 use Rattle.std.specs.List.{range_with_len}
@@ -9,7 +15,7 @@ use Rattle.std.specs.List.{range_with_len}
 abbrev pub add : ℕ → ℕ → ℕ
 add x y = (x + y) % 2 ^ 32
 
--- the rotation to the left: the top k bits move to the bottom
+-- the rotation of a word to the left, by k from 0 to 32: the top k bits move to the bottom
 abbrev pub rotl : ℕ → ℕ → ℕ
 rotl x k = x * 2 ^ k % 2 ^ 32 + x / 2 ^ (32 - k)
 
@@ -32,13 +38,14 @@ abbrev pub quarter_of : List ℕ → ℕ → ℕ → ℕ → ℕ → ℕ × ℕ 
 quarter_of s a b c d =
     quarter (slice_index s a) (slice_index s b) (slice_index s c) (slice_index s d)
 
--- the state with these four words in their places
+-- the state with the words at a, b, c and d replaced by their quarter round
 abbrev pub quarter_round : List ℕ → ℕ → ℕ → ℕ → ℕ → List ℕ
 quarter_round s a b c d =
     let q = quarter_of s a b c d in
     slice_set (slice_set (slice_set (slice_set s a q.0) b q.1) c q.2) d q.3
 
--- Rounds on a state of sixteen words, read as four rows of four (2.3).
+-- Rounds on a state of sixteen words, read as four rows of four (2.3). These list all sixteen words;
+-- `columns_are` and `diagonals_are` of RoundLemmas prove that they are four quarter rounds each.
 
 -- the state after a quarter round of each column
 unfoldable pub columns : List ℕ → List ℕ
@@ -89,8 +96,8 @@ abbrev pub words : List ℕ → List ℕ
 words (a ∷ b ∷ c ∷ d ∷ bs) = (a + 256 * b + 256 ^ 2 * c + 256 ^ 3 * d) ∷ words bs
 words _ = []
 
--- The two layouts of a state's last row: a counter of one word and a nonce of three (2.3); the
--- legacy layout, older than the RFC, with a counter of two words and a nonce of two.
+-- The two layouts of a state's last row. In that of the RFC (2.3) the counter has one word and the
+-- nonce three. In the legacy layout, older than the RFC, each has two.
 pub data Layout : Type 0 where
   ietf : Layout
   legacy : Layout
@@ -100,7 +107,7 @@ abbrev pub modulus : Layout → ℕ
 modulus ietf = 2 ^ 32
 modulus legacy = 2 ^ 64
 
--- the words of a counter, which wraps; little-endian
+-- the words of a counter, the low word first; it wraps
 abbrev pub counter_words : Layout → ℕ → List ℕ
 counter_words ietf c = c % 2 ^ 32 ∷ []
 counter_words legacy c = c % 2 ^ 32 ∷ c / 2 ^ 32 % 2 ^ 32 ∷ []
@@ -115,27 +122,27 @@ constants = 0x61707865 ∷ 0x3320646e ∷ 0x79622d32 ∷ 0x6b206574 ∷ []
 abbrev pub start : Layout → List ℕ → List ℕ → ℕ → List ℕ
 start layout key nonce c = constants ++ words key ++ counter_words layout c ++ words nonce
 
--- the 64 bytes of a key, a nonce and a counter, which wraps, after n double rounds
+-- the block of a key, a nonce and a counter: 64 bytes, after n double rounds; the counter wraps
 abbrev pub block : ℕ → Layout → List ℕ → List ℕ → ℕ → List ℕ
 block n layout key nonce c = bytes (mix n (start layout key nonce (c % modulus layout)))
 
 -- The keystream, and bytes XORed (exclusive or) with it (2.4).
 
--- byte p of a stream of blocks of 64 bytes, in order of counter: after the block with the greatest
--- counter comes block 0 again
+-- byte p of a stream of blocks of 64 bytes, in order of counter: byte 0 is the first of block 0, and
+-- after the block with the greatest counter comes block 0 again
 abbrev pub keystream : ℕ → (ℕ → List ℕ) → ℕ → ℕ
-keystream modulus block p = slice_index (block (p / 64 % modulus)) (p % 64)
+keystream counters block_at p = slice_index (block_at (p / 64 % counters)) (p % 64)
 
 -- byte p of the keystream of a key and a nonce, after n double rounds: 10 for ChaCha20
 abbrev pub chacha_stream : ℕ → Layout → List ℕ → List ℕ → ℕ → ℕ
 chacha_stream n layout key nonce = keystream (modulus layout) (block n layout key nonce)
 
--- bytes XORed with the bytes of a stream from position p on
+-- bytes XORed with the bytes of a stream from position p on: the RFC's initial counter c is p = 64 c
 abbrev pub xor_stream : (ℕ → ℕ) → ℕ → List ℕ → List ℕ
 xor_stream stream p [] = []
 xor_stream stream p (x ∷ xs) = bit_xor x (stream p) ∷ xor_stream stream (p + 1) xs
 
--- n of a stream's bytes, or of a generator's words, from position p on
+-- n values of a stream, bytes or a generator's words, from position p on
 abbrev pub stream_part : (ℕ → ℕ) → ℕ → ℕ → List ℕ
 stream_part stream p zero = []
 stream_part stream p (suc n) = stream p ∷ stream_part stream (p + 1) n

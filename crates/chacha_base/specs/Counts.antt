@@ -7,8 +7,8 @@ pub record Counts : Type 0 where
   pub other : ℕ
   pub rounds : ℕ
 
--- what a call may add: so many parallel and other calls at most, and quarter rounds from `least` to
--- `most`
+-- what a call may add: upper bounds of parallel and of other calls, and a lower and an upper bound of
+-- quarter rounds
 pub record Bounds : Type 0 where
   pub par : ℕ
   pub other : ℕ

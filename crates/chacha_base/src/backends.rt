@@ -1,4 +1,4 @@
-//! Backends: empty types whose functions make the blocks of a state.
+//! Backends: empty types whose functions make the blocks of a state, on words or on SIMD vectors.
 
 mod columns;
 mod columns8;

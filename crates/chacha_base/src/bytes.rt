@@ -1,4 +1,4 @@
-//! Bytes as words, the low byte first (RFC 8439, section 2.3), and the XOR of bytes. Nothing is refused: the caller
+//! Bytes as little-endian words (RFC 8439, section 2.3), and the XOR of bytes. Nothing is refused: the caller
 //! proves that the lengths fit.
 
 ghost use Rattle.std.specs.Prelude.{◌≡◌, ◌*◌, length, slice_index};

@@ -108,7 +108,7 @@ impl StreamCipherCounter for u64 {
     }
 }
 
-/// A layout of counter and nonce (RFC 8439, section 2.3, and the one before it). A row here is the words of a state
+/// A layout of counter and nonce: RFC 8439's (section 2.3) or the legacy one. A row here is the words of a state
 /// from word 12 on, or any words that begin with the counter's; the caller proves that it has room for the counter.
 /// Nothing is refused. It is sealed.
 pub trait Variant: Sealed {
@@ -169,7 +169,7 @@ impl Variant for Ietf {
     }
 }
 
-/// The layout from before RFC 8439: a counter of 64 bits in words 12 (low) and 13 (high), and a nonce of 8 bytes.
+/// The legacy layout, older than RFC 8439: a counter of 64 bits in words 12 (low) and 13 (high), and a nonce of 8 bytes.
 #[derive(Clone, Copy)]
 pub enum Legacy {}
 

@@ -5,13 +5,14 @@ ghost use Rattle.std.specs.Prelude.{◌≡◌, ◌+◌, ◌*◌, ◌^◌, ℕ, L
 ghost use Rattle.std.specs.Int.{w64, to_le_bytes};
 ghost use Rattle.rand_core.specs.Pcg32Seed.{pcg32_seed};
 ghost use Rattle.chacha_base.specs.ChaCha.{words, legacy, start};
-ghost use Rattle.chacha_base.specs.State.{fixed_words, state_after, next_words};
+ghost use Rattle.chacha_base.specs.State.{state_counter, fixed_words, state_at, state_after, next_words};
 ghost use Rattle.chacha20.specs.GeneratorCore.{seed_in, stream_in};
 
 use super::{ChaChaCore, start_state};
 use chacha_base::bytes::write_bytes;
 use chacha_base::cipher::RngBackend;
 use chacha_base::rounds::{Rounds, Steps};
+use chacha_base::state::set_counter;
 use chacha_base::variants::Legacy;
 use rand_core::SeedableRng;
 use std::marker::PhantomData;
@@ -86,6 +87,16 @@ impl<R: Rounds, B> ChaChaCore<R, Legacy, B> {
         ensures { result ≡ stream_in (fixed_words legacy self.now) }
     {
         joined(self.state[14], self.state[15])
+    }
+
+    // Sets the counter as `set_block_pos` does, but word by word: a generator takes 3 to 5 percent longer where the row
+    // is written as one vector.
+    pub(crate) fn set_counter_by_words(&mut self, counter: u64)
+        ensures state { self.new ≡ state_at legacy counter self.old }
+        ensures fixed { fixed_words legacy self.new ≡ fixed_words legacy self.old }
+        ensures counter { state_counter legacy self.new ≡ counter }
+    {
+        set_counter::<Legacy>(&mut self.state, counter);
     }
 
     // Sets the nonce. The other words stay.

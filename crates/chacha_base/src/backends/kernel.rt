@@ -163,7 +163,7 @@ pub fn write_narrow_tail<R: Rounds, V: Variant, G: Group, const W: usize, const 
     write_tail::<R, V, G, W>(state, blocks, steps);
 }
 
-/// Writes the words of the next four blocks, in the layout with a counter of 64 bits. The counter moves past them.
+/// Writes the words of the next four blocks, in the legacy layout. The counter moves past them.
 #[inline(always)]
 pub fn write_buffer<R: Rounds, G: Group>(
     state: &mut [u32; 16],

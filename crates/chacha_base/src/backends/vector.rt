@@ -1,4 +1,4 @@
-//! Vectors of words, and the quarter round of four of them.
+//! SIMD vectors of words, and the quarter round of four of them.
 
 ghost use Rattle.std.specs.Prelude.{◌≡◌, ◌≤◌, ◌<◌, ℕ, ◌+◌, ◌*◌, ⊤, bit_xor, slice_index};
 ghost use Rattle.chacha_base.specs.ChaCha.{add, rotl, quarter};

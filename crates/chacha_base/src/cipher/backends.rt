@@ -48,7 +48,7 @@ pub trait StreamCipherBackend<R: Rounds, V: Variant>: ParBlocksSizeUser {
             (for_tail (ONE_STEPS * R.COUNT) (length blocks.old)) steps.old steps.new };
 }
 
-/// Makes the words of a generator, four blocks at a time, in the layout with a counter of 64 bits (this crate).
+/// Makes the words of a generator, four blocks at a time, in the legacy layout (this crate).
 ///
 /// From counter c on these are the words of blocks c to c + 3, one block after another; the state is then the one with
 /// counter c + 4, and all its other words stay. Counters wrap at 2^64. Nothing is refused. Anyone may implement it; a

@@ -13,7 +13,7 @@ enum Number {
     After(Snapshot<Number>),
 }
 
-// A count without a greatest value. It takes no memory.
+// A count without an upper bound. It takes no memory.
 #[derive(Drop)]
 struct Count {
     number: Snapshot<Number>,
@@ -47,7 +47,7 @@ impl Count {
 }
 
 /// How many steps were taken (this crate): parallel calls of a backend (`par`), other calls for a block (`other`), and
-/// quarter rounds on words or on vectors (`rounds`). The three numbers have no greatest value. They exist for clauses
+/// quarter rounds on words or on vectors (`rounds`). The three numbers have no upper bound. They exist for clauses
 /// alone: at run time the type has no size, and there is nothing to read.
 pub struct Steps {
     par: Count,
