@@ -61,17 +61,17 @@ def changes(edit):
     without it. It raises ValueError where a line isn't one of an edit, or a mistake doesn't stand once in what takes the place."""
     path, last, made = "", {}, []
     for line in text_of(edit).split("\n"):
-        part = re.fullmatch(r"(file|old|new|mistake|instead): ?(.*)", line)
+        part = re.fullmatch(r"(file|old|new|# mistake|# instead): ?(.*)", line)
         if not part and line and not line.startswith("#"):
-            raise ValueError(f"{line!r} isn't a line '#', 'file: ', 'old: ', 'new:', 'mistake: ' or 'instead:'")
+            raise ValueError(f"{line!r} isn't a line '#', 'file: ', 'old: ' or 'new:'")
         word, text = part.groups() if part else ("", "")
         last[word] = text
         if word == "new":
             made.append((last["file"], last["old"], text, []))
-        elif word == "instead":
-            if made[-1][2].count(last["mistake"]) != 1:
-                raise ValueError(f"its mistake {last['mistake']!r} stands {made[-1][2].count(last['mistake'])} times in the line above, and not once")
-            made[-1][3].append((last["mistake"], text))
+        elif word == "# instead":
+            if made[-1][2].count(mistake := last["# mistake"]) != 1:
+                raise ValueError(f"its mistake {mistake!r} stands {made[-1][2].count(mistake)} times in the line above, and not once")
+            made[-1][3].append((mistake, text))
     if not made:
         raise ValueError("it has no lines 'file:', 'old:' and 'new:'")
     return made
@@ -97,7 +97,7 @@ def faults(edit, folder):
         applied(edit, folder)
     except (OSError, ValueError) as why:
         return [str(why)]
-    comments = re.findall(r"(?m)^# .+", text_of(edit))
+    comments = re.findall(r"(?m)^# (?!mistake: |instead:).+", text_of(edit))
     mistakes = [(path, new, *it) for path, _, new, pairs in changes(edit) for it in pairs]
     found = ["it has no first line '# WORDS'"] * (not text_of(edit).startswith("# "))
     found += ["it doesn't say what stands there without its mistake"] * (not mistakes)
