@@ -29,8 +29,7 @@ def write(path, text):
 def change(path, made):
     """Writes made(text) in place of a file's text, and says whether they differ."""
     old = text_of(path)
-    new = made(old)
-    if new != old:
+    if (new := made(old)) != old:
         write(path, new)
     return new != old
 
@@ -53,12 +52,15 @@ def backends():
 
 @contextlib.contextmanager
 def copied(*crates):
-    """A copy of these crates, or of all, with their lines of crates.txt. It is deleted where the `with` block ends."""
+    """A copy of these crates and of those of the repository that they use. It is deleted where the `with` block ends."""
+    lines = {re.match(r"\w+", it)[0]: it for it in text_of("crates.txt").split("\n") if ":" in it}
+    found = list(crates)
+    for it in found:
+        found += [other for other in lines[it].partition(":")[2].split() if other in lines and other not in found]
     with tempfile.TemporaryDirectory(prefix="checks-") as room:
-        lines = [it for it in text_of("crates.txt").split("\n") if not crates or re.match(r"\w*", it)[0] in crates]
-        write(f"{room}/crates.txt", "".join(f"{it}\n" for it in lines if it))
+        write(f"{room}/crates.txt", "".join(f"{lines[it]}\n" for it in lines if it in found))
         shutil.copy(f"{TOP}/HANDLES", room)
-        for it in crates or os.listdir(f"{TOP}/crates"):
+        for it in found:
             shutil.copytree(f"{TOP}/crates/{it}", f"{room}/crates/{it}", ignore=shutil.ignore_patterns("out"))
         yield room
 
@@ -80,15 +82,6 @@ def checked(crate, *words):
     """The status of `rt check` in the folder of a crate, and what it said."""
     ran = subprocess.run(["rt", "check", *words], cwd=crate, stdout=subprocess.PIPE, stderr=subprocess.STDOUT, text=True)
     return ran.returncode, ran.stdout
-
-
-def with_those_below(*crates):
-    """These crates and the crates of the repository that they use, by crates.txt."""
-    uses = dict(re.match(r"(\w+)[^:]*:(.*)", it).groups() for it in text_of("crates.txt").split("\n") if ":" in it)
-    found = list(crates)
-    for it in found:
-        found += [other for other in uses[it].split() if other in uses and other not in found]
-    return found
 
 
 def messages(said):

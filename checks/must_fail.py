@@ -5,25 +5,19 @@ import glob
 import os
 import re
 import sys
+import time
 
-from common import FUNCTION, TOP, copied, text_of, with_those_below
+from common import FUNCTION, TOP, copied, text_of
 
 # What says nothing of a mistake: a proof that names what an edit took away, what cites that proof, and an answer that rewrites by
 # what is no equation.
-LOST = re.compile(
-    r"has no field|is not in scope|has no `|^record `|(?:was|were) not (?:admitted|checked)|homogeneous path|settles argument"
-    r"|no occurrence of the path"
-)
+LOST = re.compile(r"has no field|is not in scope|has no `|^record `|(?:was|were) not (?:admitted|checked)|homogeneous path|settles argument"
+                  r"|no occurrence of the path")
 # What shows a mistake: what a message of each kind begins with.
 KINDS = {
     "numbers": ("`omega`: the goal does not follow", "`grind`: the goal does not follow"),
-    "two sides": (
-        "as printed, the two types",
-        "computed as far as they go, the two types",
-        "computed as a goal is, one side reads",
-        "give a proof of that as the last argument, `rw L t`",
-        "give a proof of that as the last argument, `simp L t`",
-    ),
+    "two sides": ("as printed, the two types", "computed as far as they go, the two types", "computed as a goal is, one side reads",
+                  "give a proof of that as the last argument, `rw L t`", "give a proof of that as the last argument, `simp L t`"),
 }
 # What shows no mistake by itself: an answer of another type than its place asks for, and a search that finds no proof.
 WEAK = re.compile(r"^expected type `|^`search`: no proof of|gave up at one of its limits|stopped at its own limit")
@@ -31,10 +25,6 @@ WEAK = re.compile(r"^expected type `|^`search`: no proof of|gave up at one of it
 VALUES = "the facts known there allow values at which this goal is false"
 # Goals of a body besides those of its contract. One that fails at these, or a function that the edit adds, fails by its form.
 BESIDE = re.compile(r"(?:slice_|offset_)?bounds-|overflow_|nonzero_|\S+-requires\b")
-# The place that a message of the prover begins with.
-PLACE = re.compile(r"(?:note: )?(?:\./)?(?:src|specs|proofs)/\S+?:\d+:\d+: ")
-
-
 # What a mistake may not have beyond what stands instead: a call, an operation or a branch, which changes a proof's form. `Steps::new()`
 # is a constant.
 FORM = re.compile(r"\w+(?=(?:::<[^()]*>)?\()|[-+*/%?]|<<|>>|\b(?:if|match|for|while|return)\b")
@@ -46,20 +36,27 @@ def edits():
     return [(it.split("/")[-3], os.path.basename(it)[:-5], it) for it in found]
 
 
-def on_copies(words):
-    """The edits with these names, or all: the crate and the name of each, its path, and the folder of a copy of its crate."""
+def tried(words, verdict):
+    """Prints what verdict(folder, edit) says of each edit with one of these names, or of all, in a copy of its crate: a word, which
+    this function lists, what follows the edit's name, and lines below."""
     if unknown := set(words) - {name for _, name, _ in edits()}:
         sys.exit(f"no edit has the name {', '.join(sorted(unknown))}")
-    wanted = [it for it in edits() if not words or it[1] in words]
+    wanted, found = [it for it in edits() if not words or it[1] in words], []
     for crate in sorted({it[0] for it in wanted}):
-        with copied(*with_those_below(crate)) as room:
-            yield from ((*it, f"{room}/crates/{crate}") for it in wanted if it[0] == crate)
+        with copied(crate) as room:
+            for name, edit in [it[1:] for it in wanted if it[0] == crate]:
+                begun = time.monotonic()
+                said, more, lines = verdict(f"{room}/crates/{crate}", edit)
+                found.append(said)
+                seconds = f"{time.monotonic() - begun:.0f} seconds"
+                print(f"{said} {crate} {name}{more}, {seconds}", *(it[:300] for it in lines), sep="\n    ", flush=True)
+    return found
 
 
 def changes(edit):
     """The changes of an edit: the file, the text that goes, what takes its place, and the mistakes in that, each with what stands there
     without it. It raises ValueError where a line isn't one of an edit, or a mistake doesn't stand once in what takes the place."""
-    path, last, made = "", {}, []
+    last, made = {}, []
     for line in text_of(edit).split("\n"):
         part = re.fullmatch(r"(file|old|new|# mistake|# instead): ?(.*)", line)
         if not part and line and not line.startswith("#"):
@@ -112,34 +109,12 @@ def faults(edit, folder):
 
 def function_at(text, number, column):
     """The function that a place in the text of a source is in, else the item that is declared there."""
-    lines, inside = text.split("\n")[:number], None
-    for line in lines[:-1]:
-        head = FUNCTION.match(line)
-        if head and (inside is None or len(head[1]) <= len(inside[0])):
-            inside = head[1], head[3]
-        elif inside and line == f"{inside[0]}}}":
-            inside = None
+    lines = text.split("\n")[:number]
+    item = re.match(r"\s*(?:pub )?(?:(?:ghost|const|type|struct) )+(?!fn\b)(\w+)", lines[-1])
     # (an edit can put several functions in one line)
     head = FUNCTION.match(lines[-1], column - 1)
-    if heads := re.findall(r"\bfn (\w+)", lines[-1][: head.end() if head else column]):
-        return heads[-1]
-    found = re.match(r"\s*(?:pub )?(?:ghost |const |type |struct )*(\w+)", lines[-1])
-    return inside[1] if inside else found[1] if found else "?"
-
-
-def declares(text, function):
-    return bool(re.search(rf"\bfn {function}\b", text))
-
-
-def joined_messages(said):
-    """The lines that the prover printed, each with the lines joined that go on with its message."""
-    joined = []
-    for line in said.split("\n"):
-        if line.startswith("  ") and joined and PLACE.match(joined[-1]):
-            joined[-1] += " " + line.strip()
-        else:
-            joined.append(line)
-    return joined
+    heads = re.findall(r"\bfn (\w+)", "\n".join([*lines[:-1], lines[-1][: head.end() if head else column]]))
+    return item[1] if item else heads[-1] if heads else "?"
 
 
 def unread(message, changed):
@@ -166,7 +141,7 @@ def goal_of(message, folder, changed):
     after = changed.get(search[1], before)
     function = function_at(after, int(search[2]), int(search[3]))
     goal = re.search(r"\(`([^`]+)`\)", search[4])
-    is_added = declares(after, function) and not declares(before, function)
+    is_added = re.search(rf"\bfn {function}\b", after) and not re.search(rf"\bfn {function}\b", before)
     by_form = is_added or goal and BESIDE.match(goal[1])
     return function, goal[1] if goal else "?", "its form" if by_form else kind_of(search[4])
 
