@@ -2,6 +2,9 @@
 pub mod PartLemmas
 pub mod RepeatedLemmas
 pub mod ResultLemmas
+pub mod ChunkLemmas
+pub mod SeekLemmas
+pub mod VecLemmas
 pub use Rattle.chacha_base.proofs.KeystreamLemmas
 pub use Rattle.chacha_base.proofs.PieceLemmas
 pub use Rattle.chacha_base.proofs.CipherLemmas

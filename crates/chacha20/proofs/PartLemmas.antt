@@ -1,7 +1,8 @@
 -- Lists that are written part by part. Proofs of callers may cite these, for a nonce that is made of parts; here the
 -- 49 bytes of a state are written so.
-use Rattle.std.proofs.Common.{◌≡◌, ◌<◌, ◌≤◌, ◌+◌, ◌-◌, ◌^◌, ◌∙◌, ℕ, List, ◌++◌, length, take, drop, arith, refl, sym, ap, ap₂, take_at, drop_at, length-take-le}
+use Rattle.std.proofs.Common.{◌≡◌, ◌<◌, ◌≤◌, ◌+◌, ◌-◌, ◌^◌, ◌∙◌, ℕ, zero, suc, List, [], ◌∷◌, ◌++◌, length, take, drop, drop-drop, arith, refl, sym, ap, ap₂, take_at, drop_at, length-take-le}
 use Rattle.std.proofs.lemmas.Nat.{from_le_bytes-to_le_bytes_4, from_le_bytes-to_le_bytes_8}
+use Rattle.std.proofs.lemmas.List.{take_rest}
 use Rattle.std.proofs.lemmas.Slice.{between_is, take-put_mid_below, drop-put_mid}
 use Rattle.std.specs.List.{slice_range}
 use Rattle.std.specs.Int.{Width, w32, w64, from_le_bytes, to_le_bytes}
@@ -50,3 +51,23 @@ pub slice_range-written : {X : Type 0} (n w : ℕ) (xs ys rest : List X) → len
 slice_range-written n w xs ys rest long inside =
     let wide : n + w - n ≡ length ys = omega (arith, long) in
     ap (take (n + w - n)) (drop_at (take n xs) _ n (length-take-le n xs inside)) ∙ take_at ys rest _ (sym wide)
+
+-- a part of a part
+take-take : {X : Type 0} (e k : ℕ) (xs : List X) → e ≤ k → take e (take k xs) ≡ take e xs
+take-take zero k xs inside = refl
+take-take (suc e) (suc k) [] inside = refl
+take-take (suc e) (suc k) (x ∷ xs) inside = ap (λ t. x ∷ t) (take-take e k xs (omega (arith, inside)))
+take-take (suc e) zero xs inside = absurd (omega (arith, inside))
+
+pub slice_range-slice_range : {X : Type 0} (a b m e : ℕ) (xs : List X) → a + e ≤ b
+    → slice_range (slice_range xs a b) m e ≡ slice_range xs (a + m) (a + e)
+slice_range-slice_range a b m e xs inside =
+    let wide : e - m ≡ a + e - (a + m) = omega arith in
+    between_is (slice_range xs a b) m e
+    ∙ ap (drop m) (take-take e (b - a) (drop a xs) (omega (arith, inside))) ∙ sym (between_is (drop a xs) m e)
+    ∙ ap₂ take wide (drop-drop m a xs)
+
+-- what is behind a header of n elements
+pub slice_range-rest : {X : Type 0} (n : ℕ) (header rest : List X) → length header ≡ n
+    → slice_range (header ++ rest) n (length (header ++ rest)) ≡ rest
+slice_range-rest n header rest long = take_rest (header ++ rest) n ∙ drop_at header rest n long

@@ -1,12 +1,13 @@
 -- Reads of a generator, one after another, for proofs about simulations that draw in parts.
 use Rattle.std.proofs.Common.{◌≡◌, ℕ, zero, suc, ◌+◌, ◌*◌, ◌/◌, ◌-◌, ◌%◌, ◌<◌, List, [], ◌∷◌, ◌++◌, length, take, slice_index, arith, refl, sym, ap, ap₂, ◌∙◌, drop_at, take_all, length-take-le}
 use Rattle.std.proofs.Math.Seq.{get_or-append_seam, take-append-add}
-use Rattle.std.specs.List.{slice_range}
+use Rattle.std.proofs.lemmas.List.Sums.{fold_push}
+use Rattle.std.specs.List.{fold, slice_range}
 use Rattle.std.specs.Int.{w64, to_le_bytes}
 use Rattle.chacha_base.specs.ChaCha.{start, bytes, stream_part, legacy, mix}
 use Rattle.chacha_base.proofs.BytesLemmas.{bytes-append, length-bytes}
 use Rattle.chacha_base.proofs.KeystreamLemmas.{length-stream_part, stream_part-same, stream_part-add}
-use Rattle.chacha20.specs.Generator.{GeneratorState, positions, at_word_pos, word, next_u32, next_u64, fill, repeated}
+use Rattle.chacha20.specs.Generator.{GeneratorState, positions, of_seed, at_word_pos, word, next_u32, next_u64, fill, repeated}
 
 -- positions that are the same when they wrap have the same word
 pub word-same : (n : ℕ) (g : GeneratorState) (v w : ℕ) → v % positions ≡ w % positions → word n g v ≡ word n g w
@@ -52,16 +53,35 @@ pub reads-more : {A : Type 0} {h i : GeneratorState} {xs : List A} {x : A} (read
 reads-more {A} read k g before now =
     reads-then read k 1 g before (ap (λ (a : A × GeneratorState). (a.0 ∷ [], a.1)) now)
 
--- of i reads and then more, number i is the first after those i
-pub reads-nth : (read : GeneratorState → ℕ × GeneratorState) (i m : ℕ) (g : GeneratorState)
-    → slice_index (repeated read (i + suc m) g).0 i ≡ (read (repeated read i g).1).0
-reads-nth read i m g =
+-- of m reads, number i is the first after i reads
+pub reads-nth : (read : GeneratorState → ℕ × GeneratorState) (i m : ℕ) (g : GeneratorState) → i < m
+    → slice_index (repeated read m g).0 i ≡ (read (repeated read i g).1).0
+reads-nth read i m g inside =
+    let k = m - suc i in
     let first = repeated read i g in
     let here = read first.1 in
-    let rest = repeated read m here.1 in
-    ap (λ (a : List ℕ × GeneratorState). slice_index a.0 i) (reads-add read i (suc m) g)
+    let rest = repeated read k here.1 in
+    let all : m ≡ i + suc k = omega (arith, inside) in
+    ap (λ n. slice_index (repeated read n g).0 i) all
+    ∙ ap (λ (a : List ℕ × GeneratorState). slice_index a.0 i) (reads-add read i (suc k) g)
     ∙ ap (λ j. slice_index (first.0 ++ here.0 ∷ rest.0) j) (sym (length-repeated read i g))
     ∙ get_or-append_seam first.0 here.0 rest.0 0
+
+-- one read more, as a loop makes it that folds its reads, such as a count or a sum: what it has folded, and the
+-- generator
+pub reads-folded : {A S : Type 0} {h i : GeneratorState} {x : A} {now : S} (step : S → A → S) (none : S)
+    (read : GeneratorState → A × GeneratorState) (k : ℕ) (g : GeneratorState) → h ≡ (repeated read k g).1
+    → now ≡ fold step none (repeated read k g).0 → x ≡ (read h).0 → i ≡ (read h).1
+    → (step now x ≡ fold step none (repeated read (k + 1) g).0) × (i ≡ (repeated read (k + 1) g).1)
+reads-folded {A} {x = x} step none read k g moved folded answer after =
+    let before = repeated read k g in
+    let next = read before.1 in
+    let all : (before.0 ++ next.0 ∷ [], next.1) ≡ repeated read (k + 1) g = reads-more read k g refl refl in (
+      ap₂ step folded (answer ∙ ap (λ s. (read s).0) moved)
+          ∙ sym (fold_push step none before.0 next.0)
+          ∙ ap (λ (a : List A × GeneratorState). fold step none a.0) all,
+      after ∙ ap (λ s. (read s).1) moved ∙ ap (λ (a : List A × GeneratorState). a.1) all,
+    )
 
 -- k words, read one by one
 pub reads-next_u32 : (n k : ℕ) (g : GeneratorState) → g.word_pos < positions
@@ -142,3 +162,10 @@ reads-next_u64 n (suc k) g below =
     let w = g.word_pos in
     let after : ((w + 2) % positions + 2 * k) % positions ≡ (w + 2 * suc k) % positions = omega arith in
     rw (reads-next_u64 n k (at_word_pos g (w + 2)) (omega arith), after)
+
+-- the same of the generator of a seed
+pub reads-next_u64_of_seed : (n k : ℕ) (seed : List ℕ)
+    → (repeated (next_u64 n) k (of_seed seed)).1 ≡ at_word_pos (of_seed seed) (2 * k)
+reads-next_u64_of_seed n k seed =
+    let here : 0 + 2 * k ≡ 2 * k = omega arith in
+    reads-next_u64 n k (of_seed seed) (omega arith) ∙ ap (at_word_pos (of_seed seed)) here

@@ -4,10 +4,10 @@
 ghost use Rattle.std.specs.Prelude.{◌≡◌, ◌*◌, length, replicate, Some, codes};
 ghost use Rattle.rand_core.specs.Steps.{stream_of};
 ghost use Rattle.rand_core.specs.Pcg32Seed.{pcg32_seed};
-ghost use Rattle.chacha_base.specs.ChaCha.{block, start, ietf, legacy};
+ghost use Rattle.chacha_base.specs.ChaCha.{keystream, chacha_stream, start, ietf, legacy};
 ghost use Rattle.chacha_base.specs.Counts.{for_bytes};
 ghost use Rattle.chacha20.specs.Generator.{of_seed, reads};
-ghost use Rattle.chacha20.specs.XChaCha.{subkey, subnonce};
+ghost use Rattle.chacha20.specs.XChaCha.{xchacha_stream};
 
 use crate::chacha::{ChaCha8, ChaCha12, ChaCha20};
 use crate::chacha_core::ChaChaCore;
@@ -24,18 +24,22 @@ use chacha_base::wrapper::StreamCipherCoreWrapper;
 use rand_core::{Rng, SeedableRng};
 use std::fmt;
 
-// The blocks that a key and a nonce define.
+// The keystream that a key and a nonce define.
 fn ciphers()
-    ensures chacha8 { ⟦<ChaCha8 as KeyIvInit>⟧.blocks_of ≡ block 4 ietf }
-    ensures chacha12 { ⟦<ChaCha12 as KeyIvInit>⟧.blocks_of ≡ block 6 ietf }
-    ensures chacha20 { ⟦<ChaCha20 as KeyIvInit>⟧.blocks_of ≡ block 10 ietf }
-    ensures chacha20_legacy { ⟦<ChaCha20Legacy as KeyIvInit>⟧.blocks_of ≡ block 10 legacy }
-    ensures xchacha8 { ⟦<XChaCha8 as KeyIvInit>⟧.blocks_of
-        ≡ (λ key nonce. block 4 ietf (subkey 4 key nonce) (subnonce nonce)) }
-    ensures xchacha12 { ⟦<XChaCha12 as KeyIvInit>⟧.blocks_of
-        ≡ (λ key nonce. block 6 ietf (subkey 6 key nonce) (subnonce nonce)) }
-    ensures xchacha20 { ⟦<XChaCha20 as KeyIvInit>⟧.blocks_of
-        ≡ (λ key nonce. block 10 ietf (subkey 10 key nonce) (subnonce nonce)) }
+    ensures chacha8 { (λ key nonce. keystream ⟦<ChaCha8 as Keystream>⟧.modulus
+        (⟦<ChaCha8 as KeyIvInit>⟧.blocks_of key nonce)) ≡ chacha_stream 4 ietf }
+    ensures chacha12 { (λ key nonce. keystream ⟦<ChaCha12 as Keystream>⟧.modulus
+        (⟦<ChaCha12 as KeyIvInit>⟧.blocks_of key nonce)) ≡ chacha_stream 6 ietf }
+    ensures chacha20 { (λ key nonce. keystream ⟦<ChaCha20 as Keystream>⟧.modulus
+        (⟦<ChaCha20 as KeyIvInit>⟧.blocks_of key nonce)) ≡ chacha_stream 10 ietf }
+    ensures chacha20_legacy { (λ key nonce. keystream ⟦<ChaCha20Legacy as Keystream>⟧.modulus
+        (⟦<ChaCha20Legacy as KeyIvInit>⟧.blocks_of key nonce)) ≡ chacha_stream 10 legacy }
+    ensures xchacha8 { (λ key nonce. keystream ⟦<XChaCha8 as Keystream>⟧.modulus
+        (⟦<XChaCha8 as KeyIvInit>⟧.blocks_of key nonce)) ≡ xchacha_stream 4 }
+    ensures xchacha12 { (λ key nonce. keystream ⟦<XChaCha12 as Keystream>⟧.modulus
+        (⟦<XChaCha12 as KeyIvInit>⟧.blocks_of key nonce)) ≡ xchacha_stream 6 }
+    ensures xchacha20 { (λ key nonce. keystream ⟦<XChaCha20 as Keystream>⟧.modulus
+        (⟦<XChaCha20 as KeyIvInit>⟧.blocks_of key nonce)) ≡ xchacha_stream 10 }
 {}
 
 // The words that a seed, a stream and a word position define, as all reads take them, and the texts of `Debug`, the

@@ -1,7 +1,7 @@
 -- Frames under one key: their numbers, their nonces, and what is sent.
-use Rattle.std.specs.Prelude.{ℕ, ◌+◌, ◌^◌, List, ◌++◌}
+use Rattle.std.specs.Prelude.{ℕ, ◌+◌, List, ◌++◌}
 use Rattle.std.specs.Int.{to_le_bytes, w64}
-use Rattle.chacha20.specs.ChaCha.{ietf, block, keystream, xor_stream}
+use Rattle.chacha20.specs.ChaCha.{ietf, chacha_stream, xor_stream}
 
 -- a sender or a receiver: its key, its channel, and the number of its next frame
 pub record Endpoint : Type 0 where
@@ -16,7 +16,7 @@ nonce_of channel number = channel ++ to_le_bytes w64 number
 -- the next frame as it is sent: XORed with the keystream of the key and the frame's nonce
 abbrev pub encrypted : Endpoint → List ℕ → List ℕ
 encrypted e frame =
-    xor_stream (keystream (2 ^ 32) (block 10 ietf e.key (nonce_of e.channel e.next))) 0 frame
+    xor_stream (chacha_stream 10 ietf e.key (nonce_of e.channel e.next)) 0 frame
 
 -- the sender or receiver after that frame
 abbrev pub after : Endpoint → Endpoint

@@ -1,3 +1,4 @@
-pub mod Records
+pub mod Aead
 pub mod Frames
 pub mod Sectors
+pub mod Vault

@@ -1,17 +1,16 @@
 //! Reads any part of an encrypted file, and encrypts any record of one, without the rest.
 //!
 //! ChaCha20 XORs (exclusive or) byte i of a file with byte i of a keystream. So a part is decrypted by a seek to its
-//! place, and no byte before it is computed. The text between a function's signature and its body is its contract,
-//! which is proved for all inputs: `ensures` says what holds when the call returns. The contract of `read_at` says: if
-//! the file is the encryption of a plaintext, the call reads the bytes at that place of the plaintext.
+//! place, and no byte before it is computed. The contract of `read_at` says: if the file is the encryption of a
+//! plaintext, the call reads the bytes at that place of the plaintext.
 //!
 //! Take a nonce of its own for each file, and write each place once: the XOR of two ciphertexts of one place is the XOR
-//! of their texts. For records that are overwritten see `records.rt`. Nothing is authenticated: where a bit of the file
+//! of their texts. For parts that are overwritten see `sectors.rt`. Nothing is authenticated: where a bit of the file
 //! is changed, that bit of the plaintext changes, and no read notices it.
 
-ghost use Rattle.std.specs.Prelude.{◌≡◌, ◌↔◌, ◌≤◌, ◌+◌, ◌*◌, ◌^◌, ℕ, List, length, IsOk, OnOk, OnErr};
+ghost use Rattle.std.specs.Prelude.{◌≡◌, ◌↔◌, ◌≤◌, ◌+◌, ◌*◌, ℕ, List, length, IsOk, OnOk, OnErr};
 ghost use Rattle.std.specs.List.{slice_range};
-ghost use Rattle.chacha20.specs.ChaCha.{block, keystream, xor_stream, ietf};
+ghost use Rattle.chacha20.specs.ChaCha.{chacha_stream, keystream, xor_stream, ietf};
 ghost use Rattle.chacha20.specs.Cipher.{limit_of};
 
 use chacha20::cipher::{KeyIvInit, StreamCipher, StreamCipherError, StreamCipherSeek};
@@ -30,7 +29,7 @@ pub fn read_at(
     ensures accepted { IsOk result ↔ ((start + length window.old ≤ length file.now)
         × (start + length window.old ≤ 274877906944)) }
     ensures plaintext { (plaintext : List ℕ) → file.now
-        ≡ xor_stream (keystream (2 ^ 32) (block 10 ietf key.now nonce.now)) 0 plaintext
+        ≡ xor_stream (chacha_stream 10 ietf key.now nonce.now) 0 plaintext
         → OnOk result (window.new ≡ slice_range plaintext start (start + length window.old)) }
     ensures refused { OnErr result (window.new ≡ window.old) }
 {

@@ -11,9 +11,7 @@
 //! encrypted bytes, under a key of its own. The receiver checks it with the number of its own `next`, and calls
 //! `decrypt` only if it is right.
 //!
-//! The lines `ensures` say what a call does, and each is proved for every input before this file is compiled. There
-//! `x.old` and `x.new` are what `x` holds before and after the call, `x.now` is what a `&` argument holds, and
-//! `OnOk result (..)` says what is true if the call returns `Ok`. `specs/Frames.antt` defines the other words.
+//! `specs/Frames.antt` defines the words of the contracts.
 
 ghost use Rattle.std.specs.Prelude.{◌≡◌, ◌<◌, ◌≤◌, ◌↔◌, ◌+◌, ◌^◌, ℕ, List, length, IsOk, IsErrOf, OnOk, OnErr};
 ghost use Rattle.examples.specs.Frames.{Endpoint, nonce_of, encrypted, after};

@@ -1,16 +1,23 @@
-//! What people build on `chacha20`, one file each. Every function has a contract. Its proof uses only the public
-//! contracts, definitions and lemmas of `chacha20`, and in `scalar` those of `chacha_base`. `docs/GUIDE.md` has the
-//! steps to copy a file.
+//! What people build on `chacha20`, one file each. `docs/GUIDE.md` has the steps to copy a file.
+//!
+//! The lines between a function's signature and its body are its contract. A caller must show what `requires` says.
+//! What `ensures` says holds when the call returns, and is proved for every input before the crate is built. There
+//! `x.old` and `x.new` are what `x` holds before and after the call, `x.now` is what a `&` argument holds, `≡` means
+//! equal, and `OnOk result (..)` says what holds if the call returns `Ok`. `specs` has the definitions of the examples.
+//! `proofs` has the answers that the prover needs, or that make its check quicker: often a line or two for a function.
+//!
+//! The proofs use only the public contracts, definitions and lemmas of `chacha20`, and in `scalar` those of
+//! `chacha_base`.
 #![tactic(auto)]
 
+pub mod aead;
 pub mod backend;
 pub mod file;
 pub mod frames;
 pub mod log;
 pub mod message;
-pub mod one_time_key;
 pub mod pieces;
-pub mod records;
 pub mod scalar;
 pub mod sectors;
 pub mod simulation;
+pub mod vault;

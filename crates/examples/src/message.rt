@@ -1,26 +1,23 @@
 //! A message under a key and a nonce, in one call: by ChaCha20, by any other cipher, or with a number of rounds of your
 //! own.
 //!
-//! The lines between a function's signature and its body are its contract. A program is built only after its contracts
-//! are proved for every key, nonce and message. The contract of `encrypt` says:
+//! The contract of `encrypt` says:
 //!
 //! - `accepted`: the call returns `Ok` exactly where the message has at most 274877906944 bytes (256 GiB).
-//! - `bytes`: on `Ok` the message (`message.new`) equals (`≡`) what it was (`message.old`), each byte XORed with the
-//!   byte at its place in the keystream. The keystream is the blocks of the key and the nonce, in order.
+//! - `bytes`: on `Ok` the message is what it was, each byte XORed (exclusive or) with the byte at its place in the
+//!   keystream of the key and the nonce.
 //! - `refused`: on `Err` the message is as it was.
 //!
-//! `proofs/message` has the answers that the prover needs, or that make its check quicker: a line or two for each
-//! function.
-//!
-//! Decryption is the same call. Never use a nonce twice under one key. Nothing here authenticates a message: add a MAC.
+//! Decryption is the same call. Never use a nonce twice under one key. Nothing here authenticates a message: see
+//! `aead.rt`.
 
-ghost use Rattle.std.specs.Prelude.{◌≡◌, ◌≤◌, ◌^◌, ◌↔◌, length, IsOk, OnOk, OnErr};
-ghost use Rattle.chacha20.specs.ChaCha.{block, keystream, xor_stream, ietf, legacy};
+ghost use Rattle.std.specs.Prelude.{◌≡◌, ◌≤◌, ◌+◌, ◌↔◌, length, IsOk, OnOk, OnErr};
+ghost use Rattle.chacha20.specs.ChaCha.{chacha_stream, keystream, xor_stream, ietf, legacy};
 ghost use Rattle.chacha20.specs.Cipher.{limit_of};
-ghost use Rattle.chacha20.specs.XChaCha.{subkey, subnonce};
+ghost use Rattle.chacha20.specs.XChaCha.{xchacha_stream};
 
 use chacha20::backends::Lanes16;
-use chacha20::cipher::{KeyIvInit, StreamCipher, StreamCipherError};
+use chacha20::cipher::{KeyIvInit, StreamCipher, StreamCipherError, StreamCipherSeek};
 use chacha20::variants::Ietf;
 use chacha20::{
     ChaCha20, ChaCha20Legacy, ChaChaCore, Key, LegacyNonce, Nonce, Rounds, StreamCipherCoreWrapper,
@@ -32,13 +29,31 @@ use chacha20::{
 pub fn encrypt(key: &Key, nonce: &Nonce, message: &mut [u8]) -> Result<(), StreamCipherError>
     ensures accepted { IsOk result ↔ (length message.old ≤ 274877906944) }
     ensures bytes { OnOk result (message.new
-        ≡ xor_stream (keystream (2 ^ 32) (block 10 ietf key.now nonce.now)) 0 message.old) }
+        ≡ xor_stream (chacha_stream 10 ietf key.now nonce.now) 0 message.old) }
     ensures refused { OnErr result (message.new ≡ message.old) }
 {
     ChaCha20::new(key, nonce).try_apply_keystream(message)
 }
 
-/// The same by any cipher `C` (this crate): `C.modulus` is the number of its blocks, `C.blocks_of` the blocks of a key
+/// Encrypts a message from block 1 on, so from byte 64 of the keystream (RFC 8439, section 2.4.2). Protocols do so that
+/// take block 0 for something else, as `aead.rt`. `Err` exactly where the message is longer than the 274877906880 bytes
+/// that are left there; then it is as it was.
+pub fn encrypt_from_block_1(
+    key: &Key,
+    nonce: &Nonce,
+    message: &mut [u8],
+) -> Result<(), StreamCipherError>
+    ensures accepted { IsOk result ↔ (64 + length message.old ≤ 274877906944) }
+    ensures bytes { OnOk result (message.new
+        ≡ xor_stream (chacha_stream 10 ietf key.now nonce.now) 64 message.old) }
+    ensures refused { OnErr result (message.new ≡ message.old) }
+{
+    let mut cipher = ChaCha20::new(key, nonce);
+    cipher.seek(64u32);
+    cipher.try_apply_keystream(message)
+}
+
+/// As `encrypt`, by any cipher `C` (this crate): `C.modulus` is the number of its blocks, `C.blocks_of` the blocks of a key
 /// and a nonce. For a named type the prover puts in that type's own numbers, as in the functions below.
 pub fn encrypt_by<C: KeyIvInit + StreamCipher + Drop>(
     key: &C::Key,
@@ -62,8 +77,7 @@ pub fn encrypt_xchacha(
 ) -> Result<(), StreamCipherError>
     ensures accepted { IsOk result ↔ (length message.old ≤ 274877906944) }
     ensures bytes { OnOk result (message.new
-        ≡ xor_stream (keystream (2 ^ 32)
-        (block 10 ietf (subkey 10 key.now nonce.now) (subnonce nonce.now))) 0 message.old) }
+        ≡ xor_stream (xchacha_stream 10 key.now nonce.now) 0 message.old) }
     ensures refused { OnErr result (message.new ≡ message.old) }
 {
     encrypt_by::<XChaCha20>(key, nonce, message)
@@ -78,7 +92,7 @@ pub fn encrypt_legacy(
 ) -> Result<(), StreamCipherError>
     ensures accepted { IsOk result }
     ensures bytes { OnOk result (message.new
-        ≡ xor_stream (keystream (2 ^ 64) (block 10 legacy key.now nonce.now)) 0 message.old) }
+        ≡ xor_stream (chacha_stream 10 legacy key.now nonce.now) 0 message.old) }
 {
     encrypt_by::<ChaCha20Legacy>(key, nonce, message)
 }
@@ -101,7 +115,7 @@ pub type ChaCha6 = StreamCipherCoreWrapper<ChaChaCore<R6, Ietf, Lanes16>>;
 pub fn encrypt_6(key: &Key, nonce: &Nonce, message: &mut [u8]) -> Result<(), StreamCipherError>
     ensures accepted { IsOk result ↔ (length message.old ≤ 274877906944) }
     ensures bytes { OnOk result (message.new
-        ≡ xor_stream (keystream (2 ^ 32) (block 3 ietf key.now nonce.now)) 0 message.old) }
+        ≡ xor_stream (chacha_stream 3 ietf key.now nonce.now) 0 message.old) }
     ensures refused { OnErr result (message.new ≡ message.old) }
 {
     encrypt_by::<ChaCha6>(key, nonce, message)

@@ -1,15 +1,13 @@
 //! A message that is encrypted piece by piece: in pieces of one length, or in two buffers. Wherever the message is cut,
 //! its bytes become what one call for all of them would make.
 //!
-//! The lines between a function's signature and its body are its contract. The caller proves the `requires` clauses
-//! before the call; the `ensures` clauses hold after it. `apply_keystream` returns no `Result`, so it requires that the
-//! bytes end within the limit, the end of the keystream. A function that calls it requires the same (`fits`), or asks
-//! the cipher first, as `try_apply_in_pieces` does. `C.position cipher.old` is the position of the cipher's next byte
+//! `apply_keystream` returns no `Result`, so it requires that the bytes end within the limit, the end of the keystream.
+//! A function that calls it requires the same (`fits`), or asks the cipher first, as `try_apply_in_pieces` does. `C.position cipher.old` is the position of the cipher's next byte
 //! before the call. `C.fixed` is all of the cipher but its position, which is its key and its nonce; its blocks, in
 //! order, are the keystream.
 //!
-//! What the prover doesn't find by itself is in `proofs/pieces`: for a loop, `Invariants.antt` says what holds before
-//! each turn, and `Answers.antt` why it still holds after it.
+//! In `proofs/pieces`, `Invariants.antt` says what holds before each turn of the loop, and `Answers.antt` why it still
+//! holds after it.
 
 ghost use Rattle.std.specs.Prelude.{◌≡◌, ◌≤◌, ◌<◌, ◌+◌, ◌↔◌, ◌++◌, length, IsOk, OnOk, OnErr};
 ghost use Rattle.chacha20.specs.ChaCha.{keystream, xor_stream};

@@ -1,22 +1,38 @@
 //! A disk of encrypted sectors, each of which can be overwritten.
 //!
-//! Sector n has the 512 bytes of the disk from byte 512 · n on. Beside the disk is a version for each sector, which
-//! every write raises by one. The number and the version make the nonce. The contracts say that a write takes a nonce
-//! that no sector of the disk has had, that a read gives what was written, and that a write leaves all other sectors as
-//! they are.
+//! If a sector were overwritten under the same nonce, the XOR (exclusive or) of its two ciphertexts would be the XOR of
+//! its two texts. So each write takes a new nonce. Beside the disk is a version for each sector, which every write
+//! raises by one, and the sector's number and version make the nonce. Versions aren't secret. Sector n has the 512 bytes
+//! of the disk from byte 512 · n on. The contracts say that a write takes a nonce that no sector of the disk has had,
+//! that a read gives what was written, and that a write leaves all other sectors as they are.
 //!
-//! The nonces are those of `records.rt`. What its head says of keys, versions and attackers holds here too.
+//! Take a new key for each disk, since two disks have the same nonces. The contracts do not cover a disk whose versions
+//! are rolled back, as from a backup: the next write reuses a nonce. Nor do they cover an attacker who keeps a copy of
+//! the disk: it shows which sectors are written later, and `read` accepts an older sector that is put back with its
+//! version. Nothing is authenticated: where a bit of a sector is changed, that bit of its text changes, and no read
+//! notices it.
 
 ghost use Rattle.std.specs.Prelude.{◌≡◌, ◌≢◌, ◌↔◌, ◌<◌, ◌≤◌, ◌+◌, ◌-◌, ◌*◌, ◌^◌, ℕ, length, IsOk, OnOk, OnErr};
-ghost use Rattle.examples.specs.Records.{nonce_of};
-ghost use Rattle.examples.specs.Sectors.{sector, version_of, text_of};
+ghost use Rattle.examples.specs.Sectors.{nonce_of, sector, version_of, text_of};
 
-use crate::records::nonce;
 use chacha20::cipher::{KeyIvInit, StreamCipher, StreamCipherError};
-use chacha20::{ChaCha20, Key};
+use chacha20::{ChaCha20, Key, Nonce};
 
 /// How many bytes a sector has (this crate).
 pub const SECTOR: usize = 512;
+
+/// The nonce of a version of a sector: the number in 4 bytes and the version in 8, little-endian (this crate). No other
+/// number or version has it.
+pub fn nonce(number: u32, version: u64) -> Nonce
+    ensures value { result ≡ nonce_of number version }
+    ensures distinct { (n v : ℕ) → n < 2 ^ 32 → v < 2 ^ 64 → nonce_of n v ≡ result
+        → (n ≡ number) × (v ≡ version) }
+{
+    let mut nonce = [0; 12];
+    nonce[..4].copy_from_slice(&number.to_le_bytes());
+    nonce[4..].copy_from_slice(&version.to_le_bytes());
+    nonce
+}
 
 /// Writes a sector: encrypts the text under the sector's next version. `Err` exactly where the disk or the versions
 /// have no sector of this number, counted from 0, or its versions are used up, after 2^64 - 1 writes; then nothing

@@ -1,18 +1,17 @@
-//! Simulations that can be repeated: numbers below a bound, dice and a shuffle from a seed; a generator for each
-//! worker; and a run that is stored in 49 bytes and resumed later (this crate).
+//! Simulations that can be repeated: numbers below a bound, dice and their sum, one die without those before it, and a
+//! shuffle from a seed; a generator for each worker; and a run that is stored in 49 bytes and resumed later (this
+//! crate).
 //!
-//! The lines between a function's signature and its body are its contract. A caller must show what `requires` says.
-//! What `ensures` says holds when the function returns: this is proved for every input before the crate is built.
 //! `rng.old` and `rng.new` are the generator before and after the call. `next_u64 n g` is a pair: the next word of 64
 //! bits of the generator g, which makes n double rounds, and the generator after it. `repeated (next_u64 n) k g` is the
 //! pair of the list of the next k words and the generator after them. `.0` and `.1` are the two parts of a pair. So
 //! each contract says which words a function reads and what it makes of them: the same seed gives the same run.
 
-ghost use Rattle.std.specs.Prelude.{◌≡◌, ℕ, ◌<◌, ◌≤◌, ◌+◌, ◌-◌, ◌*◌, ◌/◌, ◌^◌, ◌++◌, length, map, fold, swap, All};
+ghost use Rattle.std.specs.Prelude.{◌≡◌, ℕ, ◌<◌, ◌≤◌, ◌+◌, ◌-◌, ◌*◌, ◌/◌, ◌^◌, ◌++◌, length, slice_index, map, fold, swap, All};
 ghost use Rattle.std.specs.Int.{w64, to_le_bytes};
-ghost use Rattle.std.specs.List.{enumerate_from};
+ghost use Rattle.std.specs.List.{enumerate_from, sum_by};
 ghost use Rattle.std.specs.List.Sorted.{IsPermutation};
-ghost use Rattle.chacha20.specs.Generator.{next_u64, repeated, of_state_bytes};
+ghost use Rattle.chacha20.specs.Generator.{next_u64, repeated, of_seed, of_state_bytes};
 
 use chacha20::cipher::RngBackend;
 use chacha20::{ChaCha20Rng, ChaChaRng, Rounds, Seed, SerializedRngState};
@@ -49,6 +48,30 @@ pub fn rolls<R: Rounds, B: RngBackend<R>>(rng: &mut ChaChaRng<R, B>, dice: &mut 
     'each: for i in 0..dice.len() {
         dice[i] = roll(rng);
     }
+}
+
+/// Rolls so many dice, and returns their sum.
+pub fn total<R: Rounds, B: RngBackend<R>>(rng: &mut ChaChaRng<R, B>, count: u32) -> u64
+    ensures value { result ≡ sum_by (λ word. word * 6 / 2 ^ 64 + 1)
+        (repeated (next_u64 R.COUNT) count rng.old).0 }
+    ensures moved { rng.new ≡ (repeated (next_u64 R.COUNT) count rng.old).1 }
+{
+    let mut sum = 0;
+    'each: for i in 0..count {
+        sum += u64::from(roll(rng));
+    }
+    sum
+}
+
+/// The die of this number, counted from 0, that a seed's generator rolls, without those before it. `m` is any number of
+/// dice that has it.
+pub fn die_at(seed: Seed, number: u64) -> u8
+    ensures { (m : ℕ) → number < m
+        → result ≡ slice_index (repeated (next_u64 10) m (of_seed seed)).0 number * 6 / 2 ^ 64 + 1 }
+{
+    let mut rng = ChaCha20Rng::from_seed(seed);
+    rng.set_word_pos(2 * u128::from(number));
+    roll(&mut rng)
 }
 
 /// Shuffles a slice (Fisher and Yates). For each place from the second on, it draws one of the places up to this one,

@@ -1,6 +1,7 @@
 //! What the named types are, what a caller proves from public contracts alone, what users write, as the crate
 //! `examples` does, and the exports for C.
 
+mod aead;
 mod base;
 mod contracts;
 mod exports;
@@ -11,12 +12,11 @@ mod generator_states;
 mod log;
 mod message;
 mod names;
-mod one_time_key;
 mod pieces;
 mod readme;
-mod records;
 mod scalar;
 mod sectors;
 mod simulation;
 mod texts;
+mod vault;
 mod xchacha;

@@ -1,6 +1,8 @@
 //! Published messages and keystreams.
 
-use examples::message::{encrypt, encrypt_6, encrypt_legacy, encrypt_xchacha};
+use examples::message::{
+    encrypt, encrypt_6, encrypt_from_block_1, encrypt_legacy, encrypt_xchacha,
+};
 use known_answers::published::{
     CIPHERTEXT, COUNTING, FROM_1, FROM_80, LEGACY_KEYSTREAM, LEGACY_NONCE, MESSAGE, NONCE,
     X_KEYSTREAM, X_NONCE,
@@ -12,6 +14,13 @@ fn ietf(rt: HostRuntime) {
     message[64..].copy_from_slice(MESSAGE);
     let accepted = encrypt(&COUNTING, &NONCE, &mut message).is_ok();
     assert!(rt; accepted && message.ends_with(CIPHERTEXT));
+}
+
+#[test]
+fn from_block_1(rt: HostRuntime) {
+    let mut message = *MESSAGE;
+    let accepted = encrypt_from_block_1(&COUNTING, &NONCE, &mut message).is_ok();
+    assert!(rt; accepted && message == *CIPHERTEXT);
 }
 
 #[test]

@@ -1,7 +1,13 @@
-//! Sectors: a published ciphertext, one write over another, and what is refused.
+//! Sectors: a published nonce and ciphertext, one write over another, and what is refused.
 
-use examples::sectors::{SECTOR, read, write};
+use examples::sectors::{SECTOR, nonce, read, write};
 use known_answers::published::{CIPHERTEXT, COUNTING, MESSAGE};
+
+// The nonce of RFC 8439, section 2.3.2.
+#[test]
+fn published_nonce(rt: HostRuntime) {
+    assert!(rt; nonce(0x0900_0000, 0x4a00_0000) == [0, 0, 0, 9, 0, 0, 0, 0x4a, 0, 0, 0, 0]);
+}
 
 // RFC 8439, section 2.4.2: the message stands from block 1 on, and the nonce is that of version 0x4a000000 of sector 0.
 #[test]

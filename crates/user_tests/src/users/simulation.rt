@@ -2,7 +2,9 @@
 // Their words of 64 bits, times a bound, divided by 2^64, give the numbers here.
 
 use chacha20::{ChaCha20Rng, ChaChaRng, R20, Soft};
-use examples::simulation::{below, resume, roll, rolls, rolls_in_two, shuffle, worker};
+use examples::simulation::{
+    below, die_at, resume, roll, rolls, rolls_in_two, shuffle, total, worker,
+};
 
 // Eight dice of the published words.
 static DICE: [u8; 8] = [4, 1, 1, 5, 4, 2, 1, 4];
@@ -26,6 +28,13 @@ fn rolled(rt: HostRuntime) {
     let first = roll(&mut rng);
     rolls(&mut rng, &mut dice);
     assert!(rt; first == DICE[0] && DICE.ends_with(&dice));
+}
+
+#[test]
+fn summed_and_alone(rt: HostRuntime) {
+    let mut rng = ChaCha20Rng::from_seed([0; 32]);
+    assert!(rt; total(&mut rng, 8) == 22 && rng.get_word_pos() == 16);
+    assert!(rt; die_at([0; 32], 0) == DICE[0] && die_at([0; 32], 7) == DICE[7]);
 }
 
 #[test]

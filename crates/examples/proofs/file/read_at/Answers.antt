@@ -1,28 +1,29 @@
-use Rattle.std.proofs.Common.{◌≡◌, ◌+◌, ◌^◌, ◌-◌, take, drop, length, ap, arith, zero-add, ◌∙◌}
-use Rattle.std.specs.Prelude.{OnOk}
+use Rattle.std.proofs.Common.{◌≡◌, ◌+◌, ◌-◌, length, ap, arith, zero-add, ◌∙◌}
 use Rattle.std.specs.List.{slice_range}
-use Rattle.chacha20.specs.ChaCha.{block, keystream, xor_stream, ietf}
+use Rattle.std.proofs.lemmas.Result.{on_ok_weaker, on_err_weaker}
+use Rattle.chacha20.specs.ChaCha.{chacha_stream, xor_stream, ietf}
 use Rattle.chacha20.proofs.KeystreamLemmas.{xor_stream-xor_stream, window-xor_stream}
-use Rattle.std.proofs.lemmas.Result.{on_err_weaker}
+use Rattle.chacha20.proofs.SeekLemmas.{chacha-sought}
 use Rattle.examples.proofs.file.read_at.Goals as goal
 
 -- A window of a ciphertext is that window of the plaintext, XORed from its place on; a second XOR undoes the first.
 pub returns-clause-plaintext : goal.returns-clause-plaintext
 returns-clause-plaintext c plaintext same =
-    let stream = keystream (2 ^ 32) (block 10 ietf c.args.key.now c.args.nonce.now) in
+    let key = c.args.key.now in
+    let nonce = c.args.nonce.now in
+    let stream = chacha_stream 10 ietf key nonce in
     let start = c.args.start in
     let end = start + length c.args.window.now in
     let part = slice_range plaintext start end in
-    let stored = slice_range c.args.file.now start end in
-    let encrypted : stored ≡ xor_stream stream start part =
-    ap (λ file. take (end - start) (drop start file)) same
+    let encrypted : slice_range c.args.file.now start end ≡ xor_stream stream start part =
+    ap (λ file. slice_range file start end) same
     ∙ (rw zero-add at (window-xor_stream stream 0 start (end - start) plaintext)) in
-    let decrypted = ap (xor_stream stream start) encrypted ∙ xor_stream-xor_stream stream start part in
     let sought = c.in_ok-try_seek.ensures in
-    let apply = c.try_apply_keystream_b2b in
-    let bytes : OnOk apply.result (apply.new.output ≡ xor_stream stream start stored) =
-    rw (← c.new-cipher.ensures.keystream) (rw (sought.fixed, sought.position) at apply.ensures.bytes) in
-    rw decrypted at bytes
+    on_ok_weaker c.try_apply_keystream_b2b.result
+    (λ bytes.
+    bytes ∙ chacha-sought 10 ietf key nonce _ c.new-cipher.ensures.keystream sought.fixed sought.position
+    ∙ ap (xor_stream stream start) encrypted ∙ xor_stream-xor_stream stream start part)
+    c.try_apply_keystream_b2b.ensures.bytes
 
 -- answered for speed
 pub returns-clause-accepted : goal.returns-clause-accepted

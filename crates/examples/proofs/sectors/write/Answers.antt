@@ -1,10 +1,9 @@
-use Rattle.std.proofs.Common.{inl, inr, ◌≡◌, ◌<◌, ◌+◌, ◌*◌, ◌^◌, List, ℕ, sym, ap, ap₂, ◌∙◌, arith, get_or-set_same, get_or-set_other}
+use Rattle.std.proofs.Common.{inl, inr, ◌≡◌, ◌<◌, ◌+◌, ◌*◌, sym, ap, ap₂, ◌∙◌, arith, get_or-set_same, get_or-set_other}
 use Rattle.std.proofs.lemmas.Bool.{cases_lt}
-use Rattle.chacha20.specs.ChaCha.{block, keystream, xor_stream, ietf}
+use Rattle.chacha20.specs.ChaCha.{chacha_stream, xor_stream, ietf}
 use Rattle.chacha20.proofs.KeystreamLemmas.{xor_stream-xor_stream}
 use Rattle.chacha20.proofs.PartLemmas.{slice_range-before, slice_range-behind, slice_range-written}
-use Rattle.examples.specs.Records.{nonce_of}
-use Rattle.examples.specs.Sectors.{version_of}
+use Rattle.examples.specs.Sectors.{nonce_of, version_of}
 use Rattle.examples.proofs.sectors.write.Goals as goal
 
 pub returns-clause-version : goal.returns-clause-version
@@ -23,7 +22,7 @@ returns-clause-fresh c n v n_fits v_fits had same =
 pub returns-clause-text : goal.returns-clause-text
 returns-clause-text c =
     let text = c.args.text.now in
-    let stream : List ℕ → ℕ → ℕ = λ nonce. keystream (2 ^ 32) (block 10 ietf c.args.key.now nonce) in
+    let stream = chacha_stream 10 ietf c.args.key.now in
     let nonce = nonce_of c.args.number (version_of c.args.versions.now c.args.number + 1) in
     let bytes : c.apply_keystream_b2b.new.output ≡ xor_stream (stream nonce) 0 text =
     rw (← c.nonce.ensures.value, ← c.new-cipher.ensures.keystream, ← c.new-cipher.ensures.first)

@@ -1,4 +1,4 @@
-use Rattle.examples.proofs.one_time_key.encrypt_from_block_1.Goals as goal
+use Rattle.examples.proofs.message.encrypt_from_block_1.Goals as goal
 use Rattle.std.proofs.lemmas.Result.{on_err_weaker}
 
 -- answered for speed

@@ -1,0 +1,13 @@
+use Rattle.std.proofs.Common.{◌∙◌, refl, ap}
+use Rattle.chacha20.specs.ChaCha.{xor_stream}
+use Rattle.chacha20.proofs.KeystreamLemmas.{xor_stream-xor_stream}
+use Rattle.chacha20.proofs.SeekLemmas.{keystream-sought}
+use Rattle.examples.proofs.aead.open.Goals as goal
+
+pub returns-clause-decrypted : goal.returns-clause-decrypted
+returns-clause-decrypted g c plaintext same =
+    let cipher = g.C.Keystream in
+    let at_1 = c.in-Ok.ensures in
+    c.apply_keystream.ensures.bytes
+    ∙ keystream-sought (λ s p. xor_stream s p c.args.message.now) cipher.block_at cipher.modulus at_1.keystream refl at_1.position
+    ∙ ap (xor_stream _ 64) same ∙ xor_stream-xor_stream _ 64 plaintext

@@ -1,0 +1,166 @@
+//! Authenticated encryption: the construction of RFC 8439, section 2.8, over any cipher of the library and any MAC.
+//!
+//! The MAC's key for one message is the first half of block 0, and the message is encrypted from block 1 on. The tag
+//! covers the associated data and the ciphertext. With ChaCha20 and Poly1305 this is the RFC's AEAD, and with XChaCha20
+//! that of draft-irtf-cfrg-xchacha. No MAC is part of this library: implement `Mac` for yours.
+//!
+//! The contracts say what `seal` computes, that `open` accepts exactly the right tag and otherwise changes nothing, and
+//! that `open` of what `seal` made gives the message. How hard a tag is to forge depends on the MAC. Never use a nonce
+//! twice under one key.
+
+ghost use Rattle.std.specs.Prelude.{◌≡◌, ◌≢◌, ◌<◌, ◌≤◌, ◌+◌, ◌↔◌, ◌++◌, [], ℕ, List, length, IsOk, IfOk, OnOk, OnErr, IsErrOf, IsTrue};
+ghost use Rattle.chacha20.specs.ChaCha.{keystream};
+ghost use Rattle.chacha20.specs.Cipher.{limit_of};
+ghost use Rattle.examples.specs.Aead.{mac_key, encrypted, mac_text, padding};
+
+use chacha20::cipher::{KeyIvInit, StreamCipher, StreamCipherError, StreamCipherSeek};
+
+/// The size of a tag in bytes is 16 (RFC 8439, section 2.5).
+pub type Tag = [u8; 16];
+
+/// Why `open` refuses (this crate).
+#[derive(Clone, Copy, Debug, PartialEq, Eq)]
+pub enum AeadError {
+    /// The message is longer than the keystream from block 1 on.
+    TooLong,
+    /// The tag isn't that of the data and the message.
+    WrongTag,
+}
+
+/// A MAC with a key for one message, such as Poly1305. It takes its text in pieces, so nothing is copied.
+pub trait Mac {
+    // The tag of a key and a text.
+    ghost tag_of: { List ℕ → List ℕ → List ℕ };
+
+    // The tag that this MAC gives after so much more text.
+    ghost tag_after: { Self → List ℕ → List ℕ };
+
+    /// The MAC of a key, before any text.
+    fn new(key: &[u8; 32]) -> Self
+        ensures { (text : List ℕ) → Self.tag_after result text ≡ tag_of key.now text };
+
+    /// Takes the next piece of the text.
+    fn update(&mut self, piece: &[u8])
+        ensures { (more : List ℕ)
+            → Self.tag_after self.new more ≡ Self.tag_after self.old (piece.now ++ more) };
+
+    /// The tag of the text.
+    fn finish(self) -> Tag
+        ensures { result ≡ Self.tag_after self [] };
+}
+
+/// Encrypts a message in place, and returns the tag of the ciphertext and the associated data. `Err` exactly where the
+/// message is longer than the keystream from block 1 on, for ChaCha20 and XChaCha20 274877906880 bytes; then the
+/// message is as it was.
+pub fn seal<C: KeyIvInit + StreamCipherSeek + Drop, M: Mac>(
+    key: &C::Key,
+    nonce: &C::Iv,
+    aad: &[u8],
+    message: &mut [u8],
+) -> Result<Tag, StreamCipherError>
+    ensures accepted { IsOk result ↔ (64 + length message.old ≤ limit_of C.modulus) }
+    ensures ciphertext { let stream = keystream C.modulus (C.blocks_of key.now nonce.now) in
+        OnOk result (message.new ≡ encrypted stream message.old) }
+    ensures tag { let stream = keystream C.modulus (C.blocks_of key.now nonce.now) in
+        IfOk result (λ tag. tag ≡ M.tag_of (mac_key stream) (mac_text aad.now message.new)) }
+    ensures refused { OnErr result (message.new ≡ message.old) }
+{
+    let mut cipher = from_block_1::<C>(key, nonce, message.len())?;
+    cipher.apply_keystream(message);
+    Ok(tag::<M>(&one_time_key::<C>(key, nonce), aad, message))
+}
+
+/// Checks the tag, and decrypts the message in place. `Err` exactly where the message is too long or the tag is wrong;
+/// then the message is as it was.
+pub fn open<C: KeyIvInit + StreamCipherSeek + Drop, M: Mac>(
+    key: &C::Key,
+    nonce: &C::Iv,
+    aad: &[u8],
+    message: &mut [u8],
+    tag: &Tag,
+) -> Result<(), AeadError>
+    ensures accepted { let stream = keystream C.modulus (C.blocks_of key.now nonce.now) in
+        IsOk result ↔ ((64 + length message.old ≤ limit_of C.modulus)
+        × (tag.now ≡ M.tag_of (mac_key stream) (mac_text aad.now message.old))) }
+    ensures too_long { IsErrOf result AeadError.TooLong
+        ↔ (limit_of C.modulus < 64 + length message.old) }
+    ensures wrong_tag { let stream = keystream C.modulus (C.blocks_of key.now nonce.now) in
+        IsErrOf result AeadError.WrongTag ↔ ((64 + length message.old ≤ limit_of C.modulus)
+        × (tag.now ≢ M.tag_of (mac_key stream) (mac_text aad.now message.old))) }
+    ensures decrypted { let stream = keystream C.modulus (C.blocks_of key.now nonce.now) in
+        (plaintext : List ℕ) → message.old ≡ encrypted stream plaintext
+        → OnOk result (message.new ≡ plaintext) }
+    ensures refused { OnErr result (message.new ≡ message.old) }
+{
+    let Ok(mut cipher) = from_block_1::<C>(key, nonce, message.len()) else {
+        return Err(AeadError::TooLong);
+    };
+    if !is_equal(
+        &self::tag::<M>(&one_time_key::<C>(key, nonce), aad, message),
+        tag,
+    ) {
+        return Err(AeadError::WrongTag);
+    }
+    cipher.apply_keystream(message);
+    Ok(())
+}
+
+/// The MAC's key for one message (RFC 8439, section 2.6).
+pub fn one_time_key<C: KeyIvInit + StreamCipher + Drop>(key: &C::Key, nonce: &C::Iv) -> [u8; 32]
+    requires { 32 ≤ limit_of C.modulus }
+    ensures { result ≡ mac_key (keystream C.modulus (C.blocks_of key.now nonce.now)) }
+{
+    let mut mac_key = [0; 32];
+    C::new(key, nonce).write_keystream(&mut mac_key);
+    mac_key
+}
+
+// The cipher at block 1, where `len` bytes are left from there on.
+fn from_block_1<C: KeyIvInit + StreamCipherSeek + Drop>(
+    key: &C::Key,
+    nonce: &C::Iv,
+    len: usize,
+) -> Result<C, StreamCipherError>
+    ensures accepted { IsOk result ↔ (64 + len ≤ limit_of C.modulus) }
+    ensures keystream { IfOk result (λ cipher.
+        C.block_at (C.fixed cipher) ≡ C.blocks_of key.now nonce.now) }
+    ensures position { IfOk result (λ cipher. C.position cipher ≡ 64) }
+{
+    let mut cipher = C::new(key, nonce);
+    cipher.try_seek(64u32)?;
+    cipher.check_remaining(len)?;
+    Ok(cipher)
+}
+
+// The tag of associated data and a ciphertext.
+fn tag<M: Mac>(mac_key: &[u8; 32], aad: &[u8], ciphertext: &[u8]) -> Tag
+    ensures { result ≡ M.tag_of mac_key.now (mac_text aad.now ciphertext.now) }
+{
+    let mut mac = M::new(mac_key);
+    mac.update(aad);
+    pad(&mut mac, aad.len());
+    mac.update(ciphertext);
+    pad(&mut mac, ciphertext.len());
+    mac.update(&(aad.len() as u64).to_le_bytes());
+    mac.update(&(ciphertext.len() as u64).to_le_bytes());
+    mac.finish()
+}
+
+// Zeros up to a multiple of 16 bytes.
+fn pad<M: Mac>(mac: &mut M, len: usize)
+    ensures { (more : List ℕ)
+        → M.tag_after mac.new more ≡ M.tag_after mac.old (padding len ++ more) }
+{
+    mac.update(&[0; 16][..(16 - len % 16) % 16]);
+}
+
+// Whether two tags are equal. It reads all bytes of both, wherever they differ.
+fn is_equal(left: &Tag, right: &Tag) -> bool
+    ensures { IsTrue result ↔ (left.now ≡ right.now) }
+{
+    let mut difference = 0u32;
+    'each: for i in 0..16usize {
+        difference += u32::from(left[i] ^ right[i]);
+    }
+    difference == 0
+}

@@ -1,0 +1,107 @@
+//! The example of RFC 8439, section 2.8.2, with a toy in place of Poly1305; XChaCha20; and published one-time keys.
+
+use chacha20::{ChaCha20, Nonce, XChaCha20};
+use examples::aead::{AeadError, Mac, Tag, one_time_key, open, seal};
+use known_answers::published::{FROM_80, MESSAGE, X_KEYSTREAM, X_NONCE};
+
+// A toy, and no MAC: anyone can forge its tags. A tag is the front of the key XORed with the text, 16 bytes at a time.
+#[derive(Drop)]
+struct ToyMac {
+    tag: Tag,
+}
+
+impl Mac for ToyMac {
+    ghost use Rattle.std.specs.Prelude.{take};
+    ghost use Rattle.user_tests.specs.ToyTag.{tag_after};
+
+    ghost tag_of = { λ key text. tag_after (take 16 key) text };
+
+    ghost tag_after = { λ mac text. tag_after mac.tag text };
+
+    fn new(key: &[u8; 32]) -> Self {
+        let mut tag = [0; 16];
+        tag.copy_from_slice(&key[..16]);
+        ToyMac { tag }
+    }
+
+    fn update(&mut self, piece: &[u8]) {
+        let mut tag = self.tag;
+        'each: for i in 0..piece.len() {
+            tag.rotate_left(1);
+            tag[15] ^= piece[i];
+        }
+        self.tag = tag;
+    }
+
+    fn finish(self) -> Tag {
+        self.tag
+    }
+}
+
+#[test]
+fn published(rt: HostRuntime) {
+    let mut message = *MESSAGE;
+    let sealed = seal::<ChaCha20, ToyMac>(&FROM_80, &NONCE, AAD, &mut message);
+    let ciphertext = message;
+    let opened = open::<ChaCha20, ToyMac>(&FROM_80, &NONCE, AAD, &mut message, &TAG);
+    assert!(rt; sealed == Ok(TAG) && ciphertext == CIPHERTEXT);
+    assert!(rt; opened == Ok(()) && message == *MESSAGE);
+}
+
+// A wrong tag, other data, and another ciphertext.
+#[test]
+fn refused(rt: HostRuntime) {
+    let mut message = CIPHERTEXT;
+    let mut tag = TAG;
+    tag[15] ^= 1;
+    let wrong = [
+        open::<ChaCha20, ToyMac>(&FROM_80, &NONCE, AAD, &mut message, &tag),
+        open::<ChaCha20, ToyMac>(&FROM_80, &NONCE, &AAD[1..], &mut message, &TAG),
+        open::<ChaCha20, ToyMac>(&FROM_80, &NONCE, AAD, &mut message[1..], &TAG),
+    ];
+    assert!(rt; wrong == [Err(AeadError::WrongTag); 3] && message == CIPHERTEXT);
+}
+
+#[test]
+fn xchacha(rt: HostRuntime) {
+    let mut message = [0; 16];
+    let sealed = seal::<XChaCha20, ToyMac>(&FROM_80, &X_NONCE, AAD, &mut message);
+    let ciphertext = message;
+    let Ok(tag) = sealed else {
+        panic!(rt; "not sealed");
+    };
+    let opened = open::<XChaCha20, ToyMac>(&FROM_80, &X_NONCE, AAD, &mut message, &tag);
+    assert!(rt; X_KEYSTREAM.starts_with(&ciphertext) && opened == Ok(()) && message == [0; 16]);
+}
+
+#[test]
+fn one_time_keys(rt: HostRuntime) {
+    let nonce = [0, 0, 0, 0, 0, 1, 2, 3, 4, 5, 6, 7];
+    let first = one_time_key::<ChaCha20>(&FROM_80, &nonce);
+    let second = one_time_key::<ChaCha20>(&FROM_80, &NONCE);
+    assert!(rt; first == *FIRST && second == *SECOND);
+}
+
+// RFC 8439, section 2.6.2.
+static FIRST: &[u8; 32] = b"\
+    \x8a\xd5\xa0\x8b\x90\x5f\x81\xcc\x81\x50\x40\x27\x4a\xb2\x94\x71\
+    \xa8\x33\xb6\x37\xe3\xfd\x0d\xa5\x08\xdb\xb8\xe2\xfd\xd1\xa6\x46";
+
+// RFC 8439, section 2.8.2.
+static NONCE: Nonce = *b"\x07\x00\x00\x00@ABCDEFG";
+
+static AAD: &[u8] = b"PQRS\xc0\xc1\xc2\xc3\xc4\xc5\xc6\xc7";
+
+static SECOND: &[u8; 32] = b"\
+    \x7b\xac\x2b\x25\x2d\xb4\x47\xaf\x09\xb6\x7a\x55\xa4\xe9\x55\x84\
+    \x0a\xe1\xd6\x73\x10\x75\xd9\xeb\x2a\x93\x75\x78\x3e\xd5\x53\xff";
+
+static CIPHERTEXT: [u8; 114] = *b"\
+    \xd3\x1a\x8d\x34\x64\x8e\x60\xdb\x7b\x86\xaf\xbc\x53\xef\x7e\xc2\xa4\xad\xed\x51\x29\x6e\x08\xfe\
+    \xa9\xe2\xb5\xa7\x36\xee\x62\xd6\x3d\xbe\xa4\x5e\x8c\xa9\x67\x12\x82\xfa\xfb\x69\xda\x92\x72\x8b\
+    \x1a\x71\xde\x0a\x9e\x06\x0b\x29\x05\xd6\xa5\xb6\x7e\xcd\x3b\x36\x92\xdd\xbd\x7f\x2d\x77\x8b\x8c\
+    \x98\x03\xae\xe3\x28\x09\x1b\x58\xfa\xb3\x24\xe4\xfa\xd6\x75\x94\x55\x85\x80\x8b\x48\x31\xd7\xbc\
+    \x3f\xf4\xde\xf0\x8e\x4b\x7a\x9d\xe5\x76\xd2\x65\x86\xce\xc6\x4b\x61\x16";
+
+// The toy's tag of the RFC's data, ciphertext, padding and lengths, under that key.
+static TAG: Tag = *b"\x41\x09\x24\x2c\xeb\xd0\x05\xf7\xc2\xcb\x04\x5b\x83\x41\x0a\x82";
