@@ -29,8 +29,7 @@ def write(path, text):
 def change(path, made):
     """Writes made(text) in place of a file's text, and says whether they differ."""
     old = text_of(path)
-    new = made(old)
-    if new != old:
+    if (new := made(old)) != old:
         write(path, new)
     return new != old
 
@@ -46,16 +45,37 @@ def tracked(*endings):
     return [it for it in said.split("\n") if it.endswith(endings) and os.path.isfile(f"{TOP}/{it}")]
 
 
+def backends():
+    """The names of the backends."""
+    return re.findall(r"(?m)^pub use \w+::(\w+);", text_of("crates/chacha_base/src/backends.rt"))
+
+
 @contextlib.contextmanager
 def copied(*crates):
-    """A copy of these crates, or of all, with their lines of crates.txt. It is deleted where the `with` block ends."""
+    """A copy of these crates and of those of the repository that they use. It is deleted where the `with` block ends."""
+    lines = {re.match(r"\w+", it)[0]: it for it in text_of("crates.txt").split("\n") if ":" in it}
+    found = list(crates)
+    for it in found:
+        found += [other for other in lines[it].partition(":")[2].split() if other in lines and other not in found]
     with tempfile.TemporaryDirectory(prefix="checks-") as room:
-        lines = [it for it in text_of("crates.txt").split("\n") if not crates or re.match(r"\w*", it)[0] in crates]
-        write(f"{room}/crates.txt", "".join(f"{it}\n" for it in lines if it))
+        write(f"{room}/crates.txt", "".join(f"{lines[it]}\n" for it in lines if it in found))
         shutil.copy(f"{TOP}/HANDLES", room)
-        for it in crates or os.listdir(f"{TOP}/crates"):
+        for it in found:
             shutil.copytree(f"{TOP}/crates/{it}", f"{room}/crates/{it}", ignore=shutil.ignore_patterns("out"))
         yield room
+
+
+@contextlib.contextmanager
+def written(texts):
+    """Writes texts to files, by their paths, for as long as the `with` block lasts."""
+    before = {path: text_of(path) for path in texts}
+    try:
+        for path, text in texts.items():
+            write(path, text)
+        yield
+    finally:
+        for path, text in before.items():
+            write(path, text)
 
 
 def checked(crate, *words):

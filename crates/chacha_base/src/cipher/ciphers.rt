@@ -90,8 +90,7 @@ pub trait StreamCipher: Keystream {
     }
 
     /// Writes the input XORed with the keystream into the output (RFC 8439, section 2.4). `Err` exactly where the
-    /// lengths differ or the bytes would pass the limit; then nothing changes. By default it copies the input and applies
-    /// the keystream in place.
+    /// lengths differ or the bytes would pass the limit; then nothing changes.
     fn try_apply_keystream_b2b(
         &mut self,
         input: &[u8],
@@ -105,17 +104,7 @@ pub trait StreamCipher: Keystream {
         ensures fixed { OnOk result (Self.fixed self.new ≡ Self.fixed self.old) }
         ensures position { OnOk result
             (Self.position self.new ≡ Self.position self.old + length input.now) }
-        ensures refused { OnErr result ((output.new ≡ output.old) × (self.new ≡ self.old)) }
-    {
-        if input.len() != output.len() {
-            return Err(StreamCipherError);
-        }
-        if let Err(refusal) = self.check_remaining(input.len()) {
-            return Err(refusal);
-        }
-        output.copy_from_slice(input);
-        self.try_apply_keystream_counted(output, &mut Steps::new())
-    }
+        ensures refused { OnErr result ((output.new ≡ output.old) × (self.new ≡ self.old)) };
 
     /// XORs bytes with the keystream (RFC 8439, section 2.4). The caller proves that they stay within the limit.
     final fn apply_keystream(&mut self, buf: &mut [u8])

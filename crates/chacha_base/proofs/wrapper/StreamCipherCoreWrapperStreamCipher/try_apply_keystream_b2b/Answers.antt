@@ -1,7 +1,13 @@
-use Rattle.std.proofs.Common.{◌+◌, ap, sym, ◌++◌, ◌∙◌}
+use Rattle.std.proofs.Common.{◌+◌, ap, refl, sym, ◌++◌, ◌∙◌}
 use Rattle.chacha_base.specs.ChaCha.{keystream, xor_stream}
 use Rattle.chacha_base.proofs.KeystreamLemmas.{xor_stream-parts}
 use Rattle.chacha_base.proofs.wrapper.StreamCipherCoreWrapperStreamCipher.try_apply_keystream_b2b.Goals as goal
+
+pub returns-then-input-output-clause-refused : goal.returns-then-input-output-clause-refused
+returns-then-input-output-clause-refused g c = (refl, refl)
+
+pub returns-in-Err-clause-refused : goal.returns-in-Err-clause-refused
+returns-in-Err-clause-refused g c = (refl, refl)
 
 -- as in `try_apply_keystream_counted`; the first part and the last are copies of the input's
 pub returns-clause-bytes : goal.returns-clause-bytes
