@@ -39,18 +39,16 @@ pub fn first_failure(verdicts: &[Verdict]) -> Verdict {
     None
 }
 
-/// Enters rows, or parts of rows, in a table. An earlier failure stays.
-pub fn enter(table: &mut [Row], rows: &[Row]) {
+/// Enters rows, or parts of rows, each at the place of its number. An earlier failure stays.
+pub fn enter(table: &mut [Verdict; 24], rows: &[Row]) {
     for i in 0..rows.len() {
         enter_row(table, rows[i].0, rows[i].1);
     }
 }
 
-fn enter_row(table: &mut [Row], number: usize, verdict: Verdict) {
-    for i in 0..table.len() {
-        if table[i].0 == number && table[i].1.is_none() {
-            table[i] = (number, verdict);
-        }
+fn enter_row(table: &mut [Verdict; 24], number: usize, verdict: Verdict) {
+    if number < 24 {
+        table[number] = table[number].or(verdict);
     }
 }
 

@@ -1,9 +1,7 @@
-//! A published ciphertext that is read in parts, and records over each backend of the library.
+//! A published ciphertext that is read in parts, and a part of it that is written.
 
-use chacha20::backends::{Columns8, Lanes4, Lanes8, Lanes16, Rows8, Soft};
-use chacha20::cipher::{KeyIvInit, StreamCipherBackend, StreamCipherSeek};
-use chacha20::variants::Ietf;
-use chacha20::{ChaChaCore, R20, StreamCipherCoreWrapper};
+use chacha20::ChaCha20;
+use chacha20::cipher::KeyIvInit;
 use examples::file::{encrypt_record, read_at};
 use known_answers::published::{CIPHERTEXT, COUNTING, NONCE};
 
@@ -41,36 +39,11 @@ fn at_the_end(rt: HostRuntime) {
     assert!(rt; refused == [false; 4] && window == [5; 2]);
 }
 
-// Four records of 100 bytes, in any order, are what one application gives. One past the end is refused, which changes
-// neither bytes nor position.
-fn as_a_whole<S: StreamCipherSeek>(cipher: &mut S) -> bool {
-    let mut whole = [9; 400];
-    let mut file = [9; 400];
-    let mut right = cipher.try_apply_keystream(&mut whole).is_ok();
-    for number in [2, 0, 3, 1] {
-        let bytes = &mut file[100 * number as usize..100 * number as usize + 100];
-        right &= encrypt_record(cipher, number, bytes).is_ok();
-    }
-    right &= file == whole;
-    right &= encrypt_record(cipher, u64::MAX, &mut file).is_err();
-    right && file == whole && cipher.try_current_pos() == Ok(200u32)
-}
-
-type Over<B> = StreamCipherCoreWrapper<ChaChaCore<R20, Ietf, B>>;
-
-fn over<B: StreamCipherBackend<R20, Ietf>>() -> bool {
-    as_a_whole(&mut Over::<B>::new(&COUNTING, &[0; 12]))
-}
-
+// Record 2 of 32 bytes is at the front of block 1, where the message begins.
 #[test]
-fn records_over_each_backend(rt: HostRuntime) {
-    let right = [
-        over::<Soft>(),
-        over::<Lanes4>(),
-        over::<Lanes8>(),
-        over::<Rows8>(),
-        over::<Lanes16>(),
-        over::<Columns8>(),
-    ];
-    assert!(rt; right == [true; 6]);
+fn published_record(rt: HostRuntime) {
+    let mut record = *b"Ladies and Gentlemen of the clas";
+    let mut cipher = ChaCha20::new(&COUNTING, &NONCE);
+    let accepted = encrypt_record(&mut cipher, 2, &mut record).is_ok();
+    assert!(rt; accepted && CIPHERTEXT.starts_with(&record));
 }

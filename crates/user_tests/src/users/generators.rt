@@ -1,13 +1,12 @@
-//! Cores as makers of words, 64 at a time.
+//! Cores as makers of words, 64 at a time; equality and stored states of generators.
 
 use chacha20::backends::Soft;
 use chacha20::cipher::StreamCipherSeekCore;
 use chacha20::rand_core::SeedableRng;
 use chacha20::variants::Legacy;
-use chacha20::{ChaCha20LegacyCore, ChaChaCore, ChaChaRng, Generator, R20};
+use chacha20::{ChaCha20LegacyCore, ChaCha20Rng, ChaChaCore, Generator};
 use known_answers::R0;
-
-type NoRounds = ChaChaCore<R0, Legacy, Soft>;
+use known_answers::published::{COUNTING, FROM_1};
 
 // The words of the next four blocks, by the trait alone.
 fn four_blocks<G: Generator<Output = [u32; 64]>>(core: &mut G) -> [u32; 64] {
@@ -18,30 +17,17 @@ fn four_blocks<G: Generator<Output = [u32; 64]>>(core: &mut G) -> [u32; 64] {
 
 // The 16 words of a zero seed's block without rounds: those of the start state, doubled. The counter's words are given.
 fn doubled(low: u32, high: u32) -> [u32; 16] {
-    [
-        0xc2e0_f0ca,
-        0x6640_c8dc,
-        0xf2c4_5a64,
-        0xd640_cae8,
-        0,
-        0,
-        0,
-        0,
-        0,
-        0,
-        0,
-        0,
-        low,
-        high,
-        0,
-        0,
-    ]
+    let mut words = [0; 16];
+    words[..4].copy_from_slice(&[0xc2e0_f0ca, 0x6640_c8dc, 0xf2c4_5a64, 0xd640_cae8]);
+    words[12] = low;
+    words[13] = high;
+    words
 }
 
 // The last counter is followed by the first.
 #[test]
 fn four_blocks_without_rounds(rt: HostRuntime) {
-    let mut core = NoRounds::from_seed([0; 32]);
+    let mut core = ChaChaCore::<R0, Legacy, Soft>::from_seed([0; 32]);
     core.set_block_pos(u64::MAX - 1);
     let words = four_blocks(&mut core);
     let expected = [
@@ -53,26 +39,13 @@ fn four_blocks_without_rounds(rt: HostRuntime) {
     assert!(rt; words.as_slice() == expected.as_flattened() && core.get_block_pos() == 2);
 }
 
-// The words of the four blocks from a counter on, by a generator over another backend. Other tests compare those words
-// with the published ones.
-fn read_from(counter: u64) -> [u32; 64] {
-    let mut rng = ChaChaRng::<R20, Soft>::from_seed([0; 32]);
-    rng.set_block_pos(counter);
-    let mut words = [0; 64];
-    for i in 0..64usize {
-        words[i] = rng.next_u32();
-    }
-    words
-}
-
-// Whether a core of zeros gives the same, which begin with these, and is at another counter then.
+// Whether the words of a core from a counter on begin with these, and it is at another counter then.
 fn gives<G>(core: &mut G, counter: u64, front: &[u32; 4], after: u64) -> bool
 where
     G: Generator<Output = [u32; 64]> + StreamCipherSeekCore<Counter = u64>,
 {
     core.set_block_pos(counter);
-    let words = four_blocks(core);
-    words.starts_with(front) && words == read_from(counter) && core.get_block_pos() == after
+    four_blocks(core).starts_with(front) && core.get_block_pos() == after
 }
 
 // The first block; a counter whose low word is full; and the block with the greatest counter, and then the first.
@@ -96,3 +69,18 @@ static CARRY_WORDS: [u32; 4] = [0x09cd_e4ac, 0x91d1_94e2, 0x05d2_4a2d, 0xd995_6f
 
 // Of the last block (the Rust crate's tests).
 static LAST_WORDS: [u32; 4] = [0xd88c_91d7, 0x32f8_0c62, 0xc052_2653, 0x53a5_014c];
+
+// A state that is taken and given back at each place of a buffer, and past it, with the same words after it.
+#[test]
+fn restored_anywhere(rt: HostRuntime) {
+    let mut rng = ChaCha20Rng::from_seed(FROM_1);
+    // Equal position and stream are not enough.
+    assert!(rt; rng != ChaCha20Rng::from_seed(COUNTING));
+    rng.set_stream(0xf0f1_f2f3_f4f5_f6f7);
+    rng.set_block_pos(u64::MAX - 1);
+    for words in 0..130u32 {
+        let mut restored = ChaCha20Rng::deserialize_state(&rng.serialize_state());
+        let same = restored == rng && restored.next_u32() == rng.next_u32() && restored == rng;
+        assert!(rt; same, "after {words} words");
+    }
+}
