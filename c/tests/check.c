@@ -7,14 +7,10 @@
 #define _DEFAULT_SOURCE
 
 #include <inttypes.h>
-#include <signal.h>
 #include <stdio.h>
 #include <stdlib.h>
 #include <string.h>
 #include <sys/mman.h>
-#include <sys/resource.h>
-#include <sys/wait.h>
-#include <unistd.h>
 
 #include "compare.h"
 
@@ -37,7 +33,6 @@ struct run {
     uint64_t bytes_beside_plain;
     uint64_t differences;
     uint64_t messages;
-    uint64_t buffers;
 };
 
 static uint8_t input[LONGEST + 64], expected[LONGEST + 128], made[LONGEST + 64], keystream[LONGEST + 64];
@@ -144,11 +139,6 @@ static struct place place_of(struct run *run, enum layout layout, wide position)
     return place;
 }
 
-static uint32_t combine_by_keystream(const uint8_t *bytes, uint8_t *output, size_t len) {
-    for (size_t i = 0; i < len; i++) output[i] = bytes[i] ^ keystream[i];
-    return CHACHA20_OK;
-}
-
 /* Combines one part of a message by one of the functions of a cipher. */
 static uint32_t combine_part(struct run *run, enum layout layout, int at_rounds, const uint8_t *key,
                              const uint8_t *nonce, wide position, size_t from, size_t len) {
@@ -156,23 +146,17 @@ static uint32_t combine_part(struct run *run, enum layout layout, int at_rounds,
     if (run->spoilt == ONE_POSITION) position += position < 64 ? 1 : (wide)-1;
     struct place at = place_of(run, layout, position);
     uint8_t *part = made + from;
-    switch (below(run, 7)) {
-        case 0: return cipher->xor(key, nonce, at.block, at.offset, part, part, len);
-        case 1:
+    switch (below(run, 4)) {
+        case 0:
             memset(part, 0x55, len);
             return cipher->xor(key, nonce, at.block, at.offset, len ? part : NULL, len ? input + from : NULL, len);
-        case 2:
-            memset(part, 0x55, len);
-            return cipher->xor_between(key, nonce, at.block, at.offset, part, len, input + from, len);
-        case 3:
-            if (cipher->keystream_raw(key, nonce, at.block, at.offset, keystream, len) != CHACHA20_OK) return 1;
-            return combine_by_keystream(input + from, part, len);
-        case 4:
+        case 1:
             if (cipher->keystream(key, nonce, at.block, at.offset, len ? keystream : NULL, len) != CHACHA20_OK) {
-                return 1;
+                return CHACHA20_REFUSED;
             }
-            return combine_by_keystream(input + from, part, len);
-        default: return cipher->xor_in_place(key, nonce, at.block, at.offset, part, len);
+            for (size_t i = 0; i < len; i++) part[i] = input[from + i] ^ keystream[i];
+            return CHACHA20_OK;
+        default: return cipher->xor(key, nonce, at.block, at.offset, part, part, len);
     }
 }
 
@@ -242,7 +226,7 @@ static void one_generator(struct run *run) {
     while (done < words) {
         const struct library *library = any_build(run);
         size_t left = 4 * (words - done), len = below(run, (left < 70 || below(run, 2) ? left : 70) + 1);
-        int read = (int)below(run, 5);
+        int read = (int)below(run, 4);
         if (read == 1 && left < 8) continue;
         state[48] |= (uint8_t)(below(run, 16) << 4);
         switch (read) {
@@ -259,12 +243,8 @@ static void one_generator(struct run *run) {
                 break;
             }
             default: {
-                if (read == 2) {
-                    library->fill[at_rounds](state, len ? made + 4 * done : NULL, len);
-                    if (len == 0) state[48] &= 15;
-                } else {
-                    library->fill_raw[at_rounds](state, made + 4 * done, len);
-                }
+                library->fill[at_rounds](state, len ? made + 4 * done : NULL, len);
+                if (len == 0) state[48] &= 15;
                 /* What is left of the last word is lost. */
                 for (; len % 4; len++) made[4 * done + len] = right[4 * done + len];
                 done += len / 4;
@@ -291,81 +271,20 @@ static void one_generator(struct run *run) {
     holds(run, low == block << 4 && high == block >> 60 && memcmp(state, seed, 32) == 0, "a block's first word");
 }
 
-/* Any 49 bytes, of which the word position is often near an end: of a block, of the words, of its lower 64 bits. */
-static void random_state(struct run *run, uint8_t state[CHACHA_RNG_STATE_BYTES]) {
-    uint64_t back = below(run, 300);
-    random_bytes(run, state, CHACHA_RNG_STATE_BYTES);
-    switch (below(run, 4)) {
-        case 0: any_build(run)->set_word_pos(state, 0 - back, 15); break;
-        case 1: any_build(run)->set_word_pos(state, 0 - back, 3); break;
-        case 2: any_build(run)->set_word_pos(state, 16 * back, 0); break;
-        default: state[48] |= 0xf0;
-    }
-}
-
-/* Words of a buffer compared with those of the exports from the same state, over refills, wraps and restored states. */
-static void one_buffer(struct run *run) {
-    static struct chacha_rng_buffer buffer;
-    const struct library *library = any_build(run);
-    int at_rounds = (int)below(run, ROUNDS);
-    uint8_t state[CHACHA_RNG_STATE_BYTES], ended[CHACHA_RNG_STATE_BYTES];
-    random_state(run, state);
-    library->buffer_begin(&buffer, state);
-    for (uint64_t reads = below(run, 400); reads > 0; reads--) {
-        if (below(run, 2)) {
-            holds(run, library->buffered_u32[at_rounds](&buffer) == library->next_u32[at_rounds](state),
-                  "a buffered word");
-        } else {
-            holds(run, library->buffered_u64[at_rounds](&buffer) == library->next_u64[at_rounds](state),
-                  "two buffered words");
-        }
-        if (below(run, 40) > 0) continue;
-        library->buffer_end(&buffer, ended);
-        same_bytes(run, ended, state, sizeof ended, "a buffer's state");
-        if (below(run, 2)) library->buffer_begin(&buffer, ended);
-    }
-    /* What was not read yet doesn't move the state; its last byte is written as calls write it. */
-    state[48] &= 15;
-    library->buffer_end(&buffer, ended);
-    same_bytes(run, ended, state, sizeof ended, "a buffer's last state");
-    run->buffers++;
-}
-
-/* Whether a process that reads a buffer of such bytes, or that ends it, is stopped before it is done. */
-static int is_stopped(const struct library *library, int content, int ends) {
-    static struct chacha_rng_buffer buffer;
-    const struct rlimit no_core = {0, 0};
-    uint8_t state[CHACHA_RNG_STATE_BYTES];
-    int status = 0;
-    fflush(stdout);
-    pid_t child = fork();
-    if (child == 0) {
-        setrlimit(RLIMIT_CORE, &no_core);
-        signal(SIGILL, SIG_DFL), signal(SIGTRAP, SIG_DFL);
-        memset(&buffer, content, sizeof buffer);
-        if (ends) {
-            library->buffer_end(&buffer, state);
-        } else {
-            (void)library->buffered_u32[2](&buffer);
-        }
-        _exit(0);
-    }
-    return child > 0 && waitpid(child, &status, 0) == child && WIFSIGNALED(status);
-}
-
-/* No word comes out of a buffer that was not begun, where memory holds these bytes. */
-static void not_begun(struct run *run, const struct library *library) {
-    static const int contents[] = {0, 1, 0x40, 0xaa, 0xff};
-    for (size_t i = 0; i < sizeof contents / sizeof contents[0]; i++) {
-        holds(run, is_stopped(library, contents[i], 0), "a word of a buffer that was not begun");
-        holds(run, is_stopped(library, contents[i], 1), "a buffer that was not begun was ended");
-    }
+/* Whether the cipher and its check answer so, in place, between buffers and for the keystream. */
+static int answers(const struct library *library, enum layout layout, int at_rounds, const uint8_t *key,
+                   const uint8_t *nonce, struct place at, uint8_t *output, size_t len, uint32_t answer) {
+    const struct cipher *cipher = &library->ciphers[layout][at_rounds];
+    return cipher->xor(key, nonce, at.block, at.offset, output, output, len) == answer &&
+           cipher->xor(key, nonce, at.block, at.offset, output, len ? expected : output, len) == answer &&
+           cipher->keystream(key, nonce, at.block, at.offset, output, len) == answer &&
+           library->check[layout](at.block, at.offset, len) == answer;
 }
 
 /* A refusal leaves what was there. */
 static void one_refusal(struct run *run) {
     enum layout layout = (enum layout)below(run, LAYOUTS);
-    size_t len = 1 + below(run, 300), other_len = below(run, 300);
+    size_t len = 1 + below(run, 300);
     wide end = end_of(layout), greatest = layout == LEGACY ? (wide)65 * UINT64_MAX : UINT64_MAX;
     wide past = below(run, 2) ? below(run, len) : (((wide)next(run) << 64) + next(run)) % (greatest - end);
     const struct library *library = any_build(run);
@@ -378,45 +297,22 @@ static void one_refusal(struct run *run) {
     random_bytes(run, nonce, sizeof nonce);
     random_bytes(run, input, 300);
     memcpy(made, input, 300);
-    holds(run, cipher->xor_in_place(key, nonce, at.block, at.offset, made, len) == 1, "taken past the end");
-    holds(run, cipher->xor_between(key, nonce, at.block, at.offset, made, len, expected, len) == 1,
-          "taken past the end between buffers");
-    holds(run, cipher->keystream_raw(key, nonce, at.block, at.offset, made, len) == 1,
-          "a keystream past the end");
-    holds(run, cipher->xor(key, nonce, at.block, at.offset, made, made, len) == 1 &&
-                   cipher->xor(key, nonce, at.block, at.offset, made, expected, len) == 1 &&
-                   cipher->keystream(key, nonce, at.block, at.offset, made, len) == 1,
-          "taken past the end by a function of the header");
-    holds(run, library->check[layout](at.block, at.offset, len) == 1, "a check past the end");
-    holds(run, library->check[layout](last.block, last.offset, len) == 0, "a check up to the end");
-    holds(run, library->check[layout](ends.block, ends.offset, 0) == 0, "a check of nothing at the end");
-    holds(run, cipher->xor_in_place(key, nonce, ends.block, ends.offset, made, 0) == 0 &&
-                   cipher->xor_between(key, nonce, ends.block, ends.offset, made, 0, expected, 0) == 0 &&
-                   cipher->keystream_raw(key, nonce, ends.block, ends.offset, made, 0) == 0 &&
-                   cipher->xor(key, nonce, ends.block, ends.offset, NULL, NULL, 0) == 0 &&
-                   cipher->keystream(key, nonce, ends.block, ends.offset, NULL, 0) == 0,
-          "nothing at the end was refused");
-    holds(run, cipher->xor_in_place(key, nonce, beyond.block, beyond.offset, made, 0) == 1 &&
-                   cipher->xor_between(key, nonce, beyond.block, beyond.offset, made, 0, expected, 0) == 1 &&
-                   cipher->keystream_raw(key, nonce, beyond.block, beyond.offset, made, 0) == 1 &&
-                   cipher->xor(key, nonce, beyond.block, beyond.offset, NULL, NULL, 0) == 1 &&
-                   cipher->keystream(key, nonce, beyond.block, beyond.offset, NULL, 0) == 1 &&
-                   library->check[layout](beyond.block, beyond.offset, 0) == 1,
+    holds(run, answers(library, layout, at_rounds, key, nonce, at, made, len, CHACHA20_REFUSED), "taken past the end");
+    holds(run, library->check[layout](last.block, last.offset, len) == CHACHA20_OK, "a check up to the end");
+    holds(run, answers(library, layout, at_rounds, key, nonce, ends, NULL, 0, CHACHA20_OK), "nothing at the end was refused");
+    holds(run, answers(library, layout, at_rounds, key, nonce, beyond, NULL, 0, CHACHA20_REFUSED),
           "nothing past the end was taken");
-    if (other_len != len) {
-        holds(run, cipher->xor_between(key, nonce, 0, 0, made, other_len, expected, len) == 1, "unequal lengths");
-    }
     size_t apart = below(run, 2) ? 1 + below(run, len) : len - 1, both = len + apart;
     if (apart > 0 && apart < len && both <= 300) {
-        holds(run, cipher->xor(key, nonce, 0, 0, made, made + apart, len) == 1 &&
-                       cipher->xor(key, nonce, 0, 0, made + apart, made, len) == 1,
+        holds(run, cipher->xor(key, nonce, 0, 0, made, made + apart, len) == CHACHA20_REFUSED &&
+                       cipher->xor(key, nonce, 0, 0, made + apart, made, len) == CHACHA20_REFUSED,
               "an overlap in part was taken");
     }
     same_bytes(run, made, input, 300, "a refused call wrote");
     if (2 * len <= 300) {
         memcpy(expected, made, 2 * len);
-        holds(run, cipher->xor(key, nonce, 0, 0, made, made + len, len) == 0 &&
-                       cipher->xor_in_place(key, nonce, 0, 0, expected + len, len) == 0,
+        holds(run, cipher->xor(key, nonce, 0, 0, made, made + len, len) == CHACHA20_OK &&
+                       cipher->xor(key, nonce, 0, 0, expected + len, expected + len, len) == CHACHA20_OK,
               "neighbours were refused");
         same_bytes(run, made, expected + len, len, "bytes from a neighbour");
     }
@@ -474,15 +370,14 @@ static void cipher_at_edges(struct run *run, const struct cipher *cipher, const 
                             const uint8_t *nonce, uint64_t position, const uint8_t *from, uint8_t *output,
                             size_t len) {
     memcpy(output, from, len);
-    holds(run, cipher->xor_in_place(key, nonce, position / 64, position % 64, output, len) == 0, "an answer, in place");
+    holds(run, cipher->xor(key, nonce, position / 64, position % 64, output, output, len) == 0, "an answer, in place");
     same_bytes(run, output, right, len, "bytes at an edge, in place");
     memset(output, 0x55, len);
-    holds(run, cipher->xor_between(key, nonce, position / 64, position % 64, output, len, from, len) == 0,
+    holds(run, cipher->xor(key, nonce, position / 64, position % 64, output, from, len) == 0,
           "an answer, between buffers");
     same_bytes(run, output, right, len, "bytes at an edge, between buffers");
     memset(output, 0x55, len);
-    holds(run, cipher->keystream_raw(key, nonce, position / 64, position % 64, output, len) == 0,
-          "an answer, keystream");
+    holds(run, cipher->keystream(key, nonce, position / 64, position % 64, output, len) == 0, "an answer, keystream");
     for (size_t i = 0; i < len; i++) output[i] ^= from[i];
     same_bytes(run, output, right, len, "a keystream at an edge");
 }
@@ -497,7 +392,7 @@ static void generator_at_edges(struct run *run, const struct library *library, i
     memset(made, 0, len + 24);
     const uint8_t *right =
         by_other(&plain_c, LEGACY, rounds_of[at_rounds], key, stream_0, 0, made, len + 24, expected);
-    library->fill_raw[at_rounds](state, output, len);
+    library->fill[at_rounds](state, output, len);
     same_bytes(run, output, right + 12, len, "words at an edge");
     library->set_word_pos(state, 1, 16);
     holds(run, library->next_u32[at_rounds](state) ==
@@ -511,7 +406,7 @@ static void generator_at_edges(struct run *run, const struct library *library, i
     holds(run, library->get_stream(state) == 7 && library->get_block_pos(state) == 9, "a position at an edge");
 }
 
-/* Every export with each of its pointers at the front or the end of mapped pages, length 0 included, where a pointer at
+/* Every function with each of its pointers at the front or the end of mapped pages, length 0 included, where a pointer at
    the end is that of a page that can't be touched. */
 static void at_edges(struct run *run, const struct library *library) {
     struct pages keys = map_pages(), nonces = map_pages(), inputs = map_pages(), outputs = map_pages();
@@ -528,7 +423,7 @@ static void at_edges(struct run *run, const struct library *library) {
                 fill_pages(&nonces);
                 random_bytes(run, nonce, nonce_len[layout]);
                 for (int i = 0; i < ROUNDS; i++) {
-                    if (!library->ciphers[layout][i].xor_in_place) continue;
+                    if (!library->ciphers[layout][i].xor) continue;
                     const uint8_t *right = by_other(&plain_c, (enum layout)layout, rounds_of[i], key, nonce, position,
                                                     from, len, expected);
                     cipher_at_edges(run, &library->ciphers[layout][i], right, key, nonce, position, from, output, len);
@@ -579,20 +474,14 @@ int check(const struct machine *machine, uint64_t seed, uint64_t bytes) {
     random_bytes(&run, input, sizeof input);
     int controlled = control(machine, ONE_BIT, "one bit turned");
     controlled &= control(machine, ONE_POSITION, "a position one byte away");
-    for (int i = 0; i < machine->build_count; i++) {
-        at_edges(&run, machine->builds[i]);
-        not_begun(&run, machine->builds[i]);
-    }
-    printf("buffers at the ends of mapped pages, and buffers of words that were not begun: %" PRIu64 " differences\n",
-           run.differences);
+    for (int i = 0; i < machine->build_count; i++) at_edges(&run, machine->builds[i]);
+    printf("buffers at the ends of mapped pages: %" PRIu64 " differences\n", run.differences);
     while ((machine->other_count > 0 ? run.bytes_beside_found : run.bytes_beside_plain) < bytes) {
         one_message(&run);
         if (run.messages % 4 == 0) one_generator(&run);
         if (run.messages % 8 == 0) one_refusal(&run);
-        one_buffer(&run);
         if (run.messages % 16 == 0) one_subkey(&run, (int)below(&run, ROUNDS));
     }
-    printf("buffers of words, beside the exports: %" PRIu64 "\n", run.buffers);
     if (machine->other_count > 0) printf("8 and 12 rounds, beside plain C: %" PRIu64 " bytes\n", run.bytes_beside_plain);
     printf("check, seed %" PRIu64 ": %" PRIu64 " bytes beside", seed,
            machine->other_count > 0 ? run.bytes_beside_found : run.bytes_beside_plain);

@@ -17,7 +17,6 @@ int main(int argc, char **argv) {
         fputs("compare check [BYTES [SEED]]\ncompare time [TURNS]\n", stderr);
         return 2;
     }
-    if (is_time) hide_avx();
     machine.build_count = find_builds(machine.builds);
     machine.other_count = find_others(machine.others);
     if (is_time) return time_all(&machine, argc > 2 ? atoi(argv[2]) : 8192);

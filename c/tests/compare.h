@@ -19,9 +19,6 @@ struct machine {
 /* Compares until so many bytes were compared with what was found; answers the exit status. */
 int check(const struct machine *machine, uint64_t seed, uint64_t bytes);
 
-/* Starts a process that will time OpenSSL without AVX; before OpenSSL is loaded here. */
-void hide_avx(void);
-
 /* Prints tables of times; answers the exit status. */
 int time_all(const struct machine *machine, int turns);
 

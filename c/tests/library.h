@@ -1,6 +1,6 @@
 /* SPDX-License-Identifier: Apache-2.0 OR MIT */
 
-/* The functions of one build of the library, so that one program can have builds for several processor levels. */
+/* The functions of one build of the library, so that one program can have several builds. */
 
 #ifndef LIBRARY_H
 #define LIBRARY_H
@@ -9,18 +9,11 @@
 
 enum { LAYOUTS = 3, ROUNDS = 3 };
 
-/* Nonces of 12, of 24 and of 8 bytes, and 8, 12 and 20 rounds. Of the legacy layout 20 rounds alone are there. */
+/* Nonces of 12, of 24 and of 8 bytes; 8, 12 and 20 rounds. The legacy layout has 20 rounds alone. */
 enum layout { IETF, XCHACHA, LEGACY };
 
-/* A cipher's functions, those of the header that a compiler of C makes included. The place is byte 64 * block + offset,
-   for all layouts; where the export takes one number, it is that sum. */
+/* The position is byte 64 * block + offset in all layouts. */
 struct cipher {
-    uint32_t (*xor_in_place)(const uint8_t *key, const uint8_t *nonce, uint64_t block, uint64_t offset, uint8_t *data,
-                             size_t len);
-    uint32_t (*xor_between)(const uint8_t *key, const uint8_t *nonce, uint64_t block, uint64_t offset,
-                            uint8_t *output, size_t output_len, const uint8_t *input, size_t input_len);
-    uint32_t (*keystream_raw)(const uint8_t *key, const uint8_t *nonce, uint64_t block, uint64_t offset,
-                                uint8_t *output, size_t len);
     uint32_t (*xor)(const uint8_t *key, const uint8_t *nonce, uint64_t block, uint64_t offset, uint8_t *output,
                     const uint8_t *input, size_t len);
     uint32_t (*keystream)(const uint8_t *key, const uint8_t *nonce, uint64_t block, uint64_t offset, uint8_t *output,
@@ -34,12 +27,7 @@ struct library {
     void (*hchacha[ROUNDS])(const uint8_t *key, const uint8_t *input, uint8_t *subkey);
     uint32_t (*next_u32[ROUNDS])(uint8_t *state);
     uint64_t (*next_u64[ROUNDS])(uint8_t *state);
-    void (*fill_raw[ROUNDS])(uint8_t *state, uint8_t *output, size_t len);
     void (*fill[ROUNDS])(uint8_t *state, uint8_t *output, size_t len);
-    void (*buffer_begin)(struct chacha_rng_buffer *buffer, const uint8_t *state);
-    void (*buffer_end)(const struct chacha_rng_buffer *buffer, uint8_t *state);
-    uint32_t (*buffered_u32[ROUNDS])(struct chacha_rng_buffer *buffer);
-    uint64_t (*buffered_u64[ROUNDS])(struct chacha_rng_buffer *buffer);
     void (*from_seed)(const uint8_t *seed, uint8_t *state);
     void (*get_word_pos)(const uint8_t *state, uint64_t *low, uint64_t *high);
     void (*set_word_pos)(uint8_t *state, uint64_t low, uint64_t high);
@@ -49,15 +37,15 @@ struct library {
     void (*set_stream)(uint8_t *state, uint64_t stream);
 };
 
-/* The builds for one level of x86-64 each, and the library that chooses between them, or has one build alone. */
-extern const struct library library_v1;
-extern const struct library library_v2;
-extern const struct library library_v3;
+/* The lower levels of x86-64, and libchacha20.a, which takes the highest level of the processor. */
+extern const struct library library_1;
+extern const struct library library_2;
 extern const struct library library_chosen;
 
-enum { MOST_BUILDS = 4 };
+enum { MOST_BUILDS = 3 };
 
-/* Those that this processor can run, the one that chooses last, and how many; it prints a line for each other. */
+/* Finds the builds that this processor can run, library_chosen last, and returns their number. It prints a line for each
+   other build. */
 int find_builds(const struct library *found[MOST_BUILDS]);
 
 #endif

@@ -35,10 +35,9 @@ static int (*evp_init)(void *, void *, void *, const uint8_t *, const uint8_t *)
 static int (*evp_update)(void *, uint8_t *, int *, const uint8_t *, int);
 static void *evp_context;
 
-/* Without a cipher, the context keeps the one that it has. */
-static void openssl_xor(void *cipher, const uint8_t *key, const uint8_t iv[16], uint8_t *output, const uint8_t *input,
-                        size_t len) {
-    int done = evp_init(evp_context, cipher, NULL, key, iv);
+/* The context keeps the cipher that it has, so that OpenSSL fetches it once. */
+static void openssl_xor(const uint8_t *key, const uint8_t iv[16], uint8_t *output, const uint8_t *input, size_t len) {
+    int done = evp_init(evp_context, NULL, NULL, key, iv);
     while (done && len > 0) {
         int part = len < 1 << 30 ? (int)len : 1 << 30, out = 0;
         done = evp_update(evp_context, output, &out, input, part) && out == part;
@@ -58,34 +57,15 @@ static void openssl_ietf(int rounds, const uint8_t *key, const uint8_t *nonce, u
     (void)rounds;
     store_le(iv, block, 4);
     memcpy(iv + 4, nonce, 12);
-    openssl_xor(NULL, key, iv, data, data, len);
+    openssl_xor(key, iv, data, data, len);
 }
 
 static void openssl_between(const uint8_t *key, const uint8_t *nonce, uint8_t *output, const uint8_t *input,
                             size_t len) {
     uint8_t iv[16] = {0};
     memcpy(iv + 4, nonce, 12);
-    openssl_xor(NULL, key, iv, output, input, len);
+    openssl_xor(key, iv, output, input, len);
 }
-
-static void fetching_ietf(int rounds, const uint8_t *key, const uint8_t *nonce, uint64_t block, uint8_t *data,
-                          size_t len) {
-    uint8_t iv[16];
-    (void)rounds;
-    store_le(iv, block, 4);
-    memcpy(iv + 4, nonce, 12);
-    openssl_xor(evp_chacha20(), key, iv, data, data, len);
-}
-
-static void fetching_between(const uint8_t *key, const uint8_t *nonce, uint8_t *output, const uint8_t *input,
-                             size_t len) {
-    uint8_t iv[16] = {0};
-    memcpy(iv + 4, nonce, 12);
-    openssl_xor(evp_chacha20(), key, iv, output, input, len);
-}
-
-const struct other openssl_fetching = {
-    .name = "OpenSSL", .xor_from_block = {[IETF] = fetching_ietf}, .xor_between = fetching_between};
 
 static void openssl_legacy(int rounds, const uint8_t *key, const uint8_t *nonce, uint64_t block, uint8_t *data,
                            size_t len) {
@@ -93,10 +73,10 @@ static void openssl_legacy(int rounds, const uint8_t *key, const uint8_t *nonce,
     (void)rounds;
     store_le(iv, block, 8);
     memcpy(iv + 8, nonce, 8);
-    openssl_xor(NULL, key, iv, data, data, len);
+    openssl_xor(key, iv, data, data, len);
 }
 
-int find_openssl(struct other *found) {
+static int find_openssl(struct other *found) {
     static const char *const names[] = {"libcrypto.so.3", "libcrypto.so.1.1", "libcrypto.so", NULL};
     const char *(*version)(int) = NULL;
     void *handle = open_first(names);
@@ -181,7 +161,7 @@ static int find_sodium(struct other *found) {
 int find_others(struct other found[MOST_OTHERS]) {
     int count = find_openssl(found);
     count += find_sodium(found + count);
-    puts("not found: the Rust crate chacha20; another implementation of 8 and 12 rounds (plain C of c/tests stands in)");
+    puts("8 and 12 rounds: beside plain C of this folder");
     return count;
 }
 

@@ -26,12 +26,6 @@ enum { MOST_OTHERS = 2 };
 /* What was found, and how many; it prints a line for each that was or wasn't. */
 int find_others(struct other found[MOST_OTHERS]);
 
-/* OpenSSL alone; 0 where it isn't found. It fetches its cipher once, and keeps it in a context. */
-int find_openssl(struct other *found);
-
-/* After it was found, the same with EVP_chacha20() in each call, which fetches the cipher anew. */
-extern const struct other openssl_fetching;
-
 /* Plain C of this folder, written after RFC 8439 and the draft: for what the found ones do not have. */
 extern const struct other plain_c;
 

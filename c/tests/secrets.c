@@ -30,9 +30,6 @@ static void all_secret(void) {
 
 static void by_cipher(const struct cipher *cipher, uint64_t position, size_t len) {
     uint64_t block = position / 64, offset = position % 64;
-    done(cipher->xor_in_place(key, nonce, block, offset, output, len));
-    done(cipher->xor_between(key, nonce, block, offset, output, len, input, len));
-    done(cipher->keystream_raw(key, nonce, block, offset, output, len));
     done(cipher->xor(key, nonce, block, offset, output, output, len));
     done(cipher->xor(key, nonce, block, offset, output, input, len));
     done(cipher->keystream(key, nonce, block, offset, output, len));
@@ -45,27 +42,16 @@ static void by_generator(const struct library *library, int at_rounds, uint64_t 
     library->set_stream(state, 5);
     (void)VALGRIND_MAKE_MEM_UNDEFINED(state, 40);
     library->set_word_pos(state, position, 1);
-    library->fill_raw[at_rounds](state, output, len);
     library->fill[at_rounds](state, output, len);
     (void)library->next_u32[at_rounds](state);
     (void)library->next_u64[at_rounds](state);
     (void)library->get_stream(state);
     library->get_word_pos(state, &low, &high);
     /* The word position isn't secret, and no secret has come into it. */
-    if (high == 1 && low == position + 2 * ((len + 3) / 4) + 3) calls += 7;
-    static struct chacha_rng_buffer buffer;
-    uint64_t pos_low, pos_high;
-    library->buffer_begin(&buffer, state);
-    for (int i = 0; i < 40; i++) {
-        (void)library->buffered_u32[at_rounds](&buffer);
-        (void)library->buffered_u64[at_rounds](&buffer);
-    }
-    library->buffer_end(&buffer, state);
-    library->get_word_pos(state, &pos_low, &pos_high);
-    if (pos_high == 1 && pos_low == low + 120) calls += 83;
+    if (high == 1 && low == position + (len + 3) / 4 + 3) calls += 8;
     library->set_block_pos(state, library->get_block_pos(state) + 1);
     library->set_stream(state, 6);
-    calls += 4;
+    calls += 3;
 }
 
 static void by_library(const struct library *library) {
@@ -77,7 +63,7 @@ static void by_library(const struct library *library) {
             for (int layout = 0; layout < LAYOUTS; layout++) {
                 done(library->check[layout](positions[i] / 64, positions[i] % 64, len));
                 for (int at_rounds = 0; at_rounds < ROUNDS; at_rounds++) {
-                    if (!library->ciphers[layout][at_rounds].xor_in_place) continue;
+                    if (!library->ciphers[layout][at_rounds].xor) continue;
                     all_secret();
                     by_cipher(&library->ciphers[layout][at_rounds], positions[i], len);
                 }

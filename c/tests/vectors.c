@@ -1,9 +1,12 @@
 /* SPDX-License-Identifier: Apache-2.0 OR MIT
 
-   Published vectors by the library, so that a processor is tried on which there is no other implementation. */
+   Published vectors, for a processor without another implementation; and how much of the stack calls take. */
+
+#define _DEFAULT_SOURCE
 
 #include <stdio.h>
 #include <string.h>
+#include <ucontext.h>
 
 #include "chacha20.h"
 
@@ -108,6 +111,7 @@ static void xchacha(void) {
 /* Vectors of the Rust crate chacha20 */
 static void legacy_and_generators(void) {
     uint8_t key[32], nonce[MOST], made[MOST], state[CHACHA_RNG_STATE_BYTES];
+    uint64_t low, high;
     counting(key, 32, 1);
     from_hex("0301040105090206", nonce);
     wrong += chacha20_legacy_keystream(key, nonce, 0, 0, made, 64) != CHACHA20_OK;
@@ -122,6 +126,8 @@ static void legacy_and_generators(void) {
     memset(key, 0, sizeof key);
     chacha_rng_from_seed(key, state);
     chacha_rng_set_block_pos(state, UINT64_MAX);
+    chacha_rng_get_word_pos(state, &low, &high);
+    wrong += low != UINT64_MAX - 15 || high != 15;
     chacha20_rng_fill(state, made, 64);
     is("a generator's last block", made, "d7918cd8620cf832532652c04c01a553");
     chacha20_rng_fill(state, made, 8);
@@ -131,11 +137,63 @@ static void legacy_and_generators(void) {
     wrong += chacha20_rng_next_u32(state) != 0x374dc6c2;
 }
 
-int main(void) {
+/* The stack that a call takes: it runs on a painted one, from each multiple of 64 bytes of a page, since long calls move the
+   stack to a page boundary. The first call is a deep one, since it may also bind memcpy and memset. No sanitizer allows another stack. */
+enum { STACK = 1 << 15, LONGEST = (1 << 14) + 1000 };
+
+static volatile uint8_t stack[STACK] __attribute__((aligned(4096)));
+static uint8_t one_key[32], one_nonce[24], one_state[CHACHA_RNG_STATE_BYTES], input[LONGEST], output[LONGEST];
+static size_t call_len;
+static int call_kind;
+static const volatile uint8_t *call_begin;
+static ucontext_t home, away;
+
+static void on_stack(void) {
+    uint32_t answer = CHACHA20_OK;
+    call_begin = __builtin_frame_address(0);
+    switch (call_kind) {
+        case 0: answer = chacha20_xor(one_key, one_nonce, 5, output, input, call_len); break;
+        case 1: answer = chacha20_xor(one_key, one_nonce, 5, output, output, call_len); break;
+        case 2: answer = chacha20_keystream(one_key, one_nonce, 5, output, call_len); break;
+        case 3: answer = xchacha20_xor(one_key, one_nonce, 5, output, output, call_len); break;
+        case 4: answer = xchacha20_xor(one_key, one_nonce, 5, output, input, call_len); break;
+        case 5: answer = xchacha20_keystream(one_key, one_nonce, 5, output, call_len); break;
+        case 6: answer = chacha20_legacy_xor(one_key, one_nonce, 0, 5, output, output, call_len); break;
+        case 7: answer = chacha20_legacy_xor(one_key, one_nonce, 0, 5, output, input, call_len); break;
+        case 8: answer = chacha20_legacy_keystream(one_key, one_nonce, 0, 5, output, call_len); break;
+        case 9: chacha20_rng_fill(one_state, output, call_len); break;
+        case 10: hchacha20(one_key, one_nonce, output); break;
+        default: (void)chacha20_rng_next_u64(one_state);
+    }
+    wrong += answer != CHACHA20_OK;
+}
+
+static size_t deepest(void) {
+    static const size_t lengths[] = {LONGEST, 4096, 2190, 1780, 1370, 960, 550, 140, 70, 1};
+    static size_t i, most;
+    for (i = 0; i < 12 * 64 * sizeof lengths / sizeof lengths[0]; i++) {
+        size_t at = 0, moved = 64 * ((i + 16) % 64);
+        call_kind = (int)(i / 64 % 12), call_len = lengths[i / 64 / 12];
+        for (size_t j = 0; j < sizeof stack; j++) stack[j] = 0xa5;
+        getcontext(&away);
+        away.uc_stack.ss_sp = (uint8_t *)stack;
+        away.uc_stack.ss_size = sizeof stack - moved;
+        away.uc_link = &home;
+        makecontext(&away, on_stack, 0);
+        swapcontext(&home, &away);
+        while (stack[at] == 0xa5) at++;
+        if ((size_t)(call_begin - (stack + at)) > most) most = (size_t)(call_begin - (stack + at));
+    }
+    return most;
+}
+
+int main(int argc, char **argv) {
+    size_t depth = argc > 1 && strcmp(argv[1], "sanitized") == 0 ? 0 : deepest();
     positions();
     ietf();
     xchacha();
     legacy_and_generators();
-    printf("vectors: %d published, %d wrong; version %s\n", vectors, wrong, chacha20_version());
-    return wrong != 0;
+    printf("vectors: %d published, %d wrong; %zu bytes of the stack of at most %d; version %s\n", vectors, wrong, depth,
+           CHACHA20_DEEPEST, chacha20_version());
+    return wrong != 0 || depth > CHACHA20_DEEPEST;
 }

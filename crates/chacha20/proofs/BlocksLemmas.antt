@@ -1,8 +1,9 @@
 -- Blocks written, and bytes XORed with blocks, group by group, as the engine does it. The proofs of `write_blocks`,
 -- `apply_through` and `xor_blocks` cite these. Read `xored_at` and `applied` of `Blocks` first.
-use Rattle.std.proofs.Common.{◌≡◌, ℕ, ◌+◌, ◌*◌, ◌/◌, ◌%◌, ◌<◌, ◌≤◌, Some, List, [], ◌++◌, length, take, drop, slice_get, slice_index, slice_index_or, arith, refl, ap, ap₂, ◌∙◌, length-drop, length-take-le}
+use Rattle.std.proofs.Common.{◌≡◌, ℕ, ◌+◌, ◌*◌, ◌/◌, ◌%◌, ◌<◌, ◌≤◌, Some, List, [], ◌++◌, length, take, drop, slice_get, slice_index, slice_index_or, arith, refl, sym, ap, ap₂, ◌∙◌, append_assoc, length-drop, length-take-le, take_at, drop_at, drop-drop}
 use borrow.Rule.Slice.PartMut.{put_mid, same_len_mid}
 use Rattle.std.proofs.lemmas.Option.{get_or_from_slice_get}
+use Rattle.std.proofs.lemmas.Slice.{take-put_mid}
 use Rattle.chacha_base.specs.ChaCha.{Layout, modulus, keystream, xor_stream}
 use Rattle.chacha_base.specs.State.{state_counter, fixed_words, state_block, state_after, AreNextBlocks}
 use Rattle.chacha_base.proofs.StateLemmas.{fixed_words-state_after, state_counter-state_after, state_after-more, next_blocks-more}
@@ -54,29 +55,35 @@ made-more {n} {layout} {s} {t} {u} {a} {now} k e part sixteen held all room coun
           held.done (λ j less. made j (omega (arith, long))));
     }
 
--- bytes that are combined: i blocks on from the state s and the bytes old
-pub record IsAt (n : ℕ) (layout : Layout) (s old : List ℕ) (i : ℕ) (t now : List ℕ) : Type 0 where
+-- bytes that are combined, k of them: i blocks on from the state s and the bytes old
+pub record IsAt (n : ℕ) (layout : Layout) (k : ℕ) (s old : List ℕ) (i : ℕ) (t now : List ℕ) : Type 0 where
   pub sixteen : length s ≡ 16
-  pub long : length now ≡ length old
+  pub before : length old ≡ k
+  pub long : length now ≡ k
   pub state : t ≡ state_after layout i s
   pub bytes : now ≡ applied n layout s (take (64 * i) old) ++ drop (64 * i) old
 
--- and after the next l blocks of its state
-pub at-more : {n : ℕ} {layout : Layout} {s old t now u after : List ℕ} {i l e : ℕ} (blocks : List (List ℕ))
-    → IsAt n layout s old i t now → length blocks ≡ l → AreNextBlocks n layout t l blocks → u ≡ state_after layout l t
-    → after ≡ xored_at i blocks now → i + l ≡ e → 64 * e ≤ length old → IsAt n layout s old e u after
-at-more {n} {layout} {s} {old} {t} {now} {i = i} {l = l} {e = e} blocks held count made moved xored all room =
+-- and after the next l blocks of its state, where `so_far` has the bytes by how many are combined
+pub at-more : {n k : ℕ} {layout : Layout} {s old t now u : List ℕ} {i l e : ℕ} (blocks : List (List ℕ))
+    → IsAt n layout k s old i t now → length blocks ≡ l → AreNextBlocks n layout t l blocks → u ≡ state_after layout l t
+    → (so_far : ℕ → List ℕ) → so_far (64 * (i + length blocks)) ≡ xored_at i blocks now → i + l ≡ e
+    → 64 * e ≤ k → IsAt n layout k s old e u (so_far (64 * e))
+at-more {n} {k} {layout} {s} {old} {t} {now} {i = i} {l = l} {e = e} blocks held count made moved so_far done all room =
     let m = modulus layout in
     let c = state_counter layout s in
     let size = 64 * length blocks in
     let part = take size (drop (64 * i) now) in
     let whole = length-take-le size (drop (64 * i) now) (omega (arith, held.long, length-drop (64 * i) now)) in
+    let end : e ≡ i + length blocks = omega arith in
+    let xored = ap (λ i. so_far (64 * i)) end ∙ done in
     record {
       sixteen = held.sixteen;
+      before = held.before;
       long = rw xored (same_len_mid (64 * i) size now _ (length-xor_stream (byte_of blocks) 0 part) ∙ held.long);
       state = state_after-more layout s t _ i l e held.sixteen held.state moved all;
       bytes = xored
-          ∙ xor_stream-more (state_stream n layout s) (64 * c) (64 * i) size old (omega arith) room held.bytes
+          ∙ xor_stream-more (state_stream n layout s) (64 * c) (64 * i) size old (omega arith) (omega (arith, held.before))
+          held.bytes
           (xor_stream-blocks m (state_block n layout (fixed_words layout t)) (state_counter layout t) blocks part whole
           (λ j less. made j (omega arith))
           ∙ ap₂ (λ f d. xor_stream (keystream m (state_block n layout f)) (64 * d) part)
@@ -85,3 +92,21 @@ at-more {n} {layout} {s} {old} {t} {now} {i = i} {l = l} {e = e} blocks held cou
           ∙ keystream-wrapped m (state_block n layout (fixed_words layout s)) (c + i) (64 * c + 64 * i) part
           (omega arith));
     }
+
+-- the blocks from block `first` on, combined between an input and an output
+pub xored_at-between : {k e : ℕ} {part : List ℕ} (first : ℕ) (blocks : List (List ℕ)) (input output : List ℕ)
+    → k ≡ 64 * length blocks → e ≡ 64 * first + k → e ≤ length input → e ≤ length output
+    → part ≡ xor_stream (byte_of blocks) 0 (take k (drop (64 * first) input))
+    → take e (put_mid (64 * first) k output part) ++ drop e input
+    ≡ xored_at first blocks (take (64 * first) output ++ drop (64 * first) input)
+xored_at-between {k} {e} {part} first blocks input output wide ends inside room made =
+    let at = 64 * first in
+    let front = take at output in
+    let rest = drop at input in
+    let size = length-take-le at output (omega arith) in
+    let long : length part ≡ k =
+    ap length made ∙ length-xor_stream (byte_of blocks) 0 (take k rest) ∙ part_long at k input (omega arith) in
+    rw (take_at front rest at size, drop_at front rest at size, ← wide, ← made)
+    (ap (λ xs. xs ++ drop e input) (take-put_mid at k output part e (omega arith) (omega arith))
+    ∙ append_assoc front part (drop e input)
+    ∙ ap (λ xs. front ++ (part ++ xs)) (ap (λ n. drop n input) ends ∙ sym (drop-drop k at input)))

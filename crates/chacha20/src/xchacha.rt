@@ -167,6 +167,10 @@ impl<R: Rounds, B: StreamCipherBackend<R, Ietf>> StreamCipherCore for XChaChaCor
     fn apply_blocks_counted(&mut self, data: &mut [u8], steps: &mut Steps) {
         self.core.apply_blocks_counted(data, steps);
     }
+
+    fn apply_blocks_between_counted(&mut self, input: &[u8], output: &mut [u8], steps: &mut Steps) {
+        self.core.apply_blocks_between_counted(input, output, steps);
+    }
 }
 
 impl<R: Rounds, B: StreamCipherBackend<R, Ietf>> StreamCipherSeekCore for XChaChaCore<R, B> {

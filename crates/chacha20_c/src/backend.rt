@@ -1,4 +1,4 @@
-//! The backend of the ciphers. No contract of an export names it.
+//! The backend of the ciphers where vectors have 128 bits. No contract of an export names it.
 
 use chacha20::backends::{Lanes4, Lanes16};
 use chacha20::cipher::{ParBlocksSizeUser, StreamCipherBackend};
@@ -9,8 +9,7 @@ type Few = Lanes16;
 
 type More = Lanes4;
 
-/// For vectors of 128 bits: makes each number of blocks by the backend that makes the fewest to spare. It counts
-/// nothing.
+/// Makes each number of blocks by the backend that makes the fewest to spare. It counts nothing.
 pub(crate) struct Narrow;
 
 impl ParBlocksSizeUser for Narrow {
@@ -53,7 +52,3 @@ impl<R: Rounds, V: Variant> StreamCipherBackend<R, V> for Narrow {
         }
     }
 }
-
-/// The backend of the level that the library is built for. `c/Makefile` puts `Columns8` in the place of `Narrow` for
-/// levels with vectors of 256 bits.
-pub(crate) type Chosen = Narrow;

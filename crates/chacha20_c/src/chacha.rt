@@ -4,7 +4,7 @@ ghost use Rattle.chacha20.specs.ChaCha.{block, keystream, ietf, modulus};
 ghost use Rattle.chacha20.specs.Cipher.{limit_of};
 ghost use Rattle.chacha20_c.specs.Answers.{Checked, Written, Xored, XoredInto};
 
-use crate::backend::Chosen;
+use crate::chosen::Chosen;
 use crate::stateless;
 use chacha20::{ChaChaCore, Ietf, Key, Nonce, R8, R12, R20, Rounds};
 
@@ -78,7 +78,7 @@ pub extern "C" fn chacha8_xor_between(
 /// Returns 0. Where the bytes would pass the end of the stream, it returns 1 and writes nothing.
 /// `output` overlaps no other argument.
 #[unsafe(no_mangle)]
-pub extern "C" fn chacha8_keystream_raw(
+pub extern "C" fn chacha8_keystream(
     key: &Key,
     nonce: &Nonce,
     position: u64,
@@ -127,7 +127,7 @@ pub extern "C" fn chacha12_xor_between(
 /// Returns 0. Where the bytes would pass the end of the stream, it returns 1 and writes nothing.
 /// `output` overlaps no other argument.
 #[unsafe(no_mangle)]
-pub extern "C" fn chacha12_keystream_raw(
+pub extern "C" fn chacha12_keystream(
     key: &Key,
     nonce: &Nonce,
     position: u64,
@@ -176,7 +176,7 @@ pub extern "C" fn chacha20_xor_between(
 /// Returns 0. Where the bytes would pass the end of the stream, it returns 1 and writes nothing.
 /// `output` overlaps no other argument.
 #[unsafe(no_mangle)]
-pub extern "C" fn chacha20_keystream_raw(
+pub extern "C" fn chacha20_keystream(
     key: &Key,
     nonce: &Nonce,
     position: u64,

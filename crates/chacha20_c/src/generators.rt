@@ -1,6 +1,6 @@
-//! Generators over the 49 bytes of a stored state: 32 of seed, then the stream and the word position, 8 and 9 bytes
-//! with the low byte first. Any bytes are a state; the upper half of the last one says nothing, and a call that writes
-//! the state writes it as 0. No call refuses anything.
+//! Generators over the 49 bytes of a stored state: 32 of seed, then the stream in 8 and the word position in 9, both
+//! little-endian. Any bytes are a state; the upper four bits of the last one are ignored, and a call that writes the
+//! state clears them. No call fails.
 //!
 //! A call that reads words makes the generator of the state, which makes four blocks, and writes back once. The other
 //! calls make no block: they read and write the bytes.
@@ -112,11 +112,11 @@ pub extern "C" fn chacha8_rng_next_u64(state: &mut SerializedRngState) -> u64
     next_u64(ChaCha8Rng::deserialize_state(state), state)
 }
 
-/// Fills `output` with the bytes of the next words of the generator with 8 rounds, the low byte of each first (this
+/// Fills `output` with the bytes of the next words of the generator with 8 rounds, each little-endian (this
 /// crate). The bytes of the last word that `output` has no room for are lost; no bytes take no word. `output` and
 /// `state` do not overlap.
 #[unsafe(no_mangle)]
-pub extern "C" fn chacha8_rng_fill_raw(state: &mut SerializedRngState, output: &mut [u8])
+pub extern "C" fn chacha8_rng_fill(state: &mut SerializedRngState, output: &mut [u8])
     ensures bytes { output.new ≡ (fill 4 (of_state_bytes state.old) (length output.old)).0 }
     ensures moved { of_state_bytes state.new
         ≡ (fill 4 (of_state_bytes state.old) (length output.old)).1 }
@@ -145,11 +145,11 @@ pub extern "C" fn chacha12_rng_next_u64(state: &mut SerializedRngState) -> u64
     next_u64(ChaCha12Rng::deserialize_state(state), state)
 }
 
-/// Fills `output` with the bytes of the next words of the generator with 12 rounds, the low byte of each first (this
+/// Fills `output` with the bytes of the next words of the generator with 12 rounds, each little-endian (this
 /// crate). The bytes of the last word that `output` has no room for are lost; no bytes take no word. `output` and
 /// `state` do not overlap.
 #[unsafe(no_mangle)]
-pub extern "C" fn chacha12_rng_fill_raw(state: &mut SerializedRngState, output: &mut [u8])
+pub extern "C" fn chacha12_rng_fill(state: &mut SerializedRngState, output: &mut [u8])
     ensures bytes { output.new ≡ (fill 6 (of_state_bytes state.old) (length output.old)).0 }
     ensures moved { of_state_bytes state.new
         ≡ (fill 6 (of_state_bytes state.old) (length output.old)).1 }
@@ -178,11 +178,11 @@ pub extern "C" fn chacha20_rng_next_u64(state: &mut SerializedRngState) -> u64
     next_u64(ChaCha20Rng::deserialize_state(state), state)
 }
 
-/// Fills `output` with the bytes of the next words of the generator with 20 rounds, the low byte of each first (this
+/// Fills `output` with the bytes of the next words of the generator with 20 rounds, each little-endian (this
 /// crate). The bytes of the last word that `output` has no room for are lost; no bytes take no word. `output` and
 /// `state` do not overlap.
 #[unsafe(no_mangle)]
-pub extern "C" fn chacha20_rng_fill_raw(state: &mut SerializedRngState, output: &mut [u8])
+pub extern "C" fn chacha20_rng_fill(state: &mut SerializedRngState, output: &mut [u8])
     ensures bytes { output.new ≡ (fill 10 (of_state_bytes state.old) (length output.old)).0 }
     ensures moved { of_state_bytes state.new
         ≡ (fill 10 (of_state_bytes state.old) (length output.old)).1 }
@@ -273,7 +273,7 @@ fn stream_in(state: &SerializedRngState) -> u64
     read_u64(&state[STREAM_AT..POSITION_AT])
 }
 
-// The number of 8 bytes, the low byte first.
+// The number of 8 bytes, little-endian.
 fn read_u64(bytes: &[u8]) -> u64
     requires { length bytes.now ≡ 8 }
     ensures { result ≡ from_le_bytes w64 bytes.now }

@@ -6,7 +6,7 @@ ghost use Rattle.chacha20.specs.ChaCha.{block, keystream, legacy, modulus};
 ghost use Rattle.chacha20.specs.Cipher.{limit_of};
 ghost use Rattle.chacha20_c.specs.Answers.{Checked, Written, Xored, XoredInto};
 
-use crate::backend::Chosen;
+use crate::chosen::Chosen;
 use crate::stateless;
 use chacha20::{ChaChaCore, Key, Legacy, LegacyNonce, R20};
 
@@ -57,7 +57,7 @@ pub extern "C" fn chacha20_legacy_xor_between(
 /// Returns 0. Where the bytes would pass the end of the stream, it returns 1 and writes nothing.
 /// `output` overlaps no other argument.
 #[unsafe(no_mangle)]
-pub extern "C" fn chacha20_legacy_keystream_raw(
+pub extern "C" fn chacha20_legacy_keystream(
     key: &Key,
     nonce: &LegacyNonce,
     block_pos: u64,

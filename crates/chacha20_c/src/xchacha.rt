@@ -6,7 +6,7 @@ ghost use Rattle.chacha20.specs.Cipher.{limit_of};
 ghost use Rattle.chacha20.specs.XChaCha.{hchacha, subkey, subnonce};
 ghost use Rattle.chacha20_c.specs.Answers.{Written, Xored, XoredInto};
 
-use crate::backend::Chosen;
+use crate::chosen::Chosen;
 use crate::stateless;
 use chacha20::{Key, R8, R12, R20, Rounds, XChaChaCore, XNonce, hchacha};
 
@@ -82,7 +82,7 @@ pub extern "C" fn xchacha8_xor_between(
 /// Returns 0. Where the bytes would pass the end of the stream, it returns 1 and writes nothing.
 /// `output` overlaps no other argument.
 #[unsafe(no_mangle)]
-pub extern "C" fn xchacha8_keystream_raw(
+pub extern "C" fn xchacha8_keystream(
     key: &Key,
     nonce: &XNonce,
     position: u64,
@@ -134,7 +134,7 @@ pub extern "C" fn xchacha12_xor_between(
 /// Returns 0. Where the bytes would pass the end of the stream, it returns 1 and writes nothing.
 /// `output` overlaps no other argument.
 #[unsafe(no_mangle)]
-pub extern "C" fn xchacha12_keystream_raw(
+pub extern "C" fn xchacha12_keystream(
     key: &Key,
     nonce: &XNonce,
     position: u64,
@@ -186,7 +186,7 @@ pub extern "C" fn xchacha20_xor_between(
 /// Returns 0. Where the bytes would pass the end of the stream, it returns 1 and writes nothing.
 /// `output` overlaps no other argument.
 #[unsafe(no_mangle)]
-pub extern "C" fn xchacha20_keystream_raw(
+pub extern "C" fn xchacha20_keystream(
     key: &Key,
     nonce: &XNonce,
     position: u64,

@@ -120,6 +120,32 @@ impl<C: StreamCipherSeekCore> StreamCipher for StreamCipherCoreWrapper<C> {
         self.apply_last(last, steps);
         Ok(())
     }
+
+    fn try_apply_keystream_b2b(
+        &mut self,
+        input: &[u8],
+        output: &mut [u8],
+    ) -> Result<(), StreamCipherError> {
+        if input.len() != output.len() {
+            return Err(StreamCipherError);
+        }
+        if let Err(refusal) = self.check_remaining(input.len()) {
+            return Err(refusal);
+        }
+        let mut steps = Steps::new();
+        let begun = self.begun(input.len());
+        let (from_front, from_rest) = input.split_at(begun);
+        let (front, rest) = output.split_at_mut(begun);
+        let whole = rest.len() / 64 * 64;
+        let (from_blocks, from_last) = from_rest.split_at(whole);
+        let (blocks, last) = rest.split_at_mut(whole);
+        copy_part(from_front, front);
+        copy_part(from_last, last);
+        self.apply_begun(front);
+        self.apply_whole_between(from_blocks, blocks, &mut steps);
+        self.apply_last(last, &mut steps);
+        Ok(())
+    }
 }
 
 impl<C: StreamCipherSeekCore> StreamCipherSeek for StreamCipherCoreWrapper<C> {
@@ -186,6 +212,23 @@ impl<C: StreamCipherSeekCore> StreamCipherCoreWrapper<C> {
         }
     }
 
+    // XORs whole blocks of an input into an output, from the front of a block on.
+    fn apply_whole_between(&mut self, input: &[u8], blocks: &mut [u8], steps: &mut Steps)
+        requires same { length input.now ≡ length blocks.old }
+        requires whole { length blocks.old % 64 ≡ 0 }
+        requires front { 0 < length blocks.old → self.old.position % 64 ≡ 0 }
+        requires fits { self.old.position + length blocks.old ≤ limit_of C.modulus }
+        ensures bytes { blocks.new ≡ xor_stream
+            (keystream C.modulus (C.block_at self.old.fixed)) self.old.position input.now }
+        ensures fixed { self.new.fixed ≡ self.old.fixed }
+        ensures position { self.new.position ≡ self.old.position + length blocks.old }
+    {
+        if !blocks.is_empty() {
+            self.core.apply_blocks_between_counted(input, blocks, steps);
+            self.position += blocks.len() as u128;
+        }
+    }
+
     // XORs a last part of less than a block, from the front of a block on.
     fn apply_last(&mut self, bytes: &mut [u8], steps: &mut Steps)
         requires part { length bytes.old < 64 }
@@ -218,5 +261,16 @@ impl<C: StreamCipherSeekCore> StreamCipherCoreWrapper<C> {
             self.core.write_keystream_block(&mut self.buffer);
         }
         self.position = position;
+    }
+}
+
+// Copies a part of an input. Most are empty, and `copy_from_slice` of no bytes takes as long as of some.
+#[inline(always)]
+fn copy_part(input: &[u8], output: &mut [u8])
+    requires { length output.old ≡ length input.now }
+    ensures { output.new ≡ input.now }
+{
+    if !input.is_empty() {
+        output.copy_from_slice(input);
     }
 }

@@ -1,4 +1,5 @@
 pub mod Aead
 pub mod Frames
+pub mod Pieces
 pub mod Sectors
 pub mod Vault

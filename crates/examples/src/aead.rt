@@ -95,10 +95,8 @@ pub fn open<C: KeyIvInit + StreamCipherSeek + Drop, M: Mac>(
     let Ok(mut cipher) = from_block_1::<C>(key, nonce, message.len()) else {
         return Err(AeadError::TooLong);
     };
-    if !is_equal(
-        &self::tag::<M>(&one_time_key::<C>(key, nonce), aad, message),
-        tag,
-    ) {
+    let expected = self::tag::<M>(&one_time_key::<C>(key, nonce), aad, message);
+    if !is_equal(expected, tag) {
         return Err(AeadError::WrongTag);
     }
     cipher.apply_keystream(message);
@@ -154,13 +152,13 @@ fn pad<M: Mac>(mac: &mut M, len: usize)
     mac.update(&[0; 16][..(16 - len % 16) % 16]);
 }
 
-// Whether two tags are equal. It reads all bytes of both, wherever they differ.
-fn is_equal(left: &Tag, right: &Tag) -> bool
-    ensures { IsTrue result ↔ (left.now ≡ right.now) }
+// Whether a tag is the expected one. It reads all bytes of both, wherever they differ.
+fn is_equal(expected: Tag, tag: &Tag) -> bool
+    ensures { IsTrue result ↔ (expected ≡ tag.now) }
 {
     let mut difference = 0u32;
     'each: for i in 0..16usize {
-        difference += u32::from(left[i] ^ right[i]);
+        difference += u32::from(expected[i] ^ tag[i]);
     }
     difference == 0
 }

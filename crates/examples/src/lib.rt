@@ -16,6 +16,7 @@ pub mod file;
 pub mod frames;
 pub mod log;
 pub mod message;
+pub mod own_core;
 pub mod pieces;
 pub mod scalar;
 pub mod sectors;

@@ -1,5 +1,6 @@
 //! A message that is encrypted piece by piece: in pieces of one length, or in two buffers. Wherever the message is cut,
-//! its bytes become what one call for all of them would make.
+//! its bytes become what one call for all of them would make. And a message in chunks, each under a nonce of its own,
+//! for one longer than a nonce allows.
 //!
 //! `apply_keystream` returns no `Result`, so it requires that the bytes end within the limit, the end of the keystream.
 //! A function that calls it requires the same (`fits`), or asks the cipher first, as `try_apply_in_pieces` does. `C.position cipher.old` is the position of the cipher's next byte
@@ -12,8 +13,10 @@
 ghost use Rattle.std.specs.Prelude.{◌≡◌, ◌≤◌, ◌<◌, ◌+◌, ◌↔◌, ◌++◌, length, IsOk, OnOk, OnErr};
 ghost use Rattle.chacha20.specs.ChaCha.{keystream, xor_stream};
 ghost use Rattle.chacha20.specs.Cipher.{limit_of};
+ghost use Rattle.examples.specs.Pieces.{chunk_nonce, chunk_stream};
 
-use chacha20::cipher::{StreamCipher, StreamCipherError};
+use chacha20::cipher::{KeyIvInit, StreamCipher, StreamCipherError};
+use chacha20::{ChaCha20, Key, Nonce};
 
 /// XORs bytes with the keystream in pieces of `size` bytes, of which the last may be shorter (this crate). The bytes
 /// and the cipher become those of one call for all bytes. The caller proves that these end within the limit.
@@ -70,4 +73,31 @@ pub fn apply_in_two<C: StreamCipher>(cipher: &mut C, first: &mut [u8], rest: &mu
 {
     cipher.apply_keystream(first);
     cipher.apply_keystream(rest);
+}
+
+/// Encrypts a message in chunks of `size` bytes, of which the last may be shorter, each under its number as nonce (this
+/// crate). So a message may be longer than the 274877906944 bytes (256 GiB) of one nonce, and a chunk is decrypted
+/// without the others. Take a new key for each message.
+pub fn encrypt_in_chunks(key: &Key, message: &mut [u8], size: usize)
+    requires some { 0 < size }
+    requires fits { size ≤ 274877906944 }
+    ensures { message.new ≡ xor_stream (chunk_stream key.now size) 0 message.old }
+{
+    let mut number = 0u64;
+    let mut done = 0;
+    'chunks: while done < message.len() {
+        let end = done + size.min(message.len() - done);
+        ChaCha20::new(key, &chunk_nonce(number)).apply_keystream(&mut message[done..end]);
+        number += 1;
+        done = end;
+    }
+}
+
+// The nonce of a chunk.
+fn chunk_nonce(number: u64) -> Nonce
+    ensures { result ≡ chunk_nonce number }
+{
+    let mut nonce = [0; 12];
+    nonce[..8].copy_from_slice(&number.to_le_bytes());
+    nonce
 }

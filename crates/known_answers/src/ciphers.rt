@@ -1,278 +1,178 @@
-//! Worked rows of ciphers.
+//! The rows of ciphers.
 
-ghost use Rattle.std.specs.Prelude.{◌≡◌, ◌↔◌, ◌≤◌, ◌<◌, ◌^◌, ◌∷◌, [], IfSome, IsNone, IsTrue, Some};
+ghost use Rattle.std.specs.Prelude.{◌≤◌, ◌^◌};
 ghost use Rattle.chacha20.specs.Cipher.{limit_of};
-ghost use Rattle.known_answers.specs.Verdicts.{AreEntered, AreEnteredBy, Keeps};
 
-use crate::lists::{CipherList, Listed, wrong_list};
-use crate::published::{
-    COUNTING, FROM_1, FROM_80, HCHACHA_INPUT, LEGACY_NONCE, NONCE, SUBKEY, X_NONCE,
-};
-use crate::verdicts::{Verdict, Verdicts, enter, enter_all, failed, first_failure};
-use chacha20::cipher::{KeyIvInit, SeekNum, StreamCipherSeek, StreamCipherSeekCore};
-use chacha20::{
-    CipherAnswer, CipherCall, Key, LegacyNonce, Nonce, R20, StreamCipherCoreWrapper, XNonce,
-    hchacha,
-};
+use crate::lists::{CipherList, Directly, EMPTY, Listed, wrong_list};
+use crate::published::{COUNTING, FROM_1, HCHACHA_INPUT, LEGACY_NONCE, SUBKEY};
+use crate::verdicts::{Verdict, failed};
+use chacha20::CipherAnswer::{Done, Position, Refused};
+use chacha20::CipherCall::{Apply, ApplyFrom, CheckRemaining, Pos, Seek, SeekI32, Write};
+use chacha20::cipher::{KeyIvInit, SeekNum, StreamCipherSeek};
+use chacha20::{CipherCall, Key, LegacyNonce, Nonce, R20, hchacha};
 
-/// Lists of a worked row, with its number.
-pub type NumberedLists = (usize, &'static [CipherList]);
+/// The key of row 1.
+pub static KEY_1: Key = [0x42; 32];
 
-static PLAINTEXT: [u8; 16] = [0, 1, 2, 3, 4, 5, 6, 7, 8, 9, 10, 11, 12, 13, 14, 15];
+/// The nonce of row 1.
+pub static NONCE_1: Nonce = [0x24; 12];
 
-static CIPHERTEXT: [u8; 16] = *b"\xe4\x05\x62\x6e\x4f\x12\x36\xb3\x67\x0e\xe4\x28\x33\x2e\xa2\x0e";
+const PLAINTEXT: &[u8; 16] = &[0, 1, 2, 3, 4, 5, 6, 7, 8, 9, 10, 11, 12, 13, 14, 15];
 
-// These functions take a core as a type, and not its cipher: to prove a cipher's traits over any core costs a third of
-// proving them for a named cipher.
+const CIPHERTEXT: &[u8; 16] = b"\xe4\x05\x62\x6e\x4f\x12\x36\xb3\x67\x0e\xe4\x28\x33\x2e\xa2\x0e";
 
-/// The ciphertext of worked row 1. Enters each worked row of the cipher of RFC 8439 over a core.
-pub fn enter_ietf_rows<K>(verdicts: &mut Verdicts) -> [u8; 16]
-where
-    K: KeyIvInit<Key = Key, Iv = Nonce> + StreamCipherSeekCore<Counter = u32> + Drop,
-    ensures kept { Keeps verdicts.old verdicts.new }
-    ensures entered { AreEntered (1 ∷ 4 ∷ 11 ∷ 12 ∷ 16 ∷ 18 ∷ 22 ∷ []) verdicts.new }
-{
-    enter_rows_of_ietf::<StreamCipherCoreWrapper<K>>(verdicts)
-}
-
-/// Enters each worked row of the cipher in the older layout over a core.
-pub fn enter_legacy_rows<K>(verdicts: &mut Verdicts)
-where
-    K: KeyIvInit<Key = Key, Iv = LegacyNonce> + StreamCipherSeekCore<Counter = u64> + Drop,
-    ensures kept { Keeps verdicts.old verdicts.new }
-    ensures entered { AreEntered (6 ∷ 12 ∷ 22 ∷ []) verdicts.new }
-{
-    enter_rows_of_legacy::<StreamCipherCoreWrapper<K>>(verdicts);
-}
-
-/// Enters each worked row of the cipher with nonces of 24 bytes over a core.
-pub fn enter_x_rows<K>(verdicts: &mut Verdicts)
-where
-    K: KeyIvInit<Key = Key, Iv = XNonce> + StreamCipherSeekCore + Drop,
-    ensures kept { Keeps verdicts.old verdicts.new }
-    ensures entered { AreEntered (3 ∷ 5 ∷ []) verdicts.new }
-{
-    enter_all(verdicts, &[(3, row_3())]);
-    enter_table::<StreamCipherCoreWrapper<K>>(verdicts, &FROM_80, &X_NONCE, &X_ROWS);
-}
-
-fn enter_rows_of_ietf<C>(verdicts: &mut Verdicts) -> [u8; 16]
-where
-    C: KeyIvInit<Key = Key, Iv = Nonce> + StreamCipherSeek + Listed + Drop,
-    requires { 2 ^ 32 ≤ limit_of C.modulus }
-    ensures kept { Keeps verdicts.old verdicts.new }
-    ensures entered { AreEntered (1 ∷ 4 ∷ 11 ∷ 12 ∷ 16 ∷ 18 ∷ 22 ∷ []) verdicts.new }
-{
-    let (ciphertext, first) = row_1::<C>();
-    let rows = [
-        (1, first),
-        (11, row_11::<C>()),
-        (12, row_12::<C>()),
-        (18, row_18::<C>()),
-    ];
-    enter_all(verdicts, &rows);
-    enter_table::<C>(verdicts, &COUNTING, &NONCE, &IETF_ROWS);
-    ciphertext
-}
-
-fn enter_rows_of_legacy<C>(verdicts: &mut Verdicts)
-where
-    C: KeyIvInit<Key = Key, Iv = LegacyNonce> + StreamCipherSeek + Listed + Drop,
-    requires { 2 ^ 32 ≤ limit_of C.modulus }
-    ensures kept { Keeps verdicts.old verdicts.new }
-    ensures entered { AreEntered (6 ∷ 12 ∷ 22 ∷ []) verdicts.new }
-{
-    enter_all(verdicts, &[(6, row_6::<C>()), (12, legacy_row_12::<C>())]);
-    enter_table::<C>(verdicts, &FROM_1, &LEGACY_NONCE, &LEGACY_ROWS);
-}
-
-/// Enters worked rows, or parts of them, that are lists of calls on a new cipher alone.
-pub fn enter_table<C: KeyIvInit + Listed + Drop>(
-    verdicts: &mut Verdicts,
-    key: &C::Key,
-    nonce: &C::Iv,
-    rows: &[NumberedLists],
-)
-    ensures kept { Keeps verdicts.old verdicts.new }
-    ensures entered { AreEnteredBy (λ row. row.0) rows.now verdicts.new }
-{
-    'each: for i in 0..rows.len() {
-        let (number, lists) = rows[i];
-        enter(verdicts, number, wrong_list(&mut C::new(key, nonce), lists));
-    }
-}
-
-/// Worked rows that are lists of calls on a new cipher of `COUNTING` and `NONCE`.
-pub static IETF_ROWS: [NumberedLists; 6] = [
-    // A message from block 1 on (RFC 8439, section 2.4.2).
-    (
-        4,
-        &[
-            CipherList {
-                name: "block 0",
-                input: &[],
-                data: &[0; 64],
-                calls: &[CipherCall::Apply { at: 0, len: 64 }],
-                answers: &[CipherAnswer::Done],
-                after: &[],
-            },
-            CipherList {
-                name: "the message",
-                input: &[],
-                data: b"Ladies and Gentl",
-                calls: &[CipherCall::Apply { at: 0, len: 16 }],
-                answers: &[CipherAnswer::Done],
-                after: b"\x6e\x2e\x35\x9a\x25\x68\xf9\x80\x41\xba\x07\x28\xdd\x0d\x69\x81",
-            },
+/// A message encrypted, decrypted, and encrypted again in pieces of 3, for `KEY_1` and `NONCE_1`.
+pub static ROW_1: [CipherList; 3] = [
+    CipherList {
+        name: "encrypted",
+        data: PLAINTEXT,
+        calls: &[(Apply { at: 0, len: 16 }, Done)],
+        after: CIPHERTEXT,
+        ..EMPTY
+    },
+    CipherList {
+        name: "decrypted",
+        data: CIPHERTEXT,
+        calls: &[(Seek(0), Done), (Apply { at: 0, len: 16 }, Done)],
+        after: PLAINTEXT,
+        ..EMPTY
+    },
+    CipherList {
+        name: "in pieces of 3",
+        data: PLAINTEXT,
+        calls: &[
+            (Seek(0), Done),
+            (Apply { at: 0, len: 3 }, Done),
+            (Apply { at: 3, len: 3 }, Done),
+            (Apply { at: 6, len: 3 }, Done),
+            (Apply { at: 9, len: 3 }, Done),
+            (Apply { at: 12, len: 3 }, Done),
+            (Apply { at: 15, len: 1 }, Done),
         ],
-    ),
-    (11, &[LAST_BLOCK]),
-    // Two slices of different lengths.
-    (
-        16,
-        &[CipherList {
-            name: "three bytes into four",
-            input: &[5, 6, 7],
-            data: &[9; 4],
-            calls: &[
-                CipherCall::ApplyFrom {
-                    from: 0,
-                    from_len: 3,
-                    at: 0,
-                    len: 4,
-                },
-                CipherCall::Pos,
-            ],
-            answers: &[CipherAnswer::Refused, CipherAnswer::Position(0)],
-            after: &[9; 4],
-        }],
-    ),
-    (18, &[LAST_BYTE]),
-    (
-        18,
-        &[CipherList {
-            name: "a fresh cipher's position",
-            input: &[],
-            data: &[],
-            calls: &[CipherCall::Pos],
-            answers: &[CipherAnswer::Position(0)],
-            after: &[],
-        }],
-    ),
-    // How much a fresh cipher takes.
-    (
-        22,
-        &[CipherList {
-            name: "all blocks but the last, one byte more, and more than all",
-            input: &[],
-            data: &[],
-            calls: &[
-                CipherCall::CheckRemaining(274877906880),
-                CipherCall::CheckRemaining(274877906881),
-                CipherCall::CheckRemaining(274877906945),
-            ],
-            answers: &[
-                CipherAnswer::Done,
-                CipherAnswer::Done,
-                CipherAnswer::Refused,
-            ],
-            after: &[],
-        }],
-    ),
+        after: CIPHERTEXT,
+        ..EMPTY
+    },
 ];
 
-// The block with the greatest counter is taken as any other.
-const LAST_BLOCK: CipherList = CipherList {
+/// The first three bytes of the input, and the first four of the data.
+pub const THREE_INTO_FOUR: CipherCall = ApplyFrom {
+    from: 0,
+    from_len: 3,
+    at: 0,
+    len: 4,
+};
+
+/// A message from block 1 on (RFC 8439, section 2.4.2), for `COUNTING` and `NONCE`, as the rows 11, 16, 18 and 22.
+pub static ROW_4: [CipherList; 2] = [
+    CipherList {
+        name: "block 0",
+        data: &[0; 64],
+        calls: &[(Apply { at: 0, len: 64 }, Done)],
+        ..EMPTY
+    },
+    CipherList {
+        name: "the message",
+        data: b"Ladies and Gentl",
+        calls: &[(Apply { at: 0, len: 16 }, Done)],
+        after: b"\x6e\x2e\x35\x9a\x25\x68\xf9\x80\x41\xba\x07\x28\xdd\x0d\x69\x81",
+        ..EMPTY
+    },
+];
+
+/// The block with the greatest counter is taken as any other.
+pub static ROW_11: [CipherList; 1] = [CipherList {
     name: "the block with the greatest counter",
-    input: &[],
     data: &[7],
     calls: &[
-        CipherCall::Seek(274877906880),
-        CipherCall::Apply { at: 0, len: 0 },
-        CipherCall::Apply { at: 0, len: 1 },
-        CipherCall::Pos,
-        CipherCall::Seek(274877906881),
-        CipherCall::SeekI32(-1),
-        CipherCall::Pos,
+        (Seek(274877906880), Done),
+        (Apply { at: 0, len: 0 }, Done),
+        (Apply { at: 0, len: 1 }, Done),
+        (Pos, Position(274877906881)),
+        (Seek(274877906881), Done),
+        (SeekI32(-1), Refused),
+        (Pos, Position(274877906881)),
     ],
-    answers: &[
-        CipherAnswer::Done,
-        CipherAnswer::Done,
-        CipherAnswer::Done,
-        CipherAnswer::Position(274877906881),
-        CipherAnswer::Done,
-        CipherAnswer::Refused,
-        CipherAnswer::Position(274877906881),
-    ],
-    after: &[],
-};
+    ..EMPTY
+}];
 
-// The last byte: the stream ends after it.
-const LAST_BYTE: CipherList = CipherList {
-    name: "the last byte, and one after it",
-    input: &[],
+/// Two slices of different lengths.
+pub static ROW_16: [CipherList; 1] = [CipherList {
+    name: "three bytes into four",
+    input: &[5, 6, 7],
+    data: &[9; 4],
+    calls: &[(THREE_INTO_FOUR, Refused), (Pos, Position(0))],
+    after: &[9; 4],
+}];
+
+/// The last byte: the stream ends after it.
+pub static ROW_18: [CipherList; 1] = [CipherList {
+    name: "a fresh cipher's position, the last byte, and one after it",
     data: &[0; 2],
     calls: &[
-        CipherCall::Seek(274877906943),
-        CipherCall::Apply { at: 0, len: 1 },
-        CipherCall::Pos,
-        CipherCall::Apply { at: 1, len: 1 },
-    ],
-    answers: &[
-        CipherAnswer::Done,
-        CipherAnswer::Done,
-        CipherAnswer::Position(274877906944),
-        CipherAnswer::Refused,
+        (Pos, Position(0)),
+        (Seek(274877906943), Done),
+        (Apply { at: 0, len: 1 }, Done),
+        (Pos, Position(274877906944)),
+        (Apply { at: 1, len: 1 }, Refused),
     ],
     after: &[0],
-};
+    ..EMPTY
+}];
 
-/// How much a new cipher in the older layout takes.
-pub static LEGACY_ROWS: [NumberedLists; 1] = [(
-    22,
-    &[CipherList {
-        name: "all that a length says",
-        input: &[],
-        data: &[],
-        calls: &[CipherCall::CheckRemaining(usize::MAX)],
-        answers: &[CipherAnswer::Done],
-        after: &[],
-    }],
-)];
+/// How much a fresh cipher takes.
+pub static ROW_22: [CipherList; 1] = [CipherList {
+    name: "all blocks but the last, one byte more, and more than all",
+    calls: &[
+        (CheckRemaining(274877906880), Done),
+        (CheckRemaining(274877906881), Done),
+        (CheckRemaining(274877906945), Refused),
+    ],
+    ..EMPTY
+}];
 
-/// Worked rows of a new cipher with a nonce of 24 bytes.
-pub static X_ROWS: [NumberedLists; 1] = [
-    // XChaCha20 from block 1 on.
-    (
-        5,
-        &[
-            CipherList {
-                name: "block 0",
-                input: &[],
-                data: &[0; 64],
-                calls: &[CipherCall::Write { at: 0, len: 64 }],
-                answers: &[CipherAnswer::Done],
-                after: &[],
-            },
-            CipherList {
-                name: "the front of block 1",
-                input: &[],
-                data: &[0; 32],
-                calls: &[CipherCall::Write { at: 0, len: 32 }],
-                answers: &[CipherAnswer::Done],
-                after: b"\x29\x62\x4b\x4b\x1b\x14\x0a\xce\x53\x74\x0e\x40\x5b\x21\x68\x54\
-                    \x0f\xd7\xd6\x30\xc1\xf5\x36\xfe\xcd\x72\x2f\xc3\xcd\xdb\xa7\xf4",
-            },
-        ],
-    ),
+/// The legacy cipher for `FROM_1` and `LEGACY_NONCE`.
+pub static ROW_6: [CipherList; 1] = [CipherList {
+    name: "32 bytes",
+    data: &[0; 32],
+    calls: &[(Write { at: 0, len: 32 }, Done)],
+    after: b"\xde\xeb\x6b\x9d\x06\xdf\xf3\xe0\x91\xbf\x3a\xd4\xf4\xd4\x92\xb6\
+        \xdd\x98\x24\x6f\x69\x69\x18\x02\xe4\x66\xe0\x3b\xad\x23\x57\x87",
+    ..EMPTY
+}];
+
+/// The same of the legacy cipher.
+pub static LEGACY_ROW_22: [CipherList; 1] = [CipherList {
+    name: "all that a length says",
+    calls: &[(CheckRemaining(usize::MAX), Done)],
+    ..EMPTY
+}];
+
+/// XChaCha20 from block 1 on, for `FROM_80` and `X_NONCE`.
+pub static ROW_5: [CipherList; 2] = [
+    CipherList {
+        name: "block 0",
+        data: &[0; 64],
+        calls: &[(Write { at: 0, len: 64 }, Done)],
+        ..EMPTY
+    },
+    CipherList {
+        name: "the front of block 1",
+        data: &[0; 32],
+        calls: &[(Write { at: 0, len: 32 }, Done)],
+        after: b"\x29\x62\x4b\x4b\x1b\x14\x0a\xce\x53\x74\x0e\x40\x5b\x21\x68\x54\
+            \x0f\xd7\xd6\x30\xc1\xf5\x36\xfe\xcd\x72\x2f\xc3\xcd\xdb\xa7\xf4",
+        ..EMPTY
+    },
 ];
 
-// Encrypted, decrypted, and encrypted again in pieces of 3. Returns the ciphertext too.
-fn row_1<C: KeyIvInit<Key = Key, Iv = Nonce> + StreamCipherSeek + Drop>() -> ([u8; 16], Verdict)
+/// Row 1 by the calls without `try_`. Returns the ciphertext too.
+pub fn row_1<C>() -> ([u8; 16], Verdict)
+where
+    C: KeyIvInit<Key = Key, Iv = Nonce> + StreamCipherSeek + Drop,
     requires { 2 ^ 32 ≤ limit_of C.modulus }
 {
-    let mut cipher = C::new(&[0x42; 32], &[0x24; 12]);
-    let mut data = PLAINTEXT;
+    let mut cipher = C::new(&KEY_1, &NONCE_1);
+    let mut data = *PLAINTEXT;
     cipher.apply_keystream(&mut data);
     let there = data;
     cipher.seek(0u32);
@@ -283,82 +183,49 @@ fn row_1<C: KeyIvInit<Key = Key, Iv = Nonce> + StreamCipherSeek + Drop>() -> ([u
     for piece in data.chunks_mut(3) {
         accepted &= cipher.try_apply_keystream(piece).is_ok();
     }
-    let verdict = failed(
-        "there, back, and in pieces",
-        &[
-            there == CIPHERTEXT,
-            back == PLAINTEXT,
-            accepted && data == CIPHERTEXT,
-        ],
-    );
-    (there, verdict)
+    let parts = [
+        there == *CIPHERTEXT,
+        back == *PLAINTEXT,
+        accepted && data == *CIPHERTEXT,
+    ];
+    (there, failed("there, back, and in pieces", &parts))
 }
 
-// HChaCha (draft-irtf-cfrg-xchacha, section 2.2.1).
-fn row_3() -> Verdict {
+/// HChaCha (draft-irtf-cfrg-xchacha, section 2.2.1).
+pub fn row_3() -> Verdict {
     failed(
         "the subkey",
         &[hchacha::<R20>(&COUNTING, &HCHACHA_INPUT) == SUBKEY],
     )
 }
 
-// The legacy cipher, from its start and from byte 17.
-fn row_6<C>() -> Verdict
+/// Row 6 from byte 17 on.
+pub fn row_6<C>() -> Verdict
 where
     C: KeyIvInit<Key = Key, Iv = LegacyNonce> + StreamCipherSeek + Listed + Drop,
     requires { 2 ^ 32 ≤ limit_of C.modulus }
 {
     let mut cipher = C::new(&FROM_1, &LEGACY_NONCE);
-    let start = wrong_list(&mut cipher, &ROW_6_START);
     cipher.seek(17u64);
-    first_failure(&[start, wrong_list(&mut cipher, &ROW_6_FROM_17)])
+    wrong_list(&mut Directly(&mut cipher), &FROM_17)
 }
 
-static ROW_6_START: [CipherList; 1] = [CipherList {
-    name: "32 bytes",
-    input: &[],
-    data: &[0; 32],
-    calls: &[CipherCall::Write { at: 0, len: 32 }],
-    answers: &[CipherAnswer::Done],
-    after: b"\xde\xeb\x6b\x9d\x06\xdf\xf3\xe0\x91\xbf\x3a\xd4\xf4\xd4\x92\xb6\
-        \xdd\x98\x24\x6f\x69\x69\x18\x02\xe4\x66\xe0\x3b\xad\x23\x57\x87",
-}];
-
-static ROW_6_FROM_17: [CipherList; 1] = [CipherList {
+static FROM_17: [CipherList; 1] = [CipherList {
     name: "three bytes from byte 17 on, and no bytes",
-    input: &[],
     data: &[0; 3],
     calls: &[
-        CipherCall::Write { at: 0, len: 3 },
-        CipherCall::Apply { at: 3, len: 0 },
-        CipherCall::Pos,
-    ],
-    answers: &[
-        CipherAnswer::Done,
-        CipherAnswer::Done,
-        CipherAnswer::Position(20),
+        (Write { at: 0, len: 3 }, Done),
+        (Apply { at: 3, len: 0 }, Done),
+        (Pos, Position(20)),
     ],
     after: b"\x98\x24\x6f",
+    ..EMPTY
 }];
 
-// The block with the greatest counter, with positions of 64 bits and one below 0.
-fn row_11<C: KeyIvInit<Key = Key, Iv = Nonce> + StreamCipherSeek + Drop>() -> Verdict {
-    let mut cipher = C::new(&COUNTING, &NONCE);
-    failed(
-        "the block with the greatest counter, in 64 bits",
-        &[
-            cipher.try_seek(274877906880u64).is_ok(),
-            cipher.try_apply_keystream(&mut []).is_ok(),
-            cipher.try_apply_keystream(&mut [7]).is_ok(),
-            cipher.try_seek(274877906881u64).is_ok(),
-            cipher.try_seek(-1i32).is_err(),
-            is_at::<C, u64>(&cipher, Some(274877906881)),
-        ],
-    )
-}
-
-// Positions that a type can't represent.
-fn row_12<C: KeyIvInit<Key = Key, Iv = Nonce> + StreamCipherSeek + Drop>() -> Verdict
+/// Positions that a type can't represent.
+pub fn row_12<C>() -> Verdict
+where
+    C: KeyIvInit<Key = Key, Iv = Nonce> + StreamCipherSeek + Drop,
     requires { 2 ^ 32 ≤ limit_of C.modulus }
 {
     let mut cipher = C::new(&COUNTING, &[0; 12]);
@@ -372,7 +239,8 @@ fn row_12<C: KeyIvInit<Key = Key, Iv = Nonce> + StreamCipherSeek + Drop>() -> Ve
     )
 }
 
-fn legacy_row_12<C>() -> Verdict
+/// The same of the legacy cipher.
+pub fn legacy_row_12<C>() -> Verdict
 where
     C: KeyIvInit<Key = Key, Iv = LegacyNonce> + StreamCipherSeek + Drop,
 {
@@ -388,27 +256,8 @@ where
     )
 }
 
-// The last byte, with positions of 64 bits.
-fn row_18<C: KeyIvInit<Key = Key, Iv = Nonce> + StreamCipherSeek + Drop>() -> Verdict {
-    let mut cipher = C::new(&COUNTING, &NONCE);
-    failed(
-        "the last byte, and one after it, in 64 bits",
-        &[
-            is_at::<C, u64>(&cipher, Some(0)),
-            cipher.try_seek(274877906943u64).is_ok(),
-            cipher.try_apply_keystream(&mut [0]).is_ok(),
-            is_at::<C, u64>(&cipher, Some(274877906944)),
-            cipher.try_apply_keystream(&mut [0]).is_err(),
-        ],
-    )
-}
-
 /// Whether a cipher returns this position; for `None`, whether it returns that the type can't represent it.
-pub fn is_at<C: StreamCipherSeek, T: SeekNum>(cipher: &C, place: Option<T>) -> bool
-    ensures none { IsNone place → IsTrue result ↔ (T.greatest < C.position cipher.now) }
-    ensures some { IfSome place (λ number. IsTrue result ↔ ((C.position cipher.now ≤ T.greatest)
-        × (T.position number ≡ Some (C.position cipher.now)))) }
-{
+pub fn is_at<C: StreamCipherSeek, T: SeekNum>(cipher: &C, place: Option<T>) -> bool {
     match (cipher.try_current_pos::<T>(), place) {
         (Ok(number), Some(place)) => number.to_position() == place.to_position(),
         (Err(_), None) => true,

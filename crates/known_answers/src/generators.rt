@@ -1,410 +1,254 @@
-//! Worked rows of generators.
+//! The rows of generators.
 
-ghost use Rattle.std.specs.Prelude.{◌↔◌, ◌∷◌, [], IsNone};
-ghost use Rattle.chacha20.specs.Generator.{of_seed};
-ghost use Rattle.known_answers.specs.Draws.{AreDrawn};
-ghost use Rattle.known_answers.specs.Verdicts.{AreEntered, AreEnteredBy, AreRightIn, Keeps};
-
-use crate::lists::{RngList, wrong_draw};
+use crate::draws::{ANY, Drawn, NO_DRAW, RngList, gives, wrong_draw};
 use crate::published::FROM_1;
-use crate::verdicts::{Verdict, Verdicts, enter, enter_all, failed};
-use chacha20::cipher::RngBackend;
-use chacha20::{ChaChaRng, R8, R12, R20, RngAnswer, RngCall, Rounds, Seed};
-
-/// Enters each worked row of generators over a backend.
-pub fn enter_rows<B: RngBackend<R8> + RngBackend<R12> + RngBackend<R20>>(verdicts: &mut Verdicts)
-    ensures kept { Keeps verdicts.old verdicts.new }
-    ensures entered { AreEntered
-        (7 ∷ 8 ∷ 9 ∷ 10 ∷ 14 ∷ 15 ∷ 17 ∷ 19 ∷ 20 ∷ 21 ∷ 23 ∷ []) verdicts.new }
-{
-    let rows = [
-        (14, row_14::<R8, B>()),
-        (14, row_14::<R12, B>()),
-        (14, row_14::<R20, B>()),
-        (15, row_15::<B>()),
-        (17, row_17::<B>()),
-        (23, row_23::<B>()),
-    ];
-    enter_all(verdicts, &rows);
-    enter_tables::<B>(verdicts, &TABLES);
-}
-
-// Lists of calls on a new generator, with the worked row's number and the seed.
-type NumberedTable = (usize, Seed, &'static [RngList]);
-
-fn enter_tables<B: RngBackend<R20>>(verdicts: &mut Verdicts, tables: &[NumberedTable])
-    ensures kept { Keeps verdicts.old verdicts.new }
-    ensures entered { AreEnteredBy (λ row. row.0) tables.now verdicts.new }
-    ensures right { AreRightIn (λ row. row.0)
-        (λ row. AreDrawn ⟦<RngAnswer as PartialEq>⟧.eq 10 (of_seed row.1) row.2.now)
-        tables.now verdicts.new }
-{
-    'each: for i in 0..tables.len() {
-        let (number, seed, lists) = tables[i];
-        enter(verdicts, number, wrong_table::<B>(seed, lists));
-    }
-}
-
-// Worked rows that are lists of calls on a new generator alone.
-static TABLES: [NumberedTable; 7] = [
-    // Bytes in pieces: what is left of a word is lost.
-    (
-        7,
-        *b"\x01\x02\x03\x04\x05\x06\x07\x08\x09\x0a\x0b\x0c\x0d\x0e\x0f\x10\
-            \x11\x12\x13\x14\x15\x16\x17\x18\x19\x1a\x1b\x1c\x1d\x1e\x1f\x20",
-        &[RngList {
-            name: "two times 13 bytes",
-            len: 26,
-            calls: &[
-                RngCall::Fill { at: 0, len: 13 },
-                RngCall::GetWordPos,
-                RngCall::Fill { at: 13, len: 13 },
-                RngCall::GetWordPos,
-            ],
-            answers: &[
-                RngAnswer::Done,
-                RngAnswer::U128(4),
-                RngAnswer::Done,
-                RngAnswer::U128(8),
-            ],
-            first: b"\xb1\x69\x7e\x9f\xc6\x46\x1e\x19\x83\xd1\x31\xcf\x69\
-                    \xa7\xa3\xfc\x13\x4f\x14\x98\x80\xe8\xbb\x2b\x5d\x23",
-            last: &[],
-        }],
-    ),
-    // How far each kind of read moves.
-    (
-        8,
-        *b"\x00\xff\0\0\0\0\0\0\0\0\0\0\0\0\0\0\0\0\0\0\0\0\0\0\0\0\0\0\0\0\0\0",
-        &[
-            RngList {
-                name: "four words",
-                len: 0,
-                calls: &[
-                    RngCall::SetWordPos(32),
-                    RngCall::NextU32,
-                    RngCall::NextU32,
-                    RngCall::NextU32,
-                    RngCall::NextU32,
-                ],
-                answers: &[
-                    RngAnswer::Done,
-                    RngAnswer::U32(0xfb4d_d572),
-                    RngAnswer::U32(0x4bc4_2ef1),
-                    RngAnswer::U32(0xdf92_2636),
-                    RngAnswer::U32(0x327f_1394),
-                ],
-                first: &[],
-                last: &[],
-            },
-            RngList {
-                name: "12 words more",
-                len: 0,
-                calls: &[
-                    RngCall::NextU32,
-                    RngCall::NextU32,
-                    RngCall::NextU32,
-                    RngCall::NextU32,
-                    RngCall::NextU32,
-                    RngCall::NextU32,
-                    RngCall::NextU32,
-                    RngCall::NextU32,
-                    RngCall::NextU32,
-                    RngCall::NextU32,
-                    RngCall::NextU32,
-                    RngCall::NextU32,
-                    RngCall::GetWordPos,
-                ],
-                answers: &[RngAnswer::U128(48)],
-                first: &[],
-                last: &[],
-            },
-            RngList {
-                name: "32 bytes, and 25",
-                len: 57,
-                calls: &[
-                    RngCall::Fill { at: 0, len: 32 },
-                    RngCall::GetWordPos,
-                    RngCall::Fill { at: 32, len: 25 },
-                    RngCall::GetWordPos,
-                ],
-                answers: &[
-                    RngAnswer::Done,
-                    RngAnswer::U128(56),
-                    RngAnswer::Done,
-                    RngAnswer::U128(63),
-                ],
-                first: &[],
-                last: &[],
-            },
-            RngList {
-                name: "a u64",
-                len: 0,
-                calls: &[RngCall::NextU64, RngCall::GetWordPos],
-                answers: &[RngAnswer::U128(65)],
-                first: &[],
-                last: &[],
-            },
-            RngList {
-                name: "a u32 and a u64",
-                len: 0,
-                calls: &[RngCall::NextU32, RngCall::NextU64, RngCall::GetWordPos],
-                answers: &[RngAnswer::U128(68)],
-                first: &[],
-                last: &[],
-            },
-            RngList {
-                name: "a byte",
-                len: 1,
-                calls: &[RngCall::Fill { at: 0, len: 1 }, RngCall::GetWordPos],
-                answers: &[RngAnswer::Done, RngAnswer::U128(69)],
-                first: &[],
-                last: &[],
-            },
-        ],
-    ),
-    // The last block, and then the first.
-    (
-        9,
-        [0; 32],
-        &[RngList {
-            name: "64 bytes and 8",
-            len: 72,
-            calls: &[
-                RngCall::SetBlockPos(u64::MAX),
-                RngCall::Fill { at: 0, len: 64 },
-                RngCall::GetBlockPos,
-                RngCall::Fill { at: 64, len: 8 },
-            ],
-            answers: &[
-                RngAnswer::Done,
-                RngAnswer::Done,
-                RngAnswer::U64(0),
-                RngAnswer::Done,
-            ],
-            first: b"\xd7\x91\x8c\xd8\x62\x0c\xf8\x32\x53\x26\x52\xc0\x4c\x01\xa5\x53",
-            last: b"\x76\xb8\xe0\xad\xa0\xf1\x3d\x90",
-        }],
-    ),
-    // A carry into the upper 32 bits of the block's number.
-    (
-        10,
-        [0; 32],
-        &[RngList {
-            name: "block 2^32 - 1, and the front of block 2^32",
-            len: 80,
-            calls: &[
-                RngCall::SetBlockPos(0xffff_ffff),
-                RngCall::Fill { at: 0, len: 80 },
-            ],
-            answers: &[RngAnswer::Done, RngAnswer::Done],
-            first: b"\xac\xe4\xcd\x09\xe2\x94\xd1\x91\x2d\x4a\xd2\x05\xd0\x6f\x95\xd9",
-            last: b"\x3d\xb4\x1d\x3a\xa0\xd3\x29\x28\x5d\xe6\xf2\x25\xe6\xe2\x4b\xd5",
-        }],
-    ),
-    // A stream and a block whose start state is that of RFC 8439's example (section 2.3.2).
-    (
-        19,
-        *b"\x00\x01\x02\x03\x04\x05\x06\x07\x08\x09\x0a\x0b\x0c\x0d\x0e\x0f\
-            \x10\x11\x12\x13\x14\x15\x16\x17\x18\x19\x1a\x1b\x1c\x1d\x1e\x1f",
-        &[RngList {
-            name: "the example's block, after another",
-            len: 64,
-            calls: &[
-                RngCall::SetStream(0x0000_0000_4a00_0000),
-                RngCall::SetBlockPos(0x0900_0000_0000_0000),
-                RngCall::Fill { at: 0, len: 64 },
-                RngCall::NextU32,
-                RngCall::NextU32,
-                RngCall::NextU32,
-                RngCall::NextU32,
-                RngCall::GetBlockPos,
-            ],
-            answers: &[
-                RngAnswer::Done,
-                RngAnswer::Done,
-                RngAnswer::Done,
-                RngAnswer::U32(0xe4e7_f110),
-                RngAnswer::U32(0x1559_3bd1),
-                RngAnswer::U32(0x1fdd_0f50),
-                RngAnswer::U32(0xc471_20a3),
-                RngAnswer::U64(0x0900_0000_0000_0001),
-            ],
-            first: &[],
-            last: &[],
-        }],
-    ),
-    // Two words around the wrap: the last of a buffer, and the first after it.
-    (
-        20,
-        [0; 32],
-        &[RngList {
-            name: "two words around the wrap",
-            len: 252,
-            calls: &[
-                RngCall::SetWordPos(POSITIONS - 64),
-                RngCall::Fill { at: 0, len: 252 },
-                RngCall::NextU64,
-                RngCall::GetWordPos,
-            ],
-            answers: &[
-                RngAnswer::Done,
-                RngAnswer::Done,
-                RngAnswer::U64(0xade0_b876_8976_b107),
-                RngAnswer::U128(1),
-            ],
-            first: &[],
-            last: &[],
-        }],
-    ),
-    // Another stream of the same seed.
-    (
-        21,
-        [0; 32],
-        &[RngList {
-            name: "the fifth word, and another stream's first",
-            len: 0,
-            calls: &[
-                RngCall::NextU32,
-                RngCall::NextU32,
-                RngCall::NextU32,
-                RngCall::NextU32,
-                RngCall::NextU32,
-                RngCall::SetStream(0x0200_0000_0000_0000),
-                RngCall::GetWordPos,
-                RngCall::GetSeed,
-                RngCall::NextU32,
-            ],
-            answers: &[
-                RngAnswer::U32(0xb819_d2bd),
-                RngAnswer::Done,
-                RngAnswer::U128(0),
-                RngAnswer::Seed([0; 32]),
-                RngAnswer::U32(0x374d_c6c2),
-            ],
-            first: &[],
-            last: &[],
-        }],
-    ),
-];
-
-/// Runs lists one after another on a new generator of a seed. Returns the name of the first that is wrong, or `None`.
-pub fn wrong_table<B: RngBackend<R20>>(seed: Seed, lists: &[RngList]) -> Verdict
-    ensures { IsNone result ↔ AreDrawn ⟦<RngAnswer as PartialEq>⟧.eq 10 (of_seed seed) lists.now }
-{
-    wrong_draw(&mut ChaChaRng::<R20, B>::from_seed(seed), lists)
-}
+use crate::verdicts::{Verdict, failed};
+use chacha20::RngAnswer::{Done, State, U32, U64, U128};
+use chacha20::RngCall::{
+    Fill, GetBlockPos, GetSeed, GetWordPos, NextU32, NextU64, Serialize, SetBlockPos, SetStream,
+    SetWordPos,
+};
+use chacha20::{RngAnswer, RngCall, Seed};
 
 /// How many word positions there are.
 pub const POSITIONS: u128 = 1 << 68;
 
-// The state after 100 words, whatever the number of rounds.
-fn row_14<R: Rounds, B: RngBackend<R>>() -> Verdict {
-    wrong_draw(&mut ChaChaRng::<R, B>::from_seed(FROM_1), &ROW_14)
-}
+/// The seed 0.
+pub static ZEROS: Seed = [0; 32];
 
-static ROW_14: [RngList; 3] = [
+/// The seed of row 8.
+pub static SEED_8: Seed = *b"\0\xff\0\0\0\0\0\0\0\0\0\0\0\0\0\0\0\0\0\0\0\0\0\0\0\0\0\0\0\0\0\0";
+
+/// The bytes of `FROM_1` in pieces: what is left of a word is lost.
+pub static ROW_7: [RngList; 1] = [RngList {
+    name: "two times 13 bytes",
+    len: 26,
+    calls: &[
+        (Fill { at: 0, len: 13 }, Done),
+        (GetWordPos, U128(4)),
+        (Fill { at: 13, len: 13 }, Done),
+        (GetWordPos, U128(8)),
+    ],
+    first: b"\xb1\x69\x7e\x9f\xc6\x46\x1e\x19\x83\xd1\x31\xcf\x69\
+        \xa7\xa3\xfc\x13\x4f\x14\x98\x80\xe8\xbb\x2b\x5d\x23",
+    ..NO_DRAW
+}];
+
+/// How far each kind of read moves (words: RFC 8439, appendix A.1, number 4).
+pub static ROW_8: [RngList; 2] = [
     RngList {
-        name: "a stream",
-        len: 0,
-        calls: &[RngCall::SetStream(0xf0f1_f2f3_f4f5_f6f7)],
-        answers: &[RngAnswer::Done],
-        first: &[],
-        last: &[],
+        name: "sixteen words",
+        calls: &[
+            (SetWordPos(32), Done),
+            (NextU32, U32(0xfb4d_d572)),
+            (NextU32, U32(0x4bc4_2ef1)),
+            (NextU32, U32(0xdf92_2636)),
+            (NextU32, U32(0x327f_1394)),
+            (NextU32, U32(0xa78d_ea8f)),
+            (NextU32, U32(0x5e26_9039)),
+            (NextU32, U32(0xa1be_bbc1)),
+            (NextU32, U32(0xcaf0_9aae)),
+            (NextU32, U32(0xa25a_b213)),
+            (NextU32, U32(0x48a6_b46c)),
+            (NextU32, U32(0x1b9d_9bcb)),
+            (NextU32, U32(0x092c_5be6)),
+            (NextU32, U32(0x546c_a624)),
+            (NextU32, U32(0x1bec_45d5)),
+            (NextU32, U32(0x87f4_7473)),
+            (NextU32, U32(0x96f0_992e)),
+            (GetWordPos, U128(48)),
+        ],
+        ..NO_DRAW
     },
     RngList {
-        name: "100 words",
-        len: 0,
-        calls: &[RngCall::NextU32; 100],
-        answers: &[],
-        first: &[],
-        last: &[],
-    },
-    RngList {
-        name: "the state after them",
-        len: 0,
-        calls: &[RngCall::Serialize],
-        answers: &[RngAnswer::State([
-            1, 2, 3, 4, 5, 6, 7, 8, 9, 10, 11, 12, 13, 14, 15, 16, 17, 18, 19, 20, 21, 22, 23, 24,
-            25, 26, 27, 28, 29, 30, 31, 32, 0xf7, 0xf6, 0xf5, 0xf4, 0xf3, 0xf2, 0xf1, 0xf0, 0x64,
-            0, 0, 0, 0, 0, 0, 0, 0,
-        ])],
-        first: &[],
-        last: &[],
+        name: "32 bytes, 25 bytes, a u64, a u32 and a u64, a byte",
+        len: 57,
+        calls: &[
+            (Fill { at: 0, len: 32 }, Done),
+            (GetWordPos, U128(56)),
+            (Fill { at: 32, len: 25 }, Done),
+            (GetWordPos, U128(63)),
+            (NextU64, ANY),
+            (GetWordPos, U128(65)),
+            (NextU32, ANY),
+            (NextU64, ANY),
+            (GetWordPos, U128(68)),
+            (Fill { at: 0, len: 1 }, Done),
+            (GetWordPos, U128(69)),
+        ],
+        ..NO_DRAW
     },
 ];
 
-// The last position, and positions past it.
-fn row_15<B: RngBackend<R20>>() -> Verdict {
-    wrong_draw(
-        &mut ChaChaRng::<R20, B>::deserialize_state(&[0xff; 49]),
-        &ROW_15,
-    )
+/// The last block of a seed of zeros, and then the first.
+pub static ROW_9: [RngList; 1] = [RngList {
+    name: "64 bytes and 8",
+    len: 72,
+    calls: &[
+        (SetBlockPos(u64::MAX), Done),
+        (Fill { at: 0, len: 64 }, Done),
+        (GetBlockPos, U64(0)),
+        (Fill { at: 64, len: 8 }, Done),
+    ],
+    first: b"\xd7\x91\x8c\xd8\x62\x0c\xf8\x32\x53\x26\x52\xc0\x4c\x01\xa5\x53",
+    last: b"\x76\xb8\xe0\xad\xa0\xf1\x3d\x90",
+}];
+
+/// A carry into the upper 32 bits of the block's number.
+pub static ROW_10: [RngList; 1] = [RngList {
+    name: "block 2^32 - 1, and the front of block 2^32",
+    len: 80,
+    calls: &[
+        (SetBlockPos(0xffff_ffff), Done),
+        (Fill { at: 0, len: 80 }, Done),
+    ],
+    first: b"\xac\xe4\xcd\x09\xe2\x94\xd1\x91\x2d\x4a\xd2\x05\xd0\x6f\x95\xd9",
+    last: b"\x3d\xb4\x1d\x3a\xa0\xd3\x29\x28\x5d\xe6\xf2\x25\xe6\xe2\x4b\xd5",
+}];
+
+/// A stream and a block of `COUNTING` whose start state is that of RFC 8439's example (section 2.3.2).
+pub static ROW_19: [RngList; 1] = [RngList {
+    name: "the example's block, after another",
+    len: 64,
+    calls: &[
+        (SetStream(0x0000_0000_4a00_0000), Done),
+        (SetBlockPos(0x0900_0000_0000_0000), Done),
+        (Fill { at: 0, len: 64 }, Done),
+        (NextU32, U32(0xe4e7_f110)),
+        (NextU32, U32(0x1559_3bd1)),
+        (NextU32, U32(0x1fdd_0f50)),
+        (NextU32, U32(0xc471_20a3)),
+        (GetBlockPos, U64(0x0900_0000_0000_0001)),
+    ],
+    ..NO_DRAW
+}];
+
+/// Two words around the wrap: the last of a buffer, and the first after it.
+pub static ROW_20: [RngList; 1] = [RngList {
+    name: "two words around the wrap",
+    len: 252,
+    calls: &[
+        (SetWordPos(POSITIONS - 64), Done),
+        (Fill { at: 0, len: 252 }, Done),
+        (NextU64, U64(0xade0_b876_8976_b107)),
+        (GetWordPos, U128(1)),
+    ],
+    ..NO_DRAW
+}];
+
+/// Another stream of the same seed.
+pub static ROW_21: [RngList; 1] = [RngList {
+    name: "the fifth word, and another stream's first",
+    calls: &[
+        (NextU32, ANY),
+        (NextU32, ANY),
+        (NextU32, ANY),
+        (NextU32, ANY),
+        (NextU32, U32(0xb819_d2bd)),
+        (SetStream(0x0200_0000_0000_0000), Done),
+        (GetWordPos, U128(0)),
+        (GetSeed, RngAnswer::Seed([0; 32])),
+        (NextU32, U32(0x374d_c6c2)),
+    ],
+    ..NO_DRAW
+}];
+
+/// The state of `FROM_1` after 100 words, whatever the number of rounds.
+pub static ROW_14: [RngList; 3] = [
+    RngList {
+        name: "a stream",
+        calls: &[(SetStream(0xf0f1_f2f3_f4f5_f6f7), Done)],
+        ..NO_DRAW
+    },
+    RngList {
+        name: "100 words",
+        calls: &[(NextU32, ANY); 100],
+        ..NO_DRAW
+    },
+    RngList {
+        name: "the state after them",
+        calls: &[(
+            Serialize,
+            State(
+                *b"\x01\x02\x03\x04\x05\x06\x07\x08\x09\x0a\x0b\x0c\x0d\x0e\x0f\x10\
+                \x11\x12\x13\x14\x15\x16\x17\x18\x19\x1a\x1b\x1c\x1d\x1e\x1f\x20\
+                \xf7\xf6\xf5\xf4\xf3\xf2\xf1\xf0\x64\0\0\0\0\0\0\0\0",
+            ),
+        )],
+        ..NO_DRAW
+    },
+];
+
+/// The last position, and positions past it, from 49 bytes ff on.
+pub fn row_15<G: Drawn>() -> Verdict {
+    wrong_draw(&mut G::of_state(&[0xff; 49]), &ROW_15)
 }
 
 static ROW_15: [RngList; 1] = [RngList {
     name: "the last position, the state, and positions past the last",
-    len: 0,
     calls: &[
-        RngCall::GetWordPos,
-        RngCall::Serialize,
-        RngCall::SetWordPos(POSITIONS + 5),
-        RngCall::GetWordPos,
-        RngCall::SetWordPos(POSITIONS - 16),
-        RngCall::GetWordPos,
+        (GetWordPos, U128(POSITIONS - 1)),
+        (
+            Serialize,
+            State(
+                *b"\xff\xff\xff\xff\xff\xff\xff\xff\xff\xff\xff\xff\xff\xff\xff\xff\
+                \xff\xff\xff\xff\xff\xff\xff\xff\xff\xff\xff\xff\xff\xff\xff\xff\
+                \xff\xff\xff\xff\xff\xff\xff\xff\xff\xff\xff\xff\xff\xff\xff\xff\x0f",
+            ),
+        ),
+        (SetWordPos(POSITIONS + 5), Done),
+        (GetWordPos, U128(5)),
+        (SetWordPos(POSITIONS - 16), Done),
+        (GetWordPos, U128(POSITIONS - 16)),
     ],
-    answers: &[
-        RngAnswer::U128(POSITIONS - 1),
-        RngAnswer::State([
-            0xff, 0xff, 0xff, 0xff, 0xff, 0xff, 0xff, 0xff, 0xff, 0xff, 0xff, 0xff, 0xff, 0xff,
-            0xff, 0xff, 0xff, 0xff, 0xff, 0xff, 0xff, 0xff, 0xff, 0xff, 0xff, 0xff, 0xff, 0xff,
-            0xff, 0xff, 0xff, 0xff, 0xff, 0xff, 0xff, 0xff, 0xff, 0xff, 0xff, 0xff, 0xff, 0xff,
-            0xff, 0xff, 0xff, 0xff, 0xff, 0xff, 0x0f,
-        ]),
-        RngAnswer::Done,
-        RngAnswer::U128(5),
-        RngAnswer::Done,
-        RngAnswer::U128(POSITIONS - 16),
-    ],
-    first: &[],
-    last: &[],
+    ..NO_DRAW
 }];
 
-// A generator that another one seeds.
-fn row_17<B: RngBackend<R20>>() -> Verdict {
+/// A generator that another one seeds.
+pub fn row_17<G: Drawn>() -> Verdict {
     let mut seed = [0; 32];
-    seed[8] = 1;
-    seed[16] = 2;
-    seed[24] = 3;
-    let mut first = ChaChaRng::<R20, B>::from_seed(seed);
-    let word = first.next_u32();
-    let mut second_seed = [0; 32];
-    first.fill_bytes(&mut second_seed);
+    let first = gives(&mut G::of_seed(SEED_17), &mut seed, &FIRST_17);
+    let second = gives(&mut G::of_seed(seed), &mut [], &SECOND_17);
+    failed("a generator, and the one that it seeds", &[first, second])
+}
+
+static SEED_17: Seed = *b"\0\0\0\0\0\0\0\0\x01\0\0\0\0\0\0\0\x02\0\0\0\0\0\0\0\x03\0\0\0\0\0\0\0";
+
+static FIRST_17: [(RngCall, RngAnswer); 3] = [
+    (NextU32, U32(137206642)),
+    (Fill { at: 0, len: 32 }, Done),
+    (GetWordPos, U128(9)),
+];
+
+static SECOND_17: [(RngCall, RngAnswer); 1] = [(NextU32, U32(1325750369))];
+
+/// Generators are equal where seed, stream and position are, however they came there.
+pub fn row_23<G: Drawn>() -> Verdict {
+    let mut first = G::of_seed(FROM_1);
+    let mut second = G::of_seed(FROM_1);
+    let read = gives(&mut first, &mut [], &READ_7_AND_BACK);
+    let at_0 = first == second;
+    let moved = gives(&mut first, &mut [], &READ_7_AND_BACK[..1]);
+    let set = gives(&mut second, &mut [], &TO_1);
+    let at_1 = first == second;
+    let other = gives(&mut second, &mut [], &TO_STREAM_1) && first != second;
     failed(
-        "the first words of two generators, and the first one's position",
-        &[
-            word == 137206642,
-            ChaChaRng::<R20, B>::from_seed(second_seed).next_u32() == 1325750369,
-            first.get_word_pos() == 9,
-        ],
+        "equal at 0 and at 1, and not in another stream",
+        &[read && at_0, moved && set && at_1, other],
     )
 }
 
-// Generators are equal where seed, stream and position are, however they came there.
-fn row_23<B: RngBackend<R20>>() -> Verdict {
-    let mut first = ChaChaRng::<R20, B>::from_seed(FROM_1);
-    let mut second = ChaChaRng::<R20, B>::from_seed(FROM_1);
-    for _ in 0..7 {
-        let _ = first.next_u32();
-    }
-    first.set_word_pos(0);
-    let at_0 = first == second;
-    let _ = first.next_u32();
-    second.set_word_pos(1);
-    let at_1 = first == second;
-    second.set_stream(1);
-    failed(
-        "equal at 0 and at 1, and not in another stream",
-        &[at_0, at_1, first != second],
-    )
-}
+static READ_7_AND_BACK: [(RngCall, RngAnswer); 8] = [
+    (NextU32, ANY),
+    (NextU32, ANY),
+    (NextU32, ANY),
+    (NextU32, ANY),
+    (NextU32, ANY),
+    (NextU32, ANY),
+    (NextU32, ANY),
+    (SetWordPos(0), Done),
+];
+
+static TO_1: [(RngCall, RngAnswer); 1] = [(SetWordPos(1), Done)];
+
+static TO_STREAM_1: [(RngCall, RngAnswer); 1] = [(SetStream(1), Done)];

@@ -1,22 +1,32 @@
-//! Worked rows: calls with the answers that they must give, published or worked out by hand, and what came of them. A
-//! worked row runs on any cipher, core or generator of its kind.
+//! Known answers: the rows, which are calls with the answers that they must give, published or worked out by hand. A row
+//! runs on any cipher, core or generator of its kind.
 #![tactic(auto)]
-
-ghost use Rattle.std.specs.Prelude.{◌∷◌, []};
-ghost use Rattle.known_answers.specs.Verdicts.{AreEntered};
 
 pub mod ciphers;
 pub mod cores;
+pub mod draws;
 pub mod generators;
 pub mod lists;
 pub mod published;
 pub mod report;
 pub mod verdicts;
 
-use chacha20::backends::{Lanes8, Lanes16};
-use chacha20::variants::{Ietf, Legacy};
-use chacha20::{ChaCha20LegacyCore, ChaChaCore, R20, Rounds, XChaChaCore};
-use verdicts::{Verdicts, enter_all};
+use chacha20::cipher::{KeyIvInit, StreamCipherSeekCore};
+use chacha20::rand_core::SeedableRng;
+use chacha20::{Key, LegacyNonce, Nonce, Rounds, Seed, StreamCipherCoreWrapper, XNonce};
+use ciphers::{
+    KEY_1, LEGACY_ROW_22, NONCE_1, ROW_1, ROW_4, ROW_5, ROW_6, ROW_11, ROW_16, ROW_18, ROW_22,
+    legacy_row_12, row_1, row_3, row_6, row_12,
+};
+use cores::row_13;
+use draws::{Drawn, wrong_draws};
+use generators::{
+    ROW_7, ROW_8, ROW_9, ROW_10, ROW_14, ROW_19, ROW_20, ROW_21, SEED_8, ZEROS, row_15, row_17,
+    row_23,
+};
+use lists::{CipherList, Fresh, wrong_lists};
+use published::{COUNTING, FROM_1, FROM_80, LEGACY_NONCE, NONCE, X_NONCE};
+use verdicts::{Row, Verdict, enter};
 
 /// No rounds: a block is its start state, each word doubled.
 #[derive(Clone, Copy)]
@@ -28,20 +38,104 @@ impl Rounds for R0 {
     const COUNT: usize = 0;
 }
 
-/// The ciphertext of worked row 1, and each worked row's verdict, for the named ciphers and generators.
-pub fn worked() -> ([u8; 16], Verdicts)
-    ensures { AreEntered (1 ∷ 3 ∷ 4 ∷ 5 ∷ 6 ∷ 7 ∷ 8 ∷ 9 ∷ 10 ∷ 11 ∷ 12 ∷ 13 ∷ 14 ∷ 15 ∷ 16 ∷ 17
-        ∷ 18 ∷ 19 ∷ 20 ∷ 21 ∷ 22 ∷ 23 ∷ []) result.1 }
+type Cipher<K> = StreamCipherCoreWrapper<K>;
+
+// The rows 1 and 3 to 23 with no failure. Row 2 is a test.
+fn numbered() -> [Row; 22] {
+    let mut rows = [(1, None); 22];
+    for i in 1..22usize {
+        rows[i] = (i + 2, None);
+    }
+    rows
+}
+
+fn of_ietf<C: Fresh<Nonce>>(lists: &[CipherList]) -> Verdict {
+    wrong_lists::<Nonce, C>(&COUNTING, &NONCE, lists)
+}
+
+fn of_legacy<C: Fresh<LegacyNonce>>(lists: &[CipherList]) -> Verdict {
+    wrong_lists::<LegacyNonce, C>(&FROM_1, &LEGACY_NONCE, lists)
+}
+
+fn of_xchacha<C: Fresh<XNonce>>(lists: &[CipherList]) -> Verdict {
+    wrong_lists::<XNonce, C>(&FROM_80, &X_NONCE, lists)
+}
+
+// The ciphertext of row 1, and the rows, or parts of rows, of the cipher of RFC 8439 over a core.
+fn ietf_rows<K>() -> ([u8; 16], [Row; 8])
+where
+    K: KeyIvInit<Key = Key, Iv = Nonce> + StreamCipherSeekCore<Counter = u32> + Drop,
 {
-    let mut verdicts = [None; 24];
-    let ciphertext = ciphers::enter_ietf_rows::<ChaChaCore<R20, Ietf, Lanes16>>(&mut verdicts);
-    ciphers::enter_legacy_rows::<ChaCha20LegacyCore>(&mut verdicts);
-    ciphers::enter_x_rows::<XChaChaCore<R20, Lanes16>>(&mut verdicts);
-    let no_rounds = cores::row_13::<
-        ChaChaCore<R0, Ietf, Lanes16>,
-        ChaChaCore<R0, Legacy, Lanes16>,
-    >();
-    enter_all(&mut verdicts, &[(13, no_rounds)]);
-    generators::enter_rows::<Lanes8>(&mut verdicts);
-    (ciphertext, verdicts)
+    let (ciphertext, in_calls) = row_1::<Cipher<K>>();
+    let in_lists = wrong_lists::<Nonce, Cipher<K>>(&KEY_1, &NONCE_1, &ROW_1);
+    let rows = [
+        (1, in_calls),
+        (1, in_lists),
+        (4, of_ietf::<Cipher<K>>(&ROW_4)),
+        (11, of_ietf::<Cipher<K>>(&ROW_11)),
+        (12, row_12::<Cipher<K>>()),
+        (16, of_ietf::<Cipher<K>>(&ROW_16)),
+        (18, of_ietf::<Cipher<K>>(&ROW_18)),
+        (22, of_ietf::<Cipher<K>>(&ROW_22)),
+    ];
+    (ciphertext, rows)
+}
+
+// Those of the legacy cipher.
+fn legacy_rows<K>() -> [Row; 4]
+where
+    K: KeyIvInit<Key = Key, Iv = LegacyNonce> + StreamCipherSeekCore<Counter = u64> + Drop,
+{
+    [
+        (6, of_legacy::<Cipher<K>>(&ROW_6)),
+        (6, row_6::<Cipher<K>>()),
+        (12, legacy_row_12::<Cipher<K>>()),
+        (22, of_legacy::<Cipher<K>>(&LEGACY_ROW_22)),
+    ]
+}
+
+// The rows of a generator with 20 rounds.
+fn generator_rows<G: Drawn>() -> [Row; 10] {
+    [
+        (7, wrong_draws::<G>(FROM_1, &ROW_7)),
+        (8, wrong_draws::<G>(SEED_8, &ROW_8)),
+        (9, wrong_draws::<G>(ZEROS, &ROW_9)),
+        (10, wrong_draws::<G>(ZEROS, &ROW_10)),
+        (15, row_15::<G>()),
+        (17, row_17::<G>()),
+        (19, wrong_draws::<G>(COUNTING, &ROW_19)),
+        (20, wrong_draws::<G>(ZEROS, &ROW_20)),
+        (21, wrong_draws::<G>(ZEROS, &ROW_21)),
+        (23, row_23::<G>()),
+    ]
+}
+
+/// The ciphertext of row 1, and each row: over cores with 20 rounds of the three kinds, cores without rounds, and
+/// generators with 8, 12 and 20 rounds.
+pub fn rows<I, L, X, I0, L0, G8, G12, G20>() -> ([u8; 16], [Row; 22])
+where
+    I: KeyIvInit<Key = Key, Iv = Nonce> + StreamCipherSeekCore<Counter = u32> + Drop,
+    L: KeyIvInit<Key = Key, Iv = LegacyNonce> + StreamCipherSeekCore<Counter = u64> + Drop,
+    X: KeyIvInit<Key = Key, Iv = XNonce> + StreamCipherSeekCore<Counter = u32> + Drop,
+    I0: KeyIvInit<Key = Key, Iv = Nonce> + StreamCipherSeekCore<Counter = u32> + Drop,
+    L0: SeedableRng<Seed = Seed> + StreamCipherSeekCore<Counter = u64> + Drop,
+    G8: Drawn,
+    G12: Drawn,
+    G20: Drawn,
+{
+    let mut rows = numbered();
+    let (ciphertext, of_ietf) = ietf_rows::<I>();
+    let others = [
+        (3, row_3()),
+        (5, of_xchacha::<Cipher<X>>(&ROW_5)),
+        (13, row_13::<I0, L0>()),
+        (14, wrong_draws::<G8>(FROM_1, &ROW_14)),
+        (14, wrong_draws::<G12>(FROM_1, &ROW_14)),
+        (14, wrong_draws::<G20>(FROM_1, &ROW_14)),
+    ];
+    enter(&mut rows, &of_ietf);
+    enter(&mut rows, &legacy_rows::<L>());
+    enter(&mut rows, &generator_rows::<G20>());
+    enter(&mut rows, &others);
+    (ciphertext, rows)
 }

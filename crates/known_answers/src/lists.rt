@@ -1,17 +1,14 @@
-//! Lists of calls with their answers, and their checkers. A list is an entry of a `static`, since that costs a proof a
+//! Lists of calls on a cipher, each call with its answer. A list is an entry of a `static`, since that costs a proof a
 //! millisecond in each function that names it, and a test function half a second or more.
 
-ghost use Rattle.std.specs.Prelude.{◌≡◌, ◌≤◌, ◌+◌, ◌↔◌, IsNone, IsTrue, All, length};
+ghost use Rattle.std.specs.Prelude.{◌↔◌, ◌≤◌, ◌+◌, IsTrue, All, length};
 ghost use Rattle.chacha20.specs.Runs.{InSlices};
-ghost use Rattle.chacha20.specs.GeneratorRuns.{InData};
-ghost use Rattle.known_answers.specs.Draws.{HasRoom, AreListed, drawn, IsDrawn, AreDrawn};
 
-use crate::verdicts::{Verdict, failed_check};
-use chacha20::cipher::{RngBackend, StreamCipherSeekCore};
-use chacha20::{
-    ChaChaRng, CipherAnswer, CipherCall, RngAnswer, RngCall, Rounds, StreamCipherCoreWrapper,
-    run_cipher, run_rng,
+use crate::verdicts::{Verdict, failed_at, first_failure};
+use chacha20::cipher::{
+    KeyIvInit, StreamCipher, StreamCipherError, StreamCipherSeek, StreamCipherSeekCore,
 };
+use chacha20::{CipherAnswer, CipherCall, Key, StreamCipherCoreWrapper, run_cipher};
 
 /// At most 32 calls on a cipher, over at most 400 bytes of data.
 #[derive(Drop)]
@@ -19,31 +16,26 @@ pub struct CipherList {
     pub name: &'static str,
     pub input: &'static [u8],
     pub data: &'static [u8],
-    pub calls: &'static [CipherCall],
-    /// The last answers.
-    pub answers: &'static [CipherAnswer],
+    /// Each call, with the answer that it must give.
+    pub calls: &'static [(CipherCall, CipherAnswer)],
     /// The last bytes of the data after the calls.
     pub after: &'static [u8],
 }
 
-/// At most 128 calls on a generator, over at most 256 bytes of data, which are zeros at first.
-#[derive(Drop)]
-pub struct RngList {
-    pub name: &'static str,
-    pub len: usize,
-    pub calls: &'static [RngCall],
-    /// The last answers.
-    pub answers: &'static [RngAnswer],
-    /// The first and the last bytes of the data after the calls.
-    pub first: &'static [u8],
-    pub last: &'static [u8],
-}
+/// No calls.
+pub const EMPTY: CipherList = CipherList {
+    name: "no calls",
+    input: &[],
+    data: &[],
+    calls: &[],
+    after: &[],
+};
 
-/// A cipher that is called by lists. It has no contract, so that the proofs of worked rows and tests don't carry
-/// that of `run_cipher`.
+/// A cipher that lists are run on. It has no contract, so that the proofs of rows and tests don't carry those of
+/// ciphers.
 pub trait Listed {
-    /// Makes the calls, writes their answers and returns true. If a range lies past its slice, or there are not as many
-    /// answers as calls, it returns false; it may have made the calls before.
+    /// Makes the calls by `run_cipher`, writes their answers and returns true. If a range lies past its slice, or there
+    /// are not as many answers as calls, it returns false; it may have made the calls before.
     fn runs(
         &mut self,
         input: &[u8],
@@ -51,10 +43,18 @@ pub trait Listed {
         calls: &[CipherCall],
         answers: &mut [CipherAnswer],
     ) -> bool;
+
+    /// Makes one call directly. If a range lies past its slice, it returns `Overflow` and does nothing.
+    fn answers(&mut self, input: &[u8], data: &mut [u8], call: CipherCall) -> CipherAnswer;
+}
+
+/// A cipher with nonces of one type, as rows and tests make it.
+pub trait Fresh<N>: Listed + Drop {
+    fn fresh(key: &Key, nonce: &N) -> Self;
 }
 
 impl<K: StreamCipherSeekCore> Listed for StreamCipherCoreWrapper<K> {
-    // Compiled once for each cipher, and not into each worked row or test.
+    // Compiled once for each cipher, and not into each row or test.
     #[inline(never)]
     fn runs(
         &mut self,
@@ -69,10 +69,54 @@ impl<K: StreamCipherSeekCore> Listed for StreamCipherCoreWrapper<K> {
         run_cipher(self, input, data, calls, answers);
         true
     }
+
+    #[inline(never)]
+    fn answers(&mut self, input: &[u8], data: &mut [u8], call: CipherCall) -> CipherAnswer {
+        if in_slices(call, input.len(), data.len()) {
+            answered(self, input, data, call)
+        } else {
+            CipherAnswer::Overflow
+        }
+    }
 }
 
-/// Whether the ranges of a call lie in slices of these lengths.
-pub fn in_slices(call: CipherCall, input: usize, bytes: usize) -> bool
+impl<N, K> Fresh<N> for StreamCipherCoreWrapper<K>
+where
+    K: KeyIvInit<Key = Key, Iv = N> + StreamCipherSeekCore + Drop,
+{
+    fn fresh(key: &Key, nonce: &N) -> Self {
+        StreamCipherCoreWrapper::new(key, nonce)
+    }
+}
+
+/// A cipher whose lists are run by direct calls, one after another.
+#[derive(Drop)]
+pub struct Directly<'a, C>(pub &'a mut C);
+
+impl<C: Listed> Listed for Directly<'_, C> {
+    fn runs(
+        &mut self,
+        input: &[u8],
+        data: &mut [u8],
+        calls: &[CipherCall],
+        answers: &mut [CipherAnswer],
+    ) -> bool {
+        if answers.len() != calls.len() || !all_in_slices(calls, input.len(), data.len()) {
+            return false;
+        }
+        for i in 0..calls.len() {
+            answers[i] = self.0.answers(input, data, calls[i]);
+        }
+        true
+    }
+
+    fn answers(&mut self, input: &[u8], data: &mut [u8], call: CipherCall) -> CipherAnswer {
+        self.0.answers(input, data, call)
+    }
+}
+
+// Whether the ranges of a call lie in slices of these lengths.
+fn in_slices(call: CipherCall, input: usize, bytes: usize) -> bool
     ensures { IsTrue result ↔ InSlices input bytes call }
 {
     match call {
@@ -87,7 +131,8 @@ pub fn in_slices(call: CipherCall, input: usize, bytes: usize) -> bool
     }
 }
 
-fn in_range(at: usize, len: usize, bytes: usize) -> bool
+/// Whether a range lies in a slice of this length.
+pub fn in_range(at: usize, len: usize, bytes: usize) -> bool
     ensures { IsTrue result ↔ (at + len ≤ bytes) }
 {
     at <= bytes && len <= bytes - at
@@ -104,100 +149,128 @@ fn all_in_slices(calls: &[CipherCall], input: usize, bytes: usize) -> bool
     true
 }
 
-fn in_data(call: RngCall, bytes: usize) -> bool
-    ensures { IsTrue result ↔ InData bytes call }
-{
-    match call {
-        RngCall::Fill { at, len } => in_range(at, len, bytes),
-        _ => true,
+fn of_outcome(outcome: Result<(), StreamCipherError>) -> CipherAnswer {
+    match outcome {
+        Ok(()) => CipherAnswer::Done,
+        Err(_) => CipherAnswer::Refused,
     }
 }
 
-fn all_in_data(calls: &[RngCall], bytes: usize) -> bool
-    ensures { IsTrue result ↔ All (InData bytes) calls.now }
-{
-    'each: for i in 0..calls.len() {
-        if !in_data(calls[i], bytes) {
-            return false;
-        }
-    }
-    true
-}
-
-/// Whether at most 32 calls are made, and the last answers are these.
-pub fn answers_are<C: Listed>(
+// Makes a call as `run_cipher` does, but seeks in 64 bits where they hold the position.
+fn answered<C: StreamCipherSeek>(
     cipher: &mut C,
     input: &[u8],
     data: &mut [u8],
-    calls: &[CipherCall],
-    last: &[CipherAnswer],
-) -> bool {
-    let mut buffer = [CipherAnswer::Overflow; 32];
-    let answers = &mut buffer[..calls.len().min(32)];
-    cipher.runs(input, data, calls, answers) && answers.ends_with(last)
+    call: CipherCall,
+) -> CipherAnswer
+    requires { InSlices (length input.now) (length «data».old) call }
+{
+    match call {
+        CipherCall::CheckRemaining(len) => of_outcome(cipher.check_remaining(len)),
+        CipherCall::Apply { at, len } => of_outcome(cipher.try_apply_keystream(
+            &mut data[at..at + len],
+        )),
+        CipherCall::Write { at, len } => of_outcome(cipher.try_write_keystream(
+            &mut data[at..at + len],
+        )),
+        CipherCall::ApplyFrom {
+            from,
+            from_len,
+            at,
+            len,
+        } => of_outcome(cipher.try_apply_keystream_b2b(
+            &input[from..from + from_len],
+            &mut data[at..at + len],
+        )),
+        CipherCall::Seek(place) => match u64::try_from(place) {
+            Ok(place) => of_outcome(cipher.try_seek(place)),
+            Err(_) => of_outcome(cipher.try_seek(place)),
+        },
+        CipherCall::SeekI32(place) => of_outcome(cipher.try_seek(place)),
+        CipherCall::Pos => match cipher.try_current_pos() {
+            Ok(place) => CipherAnswer::Position(place),
+            Err(_) => CipherAnswer::Overflow,
+        },
+        CipherCall::PosI32 => match cipher.try_current_pos() {
+            Ok(place) => CipherAnswer::PositionI32(place),
+            Err(_) => CipherAnswer::Overflow,
+        },
+    }
 }
 
-fn is_right<C: Listed>(cipher: &mut C, list: &CipherList) -> bool {
+/// Copies the calls without their answers.
+pub fn copy_calls<C: Copy, A: Copy>(calls: &[(C, A)], made: &mut [C]) {
+    for i in 0..made.len().min(calls.len()) {
+        made[i] = calls[i].0;
+    }
+}
+
+// The place of the first answer that isn't the one beside its call.
+fn wrong_answer(calls: &[(CipherCall, CipherAnswer)], answers: &[CipherAnswer]) -> Option<usize> {
+    for i in 0..answers.len().min(calls.len()) {
+        if answers[i] != calls[i].1 {
+            return Some(i);
+        }
+    }
+    None
+}
+
+// The place of the first of at most 32 calls whose answer is wrong; their number where they can't be made.
+fn wrong_call<C: Listed>(
+    cipher: &mut C,
+    input: &[u8],
+    data: &mut [u8],
+    calls: &[(CipherCall, CipherAnswer)],
+) -> Option<usize> {
+    let mut made = [CipherCall::Pos; 32];
+    // No call of a list has this answer.
+    let mut answers = [CipherAnswer::PositionI32(-1); 32];
+    let made = &mut made[..calls.len().min(32)];
+    let answers = &mut answers[..calls.len().min(32)];
+    copy_calls(calls, made);
+    if calls.len() > 32 || !cipher.runs(input, data, made, answers) {
+        return Some(calls.len());
+    }
+    wrong_answer(calls, answers)
+}
+
+/// Whether at most 32 calls give these answers.
+pub fn gives<C: Listed>(
+    cipher: &mut C,
+    input: &[u8],
+    data: &mut [u8],
+    calls: &[(CipherCall, CipherAnswer)],
+) -> bool {
+    wrong_call(cipher, input, data, calls).is_none()
+}
+
+// The place of the first call of a list that is wrong; the number of calls where the bytes after them are wrong.
+fn wrong_place<C: Listed>(cipher: &mut C, list: &CipherList) -> Option<usize> {
     let mut buffer = [0; 400];
     let len = list.data.len().min(400);
     let data = &mut buffer[..len];
     data.copy_from_slice(&list.data[..len]);
-    answers_are(cipher, list.input, data, list.calls, list.answers) && data.ends_with(list.after)
+    let wrong = wrong_call(cipher, list.input, data, list.calls);
+    if wrong.is_none() && !data.ends_with(list.after) {
+        return Some(list.calls.len());
+    }
+    wrong
 }
 
-/// Runs lists one after another on a cipher. Returns the name of the first whose answers or bytes differ, or `None`.
+/// Runs lists one after another on a cipher. Returns the name of the first that is wrong and the place in it, or `None`.
 pub fn wrong_list<C: Listed>(cipher: &mut C, lists: &[CipherList]) -> Verdict {
     for list in lists {
-        if !is_right(cipher, list) {
-            return failed_check(list.name);
+        if let Some(place) = wrong_place(cipher, list) {
+            return failed_at(list.name, place);
         }
     }
     None
 }
 
-// Whether a list's calls can be made.
-fn has_room(list: &RngList) -> bool
-    ensures { IsTrue result ↔ HasRoom list.now }
-{
-    (list.calls.len() <= 128) & (list.len <= 256) & all_in_data(list.calls, list.len)
-}
-
-// Whether a list has these answers and bytes.
-fn are_listed(list: &RngList, answers: &[RngAnswer], data: &[u8]) -> bool
-    ensures { IsTrue result
-        ↔ AreListed ⟦<RngAnswer as PartialEq>⟧.eq list.now answers.now «data».now }
-{
-    answers.ends_with(list.answers) & data.starts_with(list.first) & data.ends_with(list.last)
-}
-
-// Whether the calls of a list give its answers and its bytes.
-fn draws_as<R: Rounds, B: RngBackend<R>>(rng: &mut ChaChaRng<R, B>, list: &RngList) -> bool
-    ensures right { IsTrue result
-        ↔ IsDrawn ⟦<RngAnswer as PartialEq>⟧.eq R.COUNT rng.old list.now }
-    ensures rng { IsTrue result → rng.new ≡ (drawn R.COUNT rng.old list.now).1 }
-{
-    if !has_room(list) {
-        return false;
-    }
-    let mut buffer = [0; 256];
-    let mut answers = [RngAnswer::U32(7); 128];
-    let data = &mut buffer[..list.len];
-    let answers = &mut answers[..list.calls.len()];
-    run_rng(rng, data, list.calls, answers);
-    are_listed(list, answers, data)
-}
-
-/// Runs lists one after another on a generator, as `wrong_list` does on a cipher.
-pub fn wrong_draw<R: Rounds, B: RngBackend<R>>(
-    rng: &mut ChaChaRng<R, B>,
-    lists: &[RngList],
-) -> Verdict
-    ensures { IsNone result ↔ AreDrawn ⟦<RngAnswer as PartialEq>⟧.eq R.COUNT rng.old lists.now }
-{
-    'lists: for i in 0..lists.len() {
-        if !draws_as(rng, &lists[i]) {
-            return failed_check(lists[i].name);
-        }
-    }
-    None
+/// Runs lists on a new cipher by direct calls, and on another by `run_cipher`.
+pub fn wrong_lists<N, C: Fresh<N>>(key: &Key, nonce: &N, lists: &[CipherList]) -> Verdict {
+    first_failure(&[
+        wrong_list(&mut Directly(&mut C::fresh(key, nonce)), lists),
+        wrong_list(&mut C::fresh(key, nonce), lists),
+    ])
 }

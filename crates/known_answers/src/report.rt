@@ -1,10 +1,9 @@
 //! What the program `vectors` prints, and how it ends.
 
 ghost use Rattle.std.specs.Prelude.{◌≡◌, ◌↔◌, All, IsNone, IsTrue};
-ghost use Rattle.std.specs.Option.{option_flatten};
 ghost use Rattle.std.specs.Process.{exit_status};
 
-use crate::verdicts::{Verdicts, first_wrong_row};
+use crate::verdicts::Row;
 use std::fmt::{self, Display, Formatter};
 use std::marker::Model;
 use std::process::{ExitCode, Termination};
@@ -13,17 +12,16 @@ use std::process::{ExitCode, Termination};
 #[derive(Drop)]
 struct Lines<'a> {
     ciphertext: &'a [u8; 16],
-    verdicts: &'a Verdicts,
+    rows: &'a [Row],
 }
 
 impl Display for Lines<'_> {
     fn fmt<W: fmt::Write>(&self, f: &mut Formatter<W>) -> fmt::Result {
         writeln!(f, "{:032x}", u128::from_be_bytes(*self.ciphertext))?;
-        for number in 0..24usize {
-            if let Some(failed) = self.verdicts[number] {
-                let word = if failed.is_none() { "ok" } else { "bad" };
-                writeln!(f, "row {number} {word}")?;
-            }
+        for i in 0..self.rows.len() {
+            let (number, verdict) = self.rows[i];
+            let word = if verdict.is_none() { "ok" } else { "bad" };
+            writeln!(f, "row {number} {word}")?;
         }
         Ok(())
     }
@@ -53,12 +51,22 @@ impl Termination for Outcome {
     }
 }
 
-// Success exactly where the lines could be printed and no row is bad.
-fn outcome_of(printed: bool, verdicts: &Verdicts) -> Outcome
-    ensures { result ≡ 0
-        ↔ (IsTrue printed × All (λ row. IsNone (option_flatten row)) verdicts.now) }
+fn all_ok(rows: &[Row]) -> bool
+    ensures { IsTrue result ↔ All (λ row. IsNone row.1) rows.now }
 {
-    let status = if printed && first_wrong_row(verdicts).is_none() {
+    'each: for i in 0..rows.len() {
+        if rows[i].1.is_some() {
+            return false;
+        }
+    }
+    true
+}
+
+// Success exactly where the lines could be printed and no row is bad.
+fn outcome_of(printed: bool, rows: &[Row]) -> Outcome
+    ensures { result ≡ 0 ↔ (IsTrue printed × All (λ row. IsNone row.1) rows.now) }
+{
+    let status = if printed && all_ok(rows) {
         ExitCode::SUCCESS
     } else {
         ExitCode::FAILURE
@@ -66,14 +74,11 @@ fn outcome_of(printed: bool, verdicts: &Verdicts) -> Outcome
     Outcome { status }
 }
 
-/// Prints the ciphertext of the first worked row, and then a line for each row in the table: `row N ok` or `row N bad`.
-/// The outcome is success where the lines could be printed and no row is bad.
-pub fn report(rt: &impl Print, ciphertext: &[u8; 16], verdicts: &Verdicts) -> Outcome
-    ensures { result ≡ 0 → All (λ row. IsNone (option_flatten row)) verdicts.now }
+/// Prints the ciphertext of row 1, and then a line for each row: `row N ok` or `row N bad`. The outcome is success where
+/// the lines could be printed and no row is bad.
+pub fn report(rt: &impl Print, ciphertext: &[u8; 16], rows: &[Row]) -> Outcome
+    ensures { result ≡ 0 → All (λ row. IsNone row.1) rows.now }
 {
-    let lines = Lines {
-        ciphertext,
-        verdicts,
-    };
-    outcome_of(print!(rt; "{lines}").is_ok(), verdicts)
+    let lines = Lines { ciphertext, rows };
+    outcome_of(print!(rt; "{lines}").is_ok(), rows)
 }

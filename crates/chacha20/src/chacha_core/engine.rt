@@ -1,6 +1,7 @@
 //! The engine of a core: it calls the backend for whole blocks, and XORs bytes with them.
 
-ghost use Rattle.std.specs.Prelude.{◌≡◌, ◌≤◌, ◌<◌, ◌+◌, ◌*◌, ◌/◌, ◌%◌, length, min};
+ghost use Rattle.std.specs.Prelude.{◌≡◌, ◌≤◌, ◌<◌, ⊤, ℕ, ◌+◌, ◌*◌, ◌/◌, ◌%◌, List, ◌++◌, length, slice_index, take, drop, min};
+ghost use Rattle.chacha_base.specs.ChaCha.{xor_stream};
 ghost use Rattle.chacha_base.specs.State.{state_counter, state_after, AreNextBlocks};
 ghost use Rattle.chacha_base.specs.Counts.{Grows, for_tail, for_whole_blocks};
 ghost use Rattle.chacha20.specs.Blocks.{xored_at, applied};
@@ -11,6 +12,7 @@ use chacha_base::cipher::{StreamCipherBackend, StreamCipherCore};
 use chacha_base::rounds::{Rounds, Steps};
 use chacha_base::state::counter;
 use chacha_base::variants::Variant;
+use std::simd::prelude::*;
 
 // Writes the blocks of a state, and moves its counter.
 fn write_blocks<R: Rounds, V: Variant, B: StreamCipherBackend<R, V>>(
@@ -30,15 +32,89 @@ fn write_blocks<R: Rounds, V: Variant, B: StreamCipherBackend<R, V>>(
     B::gen_tail_blocks(state, &mut blocks[done..], &mut steps);
 }
 
-// XORs the bytes from block `first` on with these blocks.
+// What the blocks are XORed into: a slice in place, or an output of the same length as its input.
+trait Target {
+    // The bytes so far, by an input, an output and how many bytes are XORed.
+    ghost so_far: { List ℕ → List ℕ → ℕ → List ℕ };
+
+    // Which lengths an input and an output may have.
+    ghost fits: { ℕ → ℕ → Type 0 };
+
+    // XORs the bytes from block `first` on with these blocks.
+    fn xor_blocks(input: &[u8], data: &mut [u8], first: usize, blocks: &[[u8; 64]])
+        requires input { fits (length input.now) (length «data».old) }
+        requires inside { 64 * (first + length blocks.now) ≤ length «data».old }
+        ensures { so_far input.now «data».new (64 * (first + length blocks.now))
+            ≡ xored_at first blocks.now (so_far input.now «data».old (64 * first)) };
+
+    ghost long: { (input output : List ℕ) → fits (length input) (length output)
+        → length (so_far input output 0) ≡ length output };
+
+    ghost at_end: { (input output : List ℕ) → fits (length input) (length output)
+        → so_far input output (length output) ≡ output };
+}
+
+// `data` in place. The input isn't read.
+struct InPlace;
+
+impl Target for InPlace {
+    ghost use Rattle.std.specs.Prelude.{refl};
+
+    ghost so_far = { λ input output done. output };
+
+    ghost fits = { λ of_input of_output. ⊤ };
+
+    ghost long = { λ input output fit. refl };
+
+    ghost at_end = { λ input output fit. refl };
+
+    #[inline(always)]
+    fn xor_blocks(_input: &[u8], data: &mut [u8], first: usize, blocks: &[[u8; 64]]) {
+        let part = &mut data[64 * first..64 * first + 64 * blocks.len()];
+        for i in 0..blocks.len() {
+            xor_bytes(&mut part[64 * i..64 * i + 64], &blocks[i]);
+        }
+    }
+}
+
+// Writes 64 bytes of an input XORed with a block. By one vector: a loop over three slices would first compare their
+// addresses.
 #[inline(always)]
-fn xor_blocks(data: &mut [u8], first: usize, blocks: &[[u8; 64]])
-    requires { 64 * (first + length blocks.now) ≤ length «data».old }
-    ensures { «data».new ≡ xored_at first blocks.now «data».old }
+fn xor_block(input: &[u8], block: &[u8; 64], output: &mut [u8])
+    requires input { length input.now ≡ 64 }
+    requires output { length output.old ≡ 64 }
+    ensures { output.new ≡ xor_stream (slice_index block.now) 0 input.now }
 {
-    let part = &mut data[64 * first..64 * first + 64 * blocks.len()];
-    for i in 0..blocks.len() {
-        xor_bytes(&mut part[64 * i..64 * i + 64], &blocks[i]);
+    let bytes: u8x64 = Simd::from_slice(input) ^ Simd::from_slice(block);
+    bytes.copy_to_slice(output);
+}
+
+// From `input` into `data`.
+struct Between;
+
+impl Target for Between {
+    ghost use Rattle.std.proofs.Common.{rules};
+    ghost use Rattle.std.proofs.lemmas.Grind.{common_steps};
+
+    ghost so_far = { λ input output done. take done output ++ drop done input };
+
+    ghost fits = { λ of_input of_output. of_input ≡ of_output };
+
+    ghost long = { λ input output same. same };
+
+    ghost at_end = { λ input output same. Prim.search (rules, common_steps) };
+
+    #[inline(always)]
+    fn xor_blocks(input: &[u8], data: &mut [u8], first: usize, blocks: &[[u8; 64]]) {
+        let from = &input[64 * first..64 * first + 64 * blocks.len()];
+        let part = &mut data[64 * first..64 * first + 64 * blocks.len()];
+        for i in 0..blocks.len() {
+            xor_block(
+                &from[64 * i..64 * i + 64],
+                &blocks[i],
+                &mut part[64 * i..64 * i + 64],
+            );
+        }
     }
 }
 
@@ -60,15 +136,18 @@ fn gen_tail_apart<R: Rounds, V: Variant, B: StreamCipherBackend<R, V>>(
 
 // XORs bytes with whole blocks. The blocks are made in `room`, first groups by parallel calls and then the tail.
 #[inline(always)]
-fn apply_through<R: Rounds, V: Variant, B: StreamCipherBackend<R, V>>(
+fn apply_through<R: Rounds, V: Variant, B: StreamCipherBackend<R, V>, T: Target>(
     state: &mut [u32; 16],
     room: &mut [[u8; 64]],
+    input: &[u8],
     data: &mut [u8],
     steps: &mut Steps,
 )
     requires whole { length «data».old % 64 ≡ 0 }
+    requires input { T.fits (length input.now) (length «data».old) }
     requires room { min B.PAR_BLOCKS (length «data».old / 64) ≤ length room.old }
-    ensures data { «data».new ≡ applied R.COUNT V.layout state.old «data».old }
+    ensures data { «data».new
+        ≡ applied R.COUNT V.layout state.old (T.so_far input.now «data».old 0) }
     ensures state { state.new ≡ state_after V.layout (length «data».old / 64) state.old }
     ensures steps { Grows
         (for_whole_blocks B.PAR_BLOCKS (B.PAR_STEPS * R.COUNT) (B.ONE_STEPS * R.COUNT)
@@ -79,35 +158,40 @@ fn apply_through<R: Rounds, V: Variant, B: StreamCipherBackend<R, V>>(
     'groups: for group in 0..count / width {
         let made = &mut room[..width];
         B::gen_par_ks_blocks(state, made, steps);
-        xor_blocks(data, width * group, made);
+        T::xor_blocks(input, data, width * group, made);
     }
     let rest = count % width;
     let made = &mut room[..rest];
     gen_tail_apart::<R, V, B>(state, made, steps);
-    xor_blocks(data, count - rest, made);
+    T::xor_blocks(input, data, count - rest, made);
 }
 
-// XORs bytes with whole blocks. The room for blocks is as wide as the backend needs, and a single block has its own
-// room.
+// XORs bytes with whole blocks. There is room for the blocks of a parallel call, or for those of a short message: more
+// room would be zeroed in vain.
 #[inline(always)]
-fn apply_blocks<R: Rounds, V: Variant, B: StreamCipherBackend<R, V>>(
+fn apply_blocks<R: Rounds, V: Variant, B: StreamCipherBackend<R, V>, T: Target>(
     state: &mut [u32; 16],
+    input: &[u8],
     data: &mut [u8],
     steps: &mut Steps,
 )
-    requires { length «data».old % 64 ≡ 0 }
-    ensures data { «data».new ≡ applied R.COUNT V.layout state.old «data».old }
+    requires whole { length «data».old % 64 ≡ 0 }
+    requires input { T.fits (length input.now) (length «data».old) }
+    ensures data { «data».new
+        ≡ applied R.COUNT V.layout state.old (T.so_far input.now «data».old 0) }
     ensures state { state.new ≡ state_after V.layout (length «data».old / 64) state.old }
     ensures steps { Grows
         (for_whole_blocks B.PAR_BLOCKS (B.PAR_STEPS * R.COUNT) (B.ONE_STEPS * R.COUNT)
         (length «data».old / 64)) steps.old steps.new }
 {
     if B::PAR_BLOCKS == 1 || data.len() == 64 {
-        apply_through::<R, V, B>(state, &mut [[0; 64]; 1], data, steps);
-    } else if B::PAR_BLOCKS <= 4 {
-        apply_through::<R, V, B>(state, &mut [[0; 64]; 4], data, steps);
+        apply_through::<R, V, B, T>(state, &mut [[0; 64]; 1], input, data, steps);
+    } else if B::PAR_BLOCKS <= 4 || data.len() <= 256 {
+        apply_through::<R, V, B, T>(state, &mut [[0; 64]; 4], input, data, steps);
+    } else if B::PAR_BLOCKS <= 8 || data.len() <= 512 {
+        apply_through::<R, V, B, T>(state, &mut [[0; 64]; 8], input, data, steps);
     } else {
-        apply_through::<R, V, B>(state, &mut [[0; 64]; 16], data, steps);
+        apply_through::<R, V, B, T>(state, &mut [[0; 64]; 16], input, data, steps);
     }
 }
 
@@ -137,6 +221,10 @@ impl<R: Rounds, V: Variant, B: StreamCipherBackend<R, V>> StreamCipherCore for C
     }
 
     fn apply_blocks_counted(&mut self, data: &mut [u8], steps: &mut Steps) {
-        apply_blocks::<R, V, B>(&mut self.state, data, steps);
+        apply_blocks::<R, V, B, InPlace>(&mut self.state, &[], data, steps);
+    }
+
+    fn apply_blocks_between_counted(&mut self, input: &[u8], output: &mut [u8], steps: &mut Steps) {
+        apply_blocks::<R, V, B, Between>(&mut self.state, input, output, steps);
     }
 }

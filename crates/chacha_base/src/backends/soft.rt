@@ -73,6 +73,7 @@ impl<R: Rounds, V: Variant> StreamCipherBackend<R, V> for Soft {
         advance::<V>(state, 1);
     }
 
+    #[inline(always)]
     fn gen_par_ks_blocks(state: &mut [u32; 16], blocks: &mut [[u8; 64]], steps: &mut Steps) {
         steps.add_par();
         block_bytes::<R>(state, &mut blocks[0], steps);

@@ -10,9 +10,10 @@ use crate::cipher::keystream::Keystream;
 use crate::cipher::seek_num::SeekNum;
 use crate::rounds::Steps;
 
-// How many bytes are filled or copied before the keystream goes over them: few enough to stay in a near cache, so that
-// they come from memory once.
-const PIECE: usize = 0x2000;
+// How many bytes are written at a time: as many zeros stay in the L1 cache.
+const PIECE: usize = 0x1000;
+
+static ZEROS: [u8; PIECE] = [0; PIECE];
 
 /// A cipher that XORs (exclusive or) bytes with a keystream, from its position on, and moves on past them. Positions
 /// and lengths are in bytes; the limit is the greatest position. The keystream is the blocks of the cipher's fixed
@@ -82,9 +83,7 @@ pub trait StreamCipher: Keystream {
         let mut done = 0;
         'pieces: while done < buf.len() {
             let end = done + PIECE.min(buf.len() - done);
-            let piece = &mut buf[done..end];
-            piece.fill(0);
-            self.apply_keystream(piece);
+            self.apply_keystream_b2b(&ZEROS[..end - done], &mut buf[done..end]);
             done = end;
         }
         Ok(())
@@ -92,7 +91,7 @@ pub trait StreamCipher: Keystream {
 
     /// Writes the input XORed with the keystream into the output (RFC 8439, section 2.4). `Err` exactly where the
     /// lengths differ or the bytes would pass the limit; then nothing changes.
-    final fn try_apply_keystream_b2b(
+    fn try_apply_keystream_b2b(
         &mut self,
         input: &[u8],
         output: &mut [u8],
@@ -105,24 +104,7 @@ pub trait StreamCipher: Keystream {
         ensures fixed { OnOk result (Self.fixed self.new ≡ Self.fixed self.old) }
         ensures position { OnOk result
             (Self.position self.new ≡ Self.position self.old + length input.now) }
-        ensures refused { OnErr result ((output.new ≡ output.old) × (self.new ≡ self.old)) }
-    {
-        if input.len() != output.len() {
-            return Err(StreamCipherError);
-        }
-        if let Err(refusal) = self.check_remaining(input.len()) {
-            return Err(refusal);
-        }
-        let mut done = 0;
-        'pieces: while done < input.len() {
-            let end = done + PIECE.min(input.len() - done);
-            let piece = &mut output[done..end];
-            piece.copy_from_slice(&input[done..end]);
-            self.apply_keystream(piece);
-            done = end;
-        }
-        Ok(())
-    }
+        ensures refused { OnErr result ((output.new ≡ output.old) × (self.new ≡ self.old)) };
 
     /// XORs bytes with the keystream (RFC 8439, section 2.4). The caller proves that they stay within the limit.
     final fn apply_keystream(&mut self, buf: &mut [u8])

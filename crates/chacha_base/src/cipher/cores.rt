@@ -98,6 +98,25 @@ pub trait StreamCipherCore: Keystream + BlockSizeUser + ParBlocksSizeUser {
             (for_whole_blocks Self.PAR_BLOCKS par_cost one_cost (length «data».old / 64))
             steps.old steps.new };
 
+    /// Writes an input, a multiple of 64 bytes, XORed with the next blocks into an output of the same length, and counts
+    /// the steps (this crate). By default it copies the input and applies the blocks in place.
+    fn apply_blocks_between_counted(&mut self, input: &[u8], output: &mut [u8], steps: &mut Steps)
+        requires same { length input.now ≡ length output.old }
+        requires whole { length output.old % 64 ≡ 0 }
+        ensures output { output.new
+            ≡ xor_stream (keystream Self.modulus (Self.block_at (Self.fixed self.old)))
+            (64 * counter self.old) input.now }
+        ensures fixed { Self.fixed self.new ≡ Self.fixed self.old }
+        ensures counter { counter self.new
+            ≡ (counter self.old + length output.old / 64) % Self.modulus }
+        ensures steps { Grows
+            (for_whole_blocks Self.PAR_BLOCKS par_cost one_cost (length output.old / 64))
+            steps.old steps.new }
+    {
+        output.copy_from_slice(input);
+        self.apply_blocks_counted(output, steps);
+    }
+
     ghost block_size: { Self.BLOCK_SIZE ≡ 64 };
 
     ghost position_is: { (c : Self) → Self.position c ≡ 64 * counter c };

@@ -11,7 +11,7 @@ use chacha20::variants::{Ietf, Legacy};
 use chacha20::{ChaChaCore, R20, Rounds};
 use known_answers::R0;
 use known_answers::published::COUNTING;
-use known_answers::verdicts::{Verdict, failed_for, first_failure};
+use known_answers::verdicts::{Verdict, failed_at, first_failure};
 
 // So many blocks from a counter on, the single block after them, and the counter between.
 fn made<C: StreamCipherSeekCore>(
@@ -31,14 +31,14 @@ fn made<C: StreamCipherSeekCore>(
 }
 
 // The first number of blocks, from none to 33, for which two cores differ.
-fn wrong_count<A, B>(core: &mut A, other: &mut B, start: A::Counter) -> Option<usize>
+fn wrong_count<A, B>(core: &mut A, other: &mut B, start: A::Counter) -> Verdict
 where
     A: StreamCipherSeekCore,
     B: StreamCipherSeekCore<Counter = A::Counter>,
 {
     for count in 0..34usize {
         if made(core, start, count) != made(other, start, count) {
-            return Some(count);
+            return failed_at("blocks beside Soft", count);
         }
     }
     None
@@ -57,11 +57,8 @@ where
     let mut plain_legacy = ChaChaCore::<R, Legacy, Soft>::from_seed(COUNTING);
     let mut wide_legacy = ChaChaCore::<R, Legacy, B>::from_seed(COUNTING);
     first_failure(&[
-        failed_for("core", wrong_count(&mut wide, &mut plain, START)),
-        failed_for(
-            "legacy core",
-            wrong_count(&mut wide_legacy, &mut plain_legacy, u64::from(START)),
-        ),
+        wrong_count(&mut wide, &mut plain, START),
+        wrong_count(&mut wide_legacy, &mut plain_legacy, u64::from(START)),
     ])
 }
 

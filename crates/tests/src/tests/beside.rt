@@ -1,13 +1,15 @@
-//! Ciphers and generators compared with those over another backend.
+//! Ciphers and generators compared with those over another backend, and XChaCha with the cipher under the derived key and
+//! nonce.
 
 ghost use Rattle.std.specs.Prelude.{◌≤◌};
 
-use super::direct::{Fresh, all_done};
+use chacha20::CipherAnswer::Done;
+use chacha20::CipherCall::{Apply, Seek};
 use chacha20::rand_core::{Rng, SeedableRng};
-use chacha20::{CipherCall, Seed};
-use known_answers::lists::Listed;
-use known_answers::published::COUNTING;
-use known_answers::verdicts::{Verdict, failed_for};
+use chacha20::{Nonce, Rounds, Seed, XNonce, hchacha};
+use known_answers::lists::{Fresh, Listed, gives};
+use known_answers::published::{COUNTING, DERIVED_NONCE, FROM_80, X_NONCE, X_NONCE_FRONT};
+use known_answers::verdicts::{Verdict, failed, failed_at};
 
 // Whether one cipher decrypts what the other encrypts: ten blocks and a last part of 63 bytes, by two calls each, the
 // first of so many bytes.
@@ -15,40 +17,47 @@ fn takes_back<A: Listed, B: Listed>(cipher: &mut A, other: &mut B, first: usize)
     requires { first ≤ 703 }
 {
     let mut bytes = [0; 703];
+    let second = Apply {
+        at: first,
+        len: 703 - first,
+    };
     let calls = [
-        CipherCall::Seek(0),
-        CipherCall::Apply { at: 0, len: first },
-        CipherCall::Apply {
-            at: first,
-            len: 703 - first,
-        },
+        (Seek(0), Done),
+        (Apply { at: 0, len: first }, Done),
+        (second, Done),
     ];
-    all_done(cipher, &[], &mut bytes, &calls)
-        && all_done(other, &[], &mut bytes, &calls)
+    gives(cipher, &[], &mut bytes, &calls)
+        && gives(other, &[], &mut bytes, &calls)
         && bytes == [0; 703]
 }
 
-// The first number of blocks, from 1 to 10, after which two ciphers differ with a last part of 0, 1 or 63 bytes.
-fn wrong_length<A: Listed, B: Listed>(cipher: &mut A, other: &mut B) -> Option<usize> {
+/// The first number of blocks, from 1 to 10, after which two new ciphers differ with a last part of 0, 1 or 63 bytes.
+pub fn wrong_beside<N, A: Fresh<N>, B: Fresh<N>>(nonce: &N) -> Verdict {
+    let mut cipher = A::fresh(&COUNTING, nonce);
+    let mut other = B::fresh(&COUNTING, nonce);
     for blocks in 1..11usize {
         let whole = 64 * blocks;
-        if !(takes_back(cipher, other, whole)
-            && takes_back(cipher, other, whole + 1)
-            && takes_back(cipher, other, whole + 63))
+        if !(takes_back(&mut cipher, &mut other, whole)
+            && takes_back(&mut cipher, &mut other, whole + 1)
+            && takes_back(&mut cipher, &mut other, whole + 63))
         {
-            return Some(blocks);
+            return failed_at("a cipher beside another", blocks);
         }
     }
     None
 }
 
-/// The same of two new ciphers.
-pub fn wrong_beside<N, A: Fresh<N>, B: Fresh<N>>(nonce: &N) -> Verdict {
-    let mut cipher = A::fresh(&COUNTING, nonce);
-    let mut other = B::fresh(&COUNTING, nonce);
-    failed_for(
-        "a cipher beside another",
-        wrong_length(&mut cipher, &mut other),
+/// What is wrong with 130 bytes of a cipher with nonces of 24 bytes and so many rounds, compared with the cipher with
+/// nonces of 12 bytes over the same backend.
+pub fn wrong_stream<R: Rounds, X: Fresh<XNonce>, C: Fresh<Nonce>>() -> Verdict {
+    let mut bytes = [0; 130];
+    let calls = [(Apply { at: 0, len: 130 }, Done)];
+    let mut derived = C::fresh(&hchacha::<R>(&FROM_80, &X_NONCE_FRONT), &DERIVED_NONCE);
+    let there = gives(&mut derived, &[], &mut bytes, &calls);
+    let back = gives(&mut X::fresh(&FROM_80, &X_NONCE), &[], &mut bytes, &calls);
+    failed(
+        "130 zeros encrypted by the derived cipher, and decrypted by XChaCha",
+        &[there, back, bytes == [0; 130]],
     )
 }
 
@@ -80,7 +89,7 @@ where
             && same_fill::<A, B>(whole + 1)
             && same_fill::<A, B>(whole + 63))
         {
-            return failed_for("a generator beside another", Some(blocks));
+            return failed_at("a generator beside another", blocks);
         }
     }
     None

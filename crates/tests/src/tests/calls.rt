@@ -1,54 +1,18 @@
-//! The calls for bytes of any cipher of RFC 8439: applying, writing and two slices give the same, and so do the calls
-//! without `try_`.
+//! Calls that a list doesn't have: those without `try_`, and positions in each type.
 
 ghost use Rattle.std.specs.Prelude.{◌≤◌, ◌^◌};
 ghost use Rattle.chacha20.specs.Cipher.{limit_of};
 
-use chacha20::cipher::{KeyIvInit, StreamCipher, StreamCipherSeek};
-use chacha20::{CipherAnswer, CipherCall, Key, Nonce};
-use known_answers::lists::{Listed, answers_are};
-use known_answers::published::{COUNTING, OF_20_ROUNDS};
+use super::ends::{FIRST_FOUR, INTO_LAST_BLOCK, LAST_SIXTEEN, LEGACY_LIMIT};
+use chacha20::cipher::{KeyIvInit, StreamCipherSeek};
+use chacha20::{Key, LegacyNonce, Nonce};
+use known_answers::ciphers::is_at;
+use known_answers::lists::{Directly, Listed, wrong_list};
+use known_answers::published::{COUNTING, FROM_1, LEGACY_NONCE, OF_20_ROUNDS};
 use known_answers::verdicts::{Verdict, failed, first_failure};
 
-static ZEROS: [u8; 70000] = [0; 70000];
-
-// From the middle of the first block on the calls for bytes give the same bytes, over several pieces.
-fn gives_the_same<C: Listed>(cipher: &mut C) -> bool {
-    let mut applied = [0; 70000];
-    let mut written = [1; 70000];
-    let mut between = [2; 70000];
-    let all = CipherCall::ApplyFrom {
-        from: 0,
-        from_len: 70000,
-        at: 0,
-        len: 70000,
-    };
-    given(
-        cipher,
-        &mut applied,
-        CipherCall::Apply { at: 0, len: 70000 },
-    ) && given(
-        cipher,
-        &mut written,
-        CipherCall::Write { at: 0, len: 70000 },
-    ) && given(cipher, &mut between, all)
-        && applied == written
-        && applied == between
-}
-
-// Whether a call for 70000 bytes from byte 13 on is done, and moves so far.
-fn given<C: Listed>(cipher: &mut C, bytes: &mut [u8; 70000], call: CipherCall) -> bool {
-    let answers = [
-        CipherAnswer::Done,
-        CipherAnswer::Done,
-        CipherAnswer::Position(70013),
-    ];
-    let calls = [CipherCall::Seek(13), call, CipherCall::Pos];
-    answers_are(cipher, &ZEROS, bytes, &calls, &answers)
-}
-
-// The calls without `try_`.
-fn without_refusals<C>() -> Verdict
+/// What is wrong with the calls without `try_`, of a cipher of RFC 8439.
+pub fn wrong_calls<C>() -> Verdict
 where
     C: KeyIvInit<Key = Key, Iv = Nonce> + StreamCipherSeek + Drop,
     requires { 2 ^ 32 ≤ limit_of C.modulus }
@@ -63,23 +27,83 @@ where
     cipher.seek(0u64);
     let mut between = [9; 2];
     cipher.apply_keystream_b2b(&[0, 0], &mut between);
+    cipher.seek(2147483647i32);
+    let at_greatest = cipher.current_pos::<u64>();
     failed(
-        "calls without refusals: written, the position after it, applied, and between slices",
+        "calls without refusals: written, a position, applied, between slices, a position",
         &[
             OF_20_ROUNDS.starts_with(&written),
             after_written == 4,
             written.ends_with(&applied),
             written.starts_with(&between),
+            at_greatest == 2147483647,
         ],
     )
 }
 
-/// What is wrong with the calls of a cipher for bytes.
-pub fn wrong_calls<C>() -> Verdict
+/// What is wrong with seeks without `try_` at the end of a cipher without rounds.
+pub fn wrong_zero_seeks<C>() -> Verdict
 where
     C: KeyIvInit<Key = Key, Iv = Nonce> + StreamCipherSeek + Listed + Drop,
-    requires { 2 ^ 32 ≤ limit_of C.modulus }
+    requires { 2 ^ 38 ≤ limit_of C.modulus }
 {
-    let same = gives_the_same(&mut C::new(&COUNTING, &[0; 12]));
-    first_failure(&[failed("the same bytes", &[same]), without_refusals::<C>()])
+    let mut cipher = C::new(&[0; 32], &[0; 12]);
+    cipher.seek(274877906928u64);
+    let last = wrong_list(&mut Directly(&mut cipher), &[LAST_SIXTEEN]);
+    cipher.seek(0u32);
+    let first = wrong_list(&mut Directly(&mut cipher), &[FIRST_FOUR]);
+    cipher.seek(274877906864u64);
+    let into = wrong_list(&mut Directly(&mut cipher), &[INTO_LAST_BLOCK]);
+    first_failure(&[last, first, into])
+}
+
+/// What is wrong with positions of a new cipher with a counter of 32 bits, in each type.
+pub fn wrong_positions<C>() -> Verdict
+where
+    C: KeyIvInit<Key = Key, Iv = Nonce> + StreamCipherSeek + Drop,
+    requires { 2 ^ 38 ≤ limit_of C.modulus }
+{
+    let mut cipher = C::new(&COUNTING, &[0; 12]);
+    let refused = [
+        cipher.try_seek(i32::MIN).is_err(),
+        cipher.try_seek(u128::MAX).is_err(),
+        cipher.try_seek(usize::MAX).is_err(),
+        is_at::<C, i32>(&cipher, Some(0)),
+    ];
+    cipher.seek(4294967295u32);
+    let of_32_bits = is_at::<C, i32>(&cipher, None) && is_at::<C, u32>(&cipher, Some(4294967295));
+    cipher.seek(4294967296usize);
+    let places = [
+        of_32_bits,
+        is_at::<C, u32>(&cipher, None),
+        is_at::<C, u64>(&cipher, Some(4294967296)),
+        is_at::<C, u128>(&cipher, Some(4294967296)),
+        is_at::<C, usize>(&cipher, Some(4294967296)),
+    ];
+    first_failure(&[
+        failed("far seeks in i32, u128 and usize", &refused),
+        failed("positions in i32, u32, u64, u128 and usize", &places),
+    ])
+}
+
+/// What is wrong with positions of a legacy cipher around the greatest of 64 bits, by direct calls.
+pub fn wrong_legacy_positions<C>() -> Verdict
+where
+    C: KeyIvInit<Key = Key, Iv = LegacyNonce> + StreamCipherSeek + Drop,
+    requires { 2 ^ 64 ≤ limit_of C.modulus }
+{
+    let mut cipher = C::new(&FROM_1, &LEGACY_NONCE);
+    cipher.seek(usize::MAX);
+    let at_greatest = is_at::<C, u64>(&cipher, Some(18446744073709551615));
+    let accepted = cipher.try_apply_keystream(&mut [0]).is_ok();
+    let past_it = [
+        is_at::<C, u64>(&cipher, None),
+        is_at::<C, usize>(&cipher, None),
+        is_at::<C, u128>(&cipher, Some(18446744073709551616)),
+    ];
+    let at_limit = cipher.try_seek(LEGACY_LIMIT).is_ok() && is_at::<C, u64>(&cipher, None);
+    failed(
+        "the greatest position of 64 bits, the one after it, and the limit",
+        &[at_greatest, accepted, past_it == [true; 3], at_limit],
+    )
 }

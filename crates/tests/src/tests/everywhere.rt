@@ -1,16 +1,12 @@
 //! Every test of a kind of cipher or generator, over each backend and a user's own. A proof meets each core once, here.
 
 use super::beside::wrong_beside;
-use super::direct::{Directly, Fresh};
-use super::streams::legacy_stream;
+use super::streams::wrong_part;
 use super::{
-    all_right, backends, beside, calls, core_calls, derived, ends, generator_runs,
-    generator_traits, odd_cuts, positions, runs, streams, wraps,
+    backends, beside, calls, core_calls, ends, generator_traits, odd_cuts, stop_if, streams, wraps,
 };
 use chacha20::backends::{Columns8, Lanes4, Lanes8, Lanes16, Rows8, Soft};
-use chacha20::cipher::{
-    KeyIvInit, RngBackend, StreamCipherBackend, StreamCipherCounter, StreamCipherSeekCore,
-};
+use chacha20::cipher::{KeyIvInit, RngBackend, StreamCipherBackend, StreamCipherSeekCore};
 use chacha20::rand_core::SeedableRng;
 use chacha20::variants::{Ietf, Legacy};
 use chacha20::{
@@ -18,71 +14,42 @@ use chacha20::{
     StreamCipherCoreWrapper, XChaChaCore, XNonce,
 };
 use examples::backend::Width3;
-use known_answers::ciphers::{self, IETF_ROWS, LEGACY_ROWS, NumberedLists, X_ROWS};
-use known_answers::lists::{CipherList, wrong_list};
-use known_answers::published::{COUNTING, FROM_1, FROM_80, LEGACY_NONCE, NONCE, X_NONCE};
-use known_answers::verdicts::{Verdict, failed, first_failure, first_wrong_row};
-use known_answers::{R0, cores, generators as row_generators};
+use known_answers::draws::wrong_draws;
+use known_answers::generators::ZEROS;
+use known_answers::lists::{Fresh, wrong_lists};
+use known_answers::published::{
+    COUNTING, FROM_1, FROM_80, LEGACY_KEYSTREAM, LEGACY_NONCE, NONCE, X_NONCE,
+};
+use known_answers::verdicts::{Verdict, failed, first_bad_row, first_failure};
+use known_answers::{R0, rows};
 
 type Cipher<K> = StreamCipherCoreWrapper<K>;
-
-/// What is wrong with lists on a new cipher: called directly, and as lists.
-pub fn wrong_lists<N, C: Fresh<N>>(key: &Key, nonce: &N, lists: &[CipherList]) -> Verdict {
-    let direct = wrong_list(&mut Directly(&mut C::fresh(key, nonce)), lists);
-    if direct.is_some() {
-        return direct;
-    }
-    wrong_list(&mut C::fresh(key, nonce), lists)
-}
-
-/// As `wrong_lists`, for the lists of each worked row.
-pub fn wrong_rows<N, C: Fresh<N>>(key: &Key, nonce: &N, rows: &[NumberedLists]) -> Verdict {
-    for i in 0..rows.len() {
-        let wrong = wrong_lists::<N, C>(key, nonce, rows[i].1);
-        if wrong.is_some() {
-            return wrong;
-        }
-    }
-    None
-}
 
 // A cipher of RFC 8439 with 20 rounds.
 fn wrong_ietf<C: Fresh<Nonce>>() -> Verdict {
     first_failure(&[
-        wrong_rows::<Nonce, C>(&COUNTING, &NONCE, &IETF_ROWS),
         wrong_lists::<Nonce, C>(&COUNTING, &[0; 12], &ends::IETF_ENDS),
         wrong_lists::<Nonce, C>(&COUNTING, &NONCE, &streams::IETF_STREAM),
         streams::wrong_block::<C>(),
     ])
 }
 
-// A cipher in the older layout.
+// A legacy cipher.
 fn wrong_legacy<C: Fresh<LegacyNonce>>() -> Verdict {
-    let mut cipher = C::fresh(&FROM_1, &LEGACY_NONCE);
-    let place = legacy_stream(&mut cipher, 17);
+    let part = wrong_part(&mut C::fresh(&FROM_1, &LEGACY_NONCE), LEGACY_KEYSTREAM, 17);
     first_failure(&[
-        failed("the legacy stream", &[place.is_none()]),
-        wrong_rows::<LegacyNonce, C>(&FROM_1, &LEGACY_NONCE, &LEGACY_ROWS),
+        failed("the legacy stream", &[part.is_none()]),
         wrong_lists::<LegacyNonce, C>(&FROM_1, &LEGACY_NONCE, &ends::LEGACY_ENDS),
-        ends::wrong_legacy_groups(&mut cipher),
         odd_cuts::wrong_cuts::<LegacyNonce, C>(&LEGACY_NONCE),
-    ])
-}
-
-// A cipher with nonces of 24 bytes.
-fn wrong_x<C: Fresh<XNonce>>() -> Verdict {
-    first_failure(&[
-        wrong_rows::<XNonce, C>(&FROM_80, &X_NONCE, &X_ROWS),
-        wrong_lists::<XNonce, C>(&FROM_80, &X_NONCE, &streams::X_STREAM),
     ])
 }
 
 // A cipher without rounds.
 fn wrong_zero<C: Fresh<Nonce>>() -> Verdict {
     first_failure(&[
-        wrong_lists::<Nonce, C>(&[0; 32], &[0; 12], &runs::RUNS),
+        wrong_lists::<Nonce, C>(&[0; 32], &[0; 12], &ends::RUNS),
         wrong_lists::<Nonce, C>(&[0; 32], &[0; 12], &ends::ZERO_ENDS),
-        ends::wrong_zero_groups(&mut C::fresh(&[0; 32], &[0; 12])),
+        ends::wrong_last_blocks(&mut C::fresh(&[0; 32], &[0; 12])),
     ])
 }
 
@@ -92,12 +59,9 @@ where
     K: KeyIvInit<Key = Key, Iv = Nonce> + StreamCipherSeekCore<Counter = u32> + Drop,
     P: KeyIvInit<Key = Key, Iv = Nonce> + StreamCipherSeekCore<Counter = u32> + Drop,
 {
-    let mut rows = [None; 24];
-    let _ = ciphers::enter_ietf_rows::<K>(&mut rows);
     first_failure(&[
-        first_wrong_row(&rows),
         calls::wrong_calls::<Cipher<K>>(),
-        positions::wrong_positions(&mut Cipher::<K>::new(&COUNTING, &[0; 12])),
+        calls::wrong_positions::<Cipher<K>>(),
         wrong_ietf::<Cipher<K>>(),
         core_calls::wrong_blocks::<Nonce, u32, K>(&[7; 12], 0, 4, Some(0x1_0000_0000)),
         wrong_beside::<Nonce, Cipher<K>, Cipher<P>>(&[7; 12]),
@@ -109,11 +73,8 @@ where
     K: KeyIvInit<Key = Key, Iv = LegacyNonce> + StreamCipherSeekCore<Counter = u64> + Drop,
     P: KeyIvInit<Key = Key, Iv = LegacyNonce> + StreamCipherSeekCore<Counter = u64> + Drop,
 {
-    let mut rows = [None; 24];
-    ciphers::enter_legacy_rows::<K>(&mut rows);
     first_failure(&[
-        first_wrong_row(&rows),
-        positions::wrong_legacy_positions(&mut Cipher::<K>::new(&FROM_1, &LEGACY_NONCE)),
+        calls::wrong_legacy_positions::<Cipher<K>>(),
         wrong_legacy::<Cipher<K>>(),
         core_calls::wrong_blocks::<LegacyNonce, u64, K>(&[7; 8], 0xffff_ffff, 0x1_0000_0003, None),
         wrong_beside::<LegacyNonce, Cipher<K>, Cipher<P>>(&LEGACY_NONCE),
@@ -125,11 +86,8 @@ where
     K: KeyIvInit<Key = Key, Iv = XNonce> + StreamCipherSeekCore<Counter = u32> + Drop,
     P: KeyIvInit<Key = Key, Iv = XNonce> + StreamCipherSeekCore<Counter = u32> + Drop,
 {
-    let mut rows = [None; 24];
-    ciphers::enter_x_rows::<K>(&mut rows);
     first_failure(&[
-        first_wrong_row(&rows),
-        wrong_x::<Cipher<K>>(),
+        wrong_lists::<XNonce, Cipher<K>>(&FROM_80, &X_NONCE, &streams::X_STREAM),
         core_calls::wrong_blocks::<XNonce, u32, K>(&[7; 24], 0, 4, Some(0x1_0000_0000)),
         wrong_beside::<XNonce, Cipher<K>, Cipher<P>>(&[7; 24]),
     ])
@@ -158,7 +116,7 @@ where
     first_failure(&[
         odd_cuts::wrong_cuts::<Nonce, Cipher<K>>(&[7; 12]),
         odd_cuts::wrong_cuts::<XNonce, Cipher<X>>(&[7; 24]),
-        derived::wrong_stream::<R, Cipher<X>, Cipher<K>>(),
+        beside::wrong_stream::<R, Cipher<X>, Cipher<K>>(),
     ])
 }
 
@@ -176,8 +134,8 @@ where
 {
     first_failure(&[
         wrong_zero::<Cipher<I>>(),
+        calls::wrong_zero_seeks::<Cipher<I>>(),
         wrong_lists::<XNonce, Cipher<X>>(&[0; 32], &[0; 24], &ends::ZERO_ENDS),
-        cores::row_13::<I, L>(),
         wraps::wrong_core::<I, L>(),
     ])
 }
@@ -196,25 +154,19 @@ where
     ])
 }
 
-// Generators: worked rows, published streams, and without rounds what can be computed by hand.
-fn wrong_generators<B>() -> Verdict
-where
-    B: RngBackend<R0> + RngBackend<R8> + RngBackend<R12> + RngBackend<R20>,
-{
-    let mut rows = [None; 24];
-    row_generators::enter_rows::<B>(&mut rows);
+// Generators: published streams, and without rounds what can be computed by hand.
+fn wrong_generators<B: RngBackend<R0> + RngBackend<R20>>() -> Verdict {
     first_failure(&[
-        first_wrong_row(&rows),
-        streams::wrong_generator_stream::<B>(),
+        streams::wrong_generator_stream::<ChaChaRng<R20, B>>(),
         generator_traits::wrong_row_7::<B>(),
         generator_traits::wrong_reads::<B>(),
-        generator_runs::wrong_lists::<B>(),
+        wrong_draws::<ChaChaRng<R0, B>>(ZEROS, &wraps::RNG_RUNS),
         wraps::wrong_generator::<B>(),
         beside::wrong_fill::<ChaChaRng<R20, B>, ChaChaRng<R20, Soft>>(),
     ])
 }
 
-// Every kind of cipher, and generators, over a backend.
+// The rows, every kind of cipher, and generators, over a backend.
 fn over<B>() -> Verdict
 where
     B: StreamCipherBackend<R0, Ietf>
@@ -228,7 +180,18 @@ where
         + RngBackend<R12>
         + RngBackend<R20>,
 {
+    let (_, rows) = rows::<
+        ChaChaCore<R20, Ietf, B>,
+        ChaChaCore<R20, Legacy, B>,
+        XChaChaCore<R20, B>,
+        ChaChaCore<R0, Ietf, B>,
+        ChaChaCore<R0, Legacy, B>,
+        ChaChaRng<R8, B>,
+        ChaChaRng<R12, B>,
+        ChaChaRng<R20, B>,
+    >();
     first_failure(&[
+        first_bad_row(&rows),
         without_rounds::<B>(),
         with_any_rounds::<R8, B>(),
         with_any_rounds::<R12, B>(),
@@ -241,50 +204,55 @@ where
 
 #[test]
 fn soft(rt: HostRuntime) {
-    all_right(&rt, &[("Soft", over::<Soft>())]);
+    stop_if(&rt, "Soft", over::<Soft>());
 }
 
 #[test]
 fn lanes4(rt: HostRuntime) {
-    all_right(&rt, &[("Lanes4", over::<Lanes4>())]);
+    stop_if(&rt, "Lanes4", over::<Lanes4>());
 }
 
 #[test]
 fn lanes8(rt: HostRuntime) {
-    all_right(&rt, &[("Lanes8", over::<Lanes8>())]);
+    stop_if(&rt, "Lanes8", over::<Lanes8>());
 }
 
 #[test]
 fn rows8(rt: HostRuntime) {
-    all_right(&rt, &[("Rows8", over::<Rows8>())]);
+    stop_if(&rt, "Rows8", over::<Rows8>());
 }
 
 #[test]
 fn lanes16(rt: HostRuntime) {
-    all_right(&rt, &[("Lanes16", over::<Lanes16>())]);
+    stop_if(&rt, "Lanes16", over::<Lanes16>());
 }
 
 #[test]
 fn columns8(rt: HostRuntime) {
-    all_right(&rt, &[("Columns8", over::<Columns8>())]);
+    stop_if(&rt, "Columns8", over::<Columns8>());
 }
 
 #[test]
 fn width3(rt: HostRuntime) {
-    all_right(&rt, &[("Width3", over::<Width3>())]);
+    stop_if(&rt, "Width3", over::<Width3>());
 }
 
-// The legacy stream over `Soft` between all places. `rt try` stops a test after a minute, too soon for this one.
-// `rt test` and `rt ci` run it in seconds.
+// Between all places. `rt try` stops a test after a minute, too soon for this one. `rt test` and `rt ci` run it in
+// seconds.
 #[test]
 fn soft_between_all_places(rt: HostRuntime) {
-    assert!(rt; is_right_between_all_places::<ChaChaCore<R20, Legacy, Soft>>());
+    assert!(rt; wrong_soft_part(LEGACY_KEYSTREAM, 1).is_none());
 }
 
-fn is_right_between_all_places<K>() -> bool
+/// `wrong_part` of the legacy stream over `Soft`.
+pub fn wrong_soft_part(stream: &[u8; 256], step: usize) -> Option<usize> {
+    wrong_part_of::<ChaChaCore<R20, Legacy, Soft>>(stream, step)
+}
+
+fn wrong_part_of<K>(stream: &[u8; 256], step: usize) -> Option<usize>
 where
     K: KeyIvInit<Key = Key, Iv = LegacyNonce> + StreamCipherSeekCore + Drop,
 {
     let mut cipher = Cipher::<K>::new(&FROM_1, &LEGACY_NONCE);
-    legacy_stream(&mut cipher, 1).is_none()
+    wrong_part(&mut cipher, stream, step)
 }

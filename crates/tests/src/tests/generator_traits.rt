@@ -1,8 +1,8 @@
-//! Reads of generators, by their own calls and through the traits of `rand_core`, as generic code uses them; seeds.
+//! Reads of generators, by their own calls and through the traits of `rand_core`, as generic code uses them.
 
-use chacha20::cipher::{RngBackend, StreamCipherCore};
-use chacha20::rand_core::{self, CryptoRng, Rng, SeedableRng, TryRng};
-use chacha20::{ChaCha8Rng, ChaCha12Rng, ChaCha20LegacyCore, ChaCha20Rng, ChaChaRng, R20, Seed};
+use chacha20::cipher::RngBackend;
+use chacha20::rand_core::{CryptoRng, Rng, TryRng};
+use chacha20::{ChaCha8Rng, ChaCha12Rng, ChaCha20Rng, ChaChaRng, R20};
 use known_answers::R0;
 use known_answers::published::{FROM_1, OF_8_ROUNDS, OF_12_ROUNDS, OF_20_ROUNDS};
 use known_answers::verdicts::{Verdict, failed};
@@ -114,50 +114,4 @@ fn rounds(rt: HostRuntime) {
     ChaCha12Rng::from_seed([0; 32]).fill_bytes(&mut found[1]);
     ChaCha20Rng::from_seed([0; 32]).fill_bytes(&mut found[2]);
     assert!(rt; found == [OF_8_ROUNDS, OF_12_ROUNDS, OF_20_ROUNDS]);
-}
-
-// A generator that another one seeds.
-fn seeded_by<G: SeedableRng + Rng>(first: &mut G) -> G {
-    G::from_rng(first)
-}
-
-#[test]
-fn row_17(rt: HostRuntime) {
-    let mut first = ChaCha20Rng::from_seed(
-        *b"\0\0\0\0\0\0\0\0\x01\0\0\0\0\0\0\0\x02\0\0\0\0\0\0\0\x03\0\0\0\0\0\0\0",
-    );
-    let word = first.next_u32();
-    let mut second = seeded_by(&mut first);
-    let words = [word, second.next_u32()];
-    assert!(rt; words == [137206642, 1325750369] && first.get_word_pos() == 9);
-}
-
-// Whether the generator of a number is that of the seed that rand_core makes of it.
-fn is_of_seed<G: SeedableRng<Seed = Seed> + PartialEq + Drop>(number: u64) -> bool {
-    G::seed_from_u64(number) == G::from_seed(rand_core::Seed::from_u64(number))
-}
-
-// Whether the core of a number gives the first block of the generator of the number.
-fn core_is_of_seed(number: u64) -> bool {
-    let mut block = [0; 64];
-    let mut bytes = [0; 64];
-    ChaCha20LegacyCore::seed_from_u64(number).write_keystream_block(&mut block);
-    ChaCha20Rng::from_seed(rand_core::Seed::from_u64(number)).fill_bytes(&mut bytes);
-    block == bytes
-}
-
-static NUMBERS: [u64; 4] = [0, 1, 0x0123_4567_89ab_cdef, u64::MAX];
-
-#[test]
-fn seed_from_u64(rt: HostRuntime) {
-    for i in 0..NUMBERS.len() {
-        let number = NUMBERS[i];
-        let right = [
-            is_of_seed::<ChaCha8Rng>(number),
-            is_of_seed::<ChaCha12Rng>(number),
-            is_of_seed::<ChaCha20Rng>(number),
-            core_is_of_seed(number),
-        ];
-        assert!(rt; right == [true; 4], "{number}");
-    }
 }

@@ -2,12 +2,12 @@
 
 ghost use Rattle.std.specs.Prelude.{◌≤◌, ◌+◌};
 
-use super::direct::{Directly, Fresh, all_done};
 use super::streams::is_multiple;
-use chacha20::CipherCall;
-use known_answers::lists::Listed;
+use chacha20::CipherAnswer::Done;
+use chacha20::CipherCall::{Apply, Seek};
+use known_answers::lists::{Directly, Fresh, Listed, gives};
 use known_answers::published::COUNTING;
-use known_answers::verdicts::{Verdict, failed_for, first_failure};
+use known_answers::verdicts::{Verdict, failed_at, first_failure};
 
 // A message of some blocks and one byte more than a group of any backend.
 const LENGTH: usize = 2049;
@@ -19,20 +19,15 @@ static SIZES: [usize; 9] = [1, 3, 63, 64, 65, 255, 257, 1023, 1025];
 fn piece_is_done<C: Listed>(cipher: &mut C, data: &mut [u8; LENGTH], at: usize, len: usize) -> bool
     requires { at + len ≤ 2049 }
 {
-    let calls = [
-        CipherCall::Apply { at, len },
-        CipherCall::Apply {
-            at: at + len,
-            len: 0,
-        },
-    ];
-    all_done(cipher, &[], data, &calls)
+    let end = at + len;
+    let calls = [(Apply { at, len }, Done), (Apply { at: end, len: 0 }, Done)];
+    gives(cipher, &[], data, &calls)
 }
 
 // Whether pieces of a size come out as the whole.
 fn same_in_pieces<C: Listed>(cipher: &mut C, whole: &[u8; LENGTH], size: usize) -> bool {
     let mut data = [0; LENGTH];
-    let mut right = all_done(cipher, &[], &mut [], &[CipherCall::Seek(0)]);
+    let mut right = gives(cipher, &[], &mut [], &[(Seek(0), Done)]);
     for at in 0..LENGTH {
         if is_multiple(at, size) {
             right &= piece_is_done(cipher, &mut data, at, size.min(LENGTH - at));
@@ -46,42 +41,38 @@ fn same_from<C: Listed>(cipher: &mut C, whole: &[u8; LENGTH], from: usize) -> bo
     requires { from ≤ 2049 }
 {
     let mut data = [0; LENGTH];
-    let calls = [
-        CipherCall::Seek(from as u128),
-        CipherCall::Apply {
-            at: from,
-            len: LENGTH - from,
-        },
-    ];
-    all_done(cipher, &[], &mut data, &calls) && data[from..] == whole[from..]
+    let rest = Apply {
+        at: from,
+        len: LENGTH - from,
+    };
+    let calls = [(Seek(from as u128), Done), (rest, Done)];
+    gives(cipher, &[], &mut data, &calls) && data[from..] == whole[from..]
 }
 
 // The first size of pieces, or the first place of a seek, for which the bytes differ from those of one application.
-fn wrong_cut<C: Listed>(cipher: &mut C) -> Option<usize> {
+fn wrong_cut<C: Listed>(cipher: &mut C) -> Verdict {
     let mut whole = [0; LENGTH];
-    let calls = [CipherCall::Apply { at: 0, len: LENGTH }];
-    if !all_done(cipher, &[], &mut whole, &calls) {
-        return Some(LENGTH);
+    let calls = [(Apply { at: 0, len: LENGTH }, Done)];
+    if !gives(cipher, &[], &mut whole, &calls) {
+        return failed_at("the whole", 0);
     }
     for i in 0..SIZES.len() {
         if !same_in_pieces(cipher, &whole, SIZES[i]) {
-            return Some(SIZES[i]);
+            return failed_at("pieces of a size", SIZES[i]);
         }
     }
     for place in 0..34usize {
         if !same_from(cipher, &whole, 61 * place) {
-            return Some(61 * place);
+            return failed_at("the rest from a byte on", 61 * place);
         }
     }
     None
 }
 
-/// What is wrong with cuts of a new cipher: the size of the pieces, or the place of the seek.
+/// What is wrong with cuts of a new cipher, by direct calls and by lists.
 pub fn wrong_cuts<N, C: Fresh<N>>(nonce: &N) -> Verdict {
-    let direct = wrong_cut(&mut Directly(&mut C::fresh(&COUNTING, nonce)));
-    let listed = wrong_cut(&mut C::fresh(&COUNTING, nonce));
     first_failure(&[
-        failed_for("a cut", direct),
-        failed_for("a cut by lists", listed),
+        wrong_cut(&mut Directly(&mut C::fresh(&COUNTING, nonce))),
+        wrong_cut(&mut C::fresh(&COUNTING, nonce)),
     ])
 }

@@ -1,18 +1,20 @@
-//! The wrapper over a toy core.
+//! The wrapper over a user's own core.
 
-use super::all_right;
 use super::ends::LIMIT;
-use super::toy::Toy;
-use chacha20::cipher::{KeyIvInit, StreamCipher, StreamCipherSeekCore};
-use chacha20::{CipherAnswer, CipherCall, StreamCipherCoreWrapper};
-use known_answers::lists::{CipherList, wrong_list};
+use super::stop_if;
+use chacha20::CipherAnswer::{Done, Position, Refused};
+use chacha20::CipherCall::{Apply, CheckRemaining, Pos, Seek, Write};
+use chacha20::StreamCipherCoreWrapper;
+use chacha20::cipher::{KeyIvInit, StreamCipherSeekCore};
+use examples::own_core::Toy;
+use known_answers::lists::{CipherList, EMPTY, wrong_list};
 use known_answers::verdicts::Verdict;
 
 // A new core is at block 5, and a cipher over it begins at block 0.
 #[test]
 fn toy_calls(rt: HostRuntime) {
     assert!(rt; Toy::new(&7, &()).get_block_pos() == 5);
-    all_right(&rt, &[("Toy", wrong_calls::<Toy>())]);
+    stop_if(&rt, "Toy", wrong_calls::<Toy>());
 }
 
 fn wrong_calls<K>() -> Verdict
@@ -25,164 +27,62 @@ where
 // Under the toy core of seed 7 byte p of the keystream is (7 + 100 * (p / 64) + p % 64) mod 256: the first block begins
 // with 7, the second with 107, the third with 207 and the last with 163. A cipher takes 64 bytes of each of the 2^32
 // blocks, and not one more; at the limit a core's counter is 0, as at the start.
-static LISTS: [CipherList; 10] = [
+static LISTS: [CipherList; 3] = [
     CipherList {
-        name: "a new cipher",
-        input: &[],
-        data: &[],
+        name: "a new cipher, into block 2",
+        data: &[0; 130],
         calls: &[
-            CipherCall::Pos,
-            CipherCall::CheckRemaining(LIMIT as usize),
-            CipherCall::CheckRemaining(LIMIT as usize + 1),
+            (Pos, Position(0)),
+            (CheckRemaining(LIMIT as usize), Done),
+            (CheckRemaining(LIMIT as usize + 1), Refused),
+            (Apply { at: 0, len: 1 }, Done),
+            (Apply { at: 1, len: 63 }, Done),
+            (Write { at: 64, len: 66 }, Done),
+            (CheckRemaining(LIMIT as usize - 130), Done),
+            (CheckRemaining(LIMIT as usize - 129), Refused),
         ],
-        answers: &[
-            CipherAnswer::Position(0),
-            CipherAnswer::Done,
-            CipherAnswer::Refused,
-        ],
-        after: &[],
+        after: b"\x07\x08\x09\x0a\x0b\x0c\x0d\x0e\x0f\x10\x11\x12\x13\x14\x15\x16\
+            \x17\x18\x19\x1a\x1b\x1c\x1d\x1e\x1f\x20\x21\x22\x23\x24\x25\x26\
+            \x27\x28\x29\x2a\x2b\x2c\x2d\x2e\x2f\x30\x31\x32\x33\x34\x35\x36\
+            \x37\x38\x39\x3a\x3b\x3c\x3d\x3e\x3f\x40\x41\x42\x43\x44\x45\x46\
+            \x6b\x6c\x6d\x6e\x6f\x70\x71\x72\x73\x74\x75\x76\x77\x78\x79\x7a\
+            \x7b\x7c\x7d\x7e\x7f\x80\x81\x82\x83\x84\x85\x86\x87\x88\x89\x8a\
+            \x8b\x8c\x8d\x8e\x8f\x90\x91\x92\x93\x94\x95\x96\x97\x98\x99\x9a\
+            \x9b\x9c\x9d\x9e\x9f\xa0\xa1\xa2\xa3\xa4\xa5\xa6\xa7\xa8\xa9\xaa\
+            \xcf\xd0",
+        ..EMPTY
     },
     CipherList {
-        name: "the first byte, the rest of block 0, and block 1",
-        input: &[],
-        data: &[0xa5; 128],
+        name: "into the last block, and to the end",
+        data: &[0; 65],
         calls: &[
-            CipherCall::Apply { at: 0, len: 1 },
-            CipherCall::Apply { at: 1, len: 63 },
-            CipherCall::Apply { at: 64, len: 64 },
+            (Seek(LIMIT - 65), Done),
+            (Write { at: 0, len: 4 }, Done),
+            (Apply { at: 4, len: 61 }, Done),
+            (Pos, Position(LIMIT)),
+            (Apply { at: 65, len: 0 }, Done),
+            (Apply { at: 0, len: 1 }, Refused),
+            (Seek(LIMIT + 1), Refused),
+            (Pos, Position(LIMIT)),
         ],
-        answers: &[CipherAnswer::Done, CipherAnswer::Done, CipherAnswer::Done],
-        after: b"\xa2\
-            \xad\xac\xaf\xae\xa9\xa8\xab\xaa\xb5\xb4\xb7\xb6\xb1\xb0\xb3\
-            \xb2\xbd\xbc\xbf\xbe\xb9\xb8\xbb\xba\x85\x84\x87\x86\x81\x80\x83\
-            \x82\x8d\x8c\x8f\x8e\x89\x88\x8b\x8a\x95\x94\x97\x96\x91\x90\x93\
-            \x92\x9d\x9c\x9f\x9e\x99\x98\x9b\x9a\xe5\xe4\xe7\xe6\xe1\xe0\xe3\
-            \xce\xc9\xc8\xcb\xca\xd5\xd4\xd7\xd6\xd1\xd0\xd3\xd2\xdd\xdc\xdf\
-            \xde\xd9\xd8\xdb\xda\x25\x24\x27\x26\x21\x20\x23\x22\x2d\x2c\x2f\
-            \x2e\x29\x28\x2b\x2a\x35\x34\x37\x36\x31\x30\x33\x32\x3d\x3c\x3f\
-            \x3e\x39\x38\x3b\x3a\x05\x04\x07\x06\x01\x00\x03\x02\x0d\x0c\x0f",
+        after: b"\x7e\xa3\xa4\xa5\xa6\xa7\xa8\xa9\xaa\xab\xac\xad\xae\xaf\xb0\xb1\
+            \xb2\xb3\xb4\xb5\xb6\xb7\xb8\xb9\xba\xbb\xbc\xbd\xbe\xbf\xc0\xc1\
+            \xc2\xc3\xc4\xc5\xc6\xc7\xc8\xc9\xca\xcb\xcc\xcd\xce\xcf\xd0\xd1\
+            \xd2\xd3\xd4\xd5\xd6\xd7\xd8\xd9\xda\xdb\xdc\xdd\xde\xdf\xe0\xe1\xe2",
+        ..EMPTY
     },
     CipherList {
-        name: "two bytes of block 2, and what is left after 130",
-        input: &[],
-        data: &[0xa5; 2],
-        calls: &[
-            CipherCall::Apply { at: 0, len: 2 },
-            CipherCall::CheckRemaining(LIMIT as usize - 130),
-            CipherCall::CheckRemaining(LIMIT as usize - 129),
-        ],
-        answers: &[
-            CipherAnswer::Done,
-            CipherAnswer::Done,
-            CipherAnswer::Refused,
-        ],
-        after: b"\x6a\x75",
-    },
-    CipherList {
-        name: "the first bytes written",
-        input: &[],
+        name: "three bytes where two are left, the last two, and the first one again",
         data: &[0; 3],
         calls: &[
-            CipherCall::Seek(0),
-            CipherCall::Pos,
-            CipherCall::Write { at: 0, len: 3 },
+            (Seek(LIMIT - 2), Done),
+            (Apply { at: 0, len: 3 }, Refused),
+            (Write { at: 0, len: 2 }, Done),
+            (Seek(0), Done),
+            (Write { at: 2, len: 1 }, Done),
+            (Pos, Position(1)),
         ],
-        answers: &[
-            CipherAnswer::Done,
-            CipherAnswer::Position(0),
-            CipherAnswer::Done,
-        ],
-        after: &[7, 8, 9],
-    },
-    CipherList {
-        name: "into the last block",
-        input: &[],
-        data: &[0; 4],
-        calls: &[
-            CipherCall::Seek(LIMIT - 65),
-            CipherCall::Write { at: 0, len: 4 },
-        ],
-        answers: &[CipherAnswer::Done, CipherAnswer::Done],
-        after: &[126, 163, 164, 165],
-    },
-    CipherList {
-        name: "to the end",
-        input: &[],
-        data: &[0; 61],
-        calls: &[CipherCall::Write { at: 0, len: 61 }, CipherCall::Pos],
-        answers: &[CipherAnswer::Done, CipherAnswer::Position(LIMIT)],
-        after: &[],
-    },
-    CipherList {
-        name: "three bytes where two are left",
-        input: &[],
-        data: &[1, 2, 3],
-        calls: &[
-            CipherCall::Seek(LIMIT - 2),
-            CipherCall::Apply { at: 0, len: 3 },
-        ],
-        answers: &[CipherAnswer::Done, CipherAnswer::Refused],
-        after: &[1, 2, 3],
-    },
-    CipherList {
-        name: "the last two",
-        input: &[],
-        data: &[0; 2],
-        calls: &[CipherCall::Write { at: 0, len: 2 }],
-        answers: &[CipherAnswer::Done],
-        after: &[225, 226],
-    },
-    CipherList {
-        name: "at the limit",
-        input: &[],
-        data: &[0],
-        calls: &[
-            CipherCall::Apply { at: 1, len: 0 },
-            CipherCall::Apply { at: 0, len: 1 },
-            CipherCall::Seek(LIMIT + 1),
-            CipherCall::Pos,
-        ],
-        answers: &[
-            CipherAnswer::Done,
-            CipherAnswer::Refused,
-            CipherAnswer::Refused,
-            CipherAnswer::Position(LIMIT),
-        ],
-        after: &[0],
-    },
-    CipherList {
-        name: "the first byte again",
-        input: &[],
-        data: &[0],
-        calls: &[
-            CipherCall::Seek(0),
-            CipherCall::Write { at: 0, len: 1 },
-            CipherCall::Pos,
-        ],
-        answers: &[
-            CipherAnswer::Done,
-            CipherAnswer::Done,
-            CipherAnswer::Position(1),
-        ],
-        after: &[7],
+        after: &[225, 226, 7],
+        ..EMPTY
     },
 ];
-
-// Nine blocks at once, two groups of four and one more, and two alone.
-fn blocks<C: StreamCipherSeekCore>(core: &mut C) -> [[u8; 64]; 11] {
-    let mut blocks = [[0; 64]; 11];
-    core.apply_keystream_blocks(&mut blocks[..9]);
-    core.apply_keystream_block(&mut blocks[9]);
-    core.write_keystream_block(&mut blocks[10]);
-    blocks
-}
-
-#[test]
-fn toy_in_blocks(rt: HostRuntime) {
-    let mut core = Toy::new(&7, &());
-    core.set_block_pos(0);
-    let blocks = blocks(&mut core);
-    let mut stream = [0; 704];
-    let written = StreamCipherCoreWrapper::<Toy>::new(&7, &()).try_write_keystream(&mut stream);
-    assert!(rt; written.is_ok() && blocks.as_flattened() == stream.as_slice());
-}

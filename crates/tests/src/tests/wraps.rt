@@ -1,14 +1,18 @@
 //! Counters and positions that wrap, and stored states of any bytes, over each backend. Nothing here makes rounds, so
 //! words can be computed by hand.
 
-use super::generator_runs::STREAM;
+use chacha20::RngAnswer::{Done, U32, U64, U128};
+use chacha20::RngCall::{
+    Fill, GetBlockPos, GetStream, GetWordPos, NextU32, NextU64, Reload, SetStream, SetWordPos,
+};
 use chacha20::cipher::{KeyIvInit, RngBackend, StreamCipherCounter, StreamCipherSeekCore};
 use chacha20::rand_core::SeedableRng;
 use chacha20::{ChaChaRng, Key, Nonce, Seed};
 use known_answers::R0;
 use known_answers::cores::last_row;
+use known_answers::draws::{NO_DRAW, RngList};
 use known_answers::generators::POSITIONS;
-use known_answers::verdicts::{Verdict, failed, failed_for, first_failure};
+use known_answers::verdicts::{Verdict, failed, failed_at, first_failure};
 
 // The last rows of blocks 0, 2, 3 and 19 of twenty, and the counter after them.
 type Ends = ([[u8; 16]; 4], u64);
@@ -78,8 +82,60 @@ where
     )
 }
 
+// The stream of these tests.
+const STREAM: u64 = 0x8000_0001_0000_0003;
+
+// 2^68 + 14, which is position 14.
+const PAST_THE_LAST: u128 = 295147905179352825870;
+
+/// Lists one after another on a generator of a zero seed. Each list sets what the one before it has left.
+pub static RNG_RUNS: [RngList; 3] = [
+    RngList {
+        name: "the run",
+        len: 5,
+        calls: &[
+            (SetStream(STREAM), Done),
+            (SetWordPos(PAST_THE_LAST), Done),
+            (NextU64, U64(0x0000_0002_0000_0006)),
+            (GetWordPos, U128(16)),
+            (GetBlockPos, U64(1)),
+            (Fill { at: 0, len: 5 }, Done),
+            (Reload, Done),
+            (GetWordPos, U128(18)),
+            (GetBlockPos, U64(1)),
+            (GetStream, U64(STREAM)),
+        ],
+        first: b"\xca\xf0\xe0\xc2\xdc",
+        ..NO_DRAW
+    },
+    RngList {
+        name: "the last words, and the first ones",
+        calls: &[
+            (SetStream(STREAM), Done),
+            (SetWordPos(POSITIONS - 4), Done),
+            (NextU64, U64(0xffff_fffe_ffff_fffe)),
+            (NextU64, U64(0x0000_0002_0000_0006)),
+            (GetWordPos, U128(0)),
+            (NextU32, U32(0xc2e0_f0ca)),
+        ],
+        ..NO_DRAW
+    },
+    RngList {
+        name: "five bytes over the end",
+        len: 5,
+        calls: &[
+            (SetStream(STREAM), Done),
+            (SetWordPos(POSITIONS - 1), Done),
+            (Fill { at: 0, len: 5 }, Done),
+            (GetWordPos, U128(1)),
+        ],
+        first: b"\x02\0\0\0\xca",
+        ..NO_DRAW
+    },
+];
+
 // The first of 131 numbers of words around the wrap after which a position is wrong, or asking for it changes a word.
-fn wrong_position<B: RngBackend<R0>>() -> Option<usize> {
+fn wrong_position<B: RngBackend<R0>>() -> Verdict {
     let mut asked = ChaChaRng::<R0, B>::from_seed([0; 32]);
     let mut unasked = ChaChaRng::<R0, B>::from_seed([0; 32]);
     asked.set_stream(STREAM);
@@ -92,21 +148,21 @@ fn wrong_position<B: RngBackend<R0>>() -> Option<usize> {
             && u128::from(asked.get_block_pos()) == expected / 16
             && asked.next_u32() == unasked.next_u32();
         if !right {
-            return Some(words);
+            return failed_at("so many words around the wrap", words);
         }
     }
     None
 }
 
 // The first value of a state's last byte that isn't taken modulo 16.
-fn wrong_last_byte<B: RngBackend<R0>>() -> Option<usize> {
+fn wrong_last_byte<B: RngBackend<R0>>() -> Verdict {
     for last in 0..=255u8 {
         let mut state = [0; 49];
         state[48] = last;
         let rng = ChaChaRng::<R0, B>::deserialize_state(&state);
         state[48] = last % 16;
         if rng.get_word_pos() != u128::from(last % 16) << 64 || rng.serialize_state() != state {
-            return Some(usize::from(last));
+            return failed_at("a state's last byte", usize::from(last));
         }
     }
     None
@@ -114,8 +170,5 @@ fn wrong_last_byte<B: RngBackend<R0>>() -> Option<usize> {
 
 /// What is wrong with positions of generators around the wrap, and with states of any last byte.
 pub fn wrong_generator<B: RngBackend<R0>>() -> Verdict {
-    first_failure(&[
-        failed_for("so many words around the wrap", wrong_position::<B>()),
-        failed_for("a state's last byte", wrong_last_byte::<B>()),
-    ])
+    first_failure(&[wrong_position::<B>(), wrong_last_byte::<B>()])
 }

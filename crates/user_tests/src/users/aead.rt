@@ -1,5 +1,9 @@
 //! The example of RFC 8439, section 2.8.2, with a toy in place of Poly1305; XChaCha20; and published one-time keys.
 
+ghost use Rattle.std.specs.Prelude.{◌≡◌, ◌≤◌, ◌+◌, ◌↔◌, length, IsOk, OnOk};
+ghost use Rattle.chacha20.specs.Cipher.{limit_of};
+
+use chacha20::cipher::{KeyIvInit, StreamCipherSeek};
 use chacha20::{ChaCha20, Nonce, XChaCha20};
 use examples::aead::{AeadError, Mac, Tag, one_time_key, open, seal};
 use known_answers::published::{FROM_80, MESSAGE, X_KEYSTREAM, X_NONCE};
@@ -62,16 +66,29 @@ fn refused(rt: HostRuntime) {
     assert!(rt; wrong == [Err(AeadError::WrongTag); 3] && message == CIPHERTEXT);
 }
 
+// Whatever the cipher, the MAC and the message are: what is sealed is opened, and the message is as it was.
+fn there_and_back<C: KeyIvInit + StreamCipherSeek + Drop, M: Mac>(
+    key: &C::Key,
+    nonce: &C::Iv,
+    aad: &[u8],
+    message: &mut [u8],
+) -> Result<(), AeadError>
+    ensures accepted { IsOk result ↔ (64 + length message.old ≤ limit_of C.modulus) }
+    ensures message { message.new ≡ message.old }
+{
+    let Ok(tag) = seal::<C, M>(key, nonce, aad, message) else {
+        return Err(AeadError::TooLong);
+    };
+    open::<C, M>(key, nonce, aad, message, &tag)
+}
+
 #[test]
 fn xchacha(rt: HostRuntime) {
     let mut message = [0; 16];
+    let back = there_and_back::<XChaCha20, ToyMac>(&FROM_80, &X_NONCE, AAD, &mut message);
+    assert!(rt; back == Ok(()) && message == [0; 16]);
     let sealed = seal::<XChaCha20, ToyMac>(&FROM_80, &X_NONCE, AAD, &mut message);
-    let ciphertext = message;
-    let Ok(tag) = sealed else {
-        panic!(rt; "not sealed");
-    };
-    let opened = open::<XChaCha20, ToyMac>(&FROM_80, &X_NONCE, AAD, &mut message, &tag);
-    assert!(rt; X_KEYSTREAM.starts_with(&ciphertext) && opened == Ok(()) && message == [0; 16]);
+    assert!(rt; sealed.is_ok() && X_KEYSTREAM.starts_with(&message));
 }
 
 #[test]

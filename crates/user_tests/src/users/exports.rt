@@ -5,24 +5,24 @@
 
 use chacha20::{Key, Nonce, R8, R12, R20, SerializedRngState, hchacha};
 use chacha20_c::chacha::{
-    chacha8_keystream_raw, chacha8_xor_between, chacha8_xor_in_place, chacha12_keystream_raw,
-    chacha12_xor_between, chacha12_xor_in_place, chacha20_check, chacha20_keystream_raw,
+    chacha8_keystream, chacha8_xor_between, chacha8_xor_in_place, chacha12_keystream,
+    chacha12_xor_between, chacha12_xor_in_place, chacha20_check, chacha20_keystream,
     chacha20_xor_between, chacha20_xor_in_place,
 };
 use chacha20_c::generators::{
     chacha_rng_from_seed, chacha_rng_get_block_pos, chacha_rng_get_stream, chacha_rng_get_word_pos,
-    chacha_rng_set_block_pos, chacha_rng_set_stream, chacha_rng_set_word_pos, chacha8_rng_fill_raw,
-    chacha8_rng_next_u32, chacha8_rng_next_u64, chacha12_rng_fill_raw, chacha12_rng_next_u32,
-    chacha12_rng_next_u64, chacha20_rng_fill_raw, chacha20_rng_next_u32, chacha20_rng_next_u64,
+    chacha_rng_set_block_pos, chacha_rng_set_stream, chacha_rng_set_word_pos, chacha8_rng_fill,
+    chacha8_rng_next_u32, chacha8_rng_next_u64, chacha12_rng_fill, chacha12_rng_next_u32,
+    chacha12_rng_next_u64, chacha20_rng_fill, chacha20_rng_next_u32, chacha20_rng_next_u64,
 };
 use chacha20_c::legacy::{
-    chacha20_legacy_check, chacha20_legacy_keystream_raw, chacha20_legacy_xor_between,
+    chacha20_legacy_check, chacha20_legacy_keystream, chacha20_legacy_xor_between,
     chacha20_legacy_xor_in_place,
 };
 use chacha20_c::xchacha::{
-    hchacha8, hchacha12, hchacha20, xchacha8_keystream_raw, xchacha8_xor_between,
-    xchacha8_xor_in_place, xchacha12_keystream_raw, xchacha12_xor_between, xchacha12_xor_in_place,
-    xchacha20_keystream_raw, xchacha20_xor_between, xchacha20_xor_in_place,
+    hchacha8, hchacha12, hchacha20, xchacha8_keystream, xchacha8_xor_between,
+    xchacha8_xor_in_place, xchacha12_keystream, xchacha12_xor_between, xchacha12_xor_in_place,
+    xchacha20_keystream, xchacha20_xor_between, xchacha20_xor_in_place,
 };
 use known_answers::published::{
     CIPHERTEXT, COUNTING, DERIVED_NONCE, HCHACHA_INPUT, MESSAGE, NONCE, OF_8_ROUNDS, OF_12_ROUNDS,
@@ -56,9 +56,9 @@ fn between(rounds: u32, output: &mut [u8], input: &[u8]) -> u32 {
 
 fn keystream(rounds: u32, output: &mut [u8]) -> u32 {
     match rounds {
-        8 => chacha8_keystream_raw(&ZEROS, &[0; 12], 8, output),
-        12 => chacha12_keystream_raw(&ZEROS, &[0; 12], 8, output),
-        20 => chacha20_keystream_raw(&ZEROS, &[0; 12], 8, output),
+        8 => chacha8_keystream(&ZEROS, &[0; 12], 8, output),
+        12 => chacha12_keystream(&ZEROS, &[0; 12], 8, output),
+        20 => chacha20_keystream(&ZEROS, &[0; 12], 8, output),
         _ => legacy_keystream(0, 8, output),
     }
 }
@@ -69,7 +69,7 @@ fn legacy_in_place(block_pos: u64, offset: u64, data: &mut [u8]) -> u32 {
 }
 
 fn legacy_keystream(block_pos: u64, offset: u64, output: &mut [u8]) -> u32 {
-    chacha20_legacy_keystream_raw(&ZEROS, &[0; 8], block_pos, offset, output)
+    chacha20_legacy_keystream(&ZEROS, &[0; 8], block_pos, offset, output)
 }
 
 // A number of rounds, what an output holds before the call, and the first bytes for a key and a nonce of zeros.
@@ -150,9 +150,9 @@ fn extended_between(rounds: u32, output: &mut [u8], input: &[u8]) -> u32 {
 
 fn extended_keystream(rounds: u32, output: &mut [u8]) -> u32 {
     match rounds {
-        8 => xchacha8_keystream_raw(&COUNTING, &X_NONCE, 9, output),
-        12 => xchacha12_keystream_raw(&COUNTING, &X_NONCE, 9, output),
-        _ => xchacha20_keystream_raw(&COUNTING, &X_NONCE, 9, output),
+        8 => xchacha8_keystream(&COUNTING, &X_NONCE, 9, output),
+        12 => xchacha12_keystream(&COUNTING, &X_NONCE, 9, output),
+        _ => xchacha20_keystream(&COUNTING, &X_NONCE, 9, output),
     }
 }
 
@@ -243,9 +243,9 @@ fn two_words(rounds: u32, state: &mut SerializedRngState) -> u64 {
 
 fn fill(rounds: u32, state: &mut SerializedRngState, output: &mut [u8]) {
     match rounds {
-        8 => chacha8_rng_fill_raw(state, output),
-        12 => chacha12_rng_fill_raw(state, output),
-        _ => chacha20_rng_fill_raw(state, output),
+        8 => chacha8_rng_fill(state, output),
+        12 => chacha12_rng_fill(state, output),
+        _ => chacha20_rng_fill(state, output),
     }
 }
 

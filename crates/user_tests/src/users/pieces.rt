@@ -6,10 +6,10 @@ ghost use Rattle.chacha20.specs.Cipher.{limit_of};
 
 use chacha20::cipher::{KeyIvInit, StreamCipher};
 use chacha20::variants::Ietf;
-use chacha20::{ChaChaCore, Key, Nonce, R20, StreamCipherCoreWrapper};
-use examples::pieces::{apply_in_two, try_apply_in_pieces};
+use chacha20::{ChaCha20, ChaChaCore, Key, Nonce, R20, StreamCipherCoreWrapper};
+use examples::pieces::{apply_in_two, encrypt_in_chunks, try_apply_in_pieces};
 use examples::scalar::Scalar;
-use known_answers::published::{CIPHERTEXT, COUNTING, MESSAGE, NONCE};
+use known_answers::published::{BLOCKS, CIPHERTEXT, COUNTING, MESSAGE, NONCE};
 
 // The message in pieces of one byte, and in two buffers.
 fn encrypts_in_pieces<C: KeyIvInit<Key = Key, Iv = Nonce> + StreamCipher + Drop>() -> [bool; 2]
@@ -28,6 +28,19 @@ fn encrypts_in_pieces<C: KeyIvInit<Key = Key, Iv = Nonce> + StreamCipher + Drop>
         applied.is_ok() && message.ends_with(CIPHERTEXT),
         CIPHERTEXT.starts_with(&first[64..]) && CIPHERTEXT.ends_with(&rest),
     ]
+}
+
+// Zeros in two chunks. The first becomes the front of the block of RFC 8439, appendix A.1, number 1; the second is
+// decrypted alone, under the nonce 1.
+#[test]
+fn message_in_chunks(rt: HostRuntime) {
+    let mut message = [0; 50];
+    encrypt_in_chunks(&[0; 32], &mut message, 32);
+    let first = BLOCKS[0].3[0];
+    assert!(rt; message.starts_with(&first));
+    let second = &mut message[32..];
+    ChaCha20::new(&[0; 32], &[1, 0, 0, 0, 0, 0, 0, 0, 0, 0, 0, 0]).apply_keystream(second);
+    assert!(rt; message.ends_with(&[0; 18]) && message.starts_with(&first));
 }
 
 type ScalarCipher = StreamCipherCoreWrapper<ChaChaCore<R20, Ietf, Scalar>>;

@@ -5,5 +5,5 @@ use Rattle.examples.proofs.aead.is_equal.Given as goal
 abbrev pub invariant-each : goal.invariant-each
 invariant-each l = record {
   small : l.difference ≤ 255 * l.i;
-  equal : (l.difference ≡ 0) ↔ ((k : ℕ) → k < l.i → slice_index l.left k ≡ slice_index l.right k);
+  equal : (l.difference ≡ 0) ↔ ((k : ℕ) → k < l.i → slice_index l.expected k ≡ slice_index l.tag k);
 }

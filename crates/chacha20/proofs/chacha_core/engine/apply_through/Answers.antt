@@ -41,8 +41,9 @@ groups-init g c =
     let none : c.PAR_BLOCKS-width.result * 0 ≡ 0 = omega arith in
     let free : 0 * (g.B.StreamCipherBackend.PAR_STEPS * g.R.Rounds.COUNT) ≡ 0 = omega arith in
     let same = sym (state_after-zero g.V.Variant.layout _ c.told-state c.fits-state) in
+    let long = g.met.T.Target.long _ _ c.requires.input in
     rw (none, free) record {
-      engine = record { sixteen = c.told-state; long = refl; state = same; bytes = refl };
+      engine = record { sixteen = c.told-state; before = long; long = long; state = same; bytes = refl };
       steps = grows-none _;
     }
 
@@ -56,8 +57,8 @@ gen_par_ks_blocks-requires g c =
     (group c.groups.group (length c.args.data.now) c.groups.room c.PAR_BLOCKS-width.ensures c.groups.auto.room
     c.requires.room c.groups-test.true).long ∙ c.PAR_BLOCKS-width.ensures
 
-pub xor_blocks-requires : goal.xor_blocks-requires
-xor_blocks-requires g c =
+pub xor_blocks-requires-clause-inside : goal.xor_blocks-requires-clause-inside
+xor_blocks-requires-clause-inside g c =
     let next = group c.groups.group (length c.args.data.now) c.groups.room c.PAR_BLOCKS-width.ensures c.groups.auto.room
     c.requires.room c.groups-test.true in
     rw (c.groups.auto.data, c.gen_par_ks_blocks.auto.blocks, next.long, next.all) next.inside
@@ -67,9 +68,10 @@ groups-preserved g c =
     let next = group c.groups.group (length c.args.data.now) c.groups.room c.PAR_BLOCKS-width.ensures c.groups.auto.room
     c.requires.room c.groups-test.true in
     let made = c.gen_par_ks_blocks.ensures in
+    let so_far = g.T.Target.so_far c.args.input.now in
     record {
       engine = at-more c.gen_par_ks_blocks.new.blocks c.groups.invariant.engine c.gen_par_ks_blocks.auto.blocks
-          made.blocks made.state c.xor_blocks.ensures (rw next.long next.all) next.inside;
+          made.blocks made.state (so_far c.xor_blocks.new.data) c.xor_blocks.ensures (rw next.long next.all) next.inside;
       steps = grows-group c.groups.invariant.steps made.steps;
     }
 
@@ -84,8 +86,8 @@ gen_tail_apart-requires g c =
     g.B.ParBlocksSizeUser.par_blocks_at_least c.groups.auto.room c.requires.room in
     rw (next.long, c.PAR_BLOCKS-width.ensures) (mod-lt _ g.B.ParBlocksSizeUser.par_blocks_at_least)
 
-pub xor_blocks-requires-2 : goal.xor_blocks-requires-2
-xor_blocks-requires-2 g c =
+pub xor_blocks-requires-2-clause-inside : goal.xor_blocks-requires-2-clause-inside
+xor_blocks-requires-2-clause-inside g c =
     let next = rest (length c.args.data.now) c.groups.room c.PAR_BLOCKS-width.ensures
     g.B.ParBlocksSizeUser.par_blocks_at_least c.groups.auto.room c.requires.room in
     rw (c.groups.auto.data, c.gen_tail_apart.auto.blocks, next.long, next.all) next.inside
@@ -93,6 +95,7 @@ xor_blocks-requires-2 g c =
 pub returns : goal.returns
 returns g c =
     let s = c.args.state.now in
+    let input = c.args.input.now in
     let old = c.args.data.now in
     let m = length old / 64 in
     let w = c.PAR_BLOCKS-width.result in
@@ -101,12 +104,18 @@ returns g c =
     let made = c.gen_tail_apart.ensures in
     let all : c.groups.group ≡ m / w = omega (arith, c.groups-test.false, c.groups.auto.group-end) in
     let begins : w * (m / w) ≡ m - m % w = omega (arith, div-add-mod m w) in
+    let now = c.xor_blocks-2.new.data in
     let end = at-more c.gen_tail_apart.new.blocks (rw (all, begins) at c.groups.invariant.engine)
-    c.gen_tail_apart.auto.blocks made.blocks made.state c.xor_blocks-2.ensures (rw next.long next.all) next.inside in
+    c.gen_tail_apart.auto.blocks made.blocks made.state (g.T.Target.so_far input now) c.xor_blocks-2.ensures
+    (rw next.long next.all) next.inside in
+    let whole : 64 * m ≡ length now = omega arith in
+    let fits : g.T.Target.fits (length input) (length now) =
+    rw (c.xor_blocks-2.auto.data, c.groups.auto.data) c.requires.input in
     record {
-      «data» = end.bytes
+      «data» = sym (g.met.T.Target.at_end input now fits) ∙ (rw whole at end.bytes)
           ∙ xor_stream-whole (state_stream g.R.Rounds.COUNT g.V.Variant.layout s)
-          (64 * state_counter g.V.Variant.layout s) (64 * m) old (omega arith);
+          (64 * state_counter g.V.Variant.layout s) (length now) (g.T.Target.so_far input old 0)
+          (omega (arith, end.before));
       state = end.state;
       steps = rw (← c.PAR_BLOCKS-width.ensures) (grows-blocks w _ _ m (rw all at c.groups.invariant.steps)
           (rw next.long at made.steps));

@@ -1,4 +1,5 @@
-use Rattle.std.proofs.Common.{◌≡◌, ◌+◌, ◌≤◌, length, replicate, sym, subst, ◌∙◌}
+use Rattle.std.proofs.Common.{◌≡◌, ℕ, ap, ◌+◌, ◌-◌, ◌≤◌, length, take, arith, replicate, sym, subst, ◌∙◌}
+use Rattle.std.proofs.lemmas.List.{take-replicate, length-replicate}
 use Rattle.chacha_base.specs.ChaCha.{keystream}
 use Rattle.chacha_base.proofs.CipherLemmas.{moved_on}
 use Rattle.chacha_base.proofs.KeystreamLemmas.{xor_stream-zeros}
@@ -16,13 +17,14 @@ pieces-preserved g c =
     let before = c.pieces.invariant in
     let front : done ≤ length c.pieces.buf = subst (λ m. done ≤ m) (sym c.pieces.auto.buf) before.within in
     let inside = piece-within _ (length c.pieces.buf) done n c.min.ensures front in
-    let size : length c.fill.new.self ≡ n = c.fill.ensures.len ∙ piece-long done n c.pieces.buf inside in
-    let zeros : c.fill.new.self ≡ replicate n 0 =
-    rw (piece-long done n c.pieces.buf inside) at c.fill.ensures.after (λ y h. h) in
+    let cut : done + n - done ≡ n = omega arith in
+    let zeros : take (done + n - done) (replicate {A = ℕ} 4096 0) ≡ replicate n 0 =
+    rw cut (take-replicate n 4096 0 (omega arith)) in
+    let size : length (take (done + n - done) (replicate {A = ℕ} 4096 0)) ≡ n = ap length zeros ∙ length-replicate n 0 in
     record {
       within = subst (λ m. done + n ≤ m) c.pieces.auto.buf inside;
-      fixed = c.apply_keystream.ensures.fixed ∙ before.fixed;
-      position = moved_on _ _ p done n _ before.position size c.apply_keystream.ensures.position;
-      bytes = stream_part-written stream p done n _ _ _ front (c.apply_keystream.auto.buf ∙ size) before.bytes
-          (rw (before.fixed, before.position, zeros, xor_stream-zeros) at c.apply_keystream.ensures.bytes);
+      fixed = c.apply_keystream_b2b.ensures.fixed ∙ before.fixed;
+      position = moved_on _ _ p done n _ before.position size c.apply_keystream_b2b.ensures.position;
+      bytes = stream_part-written stream p done n _ _ _ front (c.apply_keystream_b2b.auto.output ∙ piece-long done n c.pieces.buf inside)
+          before.bytes (rw (before.fixed, before.position, zeros, xor_stream-zeros) at c.apply_keystream_b2b.ensures.bytes);
     }

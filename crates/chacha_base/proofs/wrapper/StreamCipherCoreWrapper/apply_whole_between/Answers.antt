@@ -1,0 +1,25 @@
+use Rattle.std.proofs.Common.{length, ap, ap₂, ◌∙◌}
+use Rattle.chacha_base.specs.ChaCha.{keystream, xor_stream}
+use Rattle.chacha_base.proofs.BufferedLemmas.{at-whole, counter-at_front, begins-not_empty}
+use Rattle.chacha_base.proofs.wrapper.StreamCipherCoreWrapper.apply_whole_between.Goals as goal
+
+pub returns-then-not-is_empty-clause-bytes : goal.returns-then-not-is_empty-clause-bytes
+returns-then-not-is_empty-clause-bytes g c =
+    let begins = begins-not_empty _ (length c.args.blocks.now) c.is_empty.ensures c.if-not-is_empty.true
+    c.requires.front c.requires.fits in
+    c.apply_blocks_between_counted.ensures.output
+    ∙ ap₂ (λ f p. xor_stream (keystream g.C.Keystream.modulus (g.C.Keystream.block_at f)) p c.args.input.now)
+    (ap (λ v. v.fixed) c.self.view_is)
+    (counter-at_front c.self.invariant (ap (λ v. v.position) c.self.view_is) begins)
+
+pub invariant_of-self : goal.invariant_of-self
+invariant_of-self g c =
+    let begins = begins-not_empty _ (length c.args.blocks.now) c.is_empty.ensures c.if-not-is_empty.true
+    c.requires.front c.requires.fits in
+    at-whole c.self.invariant (ap (λ v. v.position) c.self.view_is) begins c.requires.whole
+    c.apply_blocks_between_counted.auto.output c.apply_blocks_between_counted.ensures.counter
+
+-- answered for speed
+pub returns-then-not-is_empty-clause-fixed : goal.returns-then-not-is_empty-clause-fixed
+returns-then-not-is_empty-clause-fixed g c =
+    c.apply_blocks_between_counted.ensures.fixed ∙ ap (λ v. v.fixed) c.self.view_is

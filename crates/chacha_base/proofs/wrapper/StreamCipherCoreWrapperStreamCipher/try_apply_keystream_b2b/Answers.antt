@@ -1,0 +1,35 @@
+use Rattle.std.proofs.Common.{◌+◌, ap, refl, sym, ◌++◌, ◌∙◌}
+use Rattle.chacha_base.specs.ChaCha.{keystream, xor_stream}
+use Rattle.chacha_base.proofs.KeystreamLemmas.{xor_stream-parts}
+use Rattle.chacha_base.proofs.wrapper.StreamCipherCoreWrapperStreamCipher.try_apply_keystream_b2b.Goals as goal
+
+pub returns-then-input-output-clause-refused : goal.returns-then-input-output-clause-refused
+returns-then-input-output-clause-refused g c = (refl, refl)
+
+pub returns-in-Err-clause-refused : goal.returns-in-Err-clause-refused
+returns-in-Err-clause-refused g c = (refl, refl)
+
+-- as in `try_apply_keystream_counted`; the first part and the last are copies of the input's
+pub returns-clause-bytes : goal.returns-clause-bytes
+returns-clause-bytes g c =
+    let modulus = g.C.Keystream.modulus in
+    let block = g.C.Keystream.block_at in
+    let stream = keystream modulus (block c.args.self.now.fixed) in
+    let begun = c.apply_begun.new.self in
+    let whole = c.apply_whole_between.new.self in
+    let front = c.copy_part.new.output in
+    let rest = c.split_at.result.1.now in
+    let blocks = c.split_at-2.result.0.now in
+    let last = c.copy_part-2.new.output in
+    let kept = c.apply_begun.ensures.fixed in
+    let wide = c.split_at_mut-blocks.ensures.front_len ∙ sym c.split_at-2.ensures.front_len in
+    xor_stream-parts stream c.args.self.now.position front rest
+    (c.split_at.ensures.by_index.0 ∙ ap (λ copied. copied ++ rest) (sym c.copy_part.ensures))
+    c.apply_begun.ensures.position c.apply_begun.ensures.bytes
+    (xor_stream-parts stream begun.position blocks last
+    (c.split_at-2.ensures.by_index.0 ∙ ap (λ copied. blocks ++ copied) (sym c.copy_part-2.ensures))
+    (c.apply_whole_between.ensures.position ∙ ap (λ n. begun.position + n) wide)
+    (c.apply_whole_between.ensures.bytes ∙ ap (λ f. xor_stream (keystream modulus (block f)) begun.position blocks) kept)
+    (c.apply_last.ensures.bytes
+    ∙ ap (λ f. xor_stream (keystream modulus (block f)) whole.position last)
+    (c.apply_whole_between.ensures.fixed ∙ kept)))

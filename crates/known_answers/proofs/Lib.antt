@@ -1,3 +1,0 @@
-pub mod VerdictLemmas
-pub mod CoreLemmas
-pub mod DrawLemmas

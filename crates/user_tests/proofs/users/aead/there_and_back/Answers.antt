@@ -1,0 +1,17 @@
+use Rattle.std.proofs.Common.{◌≡◌, ◌∙◌, length, arith, refl, ap}
+use Rattle.chacha20.proofs.KeystreamLemmas.{length-xor_stream}
+use Rattle.chacha20.proofs.ResultLemmas.{on_ok-holds}
+use Rattle.user_tests.proofs.users.aead.there_and_back.Goals as goal
+
+pub returns-clause-accepted : goal.returns-clause-accepted
+returns-clause-accepted g c =
+    let sealed = c.in-Ok.ensures in
+    let same : length c.seal.new.message ≡ length c.args.message.now =
+    ap length sealed.ciphertext ∙ length-xor_stream _ 64 c.args.message.now in
+    (λ ok. sealed.accepted.0 refl, λ fits. c.open.ensures.accepted.1 (omega (arith, fits, same), sealed.tag))
+
+pub returns-clause-message : goal.returns-clause-message
+returns-clause-message g c =
+    let sealed = c.in-Ok.ensures in
+    on_ok-holds c.open.result ((returns-clause-accepted g c).1 (sealed.accepted.0 refl))
+    (c.open.ensures.decrypted c.args.message.now sealed.ciphertext)
