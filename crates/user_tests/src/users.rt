@@ -18,4 +18,3 @@ mod sectors;
 mod simulation;
 mod texts;
 mod vault;
-mod xchacha;

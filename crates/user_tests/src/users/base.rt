@@ -17,24 +17,8 @@ fn mixes_words() -> bool {
         ]
 }
 
-// RFC 8439, 2.2.1.
-fn mixes_state() -> bool {
-    let mut state = [
-        0x879531e0, 0xc5ecf37d, 0x516461b1, 0xc9a62f8a, 0x44c20ef3, 0x3390af7f, 0xd9fc690b,
-        0x2a5f714c, 0x53372767, 0xb00a5631, 0x974c541a, 0x359e9963, 0x5c971061, 0x3d631689,
-        0x2098d9d6, 0x91dbd320,
-    ];
-    quarter_round(2, 7, 8, 13, &mut state, &mut Steps::new());
-    state
-        == [
-            0x879531e0, 0xc5ecf37d, 0xbdb886dc, 0xc9a62f8a, 0x44c20ef3, 0x3390af7f, 0xd9fc690b,
-            0xcfacafd2, 0xe46bea80, 0xb00a5631, 0x974c541a, 0x359e9963, 0x5c971061, 0xccc07c79,
-            0x2098d9d6, 0x91dbd320,
-        ]
-}
-
-// The low byte of a word comes first (RFC 8439, section 2.3).
-fn puts_the_low_byte_first() -> bool {
+// Words are little-endian (RFC 8439, section 2.3).
+fn is_little_endian() -> bool {
     let mut bytes = [0; 8];
     let mut words = [0; 2];
     write_bytes(&[0x0302_0100, 0xf000_0001], &mut bytes);
@@ -61,11 +45,6 @@ fn counts_in_rows() -> bool {
 
 #[test]
 fn base(rt: HostRuntime) {
-    let right = [
-        mixes_words(),
-        mixes_state(),
-        puts_the_low_byte_first(),
-        counts_in_rows(),
-    ];
-    assert!(rt; right == [true; 4]);
+    let right = [mixes_words(), is_little_endian(), counts_in_rows()];
+    assert!(rt; right == [true; 3]);
 }

@@ -194,17 +194,6 @@ fn apply_586_bytes_columns8(steps: &mut Steps) -> Result<(), StreamCipherError>
     apply_586_bytes::<Columns8>(steps)
 }
 
-// The same as `Lanes16` with a nonce of 24 bytes: to derive the key and the nonce counts nothing.
-fn apply_586_bytes_xchacha20(steps: &mut Steps) -> Result<(), StreamCipherError>
-    ensures accepted { IsOk result }
-    ensures par { steps.new.par ≤ steps.old.par + 0 }
-    ensures other { steps.new.other ≤ steps.old.other + 10 }
-    ensures rounds_from { steps.old.rounds + 40 ≤ steps.new.rounds }
-    ensures rounds_to { steps.new.rounds ≤ steps.old.rounds + 200 }
-{
-    XChaCha20::new(&[0; 32], &[0; 24]).try_apply_keystream_counted(&mut [0; 586], steps)
-}
-
 // Bounds on what the named ciphers count, at every position: those of `Lanes16`.
 fn named_costs()
     ensures chacha20 { ⟦<ChaCha20 as StreamCipher>⟧.cost ≡ for_bytes 16 80 20 }
@@ -245,7 +234,6 @@ fn counted(rt: HostRuntime) {
         apply_586_bytes_rows8(&mut steps),
         apply_586_bytes_lanes16(&mut steps),
         apply_586_bytes_columns8(&mut steps),
-        apply_586_bytes_xchacha20(&mut steps),
     ];
-    assert!(rt; accepted == [Ok(()); 7]);
+    assert!(rt; accepted == [Ok(()); 6]);
 }

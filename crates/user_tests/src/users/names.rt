@@ -12,7 +12,8 @@ use chacha20::{
     XChaCha8, XChaCha12, XChaCha20, XChaChaCore, XNonce, backends, cipher, hchacha, rand_core,
     run_cipher, run_rng, runs, variants,
 };
-use known_answers::published::{OF_8_ROUNDS, OF_12_ROUNDS, OF_20_ROUNDS};
+use known_answers::R0;
+use known_answers::published::{HCHACHA_INPUT, OF_8_ROUNDS, OF_12_ROUNDS, OF_20_ROUNDS};
 
 // The same names by their modules.
 mod by_module {
@@ -109,10 +110,12 @@ fn ciphers(rt: HostRuntime) {
     assert!(rt; found == FIRST_BYTES && sizes_of_type(None::<&XChaCha20>) == (32, 24));
 }
 
-// The subkey of zeros is that of the tests of golang.org/x/crypto, of which the first bytes are given.
+// The first bytes of the subkey of zeros (tests of golang.org/x/crypto). Without rounds, the constants and the input.
 #[test]
-fn subkey(rt: HostRuntime) {
+fn subkeys(rt: HostRuntime) {
+    let unmixed = hchacha::<R0>(&KEY, &HCHACHA_INPUT);
     assert!(rt; hchacha::<R20>(&KEY, &[0; 16]).starts_with(b"\x11\x40\x70\x4c\x32\x8d\x1d\x5d"));
+    assert!(rt; unmixed.starts_with(b"expand 32-byte k") && unmixed.ends_with(&HCHACHA_INPUT));
 }
 
 type Cipher<K> = StreamCipherCoreWrapper<K>;
