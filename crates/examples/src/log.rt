@@ -4,17 +4,18 @@
 //! are those of one call for all of its lines, and `read_at` of `file.rt` reads any part of it.
 //!
 //! The struct's field is private, and `impl Model` says what clauses see in its place: the cipher's value, which has
-//! the fields `fixed` and `position`. The first stands for the key and the nonce; `⟦<ChaCha20 as Keystream>⟧.block_at`,
-//! a ghost member of the trait `Keystream` for this type, gives its blocks. The second is how many bytes the log has.
+//! the fields `fixed` and `position`. The first stands for the key and the nonce; `stream_of`, in `specs/Log.antt`,
+//! gives its keystream. The second is how many bytes the log has.
 //!
 //! Take a new nonce for each log. A writer that was stopped goes on by `resume`, with the number of bytes that the log
 //! has: with fewer, two lines would have the same bytes of the keystream, and the XOR of their ciphertexts would be the
 //! XOR of their texts. Nothing is authenticated: where a bit of the log is changed, that bit of its text changes.
 
-ghost use Rattle.std.specs.Prelude.{◌≡◌, ◌≤◌, ◌↔◌, ◌+◌, ◌^◌, length, IsOk, IfOk, OnOk, OnErr};
-ghost use Rattle.chacha20.specs.ChaCha.{block, keystream, xor_stream, ietf};
+ghost use Rattle.std.specs.Prelude.{◌≡◌, ◌≤◌, ◌↔◌, ◌+◌, length, IsOk, IfOk, OnOk, OnErr};
+ghost use Rattle.chacha20.specs.ChaCha.{chacha_stream, xor_stream, ietf};
+ghost use Rattle.examples.specs.Log.{stream_of};
 
-use chacha20::cipher::{KeyIvInit, Keystream, StreamCipher, StreamCipherError, StreamCipherSeek};
+use chacha20::cipher::{KeyIvInit, StreamCipher, StreamCipherError, StreamCipherSeek};
 use chacha20::{ChaCha20, Key, Nonce};
 use std::marker::Model;
 
@@ -35,8 +36,7 @@ impl Model for LogWriter {
 impl LogWriter {
     /// A writer of an empty log. No other log may have this key and this nonce.
     pub fn new(key: &Key, nonce: &Nonce) -> Self
-        ensures keystream { ⟦<ChaCha20 as Keystream>⟧.block_at result.fixed
-            ≡ block 10 ietf key.now nonce.now }
+        ensures keystream { stream_of result ≡ chacha_stream 10 ietf key.now nonce.now }
         ensures empty { result.position ≡ 0 }
     {
         LogWriter {
@@ -48,8 +48,8 @@ impl LogWriter {
     /// 274877906944 bytes (256 GiB) of the keystream.
     pub fn resume(key: &Key, nonce: &Nonce, len: u64) -> Result<Self, StreamCipherError>
         ensures accepted { IsOk result ↔ (len ≤ 274877906944) }
-        ensures keystream { IfOk result (λ writer. ⟦<ChaCha20 as Keystream>⟧.block_at writer.fixed
-            ≡ block 10 ietf key.now nonce.now) }
+        ensures keystream { IfOk result (λ writer.
+            stream_of writer ≡ chacha_stream 10 ietf key.now nonce.now) }
         ensures end { IfOk result (λ writer. writer.position ≡ len) }
     {
         let mut cipher = ChaCha20::new(key, nonce);
@@ -68,9 +68,8 @@ impl LogWriter {
     /// would have more than 274877906944 bytes; then nothing changes.
     pub fn append(&mut self, line: &mut [u8]) -> Result<(), StreamCipherError>
         ensures accepted { IsOk result ↔ (self.old.position + length line.old ≤ 274877906944) }
-        ensures line { OnOk result (line.new ≡ xor_stream
-            (keystream (2 ^ 32) (⟦<ChaCha20 as Keystream>⟧.block_at self.old.fixed))
-            self.old.position line.old) }
+        ensures line { OnOk result
+            (line.new ≡ xor_stream (stream_of self.old) self.old.position line.old) }
         ensures log { OnOk result (self.new
             ≡ record self.old { position = self.old.position + length line.old }) }
         ensures refused { OnErr result ((line.new ≡ line.old) × (self.new ≡ self.old)) }
