@@ -16,6 +16,6 @@ subkey n key nonce = hchacha n key (take 16 nonce)
 abbrev pub subnonce : List ℕ → List ℕ
 subnonce nonce = replicate 4 0 ++ drop 16 nonce
 
--- byte p of the keystream of a key and a nonce of 24 bytes, after n double rounds
+-- the keystream of a key and a nonce of 24 bytes, after n double rounds
 abbrev pub xchacha_stream : ℕ → List ℕ → List ℕ → ℕ → ℕ
 xchacha_stream n key nonce = chacha_stream n ietf (subkey n key nonce) (subnonce nonce)

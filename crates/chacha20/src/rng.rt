@@ -291,7 +291,7 @@ fn refill<R: Rounds, B: RngBackend<R>>(
     }
 }
 
-// The number of 8 bytes, the low byte first.
+// The little-endian number of 8 bytes.
 fn read_u64(bytes: &[u8]) -> u64
     requires { length bytes.now ≡ 8 }
     ensures { result ≡ from_le_bytes w64 bytes.now }

@@ -3,7 +3,7 @@
 --
 -- Words, bytes, counters and positions are natural numbers, and a state is a list of sixteen words.
 -- A key has 32 bytes, and a nonce 12 (`ietf`) or 8 (`legacy`): the types of calls say so. `*`, `/` and
--- `%` associate to the left. A proof unfolds an `unfoldable` definition only where it says so. The RFC's
+-- `%` associate to the left. A proof unfolds an `unfoldable` definition only on request. The RFC's
 -- examples are facts of RfcVectors.
 use Rattle.std.specs.Prelude.{ℕ, zero, suc, ◌+◌, ◌-◌, ◌*◌, ◌/◌, ◌%◌, ◌^◌, bit_xor}
 use Rattle.std.specs.Prelude.{List, [], ◌∷◌, ◌++◌, map, slice_index, slice_set}
@@ -44,8 +44,8 @@ quarter_round s a b c d =
     let q = quarter_of s a b c d in
     slice_set (slice_set (slice_set (slice_set s a q.0) b q.1) c q.2) d q.3
 
--- Rounds on a state of sixteen words, read as four rows of four (2.3). These list all sixteen words;
--- `columns_are` and `diagonals_are` of RoundLemmas prove that they are four quarter rounds each.
+-- Rounds on a state of sixteen words, read as four rows of four (2.3). `columns` and `diagonals`
+-- list all sixteen words; RoundLemmas proves that each is four quarter rounds.
 
 -- the state after a quarter round of each column
 unfoldable pub columns : List ℕ → List ℕ
@@ -133,7 +133,7 @@ block n layout key nonce c = bytes (mix n (start layout key nonce (c % modulus l
 abbrev pub keystream : ℕ → (ℕ → List ℕ) → ℕ → ℕ
 keystream counters block_at p = slice_index (block_at (p / 64 % counters)) (p % 64)
 
--- byte p of the keystream of a key and a nonce, after n double rounds: 10 for ChaCha20
+-- the keystream of a key and a nonce, after n double rounds: 10 for ChaCha20
 abbrev pub chacha_stream : ℕ → Layout → List ℕ → List ℕ → ℕ → ℕ
 chacha_stream n layout key nonce = keystream (modulus layout) (block n layout key nonce)
 

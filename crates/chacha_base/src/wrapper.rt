@@ -180,7 +180,7 @@ impl<C: StreamCipherSeekCore> StreamCipherCoreWrapper<C> {
         len.min(left as usize)
     }
 
-    // XORs bytes with what is left of the block that the position is in.
+    // XORs bytes with the unused bytes of the buffered block.
     fn apply_begun(&mut self, bytes: &mut [u8])
         requires { length bytes.old ≤ left_at self.old.position }
         ensures bytes { bytes.new ≡ xor_stream
@@ -247,7 +247,7 @@ impl<C: StreamCipherSeekCore> StreamCipherCoreWrapper<C> {
         }
     }
 
-    // Moves to a position. It makes the block that the position is in, and none at the front of a block.
+    // Moves to a position. Inside a block, it buffers that block.
     fn move_to(&mut self, position: u128)
         requires { position ≤ limit_of C.modulus }
         ensures fixed { self.new.fixed ≡ self.old.fixed }

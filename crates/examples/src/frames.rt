@@ -1,6 +1,6 @@
 //! Frames under one key: a sender encrypts messages in order, and a receiver decrypts them in the same order.
 //!
-//! The nonce of a frame is its channel, four bytes, and then its number, eight bytes with the low byte first. Both
+//! The nonce of a frame is its channel, four bytes, and then its number, eight little-endian bytes. Both
 //! sides count from 0, so no number is sent, and a frame is as long as its message. No two frames have the same nonce
 //! if you keep two rules. Give each direction its own channel: two senders on one channel would use the same nonces.
 //! And let a sender that was stopped go on where it was: after `encrypt` store what `next` returns, then send the

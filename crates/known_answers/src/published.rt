@@ -94,7 +94,7 @@ pub static SUBKEY: Key = *b"\x82\x41\x3b\x42\x27\xb2\x7b\xfe\xd3\x0e\x42\x50\x8a
     \xa0\xf9\xe4\xd5\x8a\x74\xa8\x53\xc1\x2e\xc4\x13\x26\xd3\xec\xdc";
 
 /// The first bytes for a key and a nonce of zeros, with 8 rounds (draft-strombergson-chacha-test-vectors, TC1, keys of
-/// 256 bits). The nonce there is that of the older layout; at block 0 the layouts agree.
+/// 256 bits). The nonce there is that of the legacy layout; at block 0 the layouts agree.
 pub const OF_8_ROUNDS: [u8; 32] =
     *b"\x3e\x00\xef\x2f\x89\x5f\x40\xd6\x7f\x5b\xb8\xe8\x1f\x09\xa5\xa1\
     \x2c\x84\x0e\xc3\xce\x9a\x7f\x3b\x18\x1b\xe1\x88\xef\x71\x1a\x1e";

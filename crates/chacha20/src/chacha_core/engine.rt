@@ -34,7 +34,7 @@ fn write_blocks<R: Rounds, V: Variant, B: StreamCipherBackend<R, V>>(
 
 // What the blocks are XORed into: a slice in place, or an output of the same length as its input.
 trait Target {
-    // The bytes so far, by an input, an output and how many bytes are XORed.
+    // The bytes so far: in place, the data; between, the first `done` bytes of the output and the rest of the input.
     ghost so_far: { List ℕ → List ℕ → ℕ → List ℕ };
 
     // Which lengths an input and an output may have.
@@ -77,7 +77,7 @@ impl Target for InPlace {
     }
 }
 
-// Writes 64 bytes of an input XORed with a block. By one vector: a loop over three slices would first compare their
+// Writes 64 bytes of an input XORed with a block, as one vector: a loop over three slices would first compare their
 // addresses.
 #[inline(always)]
 fn xor_block(input: &[u8], block: &[u8; 64], output: &mut [u8])
@@ -118,8 +118,8 @@ impl Target for Between {
     }
 }
 
-// Writes the blocks of a tail. The call has a function of its own, which isn't marked to be inlined. So the compiler
-// first simplifies the tail, and then finds it small enough to inline for one block.
+// Writes the blocks of a tail. This function isn't forced inline: the compiler simplifies it first, and then finds it
+// small enough to inline for one block.
 fn gen_tail_apart<R: Rounds, V: Variant, B: StreamCipherBackend<R, V>>(
     state: &mut [u32; 16],
     blocks: &mut [[u8; 64]],
