@@ -150,9 +150,10 @@ fn all_in_slices(calls: &[CipherCall], input: usize, bytes: usize) -> bool
 }
 
 fn of_outcome(outcome: Result<(), StreamCipherError>) -> CipherAnswer {
-    match outcome {
-        Ok(()) => CipherAnswer::Done,
-        Err(_) => CipherAnswer::Refused,
+    if outcome.is_ok() {
+        CipherAnswer::Done
+    } else {
+        CipherAnswer::Refused
     }
 }
 

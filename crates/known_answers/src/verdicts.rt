@@ -47,8 +47,8 @@ pub fn enter(table: &mut [Verdict; 24], rows: &[Row]) {
 }
 
 fn enter_row(table: &mut [Verdict; 24], number: usize, verdict: Verdict) {
-    if number < 24 {
-        table[number] = table[number].or(verdict);
+    if number < 24 && table[number].is_none() {
+        table[number] = verdict;
     }
 }
 
