@@ -82,7 +82,8 @@ at-more {n} {k} {layout} {s} {old} {t} {now} {i = i} {l = l} {e = e} blocks held
       long = rw xored (same_len_mid (64 * i) size now _ (length-xor_stream (byte_of blocks) 0 part) ∙ held.long);
       state = state_after-more layout s t _ i l e held.sixteen held.state moved all;
       bytes = xored
-          ∙ xor_stream-more (state_stream n layout s) (64 * c) (64 * i) size old (omega arith) (omega (arith, held.before))
+          ∙ xor_stream-more (state_stream n layout s) (64 * c) (64 * i) size old
+          (omega arith) (omega (arith, held.before))
           held.bytes
           (xor_stream-blocks m (state_block n layout (fixed_words layout t)) (state_counter layout t) blocks part whole
           (λ j less. made j (omega arith))

@@ -4,8 +4,8 @@ use Rattle.std.proofs.Common.{◌≡◌, ℕ, List, ap, ap₂, ◌∙◌}
 use Rattle.chacha_base.specs.ChaCha.{Layout, modulus, block, keystream, chacha_stream, xor_stream}
 use Rattle.chacha_base.specs.State.{state_block}
 
--- of any cipher: `block_at` is its `C.block_at`, and `blocks` the `C.blocks_of` of a key and a nonce; `make` is what the
--- call makes of a stream and a position, such as `λ s q. stream_part s q 32`
+-- of any cipher: `block_at` is its `C.block_at`, and `blocks` the `C.blocks_of` of a key and a nonce; `make` is what
+-- the call makes of a stream and a position, such as `λ s q. stream_part s q 32`
 pub keystream-sought : {A : Type 0} {at_new sought : List ℕ} {blocks : ℕ → List ℕ} {now p : ℕ}
     (make : (ℕ → ℕ) → ℕ → A) (block_at : List ℕ → ℕ → List ℕ) (n : ℕ)
     → block_at at_new ≡ blocks → sought ≡ at_new → now ≡ p

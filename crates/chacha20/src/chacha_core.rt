@@ -28,8 +28,8 @@ const CONSTANTS: [u32; 4] = [0x6170_7865, 0x3320_646e, 0x7962_2d32, 0x6b20_6574]
 /// words. `R` is the number of double rounds, `V` the layout, which says where the counter is, and `B` the backend that
 /// makes the blocks.
 ///
-/// In the layout of RFC 8439 `new` makes a core from a key and a nonce for any number of rounds. In the legacy layout it
-/// does so only for `R20`, as in the Rust crate; for another number of rounds `from_seed` makes a core, with a nonce
+/// In the layout of RFC 8439 `new` makes a core from a key and a nonce for any number of rounds. In the legacy layout
+/// it does so only for `R20`, as in the Rust crate; for another number of rounds `from_seed` makes a core, with a nonce
 /// of zeros.
 pub struct ChaChaCore<R: Rounds, V: Variant, B> {
     state: [u32; 16],

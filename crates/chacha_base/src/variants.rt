@@ -169,7 +169,8 @@ impl Variant for Ietf {
     }
 }
 
-/// The legacy layout, older than RFC 8439: a counter of 64 bits in words 12 (low) and 13 (high), and a nonce of 8 bytes.
+/// The legacy layout, older than RFC 8439: a counter of 64 bits in words 12 (low) and 13 (high), and a nonce of 8
+/// bytes.
 #[derive(Clone, Copy)]
 pub enum Legacy {}
 

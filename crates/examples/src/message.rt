@@ -53,8 +53,8 @@ pub fn encrypt_from_block_1(
     cipher.try_apply_keystream(message)
 }
 
-/// As `encrypt`, by any cipher `C` (this crate): `C.modulus` is the number of its blocks, `C.blocks_of` the blocks of a key
-/// and a nonce. For a named type the prover puts in that type's own numbers, as in the functions below.
+/// As `encrypt`, by any cipher `C` (this crate): `C.modulus` is the number of its blocks, `C.blocks_of` the blocks of a
+/// key and a nonce. For a named type the prover puts in that type's own numbers, as in the functions below.
 pub fn encrypt_by<C: KeyIvInit + StreamCipher + Drop>(
     key: &C::Key,
     nonce: &C::Iv,

@@ -3,9 +3,9 @@
 //! for one longer than a nonce allows.
 //!
 //! `apply_keystream` returns no `Result`, so it requires that the bytes end within the limit, the end of the keystream.
-//! A function that calls it requires the same (`fits`), or asks the cipher first, as `try_apply_in_pieces` does. `C.position cipher.old` is the position of the cipher's next byte
-//! before the call. `C.fixed` is all of the cipher but its position, which is its key and its nonce; its blocks, in
-//! order, are the keystream.
+//! A function that calls it requires the same (`fits`), or asks the cipher first, as `try_apply_in_pieces` does.
+//! `C.position cipher.old` is the position of the cipher's next byte before the call. `C.fixed` is all of the cipher
+//! but its position: its key and its nonce. Its blocks, in order, are the keystream.
 //!
 //! In `proofs/pieces`, `Invariants.antt` says what holds before each turn of the loop, and `Answers.antt` why it still
 //! holds after it.

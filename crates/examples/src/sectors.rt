@@ -2,8 +2,8 @@
 //!
 //! If a sector were overwritten under the same nonce, the XOR (exclusive or) of its two ciphertexts would be the XOR of
 //! its two texts. So each write takes a new nonce. Beside the disk is a version for each sector, which every write
-//! raises by one, and the sector's number and version make the nonce. Versions aren't secret. Sector n has the 512 bytes
-//! of the disk from byte 512 · n on. The contracts say that a write takes a nonce that no sector of the disk has had,
+//! raises by one, and the sector's number and version make the nonce. Versions aren't secret. Sector n has the 512
+//! bytes of the disk from byte 512 · n on. The contracts say that a write takes a nonce that no sector has had,
 //! that a read gives what was written, and that a write leaves all other sectors as they are.
 //!
 //! Take a new key for each disk, since two disks have the same nonces. The contracts do not cover a disk whose versions

@@ -1,5 +1,5 @@
-//! Known answers: the rows, which are calls with the answers that they must give, published or worked out by hand. A row
-//! runs on any cipher, core or generator of its kind.
+//! Known answers: the rows, which are calls with the answers that they must give, published or worked out by hand. A
+//! row runs on any cipher, core or generator of its kind.
 #![tactic(auto)]
 
 pub mod ciphers;

@@ -258,7 +258,7 @@ fn wrong_place<C: Listed>(cipher: &mut C, list: &CipherList) -> Option<usize> {
     wrong
 }
 
-/// Runs lists one after another on a cipher. Returns the name of the first that is wrong and the place in it, or `None`.
+/// Runs lists one after another on a cipher. Returns the name of the first wrong one and the place in it, or `None`.
 pub fn wrong_list<C: Listed>(cipher: &mut C, lists: &[CipherList]) -> Verdict {
     for list in lists {
         if let Some(place) = wrong_place(cipher, list) {

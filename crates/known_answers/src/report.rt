@@ -74,7 +74,7 @@ fn outcome_of(printed: bool, rows: &[Row]) -> Outcome
     Outcome { status }
 }
 
-/// Prints the ciphertext of row 1, and then a line for each row: `row N ok` or `row N bad`. The outcome is success where
+/// Prints the ciphertext of row 1, then a line for each row: `row N ok` or `row N bad`. The outcome is success where
 /// the lines could be printed and no row is bad.
 pub fn report(rt: &impl Print, ciphertext: &[u8; 16], rows: &[Row]) -> Outcome
     ensures { result ≡ 0 → All (λ row. IsNone row.1) rows.now }

@@ -98,8 +98,8 @@ pub trait StreamCipherCore: Keystream + BlockSizeUser + ParBlocksSizeUser {
             (for_whole_blocks Self.PAR_BLOCKS par_cost one_cost (length «data».old / 64))
             steps.old steps.new };
 
-    /// Writes an input, a multiple of 64 bytes, XORed with the next blocks into an output of the same length, and counts
-    /// the steps (this crate). By default it copies the input and applies the blocks in place.
+    /// Writes an input, a multiple of 64 bytes, XORed with the next blocks into an output of the same length, and
+    /// counts the steps (this crate). By default it copies the input and applies the blocks in place.
     fn apply_blocks_between_counted(&mut self, input: &[u8], output: &mut [u8], steps: &mut Steps)
         requires same { length input.now ≡ length output.old }
         requires whole { length output.old % 64 ≡ 0 }

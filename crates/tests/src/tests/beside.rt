@@ -1,5 +1,5 @@
-//! Ciphers and generators compared with those over another backend, and XChaCha with the cipher under the derived key and
-//! nonce.
+//! Ciphers and generators compared with those over another backend, and XChaCha with the cipher under the derived key
+//! and nonce.
 
 ghost use Rattle.std.specs.Prelude.{◌≤◌};
 

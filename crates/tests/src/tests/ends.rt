@@ -13,8 +13,8 @@ pub const LIMIT: u128 = 274877906944;
 /// The limit of a cipher whose counter has 64 bits.
 pub const LEGACY_LIMIT: u128 = 1180591620717411303424;
 
-/// A run on a cipher without rounds, for a key and a nonce of zeros. What is refused changes nothing. Then come the rest
-/// of the first block, and the front of the second.
+/// A run on a cipher without rounds, for a key and a nonce of zeros. What is refused changes nothing. Then come the
+/// rest of the first block, and the front of the second.
 pub static RUNS: [CipherList; 2] = [
     CipherList {
         name: "the run",

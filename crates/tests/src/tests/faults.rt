@@ -1,5 +1,5 @@
-//! Checkers that are given known faults: each finds a wrong answer and a wrong byte, the first and the last, and nothing
-//! where all are right.
+//! Checkers that are given known faults: each finds a wrong answer and a wrong byte, the first and the last, and
+//! nothing where all are right.
 
 use super::everywhere::wrong_soft_part;
 use chacha20::CipherAnswer::{Done, Position, Refused};

@@ -31,7 +31,8 @@ each-preserved c =
             (xor-equal (slice_index expected i) (slice_index tag i) (omega (arith, byte, none))),
         λ same.
             let rest = before.equal.1 (λ k less. same k (omega (arith, less))) in
-            let here = byte ∙ ap (bit_xor (slice_index expected i)) (sym (same i (omega arith))) ∙ xor_self (slice_index expected i) in
+            let here = byte ∙ ap (bit_xor (slice_index expected i)) (sym (same i (omega arith)))
+            ∙ xor_self (slice_index expected i) in
             omega (arith, rest, here),
       );
     }

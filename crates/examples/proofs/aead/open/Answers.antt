@@ -9,5 +9,6 @@ returns-clause-decrypted g c plaintext same =
     let cipher = g.C.Keystream in
     let at_1 = c.in-Ok.ensures in
     c.apply_keystream.ensures.bytes
-    ∙ keystream-sought (λ s p. xor_stream s p c.args.message.now) cipher.block_at cipher.modulus at_1.keystream refl at_1.position
+    ∙ keystream-sought (λ s p. xor_stream s p c.args.message.now) cipher.block_at cipher.modulus
+    at_1.keystream refl at_1.position
     ∙ ap (xor_stream _ 64) same ∙ xor_stream-xor_stream _ 64 plaintext

@@ -8,4 +8,5 @@ returns-clause-ciphertext g c =
     let cipher = g.C.Keystream in
     let at_1 = c.in_ok-cipher.ensures in
     c.apply_keystream.ensures.bytes
-    ∙ keystream-sought (λ s p. xor_stream s p c.args.message.now) cipher.block_at cipher.modulus at_1.keystream refl at_1.position
+    ∙ keystream-sought (λ s p. xor_stream s p c.args.message.now) cipher.block_at cipher.modulus
+    at_1.keystream refl at_1.position

@@ -71,7 +71,8 @@ groups-preserved g c =
     let so_far = g.T.Target.so_far c.args.input.now in
     record {
       engine = at-more c.gen_par_ks_blocks.new.blocks c.groups.invariant.engine c.gen_par_ks_blocks.auto.blocks
-          made.blocks made.state (so_far c.xor_blocks.new.data) c.xor_blocks.ensures (rw next.long next.all) next.inside;
+          made.blocks made.state (so_far c.xor_blocks.new.data)
+          c.xor_blocks.ensures (rw next.long next.all) next.inside;
       steps = grows-group c.groups.invariant.steps made.steps;
     }
 

@@ -29,7 +29,8 @@ returns-clause-bytes g c =
     (xor_stream-parts stream begun.position blocks last
     (c.split_at-2.ensures.by_index.0 ∙ ap (λ copied. blocks ++ copied) (sym c.copy_part-2.ensures))
     (c.apply_whole_between.ensures.position ∙ ap (λ n. begun.position + n) wide)
-    (c.apply_whole_between.ensures.bytes ∙ ap (λ f. xor_stream (keystream modulus (block f)) begun.position blocks) kept)
+    (c.apply_whole_between.ensures.bytes
+    ∙ ap (λ f. xor_stream (keystream modulus (block f)) begun.position blocks) kept)
     (c.apply_last.ensures.bytes
     ∙ ap (λ f. xor_stream (keystream modulus (block f)) whole.position last)
     (c.apply_whole_between.ensures.fixed ∙ kept)))

@@ -20,11 +20,13 @@ pieces-preserved g c =
     let cut : done + n - done ≡ n = omega arith in
     let zeros : take (done + n - done) (replicate {A = ℕ} 4096 0) ≡ replicate n 0 =
     rw cut (take-replicate n 4096 0 (omega arith)) in
-    let size : length (take (done + n - done) (replicate {A = ℕ} 4096 0)) ≡ n = ap length zeros ∙ length-replicate n 0 in
+    let size : length (take (done + n - done) (replicate {A = ℕ} 4096 0)) ≡ n =
+    ap length zeros ∙ length-replicate n 0 in
     record {
       within = subst (λ m. done + n ≤ m) c.pieces.auto.buf inside;
       fixed = c.apply_keystream_b2b.ensures.fixed ∙ before.fixed;
       position = moved_on _ _ p done n _ before.position size c.apply_keystream_b2b.ensures.position;
-      bytes = stream_part-written stream p done n _ _ _ front (c.apply_keystream_b2b.auto.output ∙ piece-long done n c.pieces.buf inside)
-          before.bytes (rw (before.fixed, before.position, zeros, xor_stream-zeros) at c.apply_keystream_b2b.ensures.bytes);
+      bytes = stream_part-written stream p done n _ _ _ front
+          (c.apply_keystream_b2b.auto.output ∙ piece-long done n c.pieces.buf inside) before.bytes
+          (rw (before.fixed, before.position, zeros, xor_stream-zeros) at c.apply_keystream_b2b.ensures.bytes);
     }
