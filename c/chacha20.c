@@ -1,6 +1,6 @@
 /* SPDX-License-Identifier: Apache-2.0 OR MIT
 
-   The functions of chacha20.h. Each checks its pointers and lengths, chooses the build for the
+   The functions of chacha20.h. Each handles null and overlapping buffers, chooses the build for the
    processor, and makes one call of a proved function. This file is trusted: it is tested, not proved. */
 
 #include "../include/chacha20.h"
@@ -59,19 +59,20 @@ __attribute__((constructor)) static void choose_level(void) {
     BUILDS(RESULT, NAME, PARAMETERS)                                                  \
     CHOICE(RESULT, NAME, PARAMETERS, ARGUMENTS, RETURN_##RESULT NAME##_x86_64_v3 ARGUMENTS;)
 
-/* The build for x86-64-v3 stores vectors of 32 bytes on the stack, and is slow where they cross a
-   page. So if the page boundary below is near, a long call, with PUSHED bytes of arguments on the
-   stack, begins 32 bytes below it. Compilers agree on what alloca takes for sizes of 16 n + 8. */
+/* The build for x86-64-v3 stores vectors of 32 bytes on the stack, and is slow where they cross a page
+   or a cache line. So if the page boundary below is near, a long call begins 32 - SHIFT bytes below it.
+   SHIFT is 0 or 16, whichever aligns more vectors of the proved function: make -C tests time tells.
+   Compilers agree on what alloca takes for sizes of 16 n + 8. */
 enum { LONG = 512, NEAR = 3072, PAGE = 4096 };
 
-#define LONG_PROVED(RESULT, NAME, PUSHED, PARAMETERS, ARGUMENTS)                      \
+#define LONG_PROVED(RESULT, NAME, SHIFT, PARAMETERS, ARGUMENTS)                       \
     BUILDS(RESULT, NAME, PARAMETERS)                                                  \
     static __attribute__((noinline)) RESULT NAME##_moved PARAMETERS {                 \
         char *here = __builtin_alloca(8);                                             \
         __asm__ volatile("" : "+r"(here));                                            \
         size_t above = (uintptr_t)here % PAGE;                                        \
         if (above < NEAR) {                                                           \
-            here = __builtin_alloca(above + 24 - PUSHED);                             \
+            here = __builtin_alloca(above + 24 - SHIFT);                              \
             __asm__ volatile("" : : "r"(here) : "memory");                            \
         }                                                                             \
         RETURN_##RESULT NAME##_x86_64_v3 ARGUMENTS;                                   \
@@ -85,10 +86,10 @@ enum { LONG = 512, NEAR = 3072, PAGE = 4096 };
     static inline RESULT NAME##_proved PARAMETERS {  \
         RETURN_##RESULT NAME##_generic ARGUMENTS;    \
     }
-#define LONG_PROVED(RESULT, NAME, PUSHED, PARAMETERS, ARGUMENTS) PROVED(RESULT, NAME, PARAMETERS, ARGUMENTS)
+#define LONG_PROVED(RESULT, NAME, SHIFT, PARAMETERS, ARGUMENTS) PROVED(RESULT, NAME, PARAMETERS, ARGUMENTS)
 #endif
 
-/* A function of chacha20.h that checks nothing. */
+/* A function of chacha20.h without such buffers. */
 #define CALL(RESULT, NAME, PARAMETERS, ARGUMENTS) \
     PROVED(RESULT, NAME, PARAMETERS, ARGUMENTS)   \
     RESULT NAME PARAMETERS { RETURN_##RESULT NAME##_proved ARGUMENTS; }
@@ -98,7 +99,8 @@ static int overlap(const uint8_t *output, const uint8_t *input, size_t len) {
     return (to < from ? from - to : to - from) < len;
 }
 
-/* Ciphers. AT is the position's parameters, and the rest its arguments. */
+/* Ciphers. SHIFT is that in place, and BETWEEN that between buffers; AT is the position's parameters,
+   and the rest its arguments. */
 
 #define POSITION uint64_t position
 #define PLACE uint64_t block, uint64_t offset
@@ -112,13 +114,13 @@ uint64_t chacha20_block_position(uint64_t block) {
 }
 
 #define KEY(NONCE) const uint8_t key[32], const uint8_t nonce[NONCE]
-#define CIPHER(NAME, NONCE, CHECK, AT, ...)                                                            \
-    LONG_PROVED(uint32_t, NAME##_xor_in_place, 0, (KEY(NONCE), AT, uint8_t *data, size_t len),         \
+#define CIPHER(NAME, NONCE, CHECK, SHIFT, BETWEEN, AT, ...)                                            \
+    LONG_PROVED(uint32_t, NAME##_xor_in_place, SHIFT, (KEY(NONCE), AT, uint8_t *data, size_t len),     \
                 (key, nonce, __VA_ARGS__, data, len))                                                  \
-    LONG_PROVED(uint32_t, NAME##_xor_between, 16,                                                      \
+    LONG_PROVED(uint32_t, NAME##_xor_between, BETWEEN,                                                 \
                 (KEY(NONCE), AT, uint8_t *output, size_t len, const uint8_t *input, size_t input_len), \
                 (key, nonce, __VA_ARGS__, output, len, input, input_len))                              \
-    LONG_PROVED(uint32_t, NAME##_keystream, 0, (KEY(NONCE), AT, uint8_t *output, size_t len),          \
+    LONG_PROVED(uint32_t, NAME##_keystream, 16, (KEY(NONCE), AT, uint8_t *output, size_t len),         \
                 (key, nonce, __VA_ARGS__, output, len))                                                \
     uint32_t NAME##_xor(KEY(NONCE), AT, uint8_t *output, const uint8_t *input, size_t len) {           \
         uint32_t result;                                                                               \
@@ -137,13 +139,13 @@ uint64_t chacha20_block_position(uint64_t block) {
         return result;                                                                                 \
     }
 
-CIPHER(chacha20, 12, chacha20_check, POSITION, position)
-CIPHER(chacha12, 12, chacha20_check, POSITION, position)
-CIPHER(chacha8, 12, chacha20_check, POSITION, position)
-CIPHER(xchacha20, 24, chacha20_check, POSITION, position)
-CIPHER(xchacha12, 24, chacha20_check, POSITION, position)
-CIPHER(xchacha8, 24, chacha20_check, POSITION, position)
-CIPHER(chacha20_legacy, 8, chacha20_legacy_check, LIST(PLACE), block, offset)
+CIPHER(chacha20, 12, chacha20_check, 0, 0, POSITION, position)
+CIPHER(chacha12, 12, chacha20_check, 0, 0, POSITION, position)
+CIPHER(chacha8, 12, chacha20_check, 0, 0, POSITION, position)
+CIPHER(xchacha20, 24, chacha20_check, 16, 16, POSITION, position)
+CIPHER(xchacha12, 24, chacha20_check, 16, 16, POSITION, position)
+CIPHER(xchacha8, 24, chacha20_check, 16, 16, POSITION, position)
+CIPHER(chacha20_legacy, 8, chacha20_legacy_check, 0, 16, LIST(PLACE), block, offset)
 
 /* HChaCha and generators */
 
@@ -163,7 +165,7 @@ SUBKEY(hchacha8)
 #define GENERATOR(NAME)                                                                                \
     CALL(uint32_t, NAME##_next_u32, (STATE), (state))                                                  \
     CALL(uint64_t, NAME##_next_u64, (STATE), (state))                                                  \
-    LONG_PROVED(void, NAME##_fill, 0, (STATE, uint8_t *output, size_t len), (state, output, len))      \
+    LONG_PROVED(void, NAME##_fill, 16, (STATE, uint8_t *output, size_t len), (state, output, len))      \
     void NAME##_fill(STATE, uint8_t *output, size_t len) {                                             \
         if (len == 0) return;                                                                          \
         NAME##_fill_proved(state, output, len);                                                        \

@@ -7,8 +7,8 @@
        ...
        if (chacha20_xor(key, nonce, 0, output, input, len) != CHACHA20_OK) return -1;
 
-   Each function checks its pointers and lengths and makes one call of a function that is proved to
-   meet its contract (crates/chacha20_c). The checks (c/chacha20.c) are tested, not proved.
+   Each function handles null and overlapping buffers and makes one call of a function that is proved
+   to meet its contract (crates/chacha20_c). The rest (c/chacha20.c) is tested, not proved.
 
    For every function:
 

@@ -3,12 +3,12 @@
 ghost use Rattle.std.specs.Prelude.{◌≤◌, ◌^◌};
 ghost use Rattle.chacha20.specs.Cipher.{limit_of};
 
-use crate::lists::{CipherList, Directly, EMPTY, Listed, wrong_list};
-use crate::published::{COUNTING, FROM_1, HCHACHA_INPUT, LEGACY_NONCE, SUBKEY};
+use crate::lists::{CipherList, EMPTY, Fresh};
+use crate::published::{COUNTING, FROM_1, HCHACHA_INPUT, LEGACY_NONCE, NONCE, SUBKEY};
 use crate::verdicts::{Verdict, failed};
 use chacha20::CipherAnswer::{Done, Position, Refused};
-use chacha20::CipherCall::{Apply, ApplyFrom, CheckRemaining, Pos, Seek, SeekI32, Write};
-use chacha20::cipher::{KeyIvInit, SeekNum, StreamCipherSeek};
+use chacha20::CipherCall::{Apply, ApplyFrom, CheckRemaining, Pos, Seek, Write};
+use chacha20::cipher::{KeyIvInit, StreamCipherSeek};
 use chacha20::{CipherCall, Key, LegacyNonce, Nonce, R20, hchacha};
 
 /// The key of row 1.
@@ -79,22 +79,6 @@ pub static ROW_4: [CipherList; 2] = [
     },
 ];
 
-/// The block with the greatest counter is taken as any other.
-pub static ROW_11: [CipherList; 1] = [CipherList {
-    name: "the block with the greatest counter",
-    data: &[7],
-    calls: &[
-        (Seek(274877906880), Done),
-        (Apply { at: 0, len: 0 }, Done),
-        (Apply { at: 0, len: 1 }, Done),
-        (Pos, Position(274877906881)),
-        (Seek(274877906881), Done),
-        (SeekI32(-1), Refused),
-        (Pos, Position(274877906881)),
-    ],
-    ..EMPTY
-}];
-
 /// Two slices of different lengths.
 pub static ROW_16: [CipherList; 1] = [CipherList {
     name: "three bytes into four",
@@ -102,21 +86,6 @@ pub static ROW_16: [CipherList; 1] = [CipherList {
     data: &[9; 4],
     calls: &[(THREE_INTO_FOUR, Refused), (Pos, Position(0))],
     after: &[9; 4],
-}];
-
-/// The last byte: the stream ends after it.
-pub static ROW_18: [CipherList; 1] = [CipherList {
-    name: "a fresh cipher's position, the last byte, and one after it",
-    data: &[0; 2],
-    calls: &[
-        (Pos, Position(0)),
-        (Seek(274877906943), Done),
-        (Apply { at: 0, len: 1 }, Done),
-        (Pos, Position(274877906944)),
-        (Apply { at: 1, len: 1 }, Refused),
-    ],
-    after: &[0],
-    ..EMPTY
 }];
 
 /// How much a fresh cipher takes.
@@ -177,18 +146,8 @@ where
     let there = data;
     cipher.seek(0u32);
     cipher.apply_keystream(&mut data);
-    let back = data;
-    cipher.seek(0u32);
-    let mut accepted = true;
-    for piece in data.chunks_mut(3) {
-        accepted &= cipher.try_apply_keystream(piece).is_ok();
-    }
-    let parts = [
-        there == *CIPHERTEXT,
-        back == *PLAINTEXT,
-        accepted && data == *CIPHERTEXT,
-    ];
-    (there, failed("there, back, and in pieces", &parts))
+    let parts = [there == *CIPHERTEXT, data == *PLAINTEXT];
+    (there, failed("there and back", &parts))
 }
 
 /// HChaCha (draft-irtf-cfrg-xchacha, section 2.2.1).
@@ -200,67 +159,65 @@ pub fn row_3() -> Verdict {
 }
 
 /// Row 6 from byte 17 on.
-pub fn row_6<C>() -> Verdict
-where
-    C: KeyIvInit<Key = Key, Iv = LegacyNonce> + StreamCipherSeek + Listed + Drop,
+pub fn row_6<C: Fresh<LegacyNonce> + StreamCipherSeek>() -> Verdict
     requires { 2 ^ 32 ≤ limit_of C.modulus }
 {
-    let mut cipher = C::new(&FROM_1, &LEGACY_NONCE);
+    let mut cipher = C::fresh(&FROM_1, &LEGACY_NONCE);
     cipher.seek(17u64);
-    wrong_list(&mut Directly(&mut cipher), &FROM_17)
+    let mut three = [0; 3];
+    let parts = [
+        cipher.applies(&mut three) && three == *b"\x98\x24\x6f",
+        cipher.applies(&mut []),
+        cipher.is_at(Some(20u64)),
+    ];
+    failed("from byte 17: three bytes, no bytes, the position", &parts)
 }
 
-static FROM_17: [CipherList; 1] = [CipherList {
-    name: "three bytes from byte 17 on, and no bytes",
-    data: &[0; 3],
-    calls: &[
-        (Write { at: 0, len: 3 }, Done),
-        (Apply { at: 3, len: 0 }, Done),
-        (Pos, Position(20)),
-    ],
-    after: b"\x98\x24\x6f",
-    ..EMPTY
-}];
+/// The block with the greatest counter is like any other.
+pub fn row_11<C: Fresh<Nonce>>() -> Verdict {
+    let mut cipher = C::fresh(&COUNTING, &NONCE);
+    let parts = [
+        cipher.seeks(274877906880u64),
+        cipher.applies(&mut []),
+        cipher.applies(&mut [7]),
+        cipher.seeks(274877906881u64),
+        !cipher.seeks(-1i32),
+        cipher.is_at(Some(274877906881u64)),
+    ];
+    failed("a seek, no bytes, a byte, two seeks, the position", &parts)
+}
 
 /// Positions that a type can't represent.
-pub fn row_12<C>() -> Verdict
-where
-    C: KeyIvInit<Key = Key, Iv = Nonce> + StreamCipherSeek + Drop,
+pub fn row_12<C: Fresh<Nonce> + StreamCipherSeek>() -> Verdict
     requires { 2 ^ 32 ≤ limit_of C.modulus }
 {
-    let mut cipher = C::new(&COUNTING, &[0; 12]);
+    let mut cipher = C::fresh(&COUNTING, &[0; 12]);
     cipher.seek(2147483648u32);
-    failed(
-        "past 31 bits, in 31 and in 32",
-        &[
-            is_at::<C, i32>(&cipher, None),
-            is_at::<C, u32>(&cipher, Some(2147483648)),
-        ],
-    )
+    let parts = [cipher.is_at::<i32>(None), cipher.is_at(Some(2147483648u32))];
+    failed("past 31 bits, in 31 and in 32", &parts)
 }
 
 /// The same of the legacy cipher.
-pub fn legacy_row_12<C>() -> Verdict
-where
-    C: KeyIvInit<Key = Key, Iv = LegacyNonce> + StreamCipherSeek + Drop,
-{
-    let mut cipher = C::new(&FROM_1, &LEGACY_NONCE);
-    let sought = cipher.try_seek(1180591620717411303360u128).is_ok();
-    failed(
-        "a seek past 64 bits, and the position in 64 and in 128",
-        &[
-            sought,
-            is_at::<C, u64>(&cipher, None),
-            is_at::<C, u128>(&cipher, Some(1180591620717411303360)),
-        ],
-    )
+pub fn legacy_row_12<C: Fresh<LegacyNonce>>() -> Verdict {
+    let mut cipher = C::fresh(&FROM_1, &LEGACY_NONCE);
+    let parts = [
+        cipher.seeks(1180591620717411303360u128),
+        cipher.is_at::<u64>(None),
+        cipher.is_at(Some(1180591620717411303360u128)),
+    ];
+    failed("past 64 bits: a seek, in 64, in 128", &parts)
 }
 
-/// Whether a cipher returns this position; for `None`, whether it returns that the type can't represent it.
-pub fn is_at<C: StreamCipherSeek, T: SeekNum>(cipher: &C, place: Option<T>) -> bool {
-    match (cipher.try_current_pos::<T>(), place) {
-        (Ok(number), Some(place)) => number.to_position() == place.to_position(),
-        (Err(_), None) => true,
-        _ => false,
-    }
+/// The last byte: the stream ends after it.
+pub fn row_18<C: Fresh<Nonce>>() -> Verdict {
+    let mut cipher = C::fresh(&COUNTING, &NONCE);
+    let mut data = [0];
+    let parts = [
+        cipher.is_at(Some(0u64)),
+        cipher.seeks(274877906943u64),
+        cipher.applies(&mut [0]),
+        cipher.is_at(Some(274877906944u64)),
+        !cipher.applies(&mut data) && data == [0],
+    ];
+    failed("0, a seek, the last byte, the limit, one more", &parts)
 }

@@ -15,8 +15,8 @@ use chacha20::cipher::{KeyIvInit, StreamCipherSeekCore};
 use chacha20::rand_core::SeedableRng;
 use chacha20::{Key, LegacyNonce, Nonce, Rounds, Seed, StreamCipherCoreWrapper, XNonce};
 use ciphers::{
-    KEY_1, LEGACY_ROW_22, NONCE_1, ROW_1, ROW_4, ROW_5, ROW_6, ROW_11, ROW_16, ROW_18, ROW_22,
-    legacy_row_12, row_1, row_3, row_6, row_12,
+    KEY_1, LEGACY_ROW_22, NONCE_1, ROW_1, ROW_4, ROW_5, ROW_6, ROW_16, ROW_22, legacy_row_12,
+    row_1, row_3, row_6, row_11, row_12, row_18,
 };
 use cores::row_13;
 use draws::{Drawn, wrong_draws};
@@ -26,7 +26,7 @@ use generators::{
 };
 use lists::{CipherList, Fresh, wrong_lists};
 use published::{COUNTING, FROM_1, FROM_80, LEGACY_NONCE, NONCE, X_NONCE};
-use verdicts::{Row, Verdict, enter};
+use verdicts::{Row, Verdict, numbered};
 
 /// No rounds: a block is its start state, each word doubled.
 #[derive(Clone, Copy)]
@@ -40,15 +40,6 @@ impl Rounds for R0 {
 
 type Cipher<K> = StreamCipherCoreWrapper<K>;
 
-// The rows 1 and 3 to 23. Row 2 is a test.
-fn numbered(table: &[Verdict; 24]) -> [Row; 22] {
-    let mut rows = [(1, table[1]); 22];
-    for i in 1..22usize {
-        rows[i] = (i + 2, table[i + 2]);
-    }
-    rows
-}
-
 fn of_ietf<C: Fresh<Nonce>>(lists: &[CipherList]) -> Verdict {
     wrong_lists::<Nonce, C>(&COUNTING, &NONCE, lists)
 }
@@ -57,40 +48,24 @@ fn of_legacy<C: Fresh<LegacyNonce>>(lists: &[CipherList]) -> Verdict {
     wrong_lists::<LegacyNonce, C>(&FROM_1, &LEGACY_NONCE, lists)
 }
 
-fn of_xchacha<C: Fresh<XNonce>>(lists: &[CipherList]) -> Verdict {
-    wrong_lists::<XNonce, C>(&FROM_80, &X_NONCE, lists)
-}
-
-// The ciphertext of row 1, and the rows, or parts of rows, of the cipher of RFC 8439 over a core.
-fn ietf_rows<K>() -> ([u8; 16], [Row; 8])
-where
-    K: KeyIvInit<Key = Key, Iv = Nonce> + StreamCipherSeekCore<Counter = u32> + Drop,
-{
-    let (ciphertext, in_calls) = row_1::<Cipher<K>>();
-    let in_lists = wrong_lists::<Nonce, Cipher<K>>(&KEY_1, &NONCE_1, &ROW_1);
-    let rows = [
-        (1, in_calls),
-        (1, in_lists),
-        (4, of_ietf::<Cipher<K>>(&ROW_4)),
-        (11, of_ietf::<Cipher<K>>(&ROW_11)),
-        (12, row_12::<Cipher<K>>()),
-        (16, of_ietf::<Cipher<K>>(&ROW_16)),
-        (18, of_ietf::<Cipher<K>>(&ROW_18)),
-        (22, of_ietf::<Cipher<K>>(&ROW_22)),
-    ];
-    (ciphertext, rows)
+// The rows, or parts of rows, of the cipher of RFC 8439, but for those in `rows`.
+fn ietf_rows<C: Fresh<Nonce>>() -> [Row; 6] {
+    [
+        (1, wrong_lists::<Nonce, C>(&KEY_1, &NONCE_1, &ROW_1)),
+        (4, of_ietf::<C>(&ROW_4)),
+        (11, row_11::<C>()),
+        (16, of_ietf::<C>(&ROW_16)),
+        (18, row_18::<C>()),
+        (22, of_ietf::<C>(&ROW_22)),
+    ]
 }
 
 // Those of the legacy cipher.
-fn legacy_rows<K>() -> [Row; 4]
-where
-    K: KeyIvInit<Key = Key, Iv = LegacyNonce> + StreamCipherSeekCore<Counter = u64> + Drop,
-{
+fn legacy_rows<C: Fresh<LegacyNonce>>() -> [Row; 3] {
     [
-        (6, of_legacy::<Cipher<K>>(&ROW_6)),
-        (6, row_6::<Cipher<K>>()),
-        (12, legacy_row_12::<Cipher<K>>()),
-        (22, of_legacy::<Cipher<K>>(&LEGACY_ROW_22)),
+        (6, of_legacy::<C>(&ROW_6)),
+        (12, legacy_row_12::<C>()),
+        (22, of_legacy::<C>(&LEGACY_ROW_22)),
     ]
 }
 
@@ -110,8 +85,8 @@ fn generator_rows<G: Drawn>() -> [Row; 10] {
     ]
 }
 
-/// The ciphertext of row 1, and each row: over cores with 20 rounds of the three kinds, cores without rounds, and
-/// generators with 8, 12 and 20 rounds.
+/// The ciphertext of row 1, and the rows 1 and 3 to 23; row 2 is a test. They run over cores with 20 rounds of the three
+/// kinds, cores without rounds, and generators with 8, 12 and 20 rounds.
 pub fn rows<I, L, X, I0, L0, G8, G12, G20>() -> ([u8; 16], [Row; 22])
 where
     I: KeyIvInit<Key = Key, Iv = Nonce> + StreamCipherSeekCore<Counter = u32> + Drop,
@@ -123,19 +98,26 @@ where
     G12: Drawn,
     G20: Drawn,
 {
-    let mut table = [None; 24];
-    let (ciphertext, of_ietf) = ietf_rows::<I>();
+    let (ciphertext, row_1) = row_1::<Cipher<I>>();
     let others = [
+        (1, row_1),
         (3, row_3()),
-        (5, of_xchacha::<Cipher<X>>(&ROW_5)),
+        (
+            5,
+            wrong_lists::<XNonce, Cipher<X>>(&FROM_80, &X_NONCE, &ROW_5),
+        ),
+        (6, row_6::<Cipher<L>>()),
+        (12, row_12::<Cipher<I>>()),
         (13, row_13::<I0, L0>()),
         (14, wrong_draws::<G8>(FROM_1, &ROW_14)),
         (14, wrong_draws::<G12>(FROM_1, &ROW_14)),
         (14, wrong_draws::<G20>(FROM_1, &ROW_14)),
     ];
-    enter(&mut table, &of_ietf);
-    enter(&mut table, &legacy_rows::<L>());
-    enter(&mut table, &generator_rows::<G20>());
-    enter(&mut table, &others);
-    (ciphertext, numbered(&table))
+    let rows = numbered(&[
+        &ietf_rows::<Cipher<I>>(),
+        &legacy_rows::<Cipher<L>>(),
+        &generator_rows::<G20>(),
+        &others,
+    ]);
+    (ciphertext, rows)
 }

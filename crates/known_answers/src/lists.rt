@@ -1,13 +1,11 @@
 //! Lists of calls on a cipher, each call with its answer. A list is an entry of a `static`, since that costs a proof a
 //! millisecond in each function that names it, and a test function half a second or more.
 
-ghost use Rattle.std.specs.Prelude.{◌↔◌, ◌≤◌, ◌+◌, IsTrue, All, length};
+ghost use Rattle.std.specs.Prelude.{◌↔◌, ◌≤◌, ◌+◌, IsTrue, All};
 ghost use Rattle.chacha20.specs.Runs.{InSlices};
 
-use crate::verdicts::{Verdict, failed_at, first_failure};
-use chacha20::cipher::{
-    KeyIvInit, StreamCipher, StreamCipherError, StreamCipherSeek, StreamCipherSeekCore,
-};
+use crate::verdicts::{Verdict, failed_at};
+use chacha20::cipher::{KeyIvInit, SeekNum, StreamCipher, StreamCipherSeek, StreamCipherSeekCore};
 use chacha20::{CipherAnswer, CipherCall, Key, StreamCipherCoreWrapper, run_cipher};
 
 /// At most 32 calls on a cipher, over at most 400 bytes of data.
@@ -43,14 +41,20 @@ pub trait Listed {
         calls: &[CipherCall],
         answers: &mut [CipherAnswer],
     ) -> bool;
-
-    /// Makes one call directly. If a range lies past its slice, it returns `Overflow` and does nothing.
-    fn answers(&mut self, input: &[u8], data: &mut [u8], call: CipherCall) -> CipherAnswer;
 }
 
-/// A cipher with nonces of one type, as rows and tests make it.
+/// A cipher with nonces of one type, as rows and tests make it and call it.
 pub trait Fresh<N>: Listed + Drop {
     fn fresh(key: &Key, nonce: &N) -> Self;
+
+    /// Whether a seek succeeds.
+    fn seeks<T: SeekNum>(&mut self, place: T) -> bool;
+
+    /// Whether it applies the keystream to these bytes.
+    fn applies(&mut self, data: &mut [u8]) -> bool;
+
+    /// Whether its position is this one; for `None`, whether the type can't represent the position.
+    fn is_at<T: SeekNum>(&self, place: Option<T>) -> bool;
 }
 
 impl<K: StreamCipherSeekCore> Listed for StreamCipherCoreWrapper<K> {
@@ -69,15 +73,6 @@ impl<K: StreamCipherSeekCore> Listed for StreamCipherCoreWrapper<K> {
         run_cipher(self, input, data, calls, answers);
         true
     }
-
-    #[inline(never)]
-    fn answers(&mut self, input: &[u8], data: &mut [u8], call: CipherCall) -> CipherAnswer {
-        if in_slices(call, input.len(), data.len()) {
-            answered(self, input, data, call)
-        } else {
-            CipherAnswer::Overflow
-        }
-    }
 }
 
 impl<N, K> Fresh<N> for StreamCipherCoreWrapper<K>
@@ -87,36 +82,26 @@ where
     fn fresh(key: &Key, nonce: &N) -> Self {
         StreamCipherCoreWrapper::new(key, nonce)
     }
-}
 
-/// A cipher whose lists are run by direct calls, one after another.
-#[derive(Drop)]
-pub struct Directly<'a, C>(pub &'a mut C);
-
-impl<C: Listed> Listed for Directly<'_, C> {
-    fn runs(
-        &mut self,
-        input: &[u8],
-        data: &mut [u8],
-        calls: &[CipherCall],
-        answers: &mut [CipherAnswer],
-    ) -> bool {
-        if answers.len() != calls.len() || !all_in_slices(calls, input.len(), data.len()) {
-            return false;
-        }
-        for i in 0..calls.len() {
-            answers[i] = self.0.answers(input, data, calls[i]);
-        }
-        true
+    fn seeks<T: SeekNum>(&mut self, place: T) -> bool {
+        self.try_seek(place).is_ok()
     }
 
-    fn answers(&mut self, input: &[u8], data: &mut [u8], call: CipherCall) -> CipherAnswer {
-        self.0.answers(input, data, call)
+    fn applies(&mut self, data: &mut [u8]) -> bool {
+        self.try_apply_keystream(data).is_ok()
+    }
+
+    fn is_at<T: SeekNum>(&self, place: Option<T>) -> bool {
+        match (self.try_current_pos::<T>(), place) {
+            (Ok(number), Some(place)) => number.to_position() == place.to_position(),
+            (Err(_), None) => true,
+            _ => false,
+        }
     }
 }
 
-// Whether the ranges of a call lie in slices of these lengths.
-fn in_slices(call: CipherCall, input: usize, bytes: usize) -> bool
+/// Whether the ranges of a call lie in slices of these lengths.
+pub fn in_slices(call: CipherCall, input: usize, bytes: usize) -> bool
     ensures { IsTrue result ↔ InSlices input bytes call }
 {
     match call {
@@ -147,56 +132,6 @@ fn all_in_slices(calls: &[CipherCall], input: usize, bytes: usize) -> bool
         }
     }
     true
-}
-
-fn of_outcome(outcome: Result<(), StreamCipherError>) -> CipherAnswer {
-    if outcome.is_ok() {
-        CipherAnswer::Done
-    } else {
-        CipherAnswer::Refused
-    }
-}
-
-// Makes a call as `run_cipher` does, but seeks in 64 bits where they hold the position.
-fn answered<C: StreamCipherSeek>(
-    cipher: &mut C,
-    input: &[u8],
-    data: &mut [u8],
-    call: CipherCall,
-) -> CipherAnswer
-    requires { InSlices (length input.now) (length «data».old) call }
-{
-    match call {
-        CipherCall::CheckRemaining(len) => of_outcome(cipher.check_remaining(len)),
-        CipherCall::Apply { at, len } => of_outcome(cipher.try_apply_keystream(
-            &mut data[at..at + len],
-        )),
-        CipherCall::Write { at, len } => of_outcome(cipher.try_write_keystream(
-            &mut data[at..at + len],
-        )),
-        CipherCall::ApplyFrom {
-            from,
-            from_len,
-            at,
-            len,
-        } => of_outcome(cipher.try_apply_keystream_b2b(
-            &input[from..from + from_len],
-            &mut data[at..at + len],
-        )),
-        CipherCall::Seek(place) => match u64::try_from(place) {
-            Ok(place) => of_outcome(cipher.try_seek(place)),
-            Err(_) => of_outcome(cipher.try_seek(place)),
-        },
-        CipherCall::SeekI32(place) => of_outcome(cipher.try_seek(place)),
-        CipherCall::Pos => match cipher.try_current_pos() {
-            Ok(place) => CipherAnswer::Position(place),
-            Err(_) => CipherAnswer::Overflow,
-        },
-        CipherCall::PosI32 => match cipher.try_current_pos() {
-            Ok(place) => CipherAnswer::PositionI32(place),
-            Err(_) => CipherAnswer::Overflow,
-        },
-    }
 }
 
 /// Copies the calls without their answers.
@@ -268,10 +203,7 @@ pub fn wrong_list<C: Listed>(cipher: &mut C, lists: &[CipherList]) -> Verdict {
     None
 }
 
-/// Runs lists on a new cipher by direct calls, and on another by `run_cipher`.
+/// Runs lists on a new cipher.
 pub fn wrong_lists<N, C: Fresh<N>>(key: &Key, nonce: &N, lists: &[CipherList]) -> Verdict {
-    first_failure(&[
-        wrong_list(&mut Directly(&mut C::fresh(key, nonce)), lists),
-        wrong_list(&mut C::fresh(key, nonce), lists),
-    ])
+    wrong_list(&mut C::fresh(key, nonce), lists)
 }

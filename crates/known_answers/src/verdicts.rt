@@ -29,35 +29,38 @@ pub fn failed(check: &'static str, parts: &[bool]) -> Verdict {
     None
 }
 
-/// The first failure of several.
-pub fn first_failure(verdicts: &[Verdict]) -> Verdict {
-    for i in 0..verdicts.len() {
-        if verdicts[i].is_some() {
-            return verdicts[i];
+// The first failure of a row's parts in a list, if there are any.
+fn in_list(parts: &[Row], number: usize) -> Option<Verdict> {
+    let mut found = None;
+    for i in 0..parts.len() {
+        if parts[i].0 == number {
+            if let Some(failure) = parts[i].1 {
+                return Some(Some(failure));
+            }
+            found = Some(None);
         }
     }
-    None
+    found
 }
 
-/// Enters rows, or parts of rows, each at the place of its number. An earlier failure stays.
-pub fn enter(table: &mut [Verdict; 24], rows: &[Row]) {
-    for i in 0..rows.len() {
-        enter_row(table, rows[i].0, rows[i].1);
-    }
-}
-
-fn enter_row(table: &mut [Verdict; 24], number: usize, verdict: Verdict) {
-    if number < 24 && table[number].is_none() {
-        table[number] = verdict;
-    }
-}
-
-/// The first failure in rows, with the row's number.
-pub fn first_bad_row(rows: &[Row]) -> Verdict {
-    for i in 0..rows.len() {
-        if let Some(failure) = rows[i].1 {
-            return failed_at(failure.check, rows[i].0);
+// The first failure of a row's parts. It is a failure if there are none.
+fn of_number(lists: &[&[Row]; 4], number: usize) -> Verdict {
+    let mut verdict = failed_at("a row without parts", number);
+    for i in 0..4usize {
+        match in_list(lists[i], number) {
+            Some(Some(failure)) => return Some(failure),
+            Some(None) => verdict = None,
+            None => {}
         }
     }
-    None
+    verdict
+}
+
+/// The rows 1 and 3 to 23 from lists of their parts.
+pub fn numbered(lists: &[&[Row]; 4]) -> [Row; 22] {
+    let mut rows = [(1, of_number(lists, 1)); 22];
+    for i in 1..22usize {
+        rows[i] = (i + 2, of_number(lists, i + 2));
+    }
+    rows
 }

@@ -4,6 +4,7 @@ mod backends;
 mod beside;
 mod calls;
 mod core_calls;
+mod directly;
 mod ends;
 mod everywhere;
 mod faults;
@@ -14,7 +15,7 @@ mod streams;
 mod toy_cipher;
 mod wraps;
 
-use known_answers::verdicts::Verdict;
+use known_answers::verdicts::{Row, Verdict, failed_at};
 use std::process::Abort;
 
 // Stops the test where a check fails, and names its subject, a backend or a type, and the check.
@@ -22,4 +23,24 @@ fn stop_if(rt: &impl Abort, subject: &str, verdict: Verdict) {
     if let Some(failure) = verdict {
         panic!(rt; "{subject}: {}, {}", failure.check, failure.number);
     }
+}
+
+// The first failure of several.
+fn first_failure(verdicts: &[Verdict]) -> Verdict {
+    for i in 0..verdicts.len() {
+        if verdicts[i].is_some() {
+            return verdicts[i];
+        }
+    }
+    None
+}
+
+// The first failure in rows, with the row's number.
+fn first_bad_row(rows: &[Row]) -> Verdict {
+    for i in 0..rows.len() {
+        if let Some(failure) = rows[i].1 {
+            return failed_at(failure.check, rows[i].0);
+        }
+    }
+    None
 }

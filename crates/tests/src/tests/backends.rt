@@ -2,6 +2,7 @@
 
 ghost use Rattle.std.specs.Prelude.{◌≤◌};
 
+use super::first_failure;
 use chacha20::backends::Soft;
 use chacha20::cipher::{
     KeyIvInit, RngBackend, StreamCipherBackend, StreamCipherCounter, StreamCipherSeekCore,
@@ -11,7 +12,7 @@ use chacha20::variants::{Ietf, Legacy};
 use chacha20::{ChaChaCore, R20, Rounds};
 use known_answers::R0;
 use known_answers::published::COUNTING;
-use known_answers::verdicts::{Verdict, failed_at, first_failure};
+use known_answers::verdicts::{Verdict, failed_at};
 
 // So many blocks from a counter on, the single block after them, and the counter between.
 fn made<C: StreamCipherSeekCore>(

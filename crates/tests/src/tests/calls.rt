@@ -3,13 +3,14 @@
 ghost use Rattle.std.specs.Prelude.{◌≤◌, ◌^◌};
 ghost use Rattle.chacha20.specs.Cipher.{limit_of};
 
+use super::directly::{Called, Directly};
 use super::ends::{FIRST_FOUR, INTO_LAST_BLOCK, LAST_SIXTEEN, LEGACY_LIMIT};
+use super::first_failure;
 use chacha20::cipher::{KeyIvInit, StreamCipherSeek};
 use chacha20::{Key, LegacyNonce, Nonce};
-use known_answers::ciphers::is_at;
-use known_answers::lists::{Directly, Listed, wrong_list};
+use known_answers::lists::{Fresh, wrong_list};
 use known_answers::published::{COUNTING, FROM_1, LEGACY_NONCE, OF_20_ROUNDS};
-use known_answers::verdicts::{Verdict, failed, first_failure};
+use known_answers::verdicts::{Verdict, failed};
 
 /// What is wrong with the calls without `try_`, of a cipher of RFC 8439.
 pub fn wrong_calls<C>() -> Verdict
@@ -42,12 +43,10 @@ where
 }
 
 /// What is wrong with seeks without `try_` at the end of a cipher without rounds.
-pub fn wrong_zero_seeks<C>() -> Verdict
-where
-    C: KeyIvInit<Key = Key, Iv = Nonce> + StreamCipherSeek + Listed + Drop,
+pub fn wrong_zero_seeks<C: Fresh<Nonce> + Called + StreamCipherSeek>() -> Verdict
     requires { 2 ^ 38 ≤ limit_of C.modulus }
 {
-    let mut cipher = C::new(&[0; 32], &[0; 12]);
+    let mut cipher = C::fresh(&[0; 32], &[0; 12]);
     cipher.seek(274877906928u64);
     let last = wrong_list(&mut Directly(&mut cipher), &[LAST_SIXTEEN]);
     cipher.seek(0u32);
@@ -58,27 +57,25 @@ where
 }
 
 /// What is wrong with positions of a new cipher with a counter of 32 bits, in each type.
-pub fn wrong_positions<C>() -> Verdict
-where
-    C: KeyIvInit<Key = Key, Iv = Nonce> + StreamCipherSeek + Drop,
+pub fn wrong_positions<C: Fresh<Nonce> + StreamCipherSeek>() -> Verdict
     requires { 2 ^ 38 ≤ limit_of C.modulus }
 {
-    let mut cipher = C::new(&COUNTING, &[0; 12]);
+    let mut cipher = C::fresh(&COUNTING, &[0; 12]);
     let refused = [
         cipher.try_seek(i32::MIN).is_err(),
         cipher.try_seek(u128::MAX).is_err(),
         cipher.try_seek(usize::MAX).is_err(),
-        is_at::<C, i32>(&cipher, Some(0)),
+        cipher.is_at::<i32>(Some(0)),
     ];
     cipher.seek(4294967295u32);
-    let of_32_bits = is_at::<C, i32>(&cipher, None) && is_at::<C, u32>(&cipher, Some(4294967295));
+    let of_32_bits = cipher.is_at::<i32>(None) && cipher.is_at::<u32>(Some(4294967295));
     cipher.seek(4294967296usize);
     let places = [
         of_32_bits,
-        is_at::<C, u32>(&cipher, None),
-        is_at::<C, u64>(&cipher, Some(4294967296)),
-        is_at::<C, u128>(&cipher, Some(4294967296)),
-        is_at::<C, usize>(&cipher, Some(4294967296)),
+        cipher.is_at::<u32>(None),
+        cipher.is_at::<u64>(Some(4294967296)),
+        cipher.is_at::<u128>(Some(4294967296)),
+        cipher.is_at::<usize>(Some(4294967296)),
     ];
     first_failure(&[
         failed("far seeks in i32, u128 and usize", &refused),
@@ -87,21 +84,19 @@ where
 }
 
 /// What is wrong with positions of a legacy cipher around the greatest of 64 bits, by direct calls.
-pub fn wrong_legacy_positions<C>() -> Verdict
-where
-    C: KeyIvInit<Key = Key, Iv = LegacyNonce> + StreamCipherSeek + Drop,
+pub fn wrong_legacy_positions<C: Fresh<LegacyNonce> + StreamCipherSeek>() -> Verdict
     requires { 2 ^ 64 ≤ limit_of C.modulus }
 {
-    let mut cipher = C::new(&FROM_1, &LEGACY_NONCE);
+    let mut cipher = C::fresh(&FROM_1, &LEGACY_NONCE);
     cipher.seek(usize::MAX);
-    let at_greatest = is_at::<C, u64>(&cipher, Some(18446744073709551615));
+    let at_greatest = cipher.is_at::<u64>(Some(18446744073709551615));
     let accepted = cipher.try_apply_keystream(&mut [0]).is_ok();
     let past_it = [
-        is_at::<C, u64>(&cipher, None),
-        is_at::<C, usize>(&cipher, None),
-        is_at::<C, u128>(&cipher, Some(18446744073709551616)),
+        cipher.is_at::<u64>(None),
+        cipher.is_at::<usize>(None),
+        cipher.is_at::<u128>(Some(18446744073709551616)),
     ];
-    let at_limit = cipher.try_seek(LEGACY_LIMIT).is_ok() && is_at::<C, u64>(&cipher, None);
+    let at_limit = cipher.try_seek(LEGACY_LIMIT).is_ok() && cipher.is_at::<u64>(None);
     failed(
         "the greatest position of 64 bits, the one after it, and the limit",
         &[at_greatest, accepted, past_it == [true; 3], at_limit],

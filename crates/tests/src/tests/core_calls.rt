@@ -1,5 +1,6 @@
 //! Calls on a core alone.
 
+use super::first_failure;
 use chacha20::cipher::{
     KeyIvInit, StreamCipherBackend, StreamCipherCore, StreamCipherCounter, StreamCipherSeekCore,
 };
@@ -7,7 +8,7 @@ use chacha20::variants::{Ietf, Legacy, Variant};
 use chacha20::{ChaChaCore, Key, Steps};
 use known_answers::R0;
 use known_answers::published::COUNTING;
-use known_answers::verdicts::{Verdict, failed, first_failure};
+use known_answers::verdicts::{Verdict, failed};
 
 /// What is wrong with the blocks of a core of zeros.
 pub fn wrong_zeros<B: StreamCipherBackend<R0, Ietf>>() -> Verdict {

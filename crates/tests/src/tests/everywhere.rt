@@ -1,9 +1,11 @@
 //! Every test of a kind of cipher or generator, over each backend and a user's own. A proof meets each core once, here.
 
 use super::beside::wrong_beside;
+use super::directly::{Called, wrong_lists};
 use super::streams::wrong_part;
 use super::{
-    backends, beside, calls, core_calls, ends, generator_traits, odd_cuts, stop_if, streams, wraps,
+    backends, beside, calls, core_calls, ends, first_bad_row, first_failure, generator_traits,
+    odd_cuts, stop_if, streams, wraps,
 };
 use chacha20::backends::{Columns8, Lanes4, Lanes8, Lanes16, Rows8, Soft};
 use chacha20::cipher::{KeyIvInit, RngBackend, StreamCipherBackend, StreamCipherSeekCore};
@@ -16,17 +18,17 @@ use chacha20::{
 use examples::backend::Width3;
 use known_answers::draws::wrong_draws;
 use known_answers::generators::ZEROS;
-use known_answers::lists::{Fresh, wrong_lists};
+use known_answers::lists::Fresh;
 use known_answers::published::{
     COUNTING, FROM_1, FROM_80, LEGACY_KEYSTREAM, LEGACY_NONCE, NONCE, X_NONCE,
 };
-use known_answers::verdicts::{Verdict, failed, first_bad_row, first_failure};
+use known_answers::verdicts::{Verdict, failed};
 use known_answers::{R0, rows};
 
 type Cipher<K> = StreamCipherCoreWrapper<K>;
 
 // A cipher of RFC 8439 with 20 rounds.
-fn wrong_ietf<C: Fresh<Nonce>>() -> Verdict {
+fn wrong_ietf<C: Fresh<Nonce> + Called>() -> Verdict {
     first_failure(&[
         wrong_lists::<Nonce, C>(&COUNTING, &[0; 12], &ends::IETF_ENDS),
         wrong_lists::<Nonce, C>(&COUNTING, &NONCE, &streams::IETF_STREAM),
@@ -35,7 +37,7 @@ fn wrong_ietf<C: Fresh<Nonce>>() -> Verdict {
 }
 
 // A legacy cipher.
-fn wrong_legacy<C: Fresh<LegacyNonce>>() -> Verdict {
+fn wrong_legacy<C: Fresh<LegacyNonce> + Called>() -> Verdict {
     let part = wrong_part(&mut C::fresh(&FROM_1, &LEGACY_NONCE), LEGACY_KEYSTREAM, 17);
     first_failure(&[
         failed("the legacy stream", &[part.is_none()]),
@@ -45,7 +47,7 @@ fn wrong_legacy<C: Fresh<LegacyNonce>>() -> Verdict {
 }
 
 // A cipher without rounds.
-fn wrong_zero<C: Fresh<Nonce>>() -> Verdict {
+fn wrong_zero<C: Fresh<Nonce> + Called>() -> Verdict {
     first_failure(&[
         wrong_lists::<Nonce, C>(&[0; 32], &[0; 12], &ends::RUNS),
         wrong_lists::<Nonce, C>(&[0; 32], &[0; 12], &ends::ZERO_ENDS),

@@ -1,7 +1,9 @@
 //! Checkers that are given known faults: each finds a wrong answer and a wrong byte, the first and the last, and
 //! nothing where all are right.
 
+use super::directly::wrong_lists;
 use super::everywhere::wrong_soft_part;
+use super::{first_bad_row, first_failure};
 use chacha20::CipherAnswer::{Done, Position, Refused};
 use chacha20::CipherCall::{Apply, Pos, Seek};
 use chacha20::backends::Soft;
@@ -10,9 +12,9 @@ use chacha20::variants::Ietf;
 use chacha20::{ChaChaCore, ChaChaRng, Key, Nonce, RngAnswer, RngCall, StreamCipherCoreWrapper};
 use known_answers::R0;
 use known_answers::draws::{NO_DRAW, RngList, wrong_draws};
-use known_answers::lists::{CipherList, EMPTY, wrong_lists};
+use known_answers::lists::{CipherList, EMPTY};
 use known_answers::published::LEGACY_KEYSTREAM;
-use known_answers::verdicts::{failed, failed_at, first_bad_row, first_failure};
+use known_answers::verdicts::{failed, failed_at, numbered};
 
 const RIGHT: CipherList = CipherList {
     data: &[0; 4],
@@ -109,11 +111,18 @@ fn parts(rt: HostRuntime) {
 #[test]
 fn verdicts(rt: HostRuntime) {
     let wrong = failed_at("wrong", 0);
+    let mut parts = [(1, None); 22];
+    for i in 1..22usize {
+        parts[i] = (i + 2, None);
+    }
     let found = [
+        failed("right", &[true, true]).is_none(),
         failed("wrong", &[false, true]).is_some() && failed("wrong", &[true, false]).is_some(),
         first_failure(&[wrong, None]).is_some() && first_failure(&[None, wrong]).is_some(),
-        first_bad_row(&[(1, wrong), (2, None)]).is_some(),
-        first_bad_row(&[(1, None), (2, wrong)]).is_some(),
+        first_bad_row(&numbered(&[&parts[..21], &[], &parts[21..], &[]])).is_none(),
+        first_bad_row(&numbered(&[&parts[1..], &[], &[], &[]])).is_some(),
+        first_bad_row(&numbered(&[&[(1, wrong)], &parts, &[], &[]])).is_some(),
+        first_bad_row(&numbered(&[&parts, &[], &[], &[(23, wrong)]])).is_some(),
     ];
-    assert!(rt; found == [true; 4] && failed("right", &[true, true]).is_none());
+    assert!(rt; found == [true; 7]);
 }

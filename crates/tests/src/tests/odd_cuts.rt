@@ -2,12 +2,14 @@
 
 ghost use Rattle.std.specs.Prelude.{◌≤◌, ◌+◌};
 
+use super::directly::{Called, Directly};
+use super::first_failure;
 use super::streams::is_multiple;
 use chacha20::CipherAnswer::Done;
 use chacha20::CipherCall::{Apply, Seek};
-use known_answers::lists::{Directly, Fresh, Listed, gives};
+use known_answers::lists::{Fresh, Listed, gives};
 use known_answers::published::COUNTING;
-use known_answers::verdicts::{Verdict, failed_at, first_failure};
+use known_answers::verdicts::{Verdict, failed_at};
 
 // A message of some blocks and one byte more than a group of any backend.
 const LENGTH: usize = 2049;
@@ -70,7 +72,7 @@ fn wrong_cut<C: Listed>(cipher: &mut C) -> Verdict {
 }
 
 /// What is wrong with cuts of a new cipher, by direct calls and by lists.
-pub fn wrong_cuts<N, C: Fresh<N>>(nonce: &N) -> Verdict {
+pub fn wrong_cuts<N, C: Fresh<N> + Called>(nonce: &N) -> Verdict {
     first_failure(&[
         wrong_cut(&mut Directly(&mut C::fresh(&COUNTING, nonce))),
         wrong_cut(&mut C::fresh(&COUNTING, nonce)),

@@ -2,6 +2,7 @@
 
 ghost use Rattle.std.specs.Prelude.{◌≤◌};
 
+use super::first_failure;
 use chacha20::CipherAnswer::Done;
 use chacha20::CipherCall::{Apply, Seek};
 use chacha20::{Nonce, RngAnswer, RngCall, Seed};
@@ -9,7 +10,7 @@ use known_answers::draws::{self, Drawn, NO_DRAW, RngList, wrong_draws};
 use known_answers::generators::ZEROS;
 use known_answers::lists::{CipherList, EMPTY, Fresh, Listed, gives};
 use known_answers::published::{BLOCKS, CARRY_BLOCKS, CIPHERTEXT, KEYSTREAM, MESSAGE, X_KEYSTREAM};
-use known_answers::verdicts::{Verdict, failed, failed_at, first_failure};
+use known_answers::verdicts::{Verdict, failed, failed_at};
 
 /// The message of RFC 8439, section 2.4.2, and its keystream, both from block 1 on, for `COUNTING` and `NONCE`.
 pub static IETF_STREAM: [CipherList; 2] = [

@@ -1,6 +1,7 @@
 //! Counters and positions that wrap, and stored states of any bytes, over each backend. Nothing here makes rounds, so
 //! words can be computed by hand.
 
+use super::first_failure;
 use chacha20::RngAnswer::{Done, U32, U64, U128};
 use chacha20::RngCall::{
     Fill, GetBlockPos, GetStream, GetWordPos, NextU32, NextU64, Reload, SetStream, SetWordPos,
@@ -12,7 +13,7 @@ use known_answers::R0;
 use known_answers::cores::last_row;
 use known_answers::draws::{NO_DRAW, RngList};
 use known_answers::generators::POSITIONS;
-use known_answers::verdicts::{Verdict, failed, failed_at, first_failure};
+use known_answers::verdicts::{Verdict, failed, failed_at};
 
 // The last rows of blocks 0, 2, 3 and 19 of twenty, and the counter after them.
 type Ends = ([[u8; 16]; 4], u64);
