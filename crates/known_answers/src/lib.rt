@@ -85,8 +85,8 @@ fn generator_rows<G: Drawn>() -> [Row; 10] {
     ]
 }
 
-/// The ciphertext of row 1, and the rows 1 and 3 to 23; row 2 is a test. They run over cores with 20 rounds of the three
-/// kinds, cores without rounds, and generators with 8, 12 and 20 rounds.
+/// The ciphertext of row 1, and the rows 1 and 3 to 23; row 2 is a test. They run over cores with 20 rounds of the
+/// three kinds, cores without rounds, and generators with 8, 12 and 20 rounds.
 pub fn rows<I, L, X, I0, L0, G8, G12, G20>() -> ([u8; 16], [Row; 22])
 where
     I: KeyIvInit<Key = Key, Iv = Nonce> + StreamCipherSeekCore<Counter = u32> + Drop,
