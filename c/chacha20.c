@@ -61,7 +61,7 @@ __attribute__((constructor)) static void choose_level(void) {
 
 /* The build for x86-64-v3 stores vectors of 32 bytes on the stack, and is slow where they cross a page
    or a cache line. So if the page boundary below is near, a long call begins 32 - SHIFT bytes below it.
-   SHIFT is 0 or 16, whichever aligns more vectors of the proved function: make -C tests time tells.
+   SHIFT is 0 or 16, whichever aligns more vectors of the proved function: make -C c/tests time tells.
    Compilers agree on what alloca takes for sizes of 16 n + 8. */
 enum { LONG = 512, NEAR = 3072, PAGE = 4096 };
 
