@@ -1,6 +1,6 @@
 -- When two generators are equal. The seed and the stream, read back from the words of a state, and the generator that
 -- they make with its counter. The proofs of construction, of `set_stream`, of `==` and of `run_rng`, and the other
--- lemma files on generators, cite these. Read `GeneratorCore`, `Unread` and `same_generator` of `Generator` first.
+-- lemma files on generators, cite these. Read `GeneratorCore` and `same_generator` of `Generator` first.
 use Rattle.std.proofs.Common.{◌≡◌, Decides, ℕ, ◌*◌, ◌/◌, ◌%◌, ◌^◌, ◌<◌, List, [], ◌∷◌, ◌++◌, length, take, arith, refl, ap, ◌∙◌, take_at, drop_at, length-append}
 use Rattle.std.specs.Cmp.Lexicographic.{pointwise_decides}
 use Rattle.std.specs.Int.{w64, to_le_bytes, from_le_bytes}

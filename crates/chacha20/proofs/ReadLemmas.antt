@@ -1,5 +1,5 @@
 -- Words that a generator reads out of its buffer, and the buffer that is filled again. The proofs of the reads and
--- of `set_word_pos` cite these. Read `IsUnread` of `Unread` first, and then `RepeatedLemmas`.
+-- of `set_word_pos` cite these. Read `IsUnread` of `GeneratorCore` first, then `RepeatedLemmas`.
 use Rattle.std.proofs.Common.{◌≡◌, ℕ, ◌+◌, ◌*◌, ◌/◌, ◌%◌, ◌^◌, ◌<◌, ◌≤◌, List, ◌++◌, length, take, drop, slice_index, arith, refl, sym, ap, ap₂, ◌∙◌, get_or-take, get_or-drop}
 use Rattle.std.proofs.lemmas.Slice.{take-put_mid}
 use Rattle.std.specs.Int.{w64, to_le_bytes}

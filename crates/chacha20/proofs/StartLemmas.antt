@@ -1,5 +1,5 @@
 -- Start states: written part by part, and the blocks from one on; and the derived nonce of XChaCha. The proofs of `new`
--- of each core cite these, and proofs of callers may. Read `start` of `Block` and `XChaCha` first.
+-- of each core cite these, and proofs of callers may. Read `start` of `ChaCha` and `XChaCha` first.
 use Rattle.std.proofs.Common.{◌≡◌, ℕ, ◌*◌, List, ◌++◌, length, take, drop, replicate, refl, sym, ap, ◌∙◌}
 use Rattle.std.proofs.Math.Nat.{zero-mod}
 use Rattle.std.proofs.Math.Path.{fun_ext}

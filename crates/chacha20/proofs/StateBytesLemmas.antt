@@ -1,5 +1,5 @@
 -- Generators as 49 bytes, written part by part and read back. The proofs of `serialize_state` and
--- `deserialize_state` cite these, and those of the exports for C. Read `StateBytes` first.
+-- `deserialize_state` cite these, and those of the exports for C. Read `state_bytes` of `Generator` first.
 use Rattle.std.proofs.Common.{inl, inr, ◌≡◌, ℕ, ◌+◌, ◌-◌, ◌*◌, ◌/◌, ◌%◌, ◌^◌, ◌<◌, List, [], ◌∷◌, ◌++◌, length, take, drop, slice_index, replicate, arith, refl, ap, ap₂, ◌∙◌, append_assoc, set, take-add, bit_and, bit_or}
 use Rattle.std.proofs.lemmas.Bool.{cases_lt}
 use Rattle.std.proofs.lemmas.List.{take_at, drop_at, length-append, length-take, get_or-take, get_or-drop, get_or_past, drop-drop}

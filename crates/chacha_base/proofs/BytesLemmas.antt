@@ -1,5 +1,5 @@
 -- Words as bytes and back, one word more at a time, and a number of 8 bytes as two words. The proofs of `write_bytes`
--- and `read_words` cite these, and those of rows, of start states and of generators. Read `Bytes` first.
+-- and `read_words` cite these, and those of rows, of start states and of generators. Read `ChaCha` first.
 use Rattle.std.proofs.Common.{◌≡◌, ℕ, zero, suc, ◌+◌, ◌*◌, ◌-◌, ◌/◌, ◌%◌, ◌^◌, ◌≤◌, ◌<◌, List, [], ◌∷◌, ◌++◌, length, take, slice_index, arith, refl, sym, ap, ap₂, ◌∙◌, append_assoc, w32}
 use Rattle.std.proofs.lemmas.List.{take_more}
 use Rattle.std.proofs.lemmas.Nat.{from_le_bytes-to_le_bytes_4}

@@ -1,5 +1,5 @@
 -- The rounds on states of sixteen words, and that they are four quarter rounds one after another. The proofs of
--- `rounds` and of `Soft` cite these. Read `Rounds` first.
+-- `rounds` and of `Soft` cite these. Read `ChaCha` first.
 use Rattle.std.proofs.Common.{◌≡◌, ℕ, ◌<◌, List, length, slice_index, refl}
 use Rattle.chacha_base.proofs.ListLemmas.{by_words}
 use Rattle.chacha_base.specs.ChaCha.{quarter_round, add, columns, diagonals, add_states}

@@ -1,5 +1,5 @@
 -- Blocks in rows: set, turned, summed and stored. The proofs of `rows`, `columns`, `group`, `rounds` and the kernel
--- cite these. Read `Lanes` and `Vectors` first.
+-- cite these. Read `Lanes` first.
 use Rattle.std.proofs.Common.{◌≡◌, ℕ, ◌<◌, ◌≤◌, ◌≢◌, ◌+◌, ◌-◌, ◌*◌, ◌%◌, Bool, true, false, List, [], ◌∷◌, ◌++◌, length, drop, slice_index, refl, ap, ◌∙◌, arith, set, length-set, get_or-set_same, get_or-set_other, if◌then◌else◌}
 use Rattle.chacha_base.specs.declared.backends.vector.FourVectors.{FourVectors}
 use Rattle.chacha_base.specs.ChaCha.{Layout, quarter, columns, diagonals, add_states}

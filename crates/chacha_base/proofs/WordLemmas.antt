@@ -1,5 +1,5 @@
 -- Rotations of words, by the operations of the language. The proof of `rotated`, and `LaneLemmas`, cite these. Read
--- `Words` first.
+-- `ChaCha` first.
 use Rattle.std.proofs.Common.{◌≡◌, ℕ, ◌+◌, ◌-◌, ◌*◌, ◌/◌, ◌%◌, ◌^◌, ◌<◌, arith, sym, subst, ◌∙◌, pow_pos, mul-div_cancel, mod-eq_of_lt, w32}
 use Rattle.std.proofs.lemmas.Nat.{mod-pow-add, or_shifted, shr_below}
 use Rattle.std.proofs.Math.Nat.{mul-mod_left}
