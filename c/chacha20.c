@@ -61,7 +61,8 @@ __attribute__((constructor)) static void choose_level(void) {
 
 /* The build for x86-64-v3 stores vectors of 32 bytes on the stack, and is slow where they cross a page
    or a cache line. So if the page boundary below is near, a long call begins 32 - SHIFT bytes below it.
-   SHIFT is 0 or 16, whichever aligns more vectors of the proved function: make -C c/tests time tells.
+   SHIFT is 0 or 16, whichever is faster over many places of the buffers: it depends on the frames of
+   the compiled proved function. No test compares the two.
    Compilers agree on what alloca takes for sizes of 16 n + 8. */
 enum { LONG = 512, NEAR = 3072, PAGE = 4096 };
 
@@ -89,7 +90,7 @@ enum { LONG = 512, NEAR = 3072, PAGE = 4096 };
 #define LONG_PROVED(RESULT, NAME, SHIFT, PARAMETERS, ARGUMENTS) PROVED(RESULT, NAME, PARAMETERS, ARGUMENTS)
 #endif
 
-/* A function of chacha20.h without such buffers. */
+/* A function of chacha20.h with nothing to handle. */
 #define CALL(RESULT, NAME, PARAMETERS, ARGUMENTS) \
     PROVED(RESULT, NAME, PARAMETERS, ARGUMENTS)   \
     RESULT NAME PARAMETERS { RETURN_##RESULT NAME##_proved ARGUMENTS; }
@@ -99,8 +100,8 @@ static int overlap(const uint8_t *output, const uint8_t *input, size_t len) {
     return (to < from ? from - to : to - from) < len;
 }
 
-/* Ciphers. SHIFT is that in place, and BETWEEN that between buffers; AT is the position's parameters,
-   and the rest its arguments. */
+/* Ciphers. IN_PLACE and BETWEEN are SHIFT of these calls; AT is the position's parameters, and the rest
+   its arguments. */
 
 #define POSITION uint64_t position
 #define PLACE uint64_t block, uint64_t offset
@@ -114,8 +115,8 @@ uint64_t chacha20_block_position(uint64_t block) {
 }
 
 #define KEY(NONCE) const uint8_t key[32], const uint8_t nonce[NONCE]
-#define CIPHER(NAME, NONCE, CHECK, SHIFT, BETWEEN, AT, ...)                                            \
-    LONG_PROVED(uint32_t, NAME##_xor_in_place, SHIFT, (KEY(NONCE), AT, uint8_t *data, size_t len),     \
+#define CIPHER(NAME, NONCE, CHECK, IN_PLACE, BETWEEN, AT, ...)                                         \
+    LONG_PROVED(uint32_t, NAME##_xor_in_place, IN_PLACE, (KEY(NONCE), AT, uint8_t *data, size_t len),  \
                 (key, nonce, __VA_ARGS__, data, len))                                                  \
     LONG_PROVED(uint32_t, NAME##_xor_between, BETWEEN,                                                 \
                 (KEY(NONCE), AT, uint8_t *output, size_t len, const uint8_t *input, size_t input_len), \
@@ -165,7 +166,7 @@ SUBKEY(hchacha8)
 #define GENERATOR(NAME)                                                                                \
     CALL(uint32_t, NAME##_next_u32, (STATE), (state))                                                  \
     CALL(uint64_t, NAME##_next_u64, (STATE), (state))                                                  \
-    LONG_PROVED(void, NAME##_fill, 16, (STATE, uint8_t *output, size_t len), (state, output, len))      \
+    LONG_PROVED(void, NAME##_fill, 16, (STATE, uint8_t *output, size_t len), (state, output, len))     \
     void NAME##_fill(STATE, uint8_t *output, size_t len) {                                             \
         if (len == 0) return;                                                                          \
         NAME##_fill_proved(state, output, len);                                                        \
