@@ -1,6 +1,6 @@
-use Rattle.std.proofs.Common.{refl}
-use Rattle.chacha_base.proofs.LaneLemmas.{xor_moved-is-rotl}
+use Rattle.std.proofs.Common.{refl, arith}
+use Rattle.chacha_base.proofs.LaneLemmas.{xor_bytes-is-rotl}
 use Rattle.chacha_base.proofs.backends.vector.U32x16ColumnVector.xor_rotated_8.Goals as goal
 
 pub returns : goal.returns
-returns c = xor_moved-is-rotl c.args.self c.args.other c.fits-self c.fits-other (λ xs. refl)
+returns c = xor_bytes-is-rotl 3 c.args.self c.args.other (omega arith) c.fits-self c.fits-other (λ xs. refl)
