@@ -1,4 +1,4 @@
--- Bytes XORed with a list of blocks, or with the keystream of a state (this crate).
+-- Bytes XORed with a list of blocks, or with the keystream of a state.
 use Rattle.std.specs.Prelude.{ℕ, ◌*◌, ◌/◌, ◌%◌, List, [], length, slice_index, slice_index_or}
 use borrow.Rule.Slice.PartMut.{mid_of, put_mid}
 use Rattle.chacha_base.specs.ChaCha.{Layout, modulus, keystream, xor_stream}

@@ -1,4 +1,4 @@
--- Generators of words: a seed, a stream, and a position that counts words and wraps (this crate).
+-- Generators of words: a seed, a stream, and a position that counts words and wraps.
 use Rattle.std.specs.Prelude.{ℕ, zero, suc, ◌+◌, ◌*◌, ◌/◌, ◌%◌, ◌^◌, ◌==◌, Bool}
 use Rattle.std.specs.Prelude.{List, [], ◌∷◌, ◌++◌, take, drop, slice_index}
 use Rattle.std.specs.Ordering.{on, eq_of_both}

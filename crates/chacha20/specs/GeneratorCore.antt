@@ -1,5 +1,5 @@
 -- The core of a generator: its seed and its stream, and how it stands for a generator with 64 words
--- kept in a buffer (this crate).
+-- kept in a buffer.
 use Rattle.std.specs.Prelude.{ℕ, ◌+◌, ◌-◌, ◌*◌, ◌%◌, ◌≡◌, ◌≤◌, ◌<◌}
 use Rattle.std.specs.Prelude.{List, ◌++◌, length, take, drop, slice_index}
 use Rattle.std.specs.Int.{w64, to_le_bytes, from_le_bytes}

@@ -1,4 +1,4 @@
--- Lists of calls on a generator, taken from the left (this crate).
+-- Lists of calls on a generator, taken from the left.
 use Rattle.std.specs.Prelude.{ℕ, ◌+◌, ◌*◌, ◌/◌, ◌≤◌, List, [], ◌∷◌}
 use Rattle.chacha20.specs.Generator.{GeneratorState, at_word_pos, next_u32, next_u64, fill, state_bytes, of_state_bytes}
 use Rattle.chacha20.specs.Runs.{put}

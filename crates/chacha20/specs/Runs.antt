@@ -1,4 +1,4 @@
--- Lists of calls on a cipher, taken from the left (this crate).
+-- Lists of calls on a cipher, taken from the left.
 use Rattle.std.specs.Prelude.{ℕ, ◌+◌, ◌-◌, ◌^◌, ◌≤◌, nat_le, ◌==◌, ◌&&◌, Bool, if◌then◌else◌, List, [], ◌∷◌, pos, negsuc}
 use borrow.Rule.Slice.PartMut.{mid_of, put_mid}
 use Rattle.chacha_base.specs.Cipher.{Cipher, limit_of}

@@ -1,4 +1,4 @@
--- How a core prints (this crate).
+-- How a core prints.
 use Rattle.std.specs.Prelude.{ℕ, ◌*◌, List, ◌++◌, codes}
 use Rattle.std.specs.Fmt.{decimal}
 use Rattle.chacha_base.specs.ChaCha.{Layout}

@@ -75,7 +75,7 @@ impl<R: Rounds, V: Variant, B> ChaChaCore<R, V, B> {
         set_counter_in_row::<V>(&mut self.state, pos);
     }
 
-    /// Sets all sixteen words to zero, the constants and the counter included (this crate). Nothing is claimed of other
+    /// Sets all sixteen words to zero, the constants and the counter included. Nothing is claimed of other
     /// copies in memory.
     pub fn zeroize(&mut self)
         ensures { self.new ≡ replicate 16 0 }

@@ -26,7 +26,7 @@ pub type Seed = [u8; 32];
 /// depend on it.
 pub type SerializedRngState = [u8; 49];
 
-/// A generator with four double rounds.
+/// A generator with four double rounds. Like all three, it has 2^68 words of 32 bits a stream.
 pub type ChaCha8Rng = ChaChaRng<R8, Lanes8>;
 
 /// A generator with six double rounds.
@@ -147,7 +147,7 @@ impl<R: Rounds, B: RngBackend<R>> ChaChaRng<R, B> {
         }
     }
 
-    /// The word position.
+    /// The word position: how many words of 32 bits come before the next one.
     pub fn get_word_pos(&self) -> u128
         ensures value { result ≡ self.now.word_pos }
         ensures below { result < 2 ^ 68 }
@@ -157,7 +157,7 @@ impl<R: Rounds, B: RngBackend<R>> ChaChaRng<R, B> {
         (BLOCK_WORDS * u128::from(first) + self.index as u128) % POSITIONS
     }
 
-    /// Sets the word position, modulo 2^68. It makes one buffer of words.
+    /// Sets the word position, modulo 2^68. The buffer is filled, since a position inside a block is a place in it.
     pub fn set_word_pos(&mut self, word_pos: u128)
         ensures value { self.new ≡ at_word_pos self.old word_pos }
         ensures position { self.new.word_pos ≡ word_pos % 2 ^ 68 }
@@ -169,7 +169,7 @@ impl<R: Rounds, B: RngBackend<R>> ChaChaRng<R, B> {
         self.index = (position % BLOCK_WORDS) as usize;
     }
 
-    /// The number of the block that the next word lies in.
+    /// The number of the block of 16 words that the next word lies in.
     pub fn get_block_pos(&self) -> u64
         ensures { result ≡ self.now.word_pos / 16 }
     {
@@ -184,7 +184,7 @@ impl<R: Rounds, B: RngBackend<R>> ChaChaRng<R, B> {
         self.index = BUFFER_WORDS;
     }
 
-    /// The stream.
+    /// The number of the stream.
     pub fn get_stream(&self) -> u64
         ensures { result ≡ self.now.stream }
     {
@@ -200,7 +200,7 @@ impl<R: Rounds, B: RngBackend<R>> ChaChaRng<R, B> {
         self.index = BUFFER_WORDS;
     }
 
-    /// The seed.
+    /// The seed, of 32 bytes.
     pub fn get_seed(&self) -> Seed
         ensures { result ≡ self.now.seed }
     {

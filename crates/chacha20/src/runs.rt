@@ -1,4 +1,4 @@
-//! Lists of calls (this crate): one contract that speaks of any list of calls on a cipher, from any state on, and one
+//! Lists of calls: one contract that speaks of any list of calls on a cipher, from any state on, and one
 //! that speaks of any list of calls on a generator.
 
 ghost use Rattle.std.specs.Prelude.{◌≡◌, ◌≤◌, ◌+◌, ℕ, List, [], ◌∷◌, All, length, sum, OnOk, OnErr};
@@ -16,7 +16,7 @@ use chacha_base::cipher::{
 use chacha_base::wrapper::StreamCipherCoreWrapper;
 pub use rng::{RngAnswer, RngCall, run_rng};
 
-/// A call on a cipher. Ranges and lengths are in bytes; `at` is a place in the data, `from` one in the input.
+/// A call on a cipher. Ranges, lengths and positions are in bytes; `at` is a place in the data, `from` one in the input.
 #[derive(Clone, Copy, Debug, PartialEq, Eq)]
 pub enum CipherCall {
     /// `check_remaining`
@@ -55,9 +55,9 @@ pub enum CipherAnswer {
     Done,
     /// Refused; nothing changed.
     Refused,
-    /// The position.
+    /// The position in bytes.
     Position(u128),
-    /// The position.
+    /// The position in bytes.
     PositionI32(i32),
     /// The type cannot represent the position.
     Overflow,
@@ -74,7 +74,6 @@ fn answer(outcome: Result<(), StreamCipherError>) -> CipherAnswer
     }
 }
 
-// Makes one call.
 fn call_cipher<C: StreamCipherSeekCore>(
     cipher: &mut StreamCipherCoreWrapper<C>,
     input: &[u8],
@@ -116,8 +115,8 @@ fn call_cipher<C: StreamCipherSeekCore>(
 }
 
 /// Makes the calls in order, from the cipher's state on, and writes the answer to each at its place, over what was
-/// there (this crate). A refused call leaves cipher and data as they were. The caller proves that all ranges lie in the
-/// slices, and that there are as many answers as calls.
+/// there. A refused call leaves cipher and data as they were. The caller proves that all ranges lie in the slices, and
+/// that there are as many answers as calls.
 pub fn run_cipher<C: StreamCipherSeekCore>(
     cipher: &mut StreamCipherCoreWrapper<C>,
     input: &[u8],

@@ -2,7 +2,7 @@
 
 ghost use Rattle.chacha20.specs.ChaCha.{block, keystream, ietf, modulus};
 ghost use Rattle.chacha20.specs.Cipher.{limit_of};
-ghost use Rattle.chacha20_c.specs.Answers.{Checked, Written, Xored, XoredInto};
+ghost use Rattle.chacha20_c.specs.Results.{Checked, Written, Xored, XoredInto};
 
 use crate::chosen::Chosen;
 use crate::stateless;

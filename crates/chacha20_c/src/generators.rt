@@ -22,7 +22,7 @@ const POSITION_AT: usize = 40;
 
 const TOP_AT: usize = 48;
 
-/// Writes the state of a seed: the start of stream 0 (this crate). `state` and `seed` do not overlap.
+/// Writes the state of a seed: the start of stream 0. `state` and `seed` do not overlap.
 #[unsafe(no_mangle)]
 pub extern "C" fn chacha_rng_from_seed(seed: &Seed, state: &mut SerializedRngState)
     ensures value { of_state_bytes state.new ≡ of_seed seed.now }
@@ -31,7 +31,7 @@ pub extern "C" fn chacha_rng_from_seed(seed: &Seed, state: &mut SerializedRngSta
     *state = stored(seed, 0, 0);
 }
 
-/// The word position (this crate): writes its low 64 bits and, below 16, the rest. The three do not overlap.
+/// The word position: writes its low 64 bits and, below 16, the rest. The three do not overlap.
 #[unsafe(no_mangle)]
 pub extern "C" fn chacha_rng_get_word_pos(state: &SerializedRngState, low: &mut u64, high: &mut u64)
     ensures value { low.new + 2 ^ 64 * high.new ≡ (of_state_bytes state.now).word_pos }
@@ -41,7 +41,7 @@ pub extern "C" fn chacha_rng_get_word_pos(state: &SerializedRngState, low: &mut 
     *high = u64::from(state[TOP_AT] % 16);
 }
 
-/// Sets the word position to low + 2^64 * high, modulo 2^68 (this crate).
+/// Sets the word position to low + 2^64 * high, modulo 2^68.
 #[unsafe(no_mangle)]
 pub extern "C" fn chacha_rng_set_word_pos(state: &mut SerializedRngState, low: u64, high: u64)
     ensures value { of_state_bytes state.new
@@ -51,7 +51,7 @@ pub extern "C" fn chacha_rng_set_word_pos(state: &mut SerializedRngState, low: u
     *state = stored(&seed_in(state), stream_in(state), joined(low, high));
 }
 
-/// The number of the block that the next word lies in (this crate).
+/// The number of the block that the next word lies in.
 #[unsafe(no_mangle)]
 pub extern "C" fn chacha_rng_get_block_pos(state: &SerializedRngState) -> u64
     ensures { result ≡ (of_state_bytes state.now).word_pos / 16 }
@@ -60,7 +60,7 @@ pub extern "C" fn chacha_rng_get_block_pos(state: &SerializedRngState) -> u64
     (low >> 4) + (u64::from(state[TOP_AT] % 16) << 60)
 }
 
-/// Moves to the first word of a block (this crate).
+/// Moves to the first word of a block.
 #[unsafe(no_mangle)]
 pub extern "C" fn chacha_rng_set_block_pos(state: &mut SerializedRngState, block_pos: u64)
     ensures value { of_state_bytes state.new
@@ -74,7 +74,7 @@ pub extern "C" fn chacha_rng_set_block_pos(state: &mut SerializedRngState, block
     );
 }
 
-/// The stream (this crate).
+/// The stream.
 #[unsafe(no_mangle)]
 pub extern "C" fn chacha_rng_get_stream(state: &SerializedRngState) -> u64
     ensures { result ≡ (of_state_bytes state.now).stream }
@@ -82,7 +82,7 @@ pub extern "C" fn chacha_rng_get_stream(state: &SerializedRngState) -> u64
     stream_in(state)
 }
 
-/// Moves to the first word of a stream; the seed stays (this crate).
+/// Moves to the first word of a stream; the seed stays.
 #[unsafe(no_mangle)]
 pub extern "C" fn chacha_rng_set_stream(state: &mut SerializedRngState, stream: u64)
     ensures value { of_state_bytes state.new
@@ -102,7 +102,7 @@ pub extern "C" fn chacha8_rng_next_u32(state: &mut SerializedRngState) -> u32
     next_u32(ChaCha8Rng::deserialize_state(state), state)
 }
 
-/// Takes the next two words of the generator with 8 rounds; the first is the low half of the result (this crate).
+/// Takes the next two words of the generator with 8 rounds; the first is the low half of the result.
 #[unsafe(no_mangle)]
 pub extern "C" fn chacha8_rng_next_u64(state: &mut SerializedRngState) -> u64
     ensures words { result ≡ (next_u64 4 (of_state_bytes state.old)).0 }
@@ -135,7 +135,7 @@ pub extern "C" fn chacha12_rng_next_u32(state: &mut SerializedRngState) -> u32
     next_u32(ChaCha12Rng::deserialize_state(state), state)
 }
 
-/// Takes the next two words of the generator with 12 rounds; the first is the low half of the result (this crate).
+/// Takes the next two words of the generator with 12 rounds; the first is the low half of the result.
 #[unsafe(no_mangle)]
 pub extern "C" fn chacha12_rng_next_u64(state: &mut SerializedRngState) -> u64
     ensures words { result ≡ (next_u64 6 (of_state_bytes state.old)).0 }
@@ -168,7 +168,7 @@ pub extern "C" fn chacha20_rng_next_u32(state: &mut SerializedRngState) -> u32
     next_u32(ChaCha20Rng::deserialize_state(state), state)
 }
 
-/// Takes the next two words of the generator with 20 rounds; the first is the low half of the result (this crate).
+/// Takes the next two words of the generator with 20 rounds; the first is the low half of the result.
 #[unsafe(no_mangle)]
 pub extern "C" fn chacha20_rng_next_u64(state: &mut SerializedRngState) -> u64
     ensures words { result ≡ (next_u64 10 (of_state_bytes state.old)).0 }

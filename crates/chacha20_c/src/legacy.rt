@@ -4,7 +4,7 @@
 ghost use Rattle.std.specs.Prelude.{◌≡◌, ◌+◌, ◌*◌};
 ghost use Rattle.chacha20.specs.ChaCha.{block, keystream, legacy, modulus};
 ghost use Rattle.chacha20.specs.Cipher.{limit_of};
-ghost use Rattle.chacha20_c.specs.Answers.{Checked, Written, Xored, XoredInto};
+ghost use Rattle.chacha20_c.specs.Results.{Checked, Written, Xored, XoredInto};
 
 use crate::chosen::Chosen;
 use crate::stateless;
@@ -71,7 +71,7 @@ pub extern "C" fn chacha20_legacy_keystream(
     stateless::write_keystream::<Core>(key, nonce, position(block_pos, offset), output)
 }
 
-/// Whether the legacy cipher takes `len` bytes from byte 64 * `block_pos` + `offset` on (this crate). That sum does not
+/// Whether the legacy cipher takes `len` bytes from byte 64 * `block_pos` + `offset` on. That sum does not
 /// wrap. Returns 0, or 1 where the bytes would pass the end of the stream.
 #[unsafe(no_mangle)]
 pub extern "C" fn chacha20_legacy_check(block_pos: u64, offset: u64, len: usize) -> u32

@@ -4,7 +4,7 @@
 ghost use Rattle.std.specs.Prelude.{◌≡◌, ◌↔◌, ◌≤◌, ◌+◌, cond, length, is_ok, IsOk, OnOk, OnErr};
 ghost use Rattle.chacha20.specs.ChaCha.{keystream, stream_part, xor_stream};
 ghost use Rattle.chacha20.specs.Cipher.{limit_of};
-ghost use Rattle.chacha20_c.specs.Answers.{Checked, Written, Xored, XoredInto};
+ghost use Rattle.chacha20_c.specs.Results.{Checked, Written, Xored, XoredInto};
 
 use chacha20::StreamCipherCoreWrapper;
 use chacha20::cipher::{

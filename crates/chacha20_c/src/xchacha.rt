@@ -4,7 +4,7 @@ ghost use Rattle.std.specs.Prelude.{◌≡◌};
 ghost use Rattle.chacha20.specs.ChaCha.{block, keystream, ietf, modulus};
 ghost use Rattle.chacha20.specs.Cipher.{limit_of};
 ghost use Rattle.chacha20.specs.XChaCha.{hchacha, subkey, subnonce};
-ghost use Rattle.chacha20_c.specs.Answers.{Written, Xored, XoredInto};
+ghost use Rattle.chacha20_c.specs.Results.{Written, Xored, XoredInto};
 
 use crate::chosen::Chosen;
 use crate::stateless;

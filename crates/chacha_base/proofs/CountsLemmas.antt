@@ -106,14 +106,14 @@ grows-tail {a} {c = c} one k some call made =
     (omega arith) (omega (arith, few)) (omega (arith, least)) (omega (arith, most))
 
 -- a tail by its quarter rounds, where a single block takes two
-pub grows-narrow : (one n eight k : ℕ) {a b : Counts} → 2 ≤ eight → eight ≤ 8 → Grows (for_tail one k) a b
-    → b.rounds ≡ a.rounds + tail_rounds eight k * n → Grows (for_tail (2 * n) k) a b
-grows-narrow one n eight k some few grows rounds =
-    let least : min 1 k * 2 ≤ tail_rounds eight k = grind (arith, common_steps) in
-    let most : tail_rounds eight k ≤ k * 2 = grind (arith, common_steps) in
-    let fewest : min 1 k * (2 * n) ≤ tail_rounds eight k * n =
+pub grows-narrow : (one n up_to_8 k : ℕ) {a b : Counts} → 2 ≤ up_to_8 → up_to_8 ≤ 8 → Grows (for_tail one k) a b
+    → b.rounds ≡ a.rounds + tail_rounds up_to_8 k * n → Grows (for_tail (2 * n) k) a b
+grows-narrow one n up_to_8 k some few grows rounds =
+    let least : min 1 k * 2 ≤ tail_rounds up_to_8 k = grind (arith, common_steps) in
+    let most : tail_rounds up_to_8 k ≤ k * 2 = grind (arith, common_steps) in
+    let fewest : min 1 k * (2 * n) ≤ tail_rounds up_to_8 k * n =
     rw (← mul_assoc (min 1 k) 2 n) (mul-le-mul_right n least) in
-    let greatest : tail_rounds eight k * n ≤ k * (2 * n) = rw (← mul_assoc k 2 n) (mul-le-mul_right n most) in
+    let greatest : tail_rounds up_to_8 k * n ≤ k * (2 * n) = rw (← mul_assoc k 2 n) (mul-le-mul_right n most) in
     record {
       par_from = grows.par_from;
       par_to = grows.par_to;

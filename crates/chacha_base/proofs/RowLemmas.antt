@@ -1,9 +1,9 @@
--- Blocks in rows: set, turned, summed and stored. The proofs of `rows`, `columns`, `group`, `rounds` and the kernel
+-- Blocks in rows: set, rotated, summed and stored. The proofs of `rows`, `columns`, `group`, `rounds` and the kernel
 -- cite these. Read `Lanes` first.
 use Rattle.std.proofs.Common.{◌≡◌, ℕ, ◌<◌, ◌≤◌, ◌≢◌, ◌+◌, ◌-◌, ◌*◌, ◌%◌, Bool, true, false, List, [], ◌∷◌, ◌++◌, length, drop, slice_index, refl, ap, ◌∙◌, arith, set, length-set, get_or-set_same, get_or-set_other, if◌then◌else◌}
 use Rattle.chacha_base.specs.declared.backends.vector.FourVectors.{FourVectors}
 use Rattle.chacha_base.specs.ChaCha.{Layout, quarter, columns, diagonals, add_states}
-use Rattle.chacha_base.specs.Lanes.{quad, state_row, with_last_row, rows_turned, diagonalized, undiagonalized, lanes_at, sums_at, block_in_rows}
+use Rattle.chacha_base.specs.Lanes.{quad, state_row, with_last_row, rows_rotated, diagonalized, undiagonalized, lanes_at, sums_at, block_in_rows}
 use Rattle.chacha_base.specs.State.{row_at, state_at, state_after}
 use Rattle.chacha_base.proofs.ListLemmas.{below_four, four_listed}
 use Rattle.chacha_base.proofs.StateLemmas.{by_layout}
@@ -104,19 +104,19 @@ sums-of-lanes n lane x y z e g h =
     of_columns-same (e (4 * g) (omega arith)) (e (4 * g + 1) (omega arith))
     (e (4 * g + 2) (omega arith)) (e (4 * g + 3) (omega arith))
 
--- the columns of a state with its rows turned are its diagonals, whichever row stays
-turned_by : (s : List ℕ) (k : ℕ) → k < 4
+-- the columns of a state with its rows rotated are its diagonals, whichever row is fixed
+rotated_by : (s : List ℕ) (k : ℕ) → k < 4
     → (let j = 4 + k in let i = 4 - k in
-    rows_turned j (j - 1) (j - 2) (j - 3) (columns (rows_turned i (i + 1) (i + 2) (i + 3) s)) ≡ diagonals s)
+    rows_rotated j (j - 1) (j - 2) (j - 3) (columns (rows_rotated i (i + 1) (i + 2) (i + 3) s)) ≡ diagonals s)
 unfolding columns diagonals
-turned_by s =
+rotated_by s =
     below_four (λ k. let j = 4 + k in let i = 4 - k in
-    rows_turned j (j - 1) (j - 2) (j - 3) (columns (rows_turned i (i + 1) (i + 2) (i + 3) s)) ≡ diagonals s)
+    rows_rotated j (j - 1) (j - 2) (j - 3) (columns (rows_rotated i (i + 1) (i + 2) (i + 3) s)) ≡ diagonals s)
     refl refl refl refl
 
-pub columns-diagonalized : (stays : ℕ) (s : List ℕ) → undiagonalized stays (columns (diagonalized stays s))
+pub columns-diagonalized : (fixed : ℕ) (s : List ℕ) → undiagonalized fixed (columns (diagonalized fixed s))
     ≡ diagonals s
-columns-diagonalized stays s = turned_by s (stays % 4) (omega arith)
+columns-diagonalized fixed s = rotated_by s (fixed % 4) (omega arith)
 
 -- a state with the last row of one of the next states is that state
 pub with_last_row-state_after : (layout : Layout) (i : ℕ) (s : List ℕ) → length s ≡ 16

@@ -1,4 +1,4 @@
--- How a core and one block kept in a buffer stand for a position in bytes (this crate).
+-- How a core and one block kept in a buffer stand for a position in bytes.
 use Rattle.std.specs.Prelude.{ℕ, ◌+◌, ◌-◌, ◌/◌, ◌%◌, ◌≤◌, ◌<◌, ◌≡◌, List}
 use Rattle.chacha_base.specs.Cipher.{limit_of}
 

@@ -98,6 +98,12 @@ words _ = []
 
 -- The two layouts of a state's last row. In that of the RFC (2.3) the counter has one word and the
 -- nonce three. In the legacy layout, older than the RFC, each has two.
+--
+--            ietf                             legacy
+--   const  const  const  const       const  const  const  const
+--    key    key    key    key         key    key    key    key
+--    key    key    key    key         key    key    key    key
+--   count  nonce  nonce  nonce       count  count  nonce  nonce
 pub data Layout : Type 0 where
   ietf : Layout
   legacy : Layout

@@ -1,4 +1,4 @@
--- A cipher over bytes: how far it goes, and the numbers that can be positions (this crate).
+-- A cipher over bytes: how far it goes, and the numbers that can be positions.
 use Rattle.std.specs.Prelude.{ℕ, ℤ, pos, negsuc, ◌*◌, ◌-◌, ◌^◌, nat_lt, if◌then◌else◌}
 use Rattle.std.specs.Prelude.{List, Option, Some, None}
 

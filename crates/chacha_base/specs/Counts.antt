@@ -1,4 +1,4 @@
--- Counts of the steps that calls take (this crate).
+-- Counts of the steps that calls take.
 use Rattle.std.specs.Prelude.{ℕ, ◌+◌, ◌-◌, ◌*◌, ◌/◌, ◌%◌, ◌≤◌, min, nat_lt, if◌then◌else◌}
 
 -- parallel calls of a backend, other calls for a block, and quarter rounds
@@ -44,11 +44,11 @@ for_last_part one n = for_call 0 (min 1 n) (min 1 n * one)
 abbrev pub for_tail : (one k : ℕ) → Bounds
 for_tail one k = record { par = 0; other = k; least = min 1 k * one; most = k * one }
 
--- quarter rounds, for each double round, of a tail of k blocks: up to four take two, five to eight
--- take `eight`, and more take eight
-abbrev pub tail_rounds : (eight k : ℕ) → ℕ
-tail_rounds eight k =
-    if nat_lt k 1 then 0 else (if nat_lt k 5 then 2 else (if nat_lt k 9 then eight else 8))
+-- quarter rounds, for each double round, of a tail of k blocks: up to four blocks take two, five to
+-- eight take `up_to_8`, and more take eight
+abbrev pub tail_rounds : (up_to_8 k : ℕ) → ℕ
+tail_rounds up_to_8 k =
+    if nat_lt k 1 then 0 else (if nat_lt k 5 then 2 else (if nat_lt k 9 then up_to_8 else 8))
 
 -- where the width is sixteen: four blocks fit in one vector for each row, eight in two, and more in
 -- four

@@ -1,5 +1,5 @@
--- The lanes of vectors: a state in rows, turned so that each diagonal becomes a column, and states
--- in columns (this crate).
+-- The lanes of vectors: a state in rows, rotated so that each diagonal becomes a column, and states
+-- in columns.
 use Rattle.std.specs.Prelude.{ℕ, ◌+◌, ◌-◌, ◌*◌, ◌%◌, List, [], ◌∷◌, ◌++◌, slice_index}
 use Rattle.chacha_base.specs.declared.backends.vector.FourVectors.{FourVectors}
 use Rattle.chacha_base.specs.declared.backends.columns.Columns.{Columns}
@@ -24,26 +24,26 @@ interleaved_low x y = slice_index x 0 ∷ slice_index y 0 ∷ slice_index x 1 �
 abbrev pub interleaved_high : List ℕ → List ℕ → List ℕ
 interleaved_high x y = slice_index x 2 ∷ slice_index y 2 ∷ slice_index x 3 ∷ slice_index y 3 ∷ []
 
--- four words turned to the left by k places
-abbrev pub turned : ℕ → List ℕ → List ℕ
-turned k x =
+-- four words rotated to the left by k places
+abbrev pub rotated : ℕ → List ℕ → List ℕ
+rotated k x =
     slice_index x (k % 4) ∷ slice_index x ((k + 1) % 4)
     ∷ slice_index x ((k + 2) % 4) ∷ slice_index x ((k + 3) % 4) ∷ []
 
--- the rows of a state, each turned to the left by its own number of places
-abbrev pub rows_turned : (a b c d : ℕ) → List ℕ → List ℕ
-rows_turned a b c d s =
-    turned a (state_row s 0) ++ turned b (state_row s 1)
-    ++ turned c (state_row s 2) ++ turned d (state_row s 3)
+-- the rows of a state, each rotated to the left by its own number of places
+abbrev pub rows_rotated : (a b c d : ℕ) → List ℕ → List ℕ
+rows_rotated a b c d s =
+    rotated a (state_row s 0) ++ rotated b (state_row s 1)
+    ++ rotated c (state_row s 2) ++ rotated d (state_row s 3)
 
--- each diagonal becomes a column: row `stays` stays, and the rows after it, in a circle, turn by 1,
--- 2 and 3 places
+-- each diagonal becomes a column: row `fixed` stays in place, and the three rows after it, in a
+-- circle, rotate by 1, 2 and 3 places
 abbrev pub diagonalized : ℕ → List ℕ → List ℕ
-diagonalized stays = let k = 4 - stays % 4 in rows_turned k (k + 1) (k + 2) (k + 3)
+diagonalized fixed = let k = 4 - fixed % 4 in rows_rotated k (k + 1) (k + 2) (k + 3)
 
--- each row is turned back
+-- each row is rotated back
 abbrev pub undiagonalized : ℕ → List ℕ → List ℕ
-undiagonalized stays = let k = 4 + stays % 4 in rows_turned k (k - 1) (k - 2) (k - 3)
+undiagonalized fixed = let k = 4 + fixed % 4 in rows_rotated k (k - 1) (k - 2) (k - 3)
 
 -- Words of states in vectors, where `lane` gives the lanes of a vector.
 

@@ -1,4 +1,4 @@
--- The number that a chain of snapshots stands for (this crate).
+-- The number that a chain of snapshots stands for.
 use Rattle.std.specs.Prelude.{ℕ, ◌+◌}
 use Rattle.chacha_base.specs.declared.rounds.steps.Number.{Number, Zero, After'}
 

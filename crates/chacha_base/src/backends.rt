@@ -1,4 +1,15 @@
 //! Backends: empty types whose functions make the blocks of a state, on words or on SIMD vectors.
+//!
+//! | backend | words in a vector | blocks in a parallel call | blocks in a generator's call |
+//! |---|---|---|---|
+//! | `Soft` | no vectors | 1 | 4, one by one |
+//! | `Lanes4` | 4 | 4 | 4 |
+//! | `Lanes8` | 8 | 4 | 4 |
+//! | `Rows8` | 4 | 8 | 4 |
+//! | `Columns8` | 8 | 8 | 4 |
+//! | `Lanes16` | 16 | 16 | 4 |
+//!
+//! The number in a name counts the words of a vector (`Lanes4`, `Lanes8`, `Lanes16`), or blocks (`Rows8`, `Columns8`).
 
 mod columns;
 mod columns8;

@@ -66,7 +66,6 @@ fn rotated(word: u32, by: u32) -> u32
     word.rotate_left(by)
 }
 
-// The quarter round of four words.
 #[inline(always)]
 #[tactic(auto, unfolding(crate::specs::ChaCha::quarter))]
 fn quarter_words(a: u32, b: u32, c: u32, d: u32) -> (u32, u32, u32, u32)
@@ -116,7 +115,6 @@ pub fn quarter_round(
     steps.add_round();
 }
 
-// A quarter round of each column.
 #[inline(always)]
 fn column_round(state: &mut [u32; 16], steps: &mut Steps)
     ensures state { state.new ≡ columns state.old }
@@ -128,7 +126,6 @@ fn column_round(state: &mut [u32; 16], steps: &mut Steps)
     quarter_round(3, 7, 11, 15, state, steps);
 }
 
-// A quarter round of each diagonal.
 #[inline(always)]
 fn diagonal_round(state: &mut [u32; 16], steps: &mut Steps)
     ensures state { state.new ≡ diagonals state.old }

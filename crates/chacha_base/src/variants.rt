@@ -23,21 +23,21 @@ pub trait StreamCipherCounter: Sealed + Copy {
     /// Bits in a counter.
     const BITS: u32;
 
-    /// The counter with this number, which the caller proves below the number of counters (this crate).
+    /// The counter with this number, which the caller proves below the number of counters.
     fn from_u64(number: u64) -> Self
         requires { number < M }
         ensures { value result ≡ number };
 
-    /// A counter's number (this crate).
+    /// A counter's number.
     fn to_u64(self) -> u64
         ensures value { result ≡ value self }
         ensures below { result < M };
 
-    /// The greatest number of a counter (this crate).
+    /// The greatest number of a counter.
     fn last() -> u64
         ensures { result + 1 ≡ M };
 
-    /// The counter after `blocks` more blocks. It wraps at 2^32 or 2^64 (this crate).
+    /// The counter after `blocks` more blocks. It wraps at 2^32 or 2^64.
     fn advanced_by(self, blocks: usize) -> Self
         ensures { value result ≡ (value self + blocks) % M };
 

@@ -108,6 +108,7 @@ impl<C: StreamCipherSeekCore> StreamCipher for StreamCipherCoreWrapper<C> {
         buf: &mut [u8],
         steps: &mut Steps,
     ) -> Result<(), StreamCipherError> {
+        // Not by `?`, which also converts the error: the proof would follow that call.
         if let Err(refusal) = self.check_remaining(buf.len()) {
             return Err(refusal);
         }

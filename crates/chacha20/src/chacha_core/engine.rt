@@ -120,7 +120,7 @@ impl Target for Between {
 
 // Writes the blocks of a tail. This function isn't forced inline: the compiler simplifies it first, and then finds it
 // small enough to inline for one block.
-fn gen_tail_apart<R: Rounds, V: Variant, B: StreamCipherBackend<R, V>>(
+fn gen_tail<R: Rounds, V: Variant, B: StreamCipherBackend<R, V>>(
     state: &mut [u32; 16],
     blocks: &mut [[u8; 64]],
     steps: &mut Steps,
@@ -134,18 +134,18 @@ fn gen_tail_apart<R: Rounds, V: Variant, B: StreamCipherBackend<R, V>>(
     B::gen_tail_blocks(state, blocks, steps);
 }
 
-// XORs bytes with whole blocks. The blocks are made in `room`, first groups by parallel calls and then the tail.
+// XORs bytes with whole blocks. They are made in `scratch`, first groups by parallel calls and then the tail.
 #[inline(always)]
 fn apply_through<R: Rounds, V: Variant, B: StreamCipherBackend<R, V>, T: Target>(
     state: &mut [u32; 16],
-    room: &mut [[u8; 64]],
+    scratch: &mut [[u8; 64]],
     input: &[u8],
     data: &mut [u8],
     steps: &mut Steps,
 )
     requires whole { length «data».old % 64 ≡ 0 }
     requires input { T.fits (length input.now) (length «data».old) }
-    requires room { min B.PAR_BLOCKS (length «data».old / 64) ≤ length room.old }
+    requires scratch { min B.PAR_BLOCKS (length «data».old / 64) ≤ length scratch.old }
     ensures data { «data».new
         ≡ applied R.COUNT V.layout state.old (T.so_far input.now «data».old 0) }
     ensures state { state.new ≡ state_after V.layout (length «data».old / 64) state.old }
@@ -156,18 +156,18 @@ fn apply_through<R: Rounds, V: Variant, B: StreamCipherBackend<R, V>, T: Target>
     let width = B::PAR_BLOCKS;
     let count = data.len() / 64;
     'groups: for group in 0..count / width {
-        let made = &mut room[..width];
+        let made = &mut scratch[..width];
         B::gen_par_ks_blocks(state, made, steps);
         T::xor_blocks(input, data, width * group, made);
     }
     let rest = count % width;
-    let made = &mut room[..rest];
-    gen_tail_apart::<R, V, B>(state, made, steps);
+    let made = &mut scratch[..rest];
+    gen_tail::<R, V, B>(state, made, steps);
     T::xor_blocks(input, data, count - rest, made);
 }
 
-// XORs bytes with whole blocks. There is room for the blocks of a parallel call, or for those of a short message: more
-// room would be zeroed in vain.
+// XORs bytes with whole blocks. The scratch space holds the blocks of a parallel call, at most 16, or those of a short
+// message: a larger one would be zeroed in vain.
 #[inline(always)]
 fn apply_blocks<R: Rounds, V: Variant, B: StreamCipherBackend<R, V>, T: Target>(
     state: &mut [u32; 16],

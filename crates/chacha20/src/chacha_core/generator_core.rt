@@ -17,7 +17,7 @@ use chacha_base::variants::Legacy;
 use rand_core::SeedableRng;
 use std::marker::PhantomData;
 
-/// Makes its output one buffer at a time (this crate).
+/// Makes its output one buffer at a time.
 pub trait Generator {
     /// What one call makes.
     type Output;

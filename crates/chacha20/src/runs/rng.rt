@@ -8,7 +8,8 @@ use crate::rng::{ChaChaRng, Seed, SerializedRngState};
 use chacha_base::cipher::RngBackend;
 use chacha_base::rounds::Rounds;
 
-/// A call on a generator. Ranges and lengths are in bytes; `at` is a place in the data.
+/// A call on a generator. Ranges and lengths are in bytes; `at` is a place in the data. Word positions count words of 32
+/// bits, and block positions blocks of 16 words.
 #[derive(Clone, Copy, Debug, PartialEq, Eq)]
 pub enum RngCall {
     /// `next_u32`
@@ -54,7 +55,6 @@ pub enum RngAnswer {
     State(SerializedRngState),
 }
 
-// Makes one call.
 fn call_rng<R: Rounds, B: RngBackend<R>>(
     rng: &mut ChaChaRng<R, B>,
     data: &mut [u8],
@@ -96,8 +96,8 @@ fn call_rng<R: Rounds, B: RngBackend<R>>(
 }
 
 /// Makes the calls in order, from the generator's state on, and writes the answer to each at its place, over what was
-/// there (this crate). No call is refused. The caller proves that all ranges lie in the data, and that there are as
-/// many answers as calls.
+/// there. No call is refused. The caller proves that all ranges lie in the data, and that there are as many answers as
+/// calls.
 pub fn run_rng<R: Rounds, B: RngBackend<R>>(
     rng: &mut ChaChaRng<R, B>,
     data: &mut [u8],

@@ -55,6 +55,12 @@ fn column<V: Vector>(state: &[u32; 16], last_rows: &[[u32; 4]], k: usize) -> Fou
 }
 
 // Transposes four vectors, quad by quad: quad g of result k has the words that lane 4 g + k of the four vectors had.
+// For the first quad, where word i of block j is ij:
+//
+//   w0:  00  01  02  03         00  10  20  30
+//   w1:  10  11  12  13   ->    01  11  21  31
+//   w2:  20  21  22  23         02  12  22  32
+//   w3:  30  31  32  33         03  13  23  33
 #[inline(always)]
 fn transposed<V: ColumnVector>(w0: V, w1: V, w2: V, w3: V) -> FourVectors<V>
     ensures first { (g : ℕ) → g < V.QUADS
@@ -142,7 +148,7 @@ impl<V: ColumnVector> Group for Columns<V> {
     #[inline(always)]
     fn diagonal_round(self, steps: &mut Steps) -> Columns<V> {
         let Columns(k, l, m, n) = self;
-        // The words of the fourth column are ready in the order a, d, c, b.
+        // The fourth diagonal first: it needs word a of the column that was computed last, and a is ready first.
         let s = quarter_round::<V, ByBytes>(FourVectors(n.0, k.1, l.2, m.3), steps);
         let p = quarter_round::<V, ByBytes>(FourVectors(k.0, l.1, m.2, n.3), steps);
         let q = quarter_round::<V, ByBytes>(FourVectors(l.0, m.1, n.2, k.3), steps);

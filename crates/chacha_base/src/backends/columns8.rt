@@ -12,7 +12,7 @@ use crate::rounds::{Rounds, Steps};
 use crate::variants::Variant;
 use std::simd::prelude::*;
 
-/// Eight blocks in a parallel call, in columns, with a vector of eight words for each word of a state (this crate). A
+/// Eight blocks in a parallel call, in columns, with a vector of eight words for each word of a state. A
 /// tail of five blocks or more makes eight as well. The other calls are in rows, by the narrowest group that holds the
 /// blocks.
 #[derive(Clone, Copy, Debug)]

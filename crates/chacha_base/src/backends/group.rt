@@ -62,23 +62,23 @@ pub trait Group: Copy {
             → slice_get buffers.new g ≡ Some (B.of_words (words_of self g)) };
 }
 
-/// Two groups: the blocks of the second come after those of the first. Their rounds alternate.
-pub struct Twice<G>(G, G);
+/// Two groups whose rounds alternate. The blocks of the second come after those of the first.
+pub struct Interleaved<G>(G, G);
 
 // By hand, as a copy: what a derive writes clones each field.
-impl<G: Copy> Clone for Twice<G> {
+impl<G: Copy> Clone for Interleaved<G> {
     ghost is_clone = { λ x y. y ≡ x };
 
     ghost is_infallible = { λ _. ⊤ };
 
-    fn clone(&self) -> Result<Twice<G>, AllocError> {
+    fn clone(&self) -> Result<Interleaved<G>, AllocError> {
         Ok(*self)
     }
 }
 
-impl<G: Copy> Copy for Twice<G> {}
+impl<G: Copy> Copy for Interleaved<G> {}
 
-impl<G: Group> Group for Twice<G> {
+impl<G: Group> Group for Interleaved<G> {
     ghost BLOCKS = { G.BLOCKS + G.BLOCKS };
 
     ghost ROUND_STEPS = { G.ROUND_STEPS + G.ROUND_STEPS };
@@ -87,24 +87,24 @@ impl<G: Group> Group for Twice<G> {
         if nat_lt g G.BLOCKS then G.words_of x.0 g else G.words_of x.1 (g - G.BLOCKS) };
 
     #[inline(always)]
-    fn column_round(self, steps: &mut Steps) -> Twice<G> {
-        Twice(self.0.column_round(steps), self.1.column_round(steps))
+    fn column_round(self, steps: &mut Steps) -> Interleaved<G> {
+        Interleaved(self.0.column_round(steps), self.1.column_round(steps))
     }
 
     #[inline(always)]
-    fn diagonal_round(self, steps: &mut Steps) -> Twice<G> {
-        Twice(self.0.diagonal_round(steps), self.1.diagonal_round(steps))
+    fn diagonal_round(self, steps: &mut Steps) -> Interleaved<G> {
+        Interleaved(self.0.diagonal_round(steps), self.1.diagonal_round(steps))
     }
 
     #[inline(always)]
-    fn start(state: &[u32; 16], last_rows: &[[u32; 4]]) -> Twice<G> {
+    fn start(state: &[u32; 16], last_rows: &[[u32; 4]]) -> Interleaved<G> {
         let (front, back) = last_rows.split_at(last_rows.len() / 2);
-        Twice(G::start(state, front), G::start(state, back))
+        Interleaved(G::start(state, front), G::start(state, back))
     }
 
     #[inline(always)]
-    fn sums(self, other: Twice<G>) -> Twice<G> {
-        Twice(self.0.sums(other.0), self.1.sums(other.1))
+    fn sums(self, other: Interleaved<G>) -> Interleaved<G> {
+        Interleaved(self.0.sums(other.0), self.1.sums(other.1))
     }
 
     #[inline(always)]

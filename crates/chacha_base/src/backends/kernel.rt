@@ -140,10 +140,10 @@ pub fn write_tail<R: Rounds, V: Variant, G: Group, const W: usize>(
     }
 }
 
-/// As `write_tail`, for a backend whose single block takes two quarter rounds in a double round. `EIGHT` is what its
-/// tails of five to eight blocks take.
+/// As `write_tail`, for a backend whose single block takes two quarter rounds in a double round. Its tails of five to
+/// eight blocks take `UP_TO_8`.
 #[inline(always)]
-pub fn write_narrow_tail<R: Rounds, V: Variant, G: Group, const W: usize, const EIGHT: usize>(
+pub fn write_narrow_tail<R: Rounds, V: Variant, G: Group, const W: usize, const UP_TO_8: usize>(
     state: &mut [u32; 16],
     blocks: &mut [[u8; 64]],
     steps: &mut Steps,
@@ -151,14 +151,14 @@ pub fn write_narrow_tail<R: Rounds, V: Variant, G: Group, const W: usize, const 
     requires width { G.BLOCKS ≡ W }
     requires few { W ≤ 16 }
     requires within { length blocks.old ≤ W }
-    requires eight { (2 ≤ EIGHT) × (EIGHT ≤ 8) }
+    requires up_to_8 { (2 ≤ UP_TO_8) × (UP_TO_8 ≤ 8) }
     requires narrowest { min 1 (length blocks.old) * (2 * G.ROUND_STEPS)
-        ≡ tail_rounds EIGHT (length blocks.old) }
+        ≡ tail_rounds UP_TO_8 (length blocks.old) }
     ensures blocks { AreNextBlocks R.COUNT V.layout state.old (length blocks.old) blocks.new }
     ensures state { state.new ≡ state_after V.layout (length blocks.old) state.old }
     ensures steps { Grows (for_tail (2 * R.COUNT) (length blocks.old)) steps.old steps.new }
     ensures rounds { steps.new.rounds
-        ≡ steps.old.rounds + tail_rounds EIGHT (length blocks.old) * R.COUNT }
+        ≡ steps.old.rounds + tail_rounds UP_TO_8 (length blocks.old) * R.COUNT }
 {
     write_tail::<R, V, G, W>(state, blocks, steps);
 }

@@ -5,7 +5,7 @@ ghost use Rattle.chacha_base.specs.Counts.{Grows, for_tail, tail_of_16};
 ghost use Rattle.chacha_base.specs.State.{state_after, AreNextBlocks};
 
 use crate::backends::columns::Columns;
-use crate::backends::group::Twice;
+use crate::backends::group::Interleaved;
 use crate::backends::kernel::{write_buffer, write_group, write_narrow_tail, write_one};
 use crate::backends::rows::Rows;
 use crate::cipher::{ParBlocksSizeUser, RngBackend, StreamCipherBackend};
@@ -13,7 +13,7 @@ use crate::rounds::{Rounds, Steps};
 use crate::variants::Variant;
 use std::simd::prelude::*;
 
-/// Sixteen blocks in a parallel call, in columns, with a vector of sixteen words for each word of a state (this crate).
+/// Sixteen blocks in a parallel call, in columns, with a vector of sixteen words for each word of a state.
 /// The other calls are in rows, by the narrowest group that holds the blocks: one block alone takes a vector of four
 /// words for each row.
 #[derive(Clone, Copy, Debug)]
@@ -27,9 +27,9 @@ type Two = Rows<u32x8, 1>;
 
 type Four = Rows<u32x16, 1>;
 
-type Eight = Twice<Four>;
+type Eight = Interleaved<Four>;
 
-type Sixteen = Twice<Eight>;
+type Sixteen = Interleaved<Eight>;
 
 impl ParBlocksSizeUser for Lanes16 {
     ghost use Rattle.std.proofs.Common.{lit≤};

@@ -5,7 +5,7 @@ ghost use Rattle.chacha_base.specs.Counts.{Grows, for_tail};
 ghost use Rattle.chacha_base.specs.State.{state_after, AreNextBlocks};
 
 use crate::backends::columns::Columns;
-use crate::backends::group::Twice;
+use crate::backends::group::Interleaved;
 use crate::backends::kernel::{write_buffer, write_group, write_one, write_tail};
 use crate::backends::rows::Rows;
 use crate::cipher::{ParBlocksSizeUser, RngBackend, StreamCipherBackend};
@@ -13,14 +13,14 @@ use crate::rounds::{Rounds, Steps};
 use crate::variants::Variant;
 use std::simd::prelude::*;
 
-/// Four blocks in a parallel call, in columns, with a vector of four words for each word of a state (this crate). The
+/// Four blocks in a parallel call, in columns, with a vector of four words for each word of a state. The
 /// other calls are in rows, with a vector for each row of each block. A call for a single block makes four as well, and
 /// keeps the first.
 #[derive(Clone, Copy, Debug)]
 pub struct Lanes4;
 
 // Four blocks in rows, each in vectors of its own.
-type Four = Twice<Twice<Rows<u32x4, 1>>>;
+type Four = Interleaved<Interleaved<Rows<u32x4, 1>>>;
 
 impl ParBlocksSizeUser for Lanes4 {
     ghost use Rattle.std.proofs.Common.{lit≤};

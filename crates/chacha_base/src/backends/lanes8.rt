@@ -4,7 +4,7 @@ ghost use Rattle.std.specs.Prelude.{◌≡◌, ◌<◌, ◌+◌, ◌*◌, min, l
 ghost use Rattle.chacha_base.specs.Counts.{Grows, for_tail};
 ghost use Rattle.chacha_base.specs.State.{state_after, AreNextBlocks};
 
-use crate::backends::group::Twice;
+use crate::backends::group::Interleaved;
 use crate::backends::kernel::{write_buffer, write_group, write_one, write_tail};
 use crate::backends::rows::Rows;
 use crate::cipher::{ParBlocksSizeUser, RngBackend, StreamCipherBackend};
@@ -12,13 +12,13 @@ use crate::rounds::{Rounds, Steps};
 use crate::variants::Variant;
 use std::simd::prelude::*;
 
-/// Four blocks in a parallel call, in rows, with a vector of eight words for the same row of two blocks (this crate). A
+/// Four blocks in a parallel call, in rows, with a vector of eight words for the same row of two blocks. A
 /// call for a single block makes four as well, and keeps the first.
 #[derive(Clone, Copy, Debug)]
 pub struct Lanes8;
 
 // Four blocks in rows, the same row of two in each vector.
-type Four = Twice<Rows<u32x8, 1>>;
+type Four = Interleaved<Rows<u32x8, 1>>;
 
 impl ParBlocksSizeUser for Lanes8 {
     ghost use Rattle.std.proofs.Common.{lit≤};

@@ -1,30 +1,38 @@
 //! Groups of blocks in rows: a vector for each row of a state, and a quad for each block.
 
 ghost use Rattle.std.specs.Prelude.{◌≡◌, ◌<◌, ℕ, ◌*◌, ⊤, [], ◌∷◌, slice_index};
-ghost use Rattle.chacha_base.specs.Lanes.{quad, state_row, rows_turned, block_in_rows};
+ghost use Rattle.chacha_base.specs.Lanes.{quad, state_row, rows_rotated, block_in_rows};
 
 use crate::backends::group::{BlockBuffer, Group, write_block};
 use crate::backends::vector::{ByShifts, FourVectors, Vector, quarter_round, sums};
 use crate::rounds::Steps;
 use std::alloc::AllocError;
 
-/// States in rows, one in each quad. A round of the diagonals first turns the rows, so that each diagonal becomes a
-/// column: row `STAYS` stays, and the rows after it, in a circle, turn to the left by 1, 2 and 3 places. A quarter
-/// round reads row 1 (b) first and writes it last, so if that row stays, the others turn in the meantime.
-pub struct Rows<V, const STAYS: usize>(FourVectors<V>);
+/// States in rows, one in each quad. A round of the diagonals first rotates the rows, so that each diagonal becomes a
+/// column, and then rotates them back. Row `FIXED_ROW` stays in place. With row 0 fixed:
+///
+/// ```text
+///   a:   0   1   2   3         0   1   2   3
+///   b:   4   5   6   7   ->    5   6   7   4
+///   c:   8   9  10  11        10  11   8   9
+///   d:  12  13  14  15        15  12  13  14
+/// ```
+///
+/// A quarter round reads row 1 (b) first and writes it last, so if that row is fixed, the others rotate meanwhile.
+pub struct Rows<V, const FIXED_ROW: usize>(FourVectors<V>);
 
 // By hand, as a copy: what a derive writes clones each field.
-impl<V: Copy, const STAYS: usize> Clone for Rows<V, STAYS> {
+impl<V: Copy, const FIXED_ROW: usize> Clone for Rows<V, FIXED_ROW> {
     ghost is_clone = { λ x y. y ≡ x };
 
     ghost is_infallible = { λ _. ⊤ };
 
-    fn clone(&self) -> Result<Rows<V, STAYS>, AllocError> {
+    fn clone(&self) -> Result<Rows<V, FIXED_ROW>, AllocError> {
         Ok(*self)
     }
 }
 
-impl<V: Copy, const STAYS: usize> Copy for Rows<V, STAYS> {}
+impl<V: Copy, const FIXED_ROW: usize> Copy for Rows<V, FIXED_ROW> {}
 
 // The vector that has these four words in each quad.
 #[inline(always)]
@@ -50,9 +58,9 @@ fn set_row(words: &mut [u32; 16], g: usize, values: &[u32; 4])
     words[4 * g + 3] = values[3];
 }
 
-// Turns the four rows of each block to the left, by a, b, c and d places.
+// Rotates the four rows of each block to the left, by a, b, c and d places.
 #[inline(always)]
-fn rows_turned<V: Vector>(
+fn rows_rotated<V: Vector>(
     rows: FourVectors<V>,
     a: usize,
     b: usize,
@@ -60,17 +68,17 @@ fn rows_turned<V: Vector>(
     d: usize,
 ) -> FourVectors<V>
     ensures { (g : ℕ) → g < V.QUADS
-        → block_in_rows V.lane result g ≡ rows_turned a b c d (block_in_rows V.lane rows g) }
+        → block_in_rows V.lane result g ≡ rows_rotated a b c d (block_in_rows V.lane rows g) }
 {
     FourVectors(
-        rows.0.turned(a),
-        rows.1.turned(b),
-        rows.2.turned(c),
-        rows.3.turned(d),
+        rows.0.rotated(a),
+        rows.1.rotated(b),
+        rows.2.rotated(c),
+        rows.3.rotated(d),
     )
 }
 
-impl<V: Vector, const STAYS: usize> Group for Rows<V, STAYS> {
+impl<V: Vector, const FIXED_ROW: usize> Group for Rows<V, FIXED_ROW> {
     ghost BLOCKS = { V.QUADS };
 
     ghost ROUND_STEPS = { 1 };
@@ -78,21 +86,21 @@ impl<V: Vector, const STAYS: usize> Group for Rows<V, STAYS> {
     ghost words_of = { λ x g. block_in_rows V.lane x.0 g };
 
     #[inline(always)]
-    fn column_round(self, steps: &mut Steps) -> Rows<V, STAYS> {
+    fn column_round(self, steps: &mut Steps) -> Rows<V, FIXED_ROW> {
         Rows(quarter_round::<V, ByShifts>(self.0, steps))
     }
 
     #[inline(always)]
-    fn diagonal_round(self, steps: &mut Steps) -> Rows<V, STAYS> {
-        let left = 4 - STAYS % 4;
-        let diagonalized = rows_turned(self.0, left, left + 1, left + 2, left + 3);
+    fn diagonal_round(self, steps: &mut Steps) -> Rows<V, FIXED_ROW> {
+        let left = 4 - FIXED_ROW % 4;
+        let diagonalized = rows_rotated(self.0, left, left + 1, left + 2, left + 3);
         let mixed = quarter_round::<V, ByShifts>(diagonalized, steps);
-        let right = 4 + STAYS % 4;
-        Rows(rows_turned(mixed, right, right - 1, right - 2, right - 3))
+        let right = 4 + FIXED_ROW % 4;
+        Rows(rows_rotated(mixed, right, right - 1, right - 2, right - 3))
     }
 
     #[inline(always)]
-    fn start(state: &[u32; 16], last_rows: &[[u32; 4]]) -> Rows<V, STAYS> {
+    fn start(state: &[u32; 16], last_rows: &[[u32; 4]]) -> Rows<V, FIXED_ROW> {
         let [w0, w1, w2, w3, w4, w5, w6, w7, w8, w9, w10, w11, _, _, _, _] = *state;
         let mut d = [0; 16];
         'each: for g in 0..V::QUADS {
@@ -107,7 +115,7 @@ impl<V: Vector, const STAYS: usize> Group for Rows<V, STAYS> {
     }
 
     #[inline(always)]
-    fn sums(self, other: Rows<V, STAYS>) -> Rows<V, STAYS> {
+    fn sums(self, other: Rows<V, FIXED_ROW>) -> Rows<V, FIXED_ROW> {
         Rows(sums(self.0, other.0))
     }
 

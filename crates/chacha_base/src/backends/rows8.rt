@@ -4,7 +4,7 @@ ghost use Rattle.std.specs.Prelude.{◌≡◌, ◌<◌, ◌+◌, ◌*◌, min, l
 ghost use Rattle.chacha_base.specs.Counts.{Grows, for_tail};
 ghost use Rattle.chacha_base.specs.State.{state_after, AreNextBlocks};
 
-use crate::backends::group::Twice;
+use crate::backends::group::Interleaved;
 use crate::backends::kernel::{write_buffer, write_group, write_one, write_tail};
 use crate::backends::rows::Rows;
 use crate::cipher::{ParBlocksSizeUser, RngBackend, StreamCipherBackend};
@@ -12,15 +12,15 @@ use crate::rounds::{Rounds, Steps};
 use crate::variants::Variant;
 use std::simd::prelude::*;
 
-/// Eight blocks in a parallel call, in rows, with a vector of four words for each row of each block (this crate). A
+/// Eight blocks in a parallel call, in rows, with a vector of four words for each row of each block. A
 /// call for a single block makes eight as well, and keeps the first; a generator's call makes four.
 #[derive(Clone, Copy, Debug)]
 pub struct Rows8;
 
 // Four blocks in rows, each in vectors of its own, and eight. Row 0 stays, as in the Rust crate's code for NEON.
-type Four = Twice<Twice<Rows<u32x4, 0>>>;
+type Four = Interleaved<Interleaved<Rows<u32x4, 0>>>;
 
-type Eight = Twice<Four>;
+type Eight = Interleaved<Four>;
 
 impl ParBlocksSizeUser for Rows8 {
     ghost use Rattle.std.proofs.Common.{lit≤};

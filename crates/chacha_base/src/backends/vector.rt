@@ -2,7 +2,7 @@
 
 ghost use Rattle.std.specs.Prelude.{◌≡◌, ◌≤◌, ◌<◌, ℕ, ◌+◌, ◌*◌, ⊤, bit_xor, slice_index};
 ghost use Rattle.chacha_base.specs.ChaCha.{add, rotl, quarter};
-ghost use Rattle.chacha_base.specs.Lanes.{quad, interleaved_low, interleaved_high, turned, lanes_at, sums_at};
+ghost use Rattle.chacha_base.specs.Lanes.{quad, interleaved_low, interleaved_high, rotated, lanes_at, sums_at};
 
 use crate::rounds::Steps;
 use std::alloc::AllocError;
@@ -33,9 +33,9 @@ pub trait Vector: Copy {
         ensures { (j : ℕ) → j < 4 * QUADS
             → lane result j ≡ rotl (bit_xor (lane self j) (lane other j)) by };
 
-    /// The vector with the words of each quad turned to the left by `by` places.
-    fn turned(self, by: usize) -> Self
-        ensures { (g : ℕ) → g < QUADS → quad (lane result) g ≡ turned by (quad (lane self) g) };
+    /// The vector with the words of each quad rotated to the left by `by` places.
+    fn rotated(self, by: usize) -> Self
+        ensures { (g : ℕ) → g < QUADS → quad (lane result) g ≡ rotated by (quad (lane self) g) };
 
     /// The words of quad g.
     fn quad(self, g: usize) -> u32x4
@@ -211,7 +211,7 @@ impl Vector for u32x4 {
     }
 
     #[inline(always)]
-    fn turned(self, by: usize) -> u32x4 {
+    fn rotated(self, by: usize) -> u32x4 {
         match by % 4 {
             0 => self,
             1 => self.swizzle([1, 2, 3, 0]),
@@ -274,7 +274,7 @@ impl Vector for u32x8 {
     }
 
     #[inline(always)]
-    fn turned(self, by: usize) -> u32x8 {
+    fn rotated(self, by: usize) -> u32x8 {
         match by % 4 {
             0 => self,
             1 => self.swizzle([1, 2, 3, 0, 5, 6, 7, 4]),
@@ -345,7 +345,7 @@ impl Vector for u32x16 {
     }
 
     #[inline(always)]
-    fn turned(self, by: usize) -> u32x16 {
+    fn rotated(self, by: usize) -> u32x16 {
         match by % 4 {
             0 => self,
             1 => self.swizzle([1, 2, 3, 0, 5, 6, 7, 4, 9, 10, 11, 8, 13, 14, 15, 12]),

@@ -20,10 +20,10 @@ pub trait StreamCipherBackend<R: Rounds, V: Variant>: ParBlocksSizeUser {
 
     ghost ONE_STEPS: { ℕ };
 
-    /// Quarter rounds of a parallel call, for each double round (this crate).
+    /// Quarter rounds of a parallel call, for each double round.
     const PAR_STEPS: usize;
 
-    /// Quarter rounds of a call for one block, for each double round (this crate).
+    /// Quarter rounds of a call for one block, for each double round.
     const ONE_STEPS: usize;
 
     /// The next block.
@@ -48,7 +48,7 @@ pub trait StreamCipherBackend<R: Rounds, V: Variant>: ParBlocksSizeUser {
             (for_tail (ONE_STEPS * R.COUNT) (length blocks.old)) steps.old steps.new };
 }
 
-/// Makes the words of a generator, four blocks at a time, in the legacy layout (this crate).
+/// Makes the words of a generator, four blocks at a time, in the legacy layout.
 ///
 /// From counter c on these are the words of blocks c to c + 3, one block after another; the state is then the one with
 /// counter c + 4, and all its other words stay. Counters wrap at 2^64. Nothing is refused. Anyone may implement it; a
@@ -56,7 +56,7 @@ pub trait StreamCipherBackend<R: Rounds, V: Variant>: ParBlocksSizeUser {
 pub trait RngBackend<R: Rounds> {
     ghost RNG_STEPS: { ℕ };
 
-    /// Quarter rounds of a call, for each double round (this crate).
+    /// Quarter rounds of a call, for each double round.
     const RNG_STEPS: usize;
 
     /// The words of the next four blocks.

@@ -27,7 +27,7 @@ pub trait StreamCipher: Keystream {
         ensures accepted { IsOk result ↔ (Self.position self.now + len ≤ limit_of Self.modulus) }
         ensures within { Self.position self.now ≤ limit_of Self.modulus };
 
-    /// XORs bytes with the keystream, and counts the steps (this crate). `Err` exactly where the bytes would pass the
+    /// XORs bytes with the keystream, and counts the steps. `Err` exactly where the bytes would pass the
     /// limit; then nothing changes.
     fn try_apply_keystream_counted(
         &mut self,

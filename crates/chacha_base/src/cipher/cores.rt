@@ -78,14 +78,14 @@ pub trait StreamCipherCore: Keystream + BlockSizeUser + ParBlocksSizeUser {
         apply_group(self, &mut made[..rest], &mut blocks[done..]);
     }
 
-    /// Writes the next block, and counts its steps (this crate).
+    /// Writes the next block, and counts its steps.
     fn write_block_counted(&mut self, block: &mut [u8; 64], steps: &mut Steps)
         ensures block { block.new ≡ Self.block_at (Self.fixed self.old) (counter self.old) }
         ensures fixed { Self.fixed self.new ≡ Self.fixed self.old }
         ensures counter { counter self.new ≡ (counter self.old + 1) % Self.modulus }
         ensures steps { Grows (for_single one_cost) steps.old steps.new };
 
-    /// XORs bytes, a multiple of 64 of them, with the next blocks, and counts the steps (this crate).
+    /// XORs bytes, a multiple of 64 of them, with the next blocks, and counts the steps.
     fn apply_blocks_counted(&mut self, data: &mut [u8], steps: &mut Steps)
         requires { length «data».old % 64 ≡ 0 }
         ensures data { «data».new
@@ -99,7 +99,7 @@ pub trait StreamCipherCore: Keystream + BlockSizeUser + ParBlocksSizeUser {
             steps.old steps.new };
 
     /// Writes an input, a multiple of 64 bytes, XORed with the next blocks into an output of the same length, and
-    /// counts the steps (this crate). By default it copies the input and applies the blocks in place.
+    /// counts the steps. By default it copies the input and applies the blocks in place.
     fn apply_blocks_between_counted(&mut self, input: &[u8], output: &mut [u8], steps: &mut Steps)
         requires same { length input.now ≡ length output.old }
         requires whole { length output.old % 64 ≡ 0 }

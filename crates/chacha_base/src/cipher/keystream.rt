@@ -2,7 +2,7 @@
 
 ghost use Rattle.std.specs.Prelude.{◌≡◌, ℕ, List};
 
-/// What hands out the blocks of a keystream: a core, or a cipher over one (this crate). It has no code, only what
+/// What hands out the blocks of a keystream: a core, or a cipher over one. It has no code, only what
 /// clauses say of blocks.
 pub trait Keystream {
     // All of it but its counter or its position.

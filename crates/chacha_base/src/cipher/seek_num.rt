@@ -18,12 +18,12 @@ pub trait SeekNum: Sealed + Copy {
     // The type's greatest number.
     ghost greatest: { ℕ };
 
-    /// The number; `None` exactly where it is negative (this crate).
+    /// The number; `None` exactly where it is negative.
     fn to_position(self) -> Option<u128>
         ensures value { result ≡ position self }
         ensures below { IfSome result (λ p. p ≤ greatest) };
 
-    /// A position as a number of this type; `Err` exactly where the type cannot represent it (this crate).
+    /// A position as a number of this type; `Err` exactly where the type cannot represent it.
     fn from_position(pos: u128) -> Result<Self, OverflowError>
         ensures accepted { IsOk result ↔ (pos ≤ greatest) }
         ensures value { IfOk result (λ number. position number ≡ Some pos) };

@@ -46,7 +46,7 @@ impl Count {
     }
 }
 
-/// How many steps were taken (this crate): parallel calls of a backend (`par`), other calls for a block (`other`), and
+/// How many steps were taken: parallel calls of a backend (`par`), other calls for a block (`other`), and
 /// quarter rounds on words or on vectors (`rounds`). The three numbers have no upper bound. They exist for clauses
 /// alone: at run time the type has no size, and there is nothing to read.
 pub struct Steps {
@@ -76,7 +76,7 @@ impl Model for Steps {
 }
 
 impl Steps {
-    /// No steps (this crate).
+    /// No steps.
     pub fn new() -> Steps
         ensures { result ≡ record { par = 0; other = 0; rounds = 0 } }
     {

@@ -14,5 +14,5 @@ returns-then-data-le512 g c = c.apply_through-then-data-le512.ensures
 pub returns-else-data-le512 : goal.returns-else-data-le512
 returns-else-data-le512 g c = c.apply_through-else-data-le512.ensures
 
-pub apply_through-requires-clause-room : goal.apply_through-requires-clause-room
-apply_through-requires-clause-room g c = elim c.if-data-eq64.either [ inl one ↦ omega arith | inr one ↦ omega arith ]
+pub apply_through-requires-clause-scratch : goal.apply_through-requires-clause-scratch
+apply_through-requires-clause-scratch g c = elim c.if-data-eq64.either [ inl one ↦ omega arith | inr one ↦ omega arith ]

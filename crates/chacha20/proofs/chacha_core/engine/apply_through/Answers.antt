@@ -9,29 +9,29 @@ use Rattle.chacha20.specs.Blocks.{state_stream}
 use Rattle.chacha20.proofs.BlocksLemmas.{at-more}
 use Rattle.chacha20.proofs.chacha_core.engine.apply_through.Goals as goal
 
--- of n bytes the l blocks from block i to block e, and the part of the room for them
-record Next (i l e n : ℕ) (room : List (List ℕ)) : Type 0 where
-  long : length (take l room) ≡ l
+-- of n bytes the l blocks from block i to block e, and the part of the scratch space for them
+record Next (i l e n : ℕ) (scratch : List (List ℕ)) : Type 0 where
+  long : length (take l scratch) ≡ l
   all : i + l ≡ e
   inside : 64 * e ≤ n
 
--- those of group k, and those behind the last group; the room holds a group, or else all blocks
-group : {w b r : ℕ} (k n : ℕ) (room : List (List ℕ)) → w ≡ b → length room ≡ r → min b (n / 64) ≤ r → k < n / 64 / w
-    → Next (w * k) w (w * (k + 1)) n room
-group {w} k n room same kept fits less =
+-- those of group k, and those behind the last group; the scratch space holds a group, or else all blocks
+group : {w b r : ℕ} (k n : ℕ) (scratch : List (List ℕ)) → w ≡ b → length scratch ≡ r → min b (n / 64) ≤ r → k < n / 64 / w
+    → Next (w * k) w (w * (k + 1)) n scratch
+group {w} k n scratch same kept fits less =
     let end = column_fits w k w (n / 64 / w) less (omega arith) in
     record {
-      long = length-take-le w room (omega (arith, end, mul-div-le (n / 64) w));
+      long = length-take-le w scratch (omega (arith, end, mul-div-le (n / 64) w));
       all = omega (arith, mul-add w k 1);
       inside = omega (arith, end, mul-add w k 1, mul-div-le (n / 64) w);
     }
 
-rest : {w b r : ℕ} (n : ℕ) (room : List (List ℕ)) → w ≡ b → 1 ≤ b → length room ≡ r → min b (n / 64) ≤ r
-    → Next (n / 64 - n / 64 % w) (n / 64 % w) (n / 64) n room
-rest {w} n room same some kept fits =
+rest : {w b r : ℕ} (n : ℕ) (scratch : List (List ℕ)) → w ≡ b → 1 ≤ b → length scratch ≡ r → min b (n / 64) ≤ r
+    → Next (n / 64 - n / 64 % w) (n / 64 % w) (n / 64) n scratch
+rest {w} n scratch same some kept fits =
     let one : 1 ≤ w = omega arith in
     record {
-      long = length-take-le (n / 64 % w) room (omega (arith, mod-lt (n / 64) one, mod-le (n / 64) w));
+      long = length-take-le (n / 64 % w) scratch (omega (arith, mod-lt (n / 64) one, mod-le (n / 64) w));
       all = omega (arith, mod-le (n / 64) w);
       inside = omega (arith, mul-div-le n 64);
     }
@@ -49,24 +49,24 @@ groups-init g c =
 
 pub slice_bounds-made-end-in-groups : goal.slice_bounds-made-end-in-groups
 slice_bounds-made-end-in-groups g c =
-    sym (group c.groups.group (length c.args.data.now) c.groups.room c.PAR_BLOCKS-width.ensures c.groups.auto.room
-    c.requires.room c.groups-test.true).long
+    sym (group c.groups.group (length c.args.data.now) c.groups.scratch c.PAR_BLOCKS-width.ensures c.groups.auto.scratch
+    c.requires.scratch c.groups-test.true).long
 
 pub gen_par_ks_blocks-requires : goal.gen_par_ks_blocks-requires
 gen_par_ks_blocks-requires g c =
-    (group c.groups.group (length c.args.data.now) c.groups.room c.PAR_BLOCKS-width.ensures c.groups.auto.room
-    c.requires.room c.groups-test.true).long ∙ c.PAR_BLOCKS-width.ensures
+    (group c.groups.group (length c.args.data.now) c.groups.scratch c.PAR_BLOCKS-width.ensures c.groups.auto.scratch
+    c.requires.scratch c.groups-test.true).long ∙ c.PAR_BLOCKS-width.ensures
 
 pub xor_blocks-requires-clause-inside : goal.xor_blocks-requires-clause-inside
 xor_blocks-requires-clause-inside g c =
-    let next = group c.groups.group (length c.args.data.now) c.groups.room c.PAR_BLOCKS-width.ensures c.groups.auto.room
-    c.requires.room c.groups-test.true in
+    let next = group c.groups.group (length c.args.data.now) c.groups.scratch c.PAR_BLOCKS-width.ensures c.groups.auto.scratch
+    c.requires.scratch c.groups-test.true in
     rw (c.groups.auto.data, c.gen_par_ks_blocks.auto.blocks, next.long, next.all) next.inside
 
 pub groups-preserved : goal.groups-preserved
 groups-preserved g c =
-    let next = group c.groups.group (length c.args.data.now) c.groups.room c.PAR_BLOCKS-width.ensures c.groups.auto.room
-    c.requires.room c.groups-test.true in
+    let next = group c.groups.group (length c.args.data.now) c.groups.scratch c.PAR_BLOCKS-width.ensures c.groups.auto.scratch
+    c.requires.scratch c.groups-test.true in
     let made = c.gen_par_ks_blocks.ensures in
     let so_far = g.T.Target.so_far c.args.input.now in
     record {
@@ -78,20 +78,20 @@ groups-preserved g c =
 
 pub slice_bounds-made-end-3 : goal.slice_bounds-made-end-3
 slice_bounds-made-end-3 g c =
-    sym (rest (length c.args.data.now) c.groups.room c.PAR_BLOCKS-width.ensures
-    g.B.ParBlocksSizeUser.par_blocks_at_least c.groups.auto.room c.requires.room).long
+    sym (rest (length c.args.data.now) c.groups.scratch c.PAR_BLOCKS-width.ensures
+    g.B.ParBlocksSizeUser.par_blocks_at_least c.groups.auto.scratch c.requires.scratch).long
 
-pub gen_tail_apart-requires : goal.gen_tail_apart-requires
-gen_tail_apart-requires g c =
-    let next = rest (length c.args.data.now) c.groups.room c.PAR_BLOCKS-width.ensures
-    g.B.ParBlocksSizeUser.par_blocks_at_least c.groups.auto.room c.requires.room in
+pub gen_tail-requires : goal.gen_tail-requires
+gen_tail-requires g c =
+    let next = rest (length c.args.data.now) c.groups.scratch c.PAR_BLOCKS-width.ensures
+    g.B.ParBlocksSizeUser.par_blocks_at_least c.groups.auto.scratch c.requires.scratch in
     rw (next.long, c.PAR_BLOCKS-width.ensures) (mod-lt _ g.B.ParBlocksSizeUser.par_blocks_at_least)
 
 pub xor_blocks-requires-2-clause-inside : goal.xor_blocks-requires-2-clause-inside
 xor_blocks-requires-2-clause-inside g c =
-    let next = rest (length c.args.data.now) c.groups.room c.PAR_BLOCKS-width.ensures
-    g.B.ParBlocksSizeUser.par_blocks_at_least c.groups.auto.room c.requires.room in
-    rw (c.groups.auto.data, c.gen_tail_apart.auto.blocks, next.long, next.all) next.inside
+    let next = rest (length c.args.data.now) c.groups.scratch c.PAR_BLOCKS-width.ensures
+    g.B.ParBlocksSizeUser.par_blocks_at_least c.groups.auto.scratch c.requires.scratch in
+    rw (c.groups.auto.data, c.gen_tail.auto.blocks, next.long, next.all) next.inside
 
 pub returns : goal.returns
 returns g c =
@@ -100,14 +100,14 @@ returns g c =
     let old = c.args.data.now in
     let m = length old / 64 in
     let w = c.PAR_BLOCKS-width.result in
-    let next = rest (length old) c.groups.room c.PAR_BLOCKS-width.ensures g.B.ParBlocksSizeUser.par_blocks_at_least
-    c.groups.auto.room c.requires.room in
-    let made = c.gen_tail_apart.ensures in
+    let next = rest (length old) c.groups.scratch c.PAR_BLOCKS-width.ensures g.B.ParBlocksSizeUser.par_blocks_at_least
+    c.groups.auto.scratch c.requires.scratch in
+    let made = c.gen_tail.ensures in
     let all : c.groups.group ≡ m / w = omega (arith, c.groups-test.false, c.groups.auto.group-end) in
     let begins : w * (m / w) ≡ m - m % w = omega (arith, div-add-mod m w) in
     let now = c.xor_blocks-2.new.data in
-    let end = at-more c.gen_tail_apart.new.blocks (rw (all, begins) at c.groups.invariant.engine)
-    c.gen_tail_apart.auto.blocks made.blocks made.state (g.T.Target.so_far input now) c.xor_blocks-2.ensures
+    let end = at-more c.gen_tail.new.blocks (rw (all, begins) at c.groups.invariant.engine)
+    c.gen_tail.auto.blocks made.blocks made.state (g.T.Target.so_far input now) c.xor_blocks-2.ensures
     (rw next.long next.all) next.inside in
     let whole : 64 * m ≡ length now = omega arith in
     let fits : g.T.Target.fits (length input) (length now) =

@@ -9,4 +9,4 @@ returns-clause-rounds g c =
 pub returns-clause-steps : goal.returns-clause-steps
 returns-clause-steps g c =
     grows-narrow (2 * g.G.Group.ROUND_STEPS * g.R.Rounds.COUNT) g.R.Rounds.COUNT _ (length c.args.blocks.now)
-    c.requires.eight.0 c.requires.eight.1 c.write_tail.ensures.steps (returns-clause-rounds g c)
+    c.requires.up_to_8.0 c.requires.up_to_8.1 c.write_tail.ensures.steps (returns-clause-rounds g c)

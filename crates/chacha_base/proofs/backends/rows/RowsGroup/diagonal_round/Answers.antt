@@ -6,8 +6,8 @@ use Rattle.chacha_base.proofs.backends.rows.RowsGroup.diagonal_round.Goals as go
 
 pub returns-clause-blocks : goal.returns-clause-blocks
 returns-clause-blocks g c b h =
-    c.rows_turned.ensures b h
-    ∙ ap (undiagonalized g.row.STAYS)
+    c.rows_rotated.ensures b h
+    ∙ ap (undiagonalized g.row.FIXED_ROW)
     (columns-of-lanes g.V.Vector.QUADS g.V.Vector.lane _ _ c.quarter_round-mixed.ensures.lanes b h
-    ∙ ap columns (c.rows_turned-diagonalized.ensures b h))
-    ∙ columns-diagonalized g.row.STAYS _
+    ∙ ap columns (c.rows_rotated-diagonalized.ensures b h))
+    ∙ columns-diagonalized g.row.FIXED_ROW _

@@ -1,7 +1,7 @@
 use Rattle.std.proofs.Common.{◌-◌, arith, nat_lt, ltb-true, ltb-false}
 use Rattle.chacha_base.specs.ChaCha.{add_states}
 use Rattle.chacha_base.proofs.RowLemmas.{either-same}
-use Rattle.chacha_base.proofs.backends.group.TwiceGroup.sums.Goals as goal
+use Rattle.chacha_base.proofs.backends.group.InterleavedGroup.sums.Goals as goal
 
 -- answered for speed
 pub returns : goal.returns

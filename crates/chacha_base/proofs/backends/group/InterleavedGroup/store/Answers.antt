@@ -1,6 +1,6 @@
 use Rattle.std.proofs.Common.{arith}
 use Rattle.chacha_base.proofs.ListLemmas.{halves_written}
-use Rattle.chacha_base.proofs.backends.group.TwiceGroup.store.Goals as goal
+use Rattle.chacha_base.proofs.backends.group.InterleavedGroup.store.Goals as goal
 
 pub returns : goal.returns
 returns g c =

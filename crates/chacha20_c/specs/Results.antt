@@ -1,5 +1,5 @@
 -- What calls on a cipher from a position on return, and what they leave: 0 exactly where the bytes
--- end at the limit or before it, and else 1, and then nothing is written (this crate).
+-- end at the limit or before it, and else 1, and then nothing is written.
 use Rattle.std.specs.Prelude.{ℕ, List, ◌≡◌, ◌↔◌, ◌⊎◌, ◌≤◌, ◌+◌, length}
 use Rattle.chacha20.specs.ChaCha.{stream_part, xor_stream}
 
