@@ -11,6 +11,8 @@ import tempfile
 if sys.version_info < (3, 9):
     sys.exit(f"{sys.argv[0]} needs Python 3.9 or later")
 TOP = os.path.dirname(os.path.dirname(os.path.abspath(__file__)))
+# The crates that may name backends.
+TESTS = ("vectors", "tests", "user_tests", "speed")
 # The head of a function: its indentation, how public it is, and its name.
 FUNCTION = re.compile(r"(\s*)(pub(?:\(\w+\))? )?(?:final )?(?:const )?(?:extern \"C\" )?fn (\w+)")
 
