@@ -11,6 +11,8 @@ import tempfile
 if sys.version_info < (3, 9):
     sys.exit(f"{sys.argv[0]} needs Python 3.9 or later")
 TOP = os.path.dirname(os.path.dirname(os.path.abspath(__file__)))
+# The crates that may name backends.
+TESTS = ("vectors", "tests", "user_tests", "speed")
 # The head of a function: its indentation, how public it is, and its name.
 FUNCTION = re.compile(r"(\s*)(pub(?:\(\w+\))? )?(?:final )?(?:const )?(?:extern \"C\" )?fn (\w+)")
 
@@ -50,18 +52,29 @@ def backends():
     return re.findall(r"(?m)^pub use \w+::(\w+);", text_of("crates/chacha_base/src/backends.rt"))
 
 
+def described():
+    """The commit that the repository stands at, with -dirty behind it where files differ from it."""
+    return subprocess.run(["git", "describe", "--always", "--dirty"], cwd=TOP, stdout=subprocess.PIPE, text=True, check=True).stdout.strip()
+
+
+def with_libraries(*crates):
+    """These crates and those of the repository that they use, or all crates, each with its line of crates.txt."""
+    lines = {it[1]: it for it in re.finditer(r"(?m)^(\w+)[^:#\n]*:([^#\n]*)", text_of("crates.txt"))}
+    found = list(crates or lines)
+    for it in found:
+        found += [other for other in lines[it][2].split() if other in lines and other not in found]
+    return {it: lines[it][0] for it in lines if it in found}
+
+
 @contextlib.contextmanager
 def copied(*crates):
-    """A copy of these crates and of those of the repository that they use. It is deleted where the `with` block ends."""
-    lines = {re.match(r"\w+", it)[0]: it for it in text_of("crates.txt").split("\n") if ":" in it}
-    found = list(crates)
-    for it in found:
-        found += [other for other in lines[it].partition(":")[2].split() if other in lines and other not in found]
+    """A copy of these crates and of those of the repository that they use, with what earlier checks kept in their folders `out`. It is
+    deleted where the `with` block ends."""
     with tempfile.TemporaryDirectory(prefix="checks-") as room:
-        write(f"{room}/crates.txt", "".join(f"{lines[it]}\n" for it in lines if it in found))
+        write(f"{room}/crates.txt", "".join(f"{it}\n" for it in with_libraries(*crates).values()))
         shutil.copy(f"{TOP}/HANDLES", room)
-        for it in found:
-            shutil.copytree(f"{TOP}/crates/{it}", f"{room}/crates/{it}", ignore=shutil.ignore_patterns("out"))
+        for it in with_libraries(*crates):
+            shutil.copytree(f"{TOP}/crates/{it}", f"{room}/crates/{it}", symlinks=True)
         yield room
 
 

@@ -1,4 +1,5 @@
-"""Must-fail edits: where they are, what they make of their files, and the goals that refuse one in what the prover printed."""
+"""Must-fail edits and idle bodies: where they are, what they make of their files, and the goals that refuse an edit in what the prover
+printed."""
 
 import collections
 import glob
@@ -7,7 +8,7 @@ import re
 import sys
 import time
 
-from common import FUNCTION, TOP, copied, text_of
+from common import FUNCTION, TOP, copied, text_of, tracked, without_comments
 
 # What says nothing of a mistake: a proof that names what an edit took away, what cites that proof, and an answer that rewrites by
 # what is no equation.
@@ -34,6 +35,11 @@ def edits():
     """The crate, the name and the path of each edit."""
     found = sorted(glob.glob(f"{TOP}/crates/*/must-fail/*.edit"))
     return [(it.split("/")[-3], os.path.basename(it)[:-5], it) for it in found]
+
+
+def idle_bodies():
+    """The paths of the edits that checks/cut must find, all of chacha_base."""
+    return sorted(glob.glob(f"{TOP}/checks/idle/*.edit"))
 
 
 def tried(words, verdict):
@@ -94,9 +100,13 @@ def faults(edit, folder):
         applied(edit, folder)
     except (OSError, ValueError) as why:
         return [str(why)]
+    found = [f"{old!r} is a comment, and doesn't end with [edit]" for path, old, _, _ in changes(edit)
+             if old not in without_comments(text_of(f"{folder}/{path}")) and not old.endswith(" [edit]")]
+    if edit in idle_bodies():
+        return found
     comments = re.findall(r"(?m)^# (?!mistake: |instead:).+", text_of(edit))
     mistakes = [(path, new, *it) for path, _, new, pairs in changes(edit) for it in pairs]
-    found = ["it has no first line '# WORDS'"] * (not text_of(edit).startswith("# "))
+    found += ["it has no first line '# WORDS'"] * (not text_of(edit).startswith("# "))
     found += ["it doesn't say what stands there without its mistake"] * (not mistakes)
     for path, new, mistake, instead in mistakes if len(comments) < 2 else ():
         form = [collections.Counter(FORM.findall(it.replace("Steps::new()", ""))) for it in (mistake, instead)]
@@ -105,6 +115,14 @@ def faults(edit, folder):
         elif not re.search(r"\bfn \w", new) and (more := form[0] - form[1]):
             found.append(f"its mistake has {', '.join(more)}, and what stands instead hasn't, and no second comment says why")
     return found
+
+
+def unused_marks():
+    """The comments that end with [edit], and that no edit replaces."""
+    files = [(crate, edit) for crate, _, edit in edits()] + [("chacha_base", edit) for edit in idle_bodies()]
+    used = {(f"crates/{crate}/{path}", old) for crate, edit in files for path, old, _, _ in changes(edit)}
+    marks = [(path, it) for path in tracked(".rt", ".antt") for it in re.findall(r"(?m)(?:--|//).* \[edit\]$", text_of(path))]
+    return [f"{path}: no edit replaces {line!r}" for path, line in marks if (path, line) not in used]
 
 
 def function_at(text, number, column):
@@ -123,7 +141,9 @@ def unread(message, changed):
     error = re.match(r"(?:\./)?(\S+?):\d+:\d+: error: (?:(`[^`]*`): )?(.*)", message.split("\n")[0])
     if not error or not (error[1] in changed or error[1].startswith(("src/", "specs/"))):
         return False
-    return not error[2] or bool(re.search(r"is not in scope|has no field|is no name", re.sub(r"`[^`]*`", "", error[3])))
+    said = re.sub(r"`[^`]*`", "", error[3])
+    form = r"is not in scope|has no field|is no name|operand is missing|expected the end|cannot continue"
+    return not error[2] or bool(re.search(form, said))
 
 
 def goal_of(message, folder, changed):

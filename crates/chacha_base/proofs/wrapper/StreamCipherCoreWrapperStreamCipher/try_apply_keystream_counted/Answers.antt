@@ -4,8 +4,8 @@ use Rattle.chacha_base.proofs.CountsLemmas.{grows-rest, grows-bytes}
 use Rattle.chacha_base.proofs.KeystreamLemmas.{xor_stream-parts}
 use Rattle.chacha_base.proofs.wrapper.StreamCipherCoreWrapperStreamCipher.try_apply_keystream_counted.Goals as goal
 
--- Three calls, one after another: what is left of the buffered block, whole blocks, a last part.
--- Each goes on where the one before it ended, and keeps the fixed part.
+-- Three calls, one after another: what is left of the buffered block, whole blocks, a last part. [edit]
+-- Each goes on where the one before it ended, and keeps the fixed part. [edit]
 pub returns-clause-bytes : goal.returns-clause-bytes
 returns-clause-bytes g c =
     let modulus = g.C.Keystream.modulus in
@@ -25,8 +25,8 @@ returns-clause-bytes g c =
     (c.apply_last.ensures.bytes
     ∙ ap (λ f. xor_stream (keystream modulus (block f)) whole.position last) (c.apply_whole.ensures.fixed ∙ kept)))
 
--- The last two calls count. The buffered block was counted when it was made.
--- Their bounds add up to those of an application to so many bytes.
+-- The last two calls count. The buffered block was counted when it was made. [edit]
+-- Their bounds add up to those of an application to so many bytes. [edit]
 pub returns-clause-steps : goal.returns-clause-steps
 returns-clause-steps g c =
     let width = g.C.ParBlocksSizeUser.PAR_BLOCKS in
