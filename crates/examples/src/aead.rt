@@ -8,15 +8,13 @@
 //! that `open` of what `seal` made gives the message. How hard a tag is to forge depends on the MAC. Never use a nonce
 //! twice under one key.
 
-ghost use Rattle.std.specs.Prelude.{◌≡◌, ◌≢◌, ◌<◌, ◌≤◌, ◌+◌, ◌↔◌, ◌++◌, [], ℕ, List, length, IsOk, IfOk, OnOk, OnErr, IsErrOf, IsTrue};
+ghost use Rattle.std.specs.Prelude.{◌≡◌, ◌≢◌, ◌<◌, ◌≤◌, ◌+◌, ◌↔◌, ◌++◌, [], ℕ, List, length, IsOk, IfOk, OnOk, OnErr, IsErrOf};
 ghost use Rattle.chacha20.specs.ChaCha.{keystream};
 ghost use Rattle.chacha20.specs.Cipher.{limit_of};
 ghost use Rattle.examples.specs.Aead.{mac_key, encrypted, mac_text, padding};
 
 use chacha20::cipher::{KeyIvInit, StreamCipher, StreamCipherError, StreamCipherSeek};
-
-/// The size of a tag in bytes is 16 (RFC 8439, section 2.5).
-pub type Tag = [u8; 16];
+use poly1305::{Poly1305, Tag, is_equal};
 
 /// Why `open` refuses (this crate).
 #[derive(Clone, Copy, Debug, PartialEq, Eq)]
@@ -32,21 +30,41 @@ pub trait Mac {
     // The tag of a key and a text.
     ghost tag_of: { List ℕ → List ℕ → List ℕ };
 
-    // The tag that this MAC gives after so much more text.
-    ghost tag_after: { Self → List ℕ → List ℕ };
+    // The MAC has this key and has taken this text.
+    ghost holds: { Self → List ℕ → List ℕ → Type 0 };
 
-    /// The MAC of a key, before any text.
+    /// The MAC of a key of 32 bytes, before any text.
     fn new(key: &[u8; 32]) -> Self
-        ensures { (text : List ℕ) → Self.tag_after result text ≡ tag_of key.now text };
+        ensures { Self.holds result key.now [] };
 
-    /// Takes the next piece of the text.
+    /// Takes the next piece of the text, of any number of bytes.
     fn update(&mut self, piece: &[u8])
-        ensures { (more : List ℕ)
-            → Self.tag_after self.new more ≡ Self.tag_after self.old (piece.now ++ more) };
+        ensures { (key text : List ℕ) → Self.holds self.old key text
+            → Self.holds self.new key (text ++ piece.now) };
 
     /// The tag of the text.
     fn finish(self) -> Tag
-        ensures { result ≡ Self.tag_after self [] };
+        ensures { (key text : List ℕ) → Self.holds self key text → result ≡ tag_of key text };
+}
+
+impl Mac for Poly1305 {
+    ghost use Rattle.poly1305.specs.Poly1305.{poly1305, after};
+
+    ghost tag_of = { poly1305 };
+
+    ghost holds = { λ mac key text. mac ≡ after key text };
+
+    fn new(key: &[u8; 32]) -> Self {
+        Poly1305::new(key)
+    }
+
+    fn update(&mut self, piece: &[u8]) {
+        Poly1305::update(self, piece)
+    }
+
+    fn finish(self) -> Tag {
+        Poly1305::finish(self)
+    }
 }
 
 /// Encrypts a message in place, and returns the tag of the ciphertext and the associated data. `Err` exactly where the
@@ -96,7 +114,7 @@ pub fn open<C: KeyIvInit + StreamCipherSeek + Drop, M: Mac>(
         return Err(AeadError::TooLong);
     };
     let expected = self::tag::<M>(&one_time_key::<C>(key, nonce), aad, message);
-    if !is_equal(expected, tag) {
+    if !is_equal(&expected, tag) {
         return Err(AeadError::WrongTag);
     }
     cipher.apply_keystream(message);
@@ -146,19 +164,8 @@ fn tag<M: Mac>(mac_key: &[u8; 32], aad: &[u8], ciphertext: &[u8]) -> Tag
 
 // Zeros up to a multiple of 16 bytes.
 fn pad<M: Mac>(mac: &mut M, len: usize)
-    ensures { (more : List ℕ)
-        → M.tag_after mac.new more ≡ M.tag_after mac.old (padding len ++ more) }
+    ensures { (key text : List ℕ) → M.holds mac.old key text
+        → M.holds mac.new key (text ++ padding len) }
 {
     mac.update(&[0; 16][..(16 - len % 16) % 16]);
-}
-
-// Whether a tag is the expected one. It reads all bytes of both, wherever they differ.
-fn is_equal(expected: Tag, tag: &Tag) -> bool
-    ensures { IsTrue result ↔ (expected ≡ tag.now) }
-{
-    let mut difference = 0u32;
-    'each: for i in 0..16usize {
-        difference += u32::from(expected[i] ^ tag[i]);
-    }
-    difference == 0
 }

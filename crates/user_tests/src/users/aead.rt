@@ -1,53 +1,20 @@
-//! The example of RFC 8439, section 2.8.2, with a toy in place of Poly1305; XChaCha20; and published one-time keys.
+//! The example of RFC 8439, section 2.8.2; XChaCha20; and published one-time keys.
 
 ghost use Rattle.std.specs.Prelude.{◌≡◌, ◌≤◌, ◌+◌, ◌↔◌, length, IsOk, OnOk};
 ghost use Rattle.chacha20.specs.Cipher.{limit_of};
 
 use chacha20::cipher::{KeyIvInit, StreamCipherSeek};
 use chacha20::{ChaCha20, Nonce, XChaCha20};
-use examples::aead::{AeadError, Mac, Tag, one_time_key, open, seal};
+use examples::aead::{AeadError, Mac, one_time_key, open, seal};
 use known_answers::published::{FROM_80, MESSAGE, X_KEYSTREAM, X_NONCE};
-
-// A toy, and no MAC: anyone can forge its tags. A tag is the front of the key XORed with the text, 16 bytes at a time.
-#[derive(Drop)]
-struct ToyMac {
-    tag: Tag,
-}
-
-impl Mac for ToyMac {
-    ghost use Rattle.std.specs.Prelude.{take};
-    ghost use Rattle.user_tests.specs.ToyTag.{tag_after};
-
-    ghost tag_of = { λ key text. tag_after (take 16 key) text };
-
-    ghost tag_after = { λ mac text. tag_after mac.tag text };
-
-    fn new(key: &[u8; 32]) -> Self {
-        let mut tag = [0; 16];
-        tag.copy_from_slice(&key[..16]);
-        ToyMac { tag }
-    }
-
-    fn update(&mut self, piece: &[u8]) {
-        let mut tag = self.tag;
-        'each: for i in 0..piece.len() {
-            tag.rotate_left(1);
-            tag[15] ^= piece[i];
-        }
-        self.tag = tag;
-    }
-
-    fn finish(self) -> Tag {
-        self.tag
-    }
-}
+use poly1305::{Poly1305, Tag};
 
 #[test]
 fn published(rt: HostRuntime) {
     let mut message = *MESSAGE;
-    let sealed = seal::<ChaCha20, ToyMac>(&FROM_80, &NONCE, AAD, &mut message);
+    let sealed = seal::<ChaCha20, Poly1305>(&FROM_80, &NONCE, AAD, &mut message);
     let ciphertext = message;
-    let opened = open::<ChaCha20, ToyMac>(&FROM_80, &NONCE, AAD, &mut message, &TAG);
+    let opened = open::<ChaCha20, Poly1305>(&FROM_80, &NONCE, AAD, &mut message, &TAG);
     assert!(rt; sealed == Ok(TAG) && ciphertext == CIPHERTEXT);
     assert!(rt; opened == Ok(()) && message == *MESSAGE);
 }
@@ -59,9 +26,9 @@ fn refused(rt: HostRuntime) {
     let mut tag = TAG;
     tag[15] ^= 1;
     let wrong = [
-        open::<ChaCha20, ToyMac>(&FROM_80, &NONCE, AAD, &mut message, &tag),
-        open::<ChaCha20, ToyMac>(&FROM_80, &NONCE, &AAD[1..], &mut message, &TAG),
-        open::<ChaCha20, ToyMac>(&FROM_80, &NONCE, AAD, &mut message[1..], &TAG),
+        open::<ChaCha20, Poly1305>(&FROM_80, &NONCE, AAD, &mut message, &tag),
+        open::<ChaCha20, Poly1305>(&FROM_80, &NONCE, &AAD[1..], &mut message, &TAG),
+        open::<ChaCha20, Poly1305>(&FROM_80, &NONCE, AAD, &mut message[1..], &TAG),
     ];
     assert!(rt; wrong == [Err(AeadError::WrongTag); 3] && message == CIPHERTEXT);
 }
@@ -85,9 +52,9 @@ fn there_and_back<C: KeyIvInit + StreamCipherSeek + Drop, M: Mac>(
 #[test]
 fn xchacha(rt: HostRuntime) {
     let mut message = [0; 16];
-    let back = there_and_back::<XChaCha20, ToyMac>(&FROM_80, &X_NONCE, AAD, &mut message);
+    let back = there_and_back::<XChaCha20, Poly1305>(&FROM_80, &X_NONCE, AAD, &mut message);
     assert!(rt; back == Ok(()) && message == [0; 16]);
-    let sealed = seal::<XChaCha20, ToyMac>(&FROM_80, &X_NONCE, AAD, &mut message);
+    let sealed = seal::<XChaCha20, Poly1305>(&FROM_80, &X_NONCE, AAD, &mut message);
     assert!(rt; sealed.is_ok() && X_KEYSTREAM.starts_with(&message));
 }
 
@@ -120,5 +87,4 @@ static CIPHERTEXT: [u8; 114] = *b"\
     \x98\x03\xae\xe3\x28\x09\x1b\x58\xfa\xb3\x24\xe4\xfa\xd6\x75\x94\x55\x85\x80\x8b\x48\x31\xd7\xbc\
     \x3f\xf4\xde\xf0\x8e\x4b\x7a\x9d\xe5\x76\xd2\x65\x86\xce\xc6\x4b\x61\x16";
 
-// The toy's tag of the RFC's data, ciphertext, padding and lengths, under that key.
-static TAG: Tag = *b"\x41\x09\x24\x2c\xeb\xd0\x05\xf7\xc2\xcb\x04\x5b\x83\x41\x0a\x82";
+static TAG: Tag = *b"\x1a\xe1\x0b\x59\x4f\x09\xe2\x6a\x7e\x90\x2e\xcb\xd0\x60\x06\x91";

@@ -3,7 +3,7 @@ use Rattle.std.specs.Int.Bits.{xor_assoc, xor_self, xor_zero_l, xor_zero_r}
 use Rattle.std.proofs.lemmas.Bool.{eqb-true, eq-eqb}
 use Rattle.std.proofs.lemmas.Nat.{xor_lt}
 use Rattle.std.proofs.lemmas.Grind.{same_number_lists}
-use Rattle.examples.proofs.aead.is_equal.Goals as goal
+use Rattle.poly1305.proofs.tag.is_equal.Goals as goal
 
 -- bytes without a difference
 xor-equal : (x y : ℕ) → bit_xor x y ≡ 0 → x ≡ y
@@ -15,24 +15,24 @@ each-init c = record { small = omega arith; equal = (λ none k less. absurd (ome
 
 pub each-preserved : goal.each-preserved
 each-preserved c =
-    let expected = c.args.expected in
-    let tag = c.args.tag.now in
+    let left = c.args.left.now in
+    let right = c.args.right.now in
     let i = c.each.i in
     let byte = c.from-difference.ensures in
-    let fits : bit_xor (slice_index expected i) (slice_index tag i) < 256 =
-    xor_lt 8 (slice_index expected i) (slice_index tag i) c.each-test.element_fits.fits (c.fits-tag i) in
+    let fits : bit_xor (slice_index left i) (slice_index right i) < 256 =
+    xor_lt 8 (slice_index left i) (slice_index right i) (c.fits-left i) (c.fits-right i) in
     let before = c.each.invariant in
     record {
       small = omega (arith, byte, fits, before.small);
       equal = (
         λ none.
-            below_more (λ k. slice_index expected k ≡ slice_index tag k) i
+            below_more (λ k. slice_index left k ≡ slice_index right k) i
             (before.equal.0 (omega (arith, none)))
-            (xor-equal (slice_index expected i) (slice_index tag i) (omega (arith, byte, none))),
+            (xor-equal (slice_index left i) (slice_index right i) (omega (arith, byte, none))),
         λ same.
             let rest = before.equal.1 (λ k less. same k (omega (arith, less))) in
-            let here = byte ∙ ap (bit_xor (slice_index expected i)) (sym (same i (omega arith)))
-            ∙ xor_self (slice_index expected i) in
+            let here = byte ∙ ap (bit_xor (slice_index left i)) (sym (same i (omega arith)))
+            ∙ xor_self (slice_index left i) in
             omega (arith, rest, here),
       );
     }
@@ -40,18 +40,18 @@ each-preserved c =
 pub returns : goal.returns
 returns c =
     let all = c.each.invariant.equal in
-    let long : length c.args.expected ≡ length c.args.tag.now = omega (arith, c.told-tag) in (
+    let long : length c.args.left.now ≡ length c.args.right.now = omega (arith, c.told-right) in (
       λ none.
-          same_number_lists c.args.expected c.args.tag.now long
+          same_number_lists c.args.left.now c.args.right.now long
           (λ k less. all.0 (eqb-true c.each.difference 0 none) k (omega (arith, less, long))),
       λ same. eq-eqb c.each.difference 0 (all.1 (λ k less. ap (λ xs. slice_index xs k) same)),
     )
 
 pub overflow_add-difference : goal.overflow_add-difference
 overflow_add-difference c =
-    let expected = c.args.expected in
-    let tag = c.args.tag.now in
+    let left = c.args.left.now in
+    let right = c.args.right.now in
     let i = c.each.i in
-    let fits : bit_xor (slice_index expected i) (slice_index tag i) < 256 =
-    xor_lt 8 (slice_index expected i) (slice_index tag i) c.each-test.element_fits.fits (c.fits-tag i) in
+    let fits : bit_xor (slice_index left i) (slice_index right i) < 256 =
+    xor_lt 8 (slice_index left i) (slice_index right i) (c.fits-left i) (c.fits-right i) in
     omega (arith, c.from-difference.ensures, fits, c.each.invariant.small)
