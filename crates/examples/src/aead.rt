@@ -1,20 +1,127 @@
-//! Authenticated encryption: the construction of RFC 8439, section 2.8, over any cipher of the library and any MAC.
+//! Authenticated encryption: ChaCha20-Poly1305 (RFC 8439, section 2.8) and XChaCha20-Poly1305
+//! (draft-irtf-cfrg-xchacha, section 2).
 //!
-//! The MAC's key for one message is the first half of block 0, and the message is encrypted from block 1 on. The tag
-//! covers the associated data and the ciphertext. With ChaCha20 and Poly1305 this is the RFC's AEAD, and with XChaCha20
-//! that of draft-irtf-cfrg-xchacha. No MAC is part of this library: implement `Mac` for yours.
+//! ```text
+//! use examples::aead::ChaCha20Poly1305;
 //!
-//! The contracts say what `seal` computes, that `open` accepts exactly the right tag and otherwise changes nothing, and
-//! that `open` of what `seal` made gives the message. How hard a tag is to forge depends on the MAC. Never use a nonce
-//! twice under one key.
+//! let tag = ChaCha20Poly1305::seal(&key, &nonce, aad, &mut message)?;
+//! ChaCha20Poly1305::open(&key, &nonce, aad, &mut message, &tag)?;
+//! ```
+//!
+//! The message is encrypted from block 1 on. The tag covers the associated data, which isn't encrypted, and the
+//! ciphertext; its key is the first half of block 0. Send or store the tag, and the nonce if the receiver can't tell it.
+//!
+//! Contracts say what `seal` computes, that `open` accepts exactly the right tag and otherwise leaves the message as it
+//! was, and that `open` of what `seal` made restores the message. They don't say how hard a tag is to forge. Never use a
+//! nonce twice under one key: whoever sees both messages can then forge tags.
+//!
+//! `seal` and `open` over any cipher `C` of the library and any MAC `M` are at the end. For another MAC, implement `Mac`.
 
 ghost use Rattle.std.specs.Prelude.{◌≡◌, ◌≢◌, ◌<◌, ◌≤◌, ◌+◌, ◌↔◌, ◌++◌, [], ℕ, List, length, IsOk, IfOk, OnOk, OnErr, IsErrOf};
-ghost use Rattle.chacha20.specs.ChaCha.{keystream};
+ghost use Rattle.chacha20.specs.ChaCha.{keystream, chacha_stream, ietf};
 ghost use Rattle.chacha20.specs.Cipher.{limit_of};
-ghost use Rattle.examples.specs.Aead.{mac_key, encrypted, mac_text, padding};
+ghost use Rattle.chacha20.specs.XChaCha.{xchacha_stream};
+ghost use Rattle.examples.specs.Aead.{mac_key, encrypted, mac_text, padding, poly1305_tag};
 
 use chacha20::cipher::{KeyIvInit, StreamCipher, StreamCipherError, StreamCipherSeek};
+use chacha20::{ChaCha20, Key, Nonce, XChaCha20, XNonce};
 use poly1305::{Poly1305, Tag, is_equal};
+
+/// ChaCha20-Poly1305 (RFC 8439, section 2.8), with a nonce of 12 bytes.
+pub struct ChaCha20Poly1305;
+
+impl ChaCha20Poly1305 {
+    /// Encrypts a message in place, and returns the tag of associated data and ciphertext. Fails if the message has more
+    /// than 274877906880 bytes, and then leaves it as it was.
+    pub fn seal(
+        key: &Key,
+        nonce: &Nonce,
+        aad: &[u8],
+        message: &mut [u8],
+    ) -> Result<Tag, StreamCipherError>
+        ensures accepted { IsOk result ↔ (length message.old ≤ 274877906880) }
+        ensures ciphertext { let stream = chacha_stream 10 ietf key.now nonce.now in
+            OnOk result (message.new ≡ encrypted stream message.old) }
+        ensures tag { let stream = chacha_stream 10 ietf key.now nonce.now in
+            IfOk result (λ tag. tag ≡ poly1305_tag stream aad.now message.new) }
+        ensures refused { OnErr result (message.new ≡ message.old) }
+    {
+        seal::<ChaCha20, Poly1305>(key, nonce, aad, message)
+    }
+
+    /// Checks the tag, and decrypts the message in place. Fails if the message is too long or the tag is wrong, and then
+    /// leaves the message as it was.
+    pub fn open(
+        key: &Key,
+        nonce: &Nonce,
+        aad: &[u8],
+        message: &mut [u8],
+        tag: &Tag,
+    ) -> Result<(), AeadError>
+        ensures accepted { let stream = chacha_stream 10 ietf key.now nonce.now in
+            IsOk result ↔ ((length message.old ≤ 274877906880)
+            × (tag.now ≡ poly1305_tag stream aad.now message.old)) }
+        ensures too_long { IsErrOf result AeadError.TooLong
+            ↔ (274877906880 < length message.old) }
+        ensures wrong_tag { let stream = chacha_stream 10 ietf key.now nonce.now in
+            IsErrOf result AeadError.WrongTag ↔ ((length message.old ≤ 274877906880)
+            × (tag.now ≢ poly1305_tag stream aad.now message.old)) }
+        ensures decrypted { let stream = chacha_stream 10 ietf key.now nonce.now in
+            (plaintext : List ℕ) → message.old ≡ encrypted stream plaintext
+            → OnOk result (message.new ≡ plaintext) }
+        ensures refused { OnErr result (message.new ≡ message.old) }
+    {
+        open::<ChaCha20, Poly1305>(key, nonce, aad, message, tag)
+    }
+}
+
+/// XChaCha20-Poly1305 (draft-irtf-cfrg-xchacha, section 2), with a nonce of 24 bytes, long enough to be random.
+pub struct XChaCha20Poly1305;
+
+impl XChaCha20Poly1305 {
+    /// Encrypts a message in place, and returns the tag of associated data and ciphertext. Fails if the message has more
+    /// than 274877906880 bytes, and then leaves it as it was.
+    pub fn seal(
+        key: &Key,
+        nonce: &XNonce,
+        aad: &[u8],
+        message: &mut [u8],
+    ) -> Result<Tag, StreamCipherError>
+        ensures accepted { IsOk result ↔ (length message.old ≤ 274877906880) }
+        ensures ciphertext { let stream = xchacha_stream 10 key.now nonce.now in
+            OnOk result (message.new ≡ encrypted stream message.old) }
+        ensures tag { let stream = xchacha_stream 10 key.now nonce.now in
+            IfOk result (λ tag. tag ≡ poly1305_tag stream aad.now message.new) }
+        ensures refused { OnErr result (message.new ≡ message.old) }
+    {
+        seal::<XChaCha20, Poly1305>(key, nonce, aad, message)
+    }
+
+    /// Checks the tag, and decrypts the message in place. Fails if the message is too long or the tag is wrong, and then
+    /// leaves the message as it was.
+    pub fn open(
+        key: &Key,
+        nonce: &XNonce,
+        aad: &[u8],
+        message: &mut [u8],
+        tag: &Tag,
+    ) -> Result<(), AeadError>
+        ensures accepted { let stream = xchacha_stream 10 key.now nonce.now in
+            IsOk result ↔ ((length message.old ≤ 274877906880)
+            × (tag.now ≡ poly1305_tag stream aad.now message.old)) }
+        ensures too_long { IsErrOf result AeadError.TooLong
+            ↔ (274877906880 < length message.old) }
+        ensures wrong_tag { let stream = xchacha_stream 10 key.now nonce.now in
+            IsErrOf result AeadError.WrongTag ↔ ((length message.old ≤ 274877906880)
+            × (tag.now ≢ poly1305_tag stream aad.now message.old)) }
+        ensures decrypted { let stream = xchacha_stream 10 key.now nonce.now in
+            (plaintext : List ℕ) → message.old ≡ encrypted stream plaintext
+            → OnOk result (message.new ≡ plaintext) }
+        ensures refused { OnErr result (message.new ≡ message.old) }
+    {
+        open::<XChaCha20, Poly1305>(key, nonce, aad, message, tag)
+    }
+}
 
 /// Why `open` refuses (this crate).
 #[derive(Clone, Copy, Debug, PartialEq, Eq)]
@@ -67,9 +174,8 @@ impl Mac for Poly1305 {
     }
 }
 
-/// Encrypts a message in place, and returns the tag of the ciphertext and the associated data. `Err` exactly where the
-/// message is longer than the keystream from block 1 on, for ChaCha20 and XChaCha20 274877906880 bytes; then the
-/// message is as it was.
+/// `ChaCha20Poly1305::seal` over any cipher and any MAC (this crate). Fails if the message is longer than the keystream
+/// from block 1 on, and then leaves it as it was.
 pub fn seal<C: KeyIvInit + StreamCipherSeek + Drop, M: Mac>(
     key: &C::Key,
     nonce: &C::Iv,
@@ -88,8 +194,7 @@ pub fn seal<C: KeyIvInit + StreamCipherSeek + Drop, M: Mac>(
     Ok(tag::<M>(&one_time_key::<C>(key, nonce), aad, message))
 }
 
-/// Checks the tag, and decrypts the message in place. `Err` exactly where the message is too long or the tag is wrong;
-/// then the message is as it was.
+/// `ChaCha20Poly1305::open` over any cipher and any MAC (this crate).
 pub fn open<C: KeyIvInit + StreamCipherSeek + Drop, M: Mac>(
     key: &C::Key,
     nonce: &C::Iv,
