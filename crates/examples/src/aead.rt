@@ -219,7 +219,7 @@ pub fn open<C: KeyIvInit + StreamCipherSeek + Drop, M: Mac>(
         return Err(AeadError::TooLong);
     };
     let expected = self::tag::<M>(&one_time_key::<C>(key, nonce), aad, message);
-    if !is_equal(&expected, tag) {
+    if !is_equal(expected, tag) {
         return Err(AeadError::WrongTag);
     }
     cipher.apply_keystream(message);

@@ -10,7 +10,7 @@
 //! mac.update(second);
 //! let tag = mac.finish();
 //!
-//! let right = is_equal(&tag, &received);
+//! let right = is_equal(tag, &received);
 //! ```
 //!
 //! Whoever sees the tags of two messages under one key can forge tags under it. The one-time key of an encrypted message
