@@ -1,1 +1,1 @@
-pub mod AeadLemmas
+pub mod AeadVectors

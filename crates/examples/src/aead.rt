@@ -13,7 +13,7 @@
 //!
 //! Contracts say what `seal` computes, that `open` accepts exactly the right tag and otherwise leaves the message as it
 //! was, and that `open` of what `seal` made restores the message. They don't say how hard a tag is to forge. Never use a
-//! nonce twice under one key: whoever sees both messages can then forge tags.
+//! nonce twice under one key: the two messages reveal the XOR of their texts, and tags can be forged.
 //!
 //! `seal` and `open` over any cipher `C` of the library and any MAC `M` are at the end. For another MAC, implement `Mac`.
 

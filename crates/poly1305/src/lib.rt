@@ -13,13 +13,15 @@
 //! let right = is_equal(tag, &received);
 //! ```
 //!
-//! Whoever sees the tags of two messages under one key can forge tags under it. The one-time key of an encrypted message
-//! comes from the cipher's block 0 (section 2.6).
+//! Whoever sees the tags of two messages under one key can forge others. The AEAD takes each message's key from the
+//! cipher's block 0 (section 2.6).
 //!
-//! Contracts say that a tag is exactly that of the RFC's definition, for each key and text and each cut into pieces. No
-//! call fails or requires anything. No branch and no index depends on the key, on bytes of the text or on a tag. This is
-//! read, in the source and in the machine code of `absorb_all`, and not proved; nor is it proved that bytes of the key
-//! leave memory.
+//! Contracts say that a tag is exactly that of the RFC's definition, for each key and text, and however the text is cut
+//! into pieces. No call fails or has a `requires`.
+//!
+//! What is only read: no branch and no index depends on the key, the text's bytes or a tag. In the source all depend on
+//! lengths alone; so do those of `new`, `update`, `finish` and `is_equal` in the machine code for x86-64 at its default
+//! level, and a block takes 4 products, 2 short ones, sums and shifts. Nothing is wiped: copies of the key stay in memory.
 #![tactic(auto)]
 
 mod accumulator;

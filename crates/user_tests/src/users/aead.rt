@@ -31,11 +31,12 @@ fn opened(rt: HostRuntime) {
 
 #[test]
 fn xchacha(rt: HostRuntime) {
+    let (key, nonce, aad, tag) = (&FROM_80, &X_NONCE, AAD, X_TAG);
     let mut message = *MESSAGE;
-    let tag = XChaCha20Poly1305::seal(&FROM_80, &X_NONCE, AAD, &mut message);
-    assert!(rt; tag == Ok(X_TAG) && message == *X_CIPHERTEXT);
-    let right = XChaCha20Poly1305::open(&FROM_80, &X_NONCE, AAD, &mut message, &X_TAG);
-    assert!(rt; right == Ok(()) && message == *MESSAGE);
+    let sealed = XChaCha20Poly1305::seal(key, nonce, aad, &mut message);
+    assert!(rt; sealed == Ok(tag) && message == *X_CIPHERTEXT);
+    let opened = XChaCha20Poly1305::open(key, nonce, aad, &mut message, &tag);
+    assert!(rt; opened == Ok(()) && message == *MESSAGE);
 }
 
 // The example's message and ciphertext, cut to these lengths, are message and data.

@@ -1,12 +1,11 @@
--- What the MAC takes. Read `mac_text` of `Aead` first.
+-- Facts on `mac_text`, the text that the MAC takes: another order, padding or length doesn't check, and equal texts have
+-- equal parts.
 use Rattle.std.proofs.Common.{◌≡◌, ℕ, ◌+◌, ◌<◌, ◌^◌, List, [], ◌∷◌, ◌++◌, ◌∙◌, length, take, drop, replicate, refl, sym, ap, arith}
 use Rattle.std.proofs.Math.Seq.{take-append_seam, drop-append_seam}
 use Rattle.std.proofs.lemmas.List.{length-append}
 use Rattle.std.proofs.lemmas.Nat.{from_le_bytes-to_le_bytes_8}
 use Rattle.std.specs.Int.{w64, to_le_bytes, from_le_bytes}
 use Rattle.examples.specs.Aead.{mac_text, padding}
-
--- Examples, so that another order, padding or length doesn't check.
 
 pub short_parts : mac_text (1 ∷ 2 ∷ 3 ∷ []) (4 ∷ 5 ∷ []) ≡
     1 ∷ 2 ∷ 3 ∷ 0 ∷ 0 ∷ 0 ∷ 0 ∷ 0 ∷ 0 ∷ 0 ∷ 0 ∷ 0 ∷ 0 ∷ 0 ∷ 0 ∷ 0
@@ -22,8 +21,7 @@ whole_block = refl
 pub long_part : mac_text [] (replicate 258 7) ≡ replicate 258 7 ++ replicate 22 0 ++ 2 ∷ 1 ∷ replicate 6 0
 long_part = refl
 
--- Two pairs of parts have one text only if they are equal.
-
+-- lists with ends of one length
 same_ends : (xs ys xs' ys' : List ℕ) → length ys ≡ length ys' → xs ++ ys ≡ xs' ++ ys' → (xs ≡ xs') × (ys ≡ ys')
 same_ends xs ys xs' ys' long same =
     let front : length xs ≡ length xs' = omega (arith, long, ap length same, length-append xs ys, length-append xs' ys') in (
@@ -31,10 +29,12 @@ same_ends xs ys xs' ys' long same =
       sym (drop-append_seam xs ys) ∙ ap (drop (length xs)) same ∙ ap (λ n. drop n (xs' ++ ys')) front ∙ drop-append_seam xs' ys',
     )
 
+-- numbers with equal bytes
 same_numbers : (m n : ℕ) → m < 2 ^ 64 → n < 2 ^ 64 → to_le_bytes w64 m ≡ to_le_bytes w64 n → m ≡ n
 same_numbers m n fits fits' same =
     sym (from_le_bytes-to_le_bytes_8 m fits) ∙ ap (from_le_bytes w64) same ∙ from_le_bytes-to_le_bytes_8 n fits'
 
+-- two pairs of parts below 2 ^ 64 bytes that have one text are equal
 pub mac_text-injective : (aad ciphertext aad' ciphertext' : List ℕ)
     → length aad < 2 ^ 64 → length aad' < 2 ^ 64 → length ciphertext < 2 ^ 64 → length ciphertext' < 2 ^ 64
     → mac_text aad ciphertext ≡ mac_text aad' ciphertext' → (aad ≡ aad') × (ciphertext ≡ ciphertext')
