@@ -2,6 +2,7 @@
 use Rattle.std.specs.Prelude.{ℕ, ◌-◌, ◌%◌, List, ◌++◌, length, replicate}
 use Rattle.std.specs.Int.{w64, to_le_bytes}
 use Rattle.chacha20.specs.ChaCha.{xor_stream, stream_part}
+use Rattle.poly1305.specs.Poly1305.{poly1305}
 
 -- the MAC's key for one message: the first half of block 0
 unfoldable pub mac_key : (ℕ → ℕ) → List ℕ
@@ -20,3 +21,7 @@ abbrev pub mac_text : List ℕ → List ℕ → List ℕ
 mac_text aad ciphertext =
     aad ++ padding (length aad) ++ ciphertext ++ padding (length ciphertext)
     ++ to_le_bytes w64 (length aad) ++ to_le_bytes w64 (length ciphertext)
+
+-- the tag with Poly1305 as the MAC
+abbrev pub poly1305_tag : (ℕ → ℕ) → List ℕ → List ℕ → List ℕ
+poly1305_tag stream aad ciphertext = poly1305 (mac_key stream) (mac_text aad ciphertext)

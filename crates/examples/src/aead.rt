@@ -1,22 +1,127 @@
-//! Authenticated encryption: the construction of RFC 8439, section 2.8, over any cipher of the library and any MAC.
+//! Authenticated encryption: ChaCha20-Poly1305 (RFC 8439, section 2.8) and XChaCha20-Poly1305
+//! (draft-irtf-cfrg-xchacha, section 2).
 //!
-//! The MAC's key for one message is the first half of block 0, and the message is encrypted from block 1 on. The tag
-//! covers the associated data and the ciphertext. With ChaCha20 and Poly1305 this is the RFC's AEAD, and with XChaCha20
-//! that of draft-irtf-cfrg-xchacha. No MAC is part of this library: implement `Mac` for yours.
+//! ```text
+//! use examples::aead::ChaCha20Poly1305;
 //!
-//! The contracts say what `seal` computes, that `open` accepts exactly the right tag and otherwise changes nothing, and
-//! that `open` of what `seal` made gives the message. How hard a tag is to forge depends on the MAC. Never use a nonce
-//! twice under one key.
+//! let tag = ChaCha20Poly1305::seal(&key, &nonce, aad, &mut message)?;
+//! ChaCha20Poly1305::open(&key, &nonce, aad, &mut message, &tag)?;
+//! ```
+//!
+//! The message is encrypted from block 1 on. The tag covers the associated data, which isn't encrypted, and the
+//! ciphertext; its key is the first half of block 0. Send or store the tag, and the nonce if the receiver can't tell it.
+//!
+//! Contracts say what `seal` computes, that `open` accepts exactly the right tag and otherwise leaves the message as it
+//! was, and that `open` of what `seal` made restores the message. They don't say how hard a tag is to forge. Never use a
+//! nonce twice under one key: the two messages reveal the XOR of their texts, and tags can be forged.
+//!
+//! `seal` and `open` over any cipher `C` of the library and any MAC `M` are at the end. For another MAC, implement `Mac`.
 
-ghost use Rattle.std.specs.Prelude.{◌≡◌, ◌≢◌, ◌<◌, ◌≤◌, ◌+◌, ◌↔◌, ◌++◌, [], ℕ, List, length, IsOk, IfOk, OnOk, OnErr, IsErrOf, IsTrue};
-ghost use Rattle.chacha20.specs.ChaCha.{keystream};
+ghost use Rattle.std.specs.Prelude.{◌≡◌, ◌≢◌, ◌<◌, ◌≤◌, ◌+◌, ◌↔◌, ◌++◌, [], ℕ, List, length, IsOk, IfOk, OnOk, OnErr, IsErrOf};
+ghost use Rattle.chacha20.specs.ChaCha.{keystream, chacha_stream, ietf};
 ghost use Rattle.chacha20.specs.Cipher.{limit_of};
-ghost use Rattle.examples.specs.Aead.{mac_key, encrypted, mac_text, padding};
+ghost use Rattle.chacha20.specs.XChaCha.{xchacha_stream};
+ghost use Rattle.examples.specs.Aead.{mac_key, encrypted, mac_text, padding, poly1305_tag};
 
 use chacha20::cipher::{KeyIvInit, StreamCipher, StreamCipherError, StreamCipherSeek};
+use chacha20::{ChaCha20, Key, Nonce, XChaCha20, XNonce};
+use poly1305::{Poly1305, Tag, is_equal};
 
-/// The size of a tag in bytes is 16 (RFC 8439, section 2.5).
-pub type Tag = [u8; 16];
+/// ChaCha20-Poly1305 (RFC 8439, section 2.8), with a nonce of 12 bytes.
+pub struct ChaCha20Poly1305;
+
+impl ChaCha20Poly1305 {
+    /// Encrypts a message in place, and returns the tag of associated data and ciphertext. Fails if the message has more
+    /// than 274877906880 bytes, and then leaves it as it was.
+    pub fn seal(
+        key: &Key,
+        nonce: &Nonce,
+        aad: &[u8],
+        message: &mut [u8],
+    ) -> Result<Tag, StreamCipherError>
+        ensures accepted { IsOk result ↔ (length message.old ≤ 274877906880) }
+        ensures ciphertext { let stream = chacha_stream 10 ietf key.now nonce.now in
+            OnOk result (message.new ≡ encrypted stream message.old) }
+        ensures tag { let stream = chacha_stream 10 ietf key.now nonce.now in
+            IfOk result (λ tag. tag ≡ poly1305_tag stream aad.now message.new) }
+        ensures refused { OnErr result (message.new ≡ message.old) }
+    {
+        seal::<ChaCha20, Poly1305>(key, nonce, aad, message)
+    }
+
+    /// Checks the tag, and decrypts the message in place. Fails if the message is too long or the tag is wrong, and then
+    /// leaves the message as it was.
+    pub fn open(
+        key: &Key,
+        nonce: &Nonce,
+        aad: &[u8],
+        message: &mut [u8],
+        tag: &Tag,
+    ) -> Result<(), AeadError>
+        ensures accepted { let stream = chacha_stream 10 ietf key.now nonce.now in
+            IsOk result ↔ ((length message.old ≤ 274877906880)
+            × (tag.now ≡ poly1305_tag stream aad.now message.old)) }
+        ensures too_long { IsErrOf result AeadError.TooLong
+            ↔ (274877906880 < length message.old) }
+        ensures wrong_tag { let stream = chacha_stream 10 ietf key.now nonce.now in
+            IsErrOf result AeadError.WrongTag ↔ ((length message.old ≤ 274877906880)
+            × (tag.now ≢ poly1305_tag stream aad.now message.old)) }
+        ensures decrypted { let stream = chacha_stream 10 ietf key.now nonce.now in
+            (plaintext : List ℕ) → message.old ≡ encrypted stream plaintext
+            → OnOk result (message.new ≡ plaintext) }
+        ensures refused { OnErr result (message.new ≡ message.old) }
+    {
+        open::<ChaCha20, Poly1305>(key, nonce, aad, message, tag)
+    }
+}
+
+/// XChaCha20-Poly1305 (draft-irtf-cfrg-xchacha, section 2), with a nonce of 24 bytes, long enough to be random.
+pub struct XChaCha20Poly1305;
+
+impl XChaCha20Poly1305 {
+    /// Encrypts a message in place, and returns the tag of associated data and ciphertext. Fails if the message has more
+    /// than 274877906880 bytes, and then leaves it as it was.
+    pub fn seal(
+        key: &Key,
+        nonce: &XNonce,
+        aad: &[u8],
+        message: &mut [u8],
+    ) -> Result<Tag, StreamCipherError>
+        ensures accepted { IsOk result ↔ (length message.old ≤ 274877906880) }
+        ensures ciphertext { let stream = xchacha_stream 10 key.now nonce.now in
+            OnOk result (message.new ≡ encrypted stream message.old) }
+        ensures tag { let stream = xchacha_stream 10 key.now nonce.now in
+            IfOk result (λ tag. tag ≡ poly1305_tag stream aad.now message.new) }
+        ensures refused { OnErr result (message.new ≡ message.old) }
+    {
+        seal::<XChaCha20, Poly1305>(key, nonce, aad, message)
+    }
+
+    /// Checks the tag, and decrypts the message in place. Fails if the message is too long or the tag is wrong, and then
+    /// leaves the message as it was.
+    pub fn open(
+        key: &Key,
+        nonce: &XNonce,
+        aad: &[u8],
+        message: &mut [u8],
+        tag: &Tag,
+    ) -> Result<(), AeadError>
+        ensures accepted { let stream = xchacha_stream 10 key.now nonce.now in
+            IsOk result ↔ ((length message.old ≤ 274877906880)
+            × (tag.now ≡ poly1305_tag stream aad.now message.old)) }
+        ensures too_long { IsErrOf result AeadError.TooLong
+            ↔ (274877906880 < length message.old) }
+        ensures wrong_tag { let stream = xchacha_stream 10 key.now nonce.now in
+            IsErrOf result AeadError.WrongTag ↔ ((length message.old ≤ 274877906880)
+            × (tag.now ≢ poly1305_tag stream aad.now message.old)) }
+        ensures decrypted { let stream = xchacha_stream 10 key.now nonce.now in
+            (plaintext : List ℕ) → message.old ≡ encrypted stream plaintext
+            → OnOk result (message.new ≡ plaintext) }
+        ensures refused { OnErr result (message.new ≡ message.old) }
+    {
+        open::<XChaCha20, Poly1305>(key, nonce, aad, message, tag)
+    }
+}
 
 /// Why `open` refuses (this crate).
 #[derive(Clone, Copy, Debug, PartialEq, Eq)]
@@ -32,26 +137,45 @@ pub trait Mac {
     // The tag of a key and a text.
     ghost tag_of: { List ℕ → List ℕ → List ℕ };
 
-    // The tag that this MAC gives after so much more text.
-    ghost tag_after: { Self → List ℕ → List ℕ };
+    // The MAC has this key and has taken this text.
+    ghost holds: { Self → List ℕ → List ℕ → Type 0 };
 
-    /// The MAC of a key, before any text.
+    /// The MAC of a key of 32 bytes, before any text.
     fn new(key: &[u8; 32]) -> Self
-        ensures { (text : List ℕ) → Self.tag_after result text ≡ tag_of key.now text };
+        ensures { Self.holds result key.now [] };
 
-    /// Takes the next piece of the text.
+    /// Takes the next piece of the text, of any number of bytes.
     fn update(&mut self, piece: &[u8])
-        ensures { (more : List ℕ)
-            → Self.tag_after self.new more ≡ Self.tag_after self.old (piece.now ++ more) };
+        ensures { (key text : List ℕ) → Self.holds self.old key text
+            → Self.holds self.new key (text ++ piece.now) };
 
     /// The tag of the text.
     fn finish(self) -> Tag
-        ensures { result ≡ Self.tag_after self [] };
+        ensures { (key text : List ℕ) → Self.holds self key text → result ≡ tag_of key text };
 }
 
-/// Encrypts a message in place, and returns the tag of the ciphertext and the associated data. `Err` exactly where the
-/// message is longer than the keystream from block 1 on, for ChaCha20 and XChaCha20 274877906880 bytes; then the
-/// message is as it was.
+impl Mac for Poly1305 {
+    ghost use Rattle.poly1305.specs.Poly1305.{poly1305, after};
+
+    ghost tag_of = { poly1305 };
+
+    ghost holds = { λ mac key text. mac ≡ after key text };
+
+    fn new(key: &[u8; 32]) -> Self {
+        Poly1305::new(key)
+    }
+
+    fn update(&mut self, piece: &[u8]) {
+        Poly1305::update(self, piece)
+    }
+
+    fn finish(self) -> Tag {
+        Poly1305::finish(self)
+    }
+}
+
+/// `ChaCha20Poly1305::seal` over any cipher and any MAC (this crate). Fails if the message is longer than the keystream
+/// from block 1 on, and then leaves it as it was.
 pub fn seal<C: KeyIvInit + StreamCipherSeek + Drop, M: Mac>(
     key: &C::Key,
     nonce: &C::Iv,
@@ -70,8 +194,7 @@ pub fn seal<C: KeyIvInit + StreamCipherSeek + Drop, M: Mac>(
     Ok(tag::<M>(&one_time_key::<C>(key, nonce), aad, message))
 }
 
-/// Checks the tag, and decrypts the message in place. `Err` exactly where the message is too long or the tag is wrong;
-/// then the message is as it was.
+/// `ChaCha20Poly1305::open` over any cipher and any MAC (this crate).
 pub fn open<C: KeyIvInit + StreamCipherSeek + Drop, M: Mac>(
     key: &C::Key,
     nonce: &C::Iv,
@@ -146,19 +269,8 @@ fn tag<M: Mac>(mac_key: &[u8; 32], aad: &[u8], ciphertext: &[u8]) -> Tag
 
 // Zeros up to a multiple of 16 bytes.
 fn pad<M: Mac>(mac: &mut M, len: usize)
-    ensures { (more : List ℕ)
-        → M.tag_after mac.new more ≡ M.tag_after mac.old (padding len ++ more) }
+    ensures { (key text : List ℕ) → M.holds mac.old key text
+        → M.holds mac.new key (text ++ padding len) }
 {
     mac.update(&[0; 16][..(16 - len % 16) % 16]);
-}
-
-// Whether a tag is the expected one. It reads all bytes of both, wherever they differ.
-fn is_equal(expected: Tag, tag: &Tag) -> bool
-    ensures { IsTrue result ↔ (expected ≡ tag.now) }
-{
-    let mut difference = 0u32;
-    'each: for i in 0..16usize {
-        difference += u32::from(expected[i] ^ tag[i]);
-    }
-    difference == 0
 }

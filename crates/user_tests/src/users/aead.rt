@@ -1,69 +1,58 @@
-//! The example of RFC 8439, section 2.8.2, with a toy in place of Poly1305; XChaCha20; and published one-time keys.
+//! The AEAD: published examples, and tags of libsodium. A caller's proof that what is sealed is opened.
 
 ghost use Rattle.std.specs.Prelude.{◌≡◌, ◌≤◌, ◌+◌, ◌↔◌, length, IsOk, OnOk};
 ghost use Rattle.chacha20.specs.Cipher.{limit_of};
 
 use chacha20::cipher::{KeyIvInit, StreamCipherSeek};
-use chacha20::{ChaCha20, Nonce, XChaCha20};
-use examples::aead::{AeadError, Mac, Tag, one_time_key, open, seal};
-use known_answers::published::{FROM_80, MESSAGE, X_KEYSTREAM, X_NONCE};
+use chacha20::{ChaCha20, Key, Nonce, XNonce};
+use examples::aead::{
+    AeadError, ChaCha20Poly1305, Mac, XChaCha20Poly1305, one_time_key, open, seal,
+};
+use known_answers::published::{FROM_80, MESSAGE};
+use poly1305::Tag;
 
-// A toy, and no MAC: anyone can forge its tags. A tag is the front of the key XORed with the text, 16 bytes at a time.
-#[derive(Drop)]
-struct ToyMac {
-    tag: Tag,
-}
-
-impl Mac for ToyMac {
-    ghost use Rattle.std.specs.Prelude.{take};
-    ghost use Rattle.user_tests.specs.ToyTag.{tag_after};
-
-    ghost tag_of = { λ key text. tag_after (take 16 key) text };
-
-    ghost tag_after = { λ mac text. tag_after mac.tag text };
-
-    fn new(key: &[u8; 32]) -> Self {
-        let mut tag = [0; 16];
-        tag.copy_from_slice(&key[..16]);
-        ToyMac { tag }
-    }
-
-    fn update(&mut self, piece: &[u8]) {
-        let mut tag = self.tag;
-        'each: for i in 0..piece.len() {
-            tag.rotate_left(1);
-            tag[15] ^= piece[i];
-        }
-        self.tag = tag;
-    }
-
-    fn finish(self) -> Tag {
-        self.tag
-    }
+#[test]
+fn sealed(rt: HostRuntime) {
+    let mut message = *MESSAGE;
+    let tag = ChaCha20Poly1305::seal(&FROM_80, &NONCE, AAD, &mut message);
+    assert!(rt; tag == Ok(TAG) && message == CIPHERTEXT);
 }
 
 #[test]
-fn published(rt: HostRuntime) {
+fn opened(rt: HostRuntime) {
+    let mut message = *A5_CIPHERTEXT;
+    let mut tag = A5_TAG;
+    tag[15] ^= 1;
+    let wrong = ChaCha20Poly1305::open(&A5_KEY, &A5_NONCE, A5_AAD, &mut message, &tag);
+    assert!(rt; wrong == Err(AeadError::WrongTag) && message == *A5_CIPHERTEXT);
+    let right = ChaCha20Poly1305::open(&A5_KEY, &A5_NONCE, A5_AAD, &mut message, &A5_TAG);
+    assert!(rt; right == Ok(()) && message == *A5_MESSAGE);
+}
+
+#[test]
+fn xchacha(rt: HostRuntime) {
+    let (key, nonce, aad, tag) = (&FROM_80, &X_NONCE, AAD, X_TAG);
     let mut message = *MESSAGE;
-    let sealed = seal::<ChaCha20, ToyMac>(&FROM_80, &NONCE, AAD, &mut message);
-    let ciphertext = message;
-    let opened = open::<ChaCha20, ToyMac>(&FROM_80, &NONCE, AAD, &mut message, &TAG);
-    assert!(rt; sealed == Ok(TAG) && ciphertext == CIPHERTEXT);
+    let sealed = XChaCha20Poly1305::seal(key, nonce, aad, &mut message);
+    assert!(rt; sealed == Ok(tag) && message == *X_CIPHERTEXT);
+    let opened = XChaCha20Poly1305::open(key, nonce, aad, &mut message, &tag);
     assert!(rt; opened == Ok(()) && message == *MESSAGE);
 }
 
-// A wrong tag, other data, and another ciphertext.
+// The example's message and ciphertext, cut to these lengths, are message and data.
 #[test]
-fn refused(rt: HostRuntime) {
-    let mut message = CIPHERTEXT;
-    let mut tag = TAG;
-    tag[15] ^= 1;
-    let wrong = [
-        open::<ChaCha20, ToyMac>(&FROM_80, &NONCE, AAD, &mut message, &tag),
-        open::<ChaCha20, ToyMac>(&FROM_80, &NONCE, &AAD[1..], &mut message, &TAG),
-        open::<ChaCha20, ToyMac>(&FROM_80, &NONCE, AAD, &mut message[1..], &TAG),
-    ];
-    assert!(rt; wrong == [Err(AeadError::WrongTag); 3] && message == CIPHERTEXT);
+fn lengths(rt: HostRuntime) {
+    let lengths = [0usize, 1, 15, 16, 17, 63, 64, 65];
+    for (data, tags) in &TAGS {
+        let mut all = 0;
+        for text in &lengths {
+            let mut message = *MESSAGE;
+            let message = &mut message[..(*text).min(114)];
+            let tag = ChaCha20Poly1305::seal(&FROM_80, &NONCE, &CIPHERTEXT[..*data], message);
+            all ^= u128::from_le_bytes(tag.unwrap_or([0; 16]));
+        }
+        assert!(rt; all == *tags);
+    }
 }
 
 // Whatever the cipher, the MAC and the message are: what is sealed is opened, and the message is as it was.
@@ -82,36 +71,22 @@ fn there_and_back<C: KeyIvInit + StreamCipherSeek + Drop, M: Mac>(
     open::<C, M>(key, nonce, aad, message, &tag)
 }
 
-#[test]
-fn xchacha(rt: HostRuntime) {
-    let mut message = [0; 16];
-    let back = there_and_back::<XChaCha20, ToyMac>(&FROM_80, &X_NONCE, AAD, &mut message);
-    assert!(rt; back == Ok(()) && message == [0; 16]);
-    let sealed = seal::<XChaCha20, ToyMac>(&FROM_80, &X_NONCE, AAD, &mut message);
-    assert!(rt; sealed.is_ok() && X_KEYSTREAM.starts_with(&message));
-}
-
+// RFC 8439, section 2.6.2.
 #[test]
 fn one_time_keys(rt: HostRuntime) {
     let nonce = [0, 0, 0, 0, 0, 1, 2, 3, 4, 5, 6, 7];
-    let first = one_time_key::<ChaCha20>(&FROM_80, &nonce);
-    let second = one_time_key::<ChaCha20>(&FROM_80, &NONCE);
-    assert!(rt; first == *FIRST && second == *SECOND);
+    let key = one_time_key::<ChaCha20>(&FROM_80, &nonce);
+    assert!(rt;
+        key == *b"\
+        \x8a\xd5\xa0\x8b\x90\x5f\x81\xcc\x81\x50\x40\x27\x4a\xb2\x94\x71\
+        \xa8\x33\xb6\x37\xe3\xfd\x0d\xa5\x08\xdb\xb8\xe2\xfd\xd1\xa6\x46"
+    );
 }
-
-// RFC 8439, section 2.6.2.
-static FIRST: &[u8; 32] = b"\
-    \x8a\xd5\xa0\x8b\x90\x5f\x81\xcc\x81\x50\x40\x27\x4a\xb2\x94\x71\
-    \xa8\x33\xb6\x37\xe3\xfd\x0d\xa5\x08\xdb\xb8\xe2\xfd\xd1\xa6\x46";
 
 // RFC 8439, section 2.8.2.
 static NONCE: Nonce = *b"\x07\x00\x00\x00@ABCDEFG";
 
 static AAD: &[u8] = b"PQRS\xc0\xc1\xc2\xc3\xc4\xc5\xc6\xc7";
-
-static SECOND: &[u8; 32] = b"\
-    \x7b\xac\x2b\x25\x2d\xb4\x47\xaf\x09\xb6\x7a\x55\xa4\xe9\x55\x84\
-    \x0a\xe1\xd6\x73\x10\x75\xd9\xeb\x2a\x93\x75\x78\x3e\xd5\x53\xff";
 
 static CIPHERTEXT: [u8; 114] = *b"\
     \xd3\x1a\x8d\x34\x64\x8e\x60\xdb\x7b\x86\xaf\xbc\x53\xef\x7e\xc2\xa4\xad\xed\x51\x29\x6e\x08\xfe\
@@ -120,5 +95,58 @@ static CIPHERTEXT: [u8; 114] = *b"\
     \x98\x03\xae\xe3\x28\x09\x1b\x58\xfa\xb3\x24\xe4\xfa\xd6\x75\x94\x55\x85\x80\x8b\x48\x31\xd7\xbc\
     \x3f\xf4\xde\xf0\x8e\x4b\x7a\x9d\xe5\x76\xd2\x65\x86\xce\xc6\x4b\x61\x16";
 
-// The toy's tag of the RFC's data, ciphertext, padding and lengths, under that key.
-static TAG: Tag = *b"\x41\x09\x24\x2c\xeb\xd0\x05\xf7\xc2\xcb\x04\x5b\x83\x41\x0a\x82";
+static TAG: Tag = *b"\x1a\xe1\x0b\x59\x4f\x09\xe2\x6a\x7e\x90\x2e\xcb\xd0\x60\x06\x91";
+
+// draft-irtf-cfrg-xchacha, section A.3.1, with the same key, data and message.
+static X_NONCE: XNonce = *b"@ABCDEFGHIJKLMNOPQRSTUVW";
+
+static X_CIPHERTEXT: &[u8; 114] = b"\
+    \xbd\x6d\x17\x9d\x3e\x83\xd4\x3b\x95\x76\x57\x94\x93\xc0\xe9\x39\x57\x2a\x17\x00\x25\x2b\xfa\xcc\xbe\
+    \xd2\x90\x2c\x21\x39\x6c\xbb\x73\x1c\x7f\x1b\x0b\x4a\xa6\x44\x0b\xf3\xa8\x2f\x4e\xda\x7e\x39\xae\x64\
+    \xc6\x70\x8c\x54\xc2\x16\xcb\x96\xb7\x2e\x12\x13\xb4\x52\x2f\x8c\x9b\xa4\x0d\xb5\xd9\x45\xb1\x1b\x69\
+    \xb9\x82\xc1\xbb\x9e\x3f\x3f\xac\x2b\xc3\x69\x48\x8f\x76\xb2\x38\x35\x65\xd3\xff\xf9\x21\xf9\x66\x4c\
+    \x97\x63\x7d\xa9\x76\x88\x12\xf6\x15\xc6\x8b\x13\xb5\x2e";
+
+static X_TAG: Tag = *b"\xc0\x87\x59\x24\xc1\xc7\x98\x79\x47\xde\xaf\xd8\x78\x0a\xcf\x49";
+
+// RFC 8439, section A.5.
+static A5_KEY: Key = *b"\
+    \x1c\x92\x40\xa5\xeb\x55\xd3\x8a\xf3\x33\x88\x86\x04\xf6\xb5\xf0\
+    \x47\x39\x17\xc1\x40\x2b\x80\x09\x9d\xca\x5c\xbc\x20\x70\x75\xc0";
+
+static A5_NONCE: Nonce = [0, 0, 0, 0, 1, 2, 3, 4, 5, 6, 7, 8];
+
+static A5_AAD: &[u8] = b"\xf3\x33\x88\x86\0\0\0\0\0\0\x4e\x91";
+
+static A5_CIPHERTEXT: &[u8; 265] = b"\
+    \x64\xa0\x86\x15\x75\x86\x1a\xf4\x60\xf0\x62\xc7\x9b\xe6\x43\xbd\x5e\x80\x5c\xfd\x34\x5c\xf3\x89\xf1\
+    \x08\x67\x0a\xc7\x6c\x8c\xb2\x4c\x6c\xfc\x18\x75\x5d\x43\xee\xa0\x9e\xe9\x4e\x38\x2d\x26\xb0\xbd\xb7\
+    \xb7\x3c\x32\x1b\x01\x00\xd4\xf0\x3b\x7f\x35\x58\x94\xcf\x33\x2f\x83\x0e\x71\x0b\x97\xce\x98\xc8\xa8\
+    \x4a\xbd\x0b\x94\x81\x14\xad\x17\x6e\x00\x8d\x33\xbd\x60\xf9\x82\xb1\xff\x37\xc8\x55\x97\x97\xa0\x6e\
+    \xf4\xf0\xef\x61\xc1\x86\x32\x4e\x2b\x35\x06\x38\x36\x06\x90\x7b\x6a\x7c\x02\xb0\xf9\xf6\x15\x7b\x53\
+    \xc8\x67\xe4\xb9\x16\x6c\x76\x7b\x80\x4d\x46\xa5\x9b\x52\x16\xcd\xe7\xa4\xe9\x90\x40\xc5\xa4\x04\x33\
+    \x22\x5e\xe2\x82\xa1\xb0\xa0\x6c\x52\x3e\xaf\x45\x34\xd7\xf8\x3f\xa1\x15\x5b\x00\x47\x71\x8c\xbc\x54\
+    \x6a\x0d\x07\x2b\x04\xb3\x56\x4e\xea\x1b\x42\x22\x73\xf5\x48\x27\x1a\x0b\xb2\x31\x60\x53\xfa\x76\x99\
+    \x19\x55\xeb\xd6\x31\x59\x43\x4e\xce\xbb\x4e\x46\x6d\xae\x5a\x10\x73\xa6\x72\x76\x27\x09\x7a\x10\x49\
+    \xe6\x17\xd9\x1d\x36\x10\x94\xfa\x68\xf0\xff\x77\x98\x71\x30\x30\x5b\xea\xba\x2e\xda\x04\xdf\x99\x7b\
+    \x71\x4d\x6c\x6f\x2c\x29\xa6\xad\x5c\xb4\x02\x2b\x02\x70\x9b";
+
+static A5_TAG: Tag = *b"\xee\xad\x9d\x67\x89\x0c\xbb\x22\x39\x23\x36\xfe\xa1\x85\x1f\x38";
+
+static A5_MESSAGE: &[u8; 265] = b"\
+    Internet-Drafts are draft documents valid for a maximum of six months and may be updated, replaced, or \
+    obsoleted by other documents at any time. It is inappropriate to use Internet-Drafts as reference \
+    material or to cite them other than as /\xe2\x80\x9cwork in progress./\xe2\x80\x9d";
+
+// For each length of data, the XOR of the tags of messages of all these lengths, as little-endian numbers. Made by
+// `crypto_aead_chacha20poly1305_ietf_encrypt` of libsodium 1.0.18; OpenSSL 3.0 gave the same.
+static TAGS: [(usize, u128); 8] = [
+    (0, 0xbe450ce5507b3328c66714836935a2d9),
+    (1, 0xf0a4c792edd67d4fa65d53f48f1efaff),
+    (15, 0x8cc6200a42375935f255644ea726a1a9),
+    (16, 0x5f1804b62d3ec970ba00c16b0438a9b4),
+    (17, 0x5359e888fc9cdc1aedafc987c1b256f7),
+    (63, 0x8573c3065399b786405d0d77403c9788),
+    (64, 0xfcdf5bd414b5995ed13c0e5efa75f799),
+    (65, 0xac5cd4637e7120fc5cf3eb308364e26f),
+];

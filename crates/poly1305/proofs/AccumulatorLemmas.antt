@@ -1,0 +1,130 @@
+-- The accumulator of a text in parts.
+use Rattle.std.proofs.Common.{◌≡◌, ℕ, zero, suc, ◌+◌, ◌-◌, ◌*◌, ◌/◌, ◌%◌, ◌≤◌, ◌<◌, List, [], ◌∷◌, ◌++◌, length, take, drop, get_or, ◌∙◌, sym, ap, refl, arith, length-append, length-drop}
+use Rattle.std.proofs.lemmas.List.{take_all, drop-drop, drop-append-le, take-append-le}
+use Rattle.std.proofs.Math.Seq.{drop-append_seam}
+use Rattle.std.specs.List.{slice_range}
+use Rattle.std.specs.Int.{div_ceil}
+use Rattle.std.specs.Simd.{first_chunks}
+use Rattle.poly1305.specs.Poly1305.{prime, number, block, accumulator, r_of, s_of, tag_from, poly1305, after}
+
+-- 16 bytes from 16 * i on
+take_16 : (xs : List ℕ) (i : ℕ) → slice_range xs (16 * i) (16 * i + 16) ≡ take 16 (drop (16 * i) xs)
+take_16 xs i = let e : 16 * i + 16 - 16 * i ≡ 16 = omega arith in ap (λ n. take n (drop (16 * i) xs)) e
+
+pub block_behind : (text : List ℕ) (k n : ℕ) → block text (k + n) ≡ block (drop (16 * k) text) n
+block_behind text k n =
+    let e : 16 * (k + n) ≡ 16 * k + 16 * n = omega arith in
+    ap (λ bs. number (bs ++ 1 ∷ []))
+    (take_16 text (k + n) ∙ ap (λ m. take 16 (drop m text)) e ∙ ap (take 16) (sym (drop-drop (16 * n) (16 * k) text)) ∙ sym (take_16 (drop (16 * k) text) n))
+
+pub block_front : (xs ys : List ℕ) (n : ℕ) → 16 * n + 16 ≤ length xs → block (xs ++ ys) n ≡ block xs n
+block_front xs ys n h =
+    let start : 16 * n ≤ length xs = omega arith in
+    let room : 16 ≤ length (drop (16 * n) xs) = omega (arith, length-drop (16 * n) xs) in
+    ap (λ bs. number (bs ++ 1 ∷ []))
+    (take_16 (xs ++ ys) n ∙ ap (take 16) (drop-append-le (16 * n) xs ys start) ∙ take-append-le 16 (drop (16 * n) xs) ys room ∙ sym (take_16 xs n))
+
+pub accumulator_behind : (r a : ℕ) (text : List ℕ) (k n : ℕ)
+    → accumulator r a text (k + n) ≡ accumulator r (accumulator r a text k) (drop (16 * k) text) n
+unfolding accumulator
+accumulator_behind r a text k zero = ap (accumulator r a text) (omega arith)
+accumulator_behind r a text k (suc n) =
+    let e : k + suc n ≡ suc (k + n) = omega arith in
+    rw (e, accumulator_behind r a text k n, block_behind text k n) refl
+
+pub accumulator_front : (r a : ℕ) (xs ys : List ℕ) (k : ℕ) → 16 * k ≤ length xs
+    → accumulator r a (xs ++ ys) k ≡ accumulator r a xs k
+unfolding accumulator
+accumulator_front r a xs ys zero h = refl
+accumulator_front r a xs ys (suc k) h =
+    let below : 16 * k ≤ length xs = omega arith in
+    let fits : 16 * k + 16 ≤ length xs = omega arith in
+    rw (accumulator_front r a xs ys k below, block_front xs ys k fits) refl
+
+-- a chunk of a slice is a block's bytes
+pub first_chunks-at : (xs : List ℕ) (k i : ℕ) (d : List ℕ) → i < k
+    → get_or (first_chunks 16 k xs) i d ≡ slice_range xs (16 * i) (16 * i + 16)
+first_chunks-at xs zero i d h = absurd (omega arith)
+first_chunks-at xs (suc k) zero d h = refl
+first_chunks-at xs (suc k) (suc i) d h =
+    let below : i < k = omega arith in
+    let e : 16 + 16 * i ≡ 16 * suc i = omega arith in
+    first_chunks-at (drop 16 xs) k i d below ∙ take_16 (drop 16 xs) i ∙ ap (take 16) (drop-drop (16 * i) 16 xs)
+    ∙ ap (λ m. take 16 (drop m xs)) e ∙ sym (take_16 xs (suc i))
+
+-- the state after a piece that fills no block
+pub after-short : (key text piece : List ℕ) → length text % 16 + length piece < 16
+    → after key (text ++ piece) ≡ record {
+      r = r_of key;
+      s = s_of key;
+      accumulator = accumulator (r_of key) 0 text (length text / 16);
+      rest = drop (16 * (length text / 16)) text ++ piece;
+    }
+after-short key text piece short =
+    let k = length text / 16 in
+    let fits : 16 * k ≤ length text = omega arith in
+    let count : length (text ++ piece) / 16 ≡ k = omega (arith, length-append text piece) in
+    rw (count, accumulator_front (r_of key) 0 text piece k fits, drop-append-le (16 * k) text piece fits) refl
+
+-- the state after a piece that fills the block `whole` and has the bytes `rest` behind it
+pub after-blocks : (key text piece whole rest : List ℕ)
+    → whole ++ rest ≡ drop (16 * (length text / 16)) text ++ piece → length whole ≡ 16
+    → after key (text ++ piece) ≡ record {
+      r = r_of key;
+      s = s_of key;
+      accumulator =
+          let before = accumulator (r_of key) 0 text (length text / 16) in
+          accumulator (r_of key) (r_of key * (before + number (whole ++ 1 ∷ [])) % prime) rest (length rest / 16);
+      rest = drop (16 * (length rest / 16)) rest;
+    }
+unfolding accumulator
+after-blocks key text piece whole rest same long =
+    let r = r_of key in
+    let k = length text / 16 in
+    let m = length rest / 16 in
+    let a = accumulator r 0 text k in
+    let fits : 16 * k ≤ length text = omega arith in
+    let sizes : length whole + length rest ≡ length text - 16 * k + length piece =
+    sym (length-append whole rest) ∙ ap length same ∙ length-append (drop (16 * k) text) piece
+    ∙ ap (λ n. n + length piece) (length-drop (16 * k) text) in
+    let count : length (text ++ piece) / 16 ≡ k + (1 + m) = omega (arith, length-append text piece, sizes) in
+    let behind : drop (16 * k) (text ++ piece) ≡ whole ++ rest =
+    drop-append-le (16 * k) text piece fits ∙ sym same in
+    let one : drop 16 (whole ++ rest) ≡ rest = ap (λ n. drop n (whole ++ rest)) (sym long) ∙ drop-append_seam whole rest in
+    let first : block (whole ++ rest) 0 ≡ number (whole ++ 1 ∷ []) =
+    block_front whole rest 0 (omega arith) ∙ ap (λ bs. number (bs ++ 1 ∷ [])) (take_16 whole 0 ∙ take_all 16 whole (omega arith)) in
+    let rest_is : drop (16 * (k + (1 + m))) (text ++ piece) ≡ drop (16 * m) rest =
+    ap (λ n. drop n (text ++ piece)) (omega arith) ∙ sym (drop-drop (16 * (1 + m)) (16 * k) (text ++ piece))
+    ∙ ap (drop (16 * (1 + m))) behind ∙ ap (λ n. drop n (whole ++ rest)) (omega arith)
+    ∙ sym (drop-drop (16 * m) 16 (whole ++ rest)) ∙ ap (drop (16 * m)) one in
+    rw (
+      count,
+      rest_is,
+      accumulator_behind r 0 (text ++ piece) k (1 + m),
+      accumulator_front r 0 text piece k fits,
+      behind,
+      accumulator_behind r a (whole ++ rest) 1 m,
+      first,
+      one,
+    ) refl
+
+-- the tag of whole blocks
+pub poly1305-whole : (key text : List ℕ) → length text % 16 ≡ 0
+    → poly1305 key text ≡ tag_from (s_of key) (after key text).accumulator
+poly1305-whole key text none =
+    let count : div_ceil (length text) 16 ≡ length text / 16 = omega arith in
+    ap (λ n. tag_from (s_of key) (accumulator (r_of key) 0 text n)) count
+
+-- the tag of a text with bytes behind the last whole block
+pub poly1305-part : (key text : List ℕ) → 0 < length text % 16
+    → poly1305 key text ≡ tag_from (s_of key) (
+    r_of key * ((after key text).accumulator + number ((after key text).rest ++ 1 ∷ [])) % prime
+    )
+unfolding accumulator
+poly1305-part key text some =
+    let k = length text / 16 in
+    let count : div_ceil (length text) 16 ≡ suc k = omega arith in
+    let few : length (drop (16 * k) text) ≤ 16 = omega (arith, length-drop (16 * k) text) in
+    let last : block text k ≡ number (drop (16 * k) text ++ 1 ∷ []) =
+    ap (λ bs. number (bs ++ 1 ∷ [])) (take_16 text k ∙ take_all 16 (drop (16 * k) text) few) in
+    rw (count, last) refl

@@ -1,0 +1,34 @@
+//! Poly1305 (RFC 8439, section 2.5): the tag of a text under a key. A key serves one message.
+//!
+//! ```text
+//! use poly1305::{Poly1305, authenticate, is_equal};
+//!
+//! let tag = authenticate(&key, text);
+//!
+//! let mut mac = Poly1305::new(&key);
+//! mac.update(first);
+//! mac.update(second);
+//! let tag = mac.finish();
+//!
+//! let right = is_equal(tag, &received);
+//! ```
+//!
+//! Whoever sees the tags of two messages under one key can forge others. The AEAD takes each message's key from the
+//! cipher's block 0 (section 2.6).
+//!
+//! Contracts say that a tag is exactly that of the RFC's definition, for each key and text, and however the text is cut
+//! into pieces. No call fails or has a `requires`.
+//!
+//! What is only read: no branch and no index depends on the key, the text's bytes or a tag. In the source all depend on
+//! lengths alone; so do those of `new`, `update`, `finish` and `is_equal` in the machine code for x86-64 at its default
+//! level, and a block takes 4 products, 2 short ones, sums and shifts. Nothing is wiped: copies of the key stay in memory.
+#![tactic(auto)]
+
+mod accumulator;
+mod bytes;
+mod mac;
+mod multiplier;
+mod tag;
+
+pub use mac::{Poly1305, authenticate};
+pub use tag::{Tag, is_equal};
