@@ -21,4 +21,5 @@ pub mod pieces;
 pub mod scalar;
 pub mod sectors;
 pub mod simulation;
+pub mod stream;
 pub mod vault;

@@ -16,5 +16,6 @@ mod readme;
 mod scalar;
 mod sectors;
 mod simulation;
+mod stream;
 mod texts;
 mod vault;

@@ -1,0 +1,108 @@
+//! A published ciphertext through a reader and a writer that take few bytes at a time and are interrupted, and what is
+//! written before an error.
+
+use chacha20::ChaCha20;
+use chacha20::cipher::{KeyIvInit, StreamCipherSeek};
+use examples::stream::{StreamError, xor_all};
+use known_answers::published::{CIPHERTEXT, COUNTING, MESSAGE, NONCE};
+use std::io;
+use std::io::{ErrorKind, Read, Write};
+
+// A pipe that moves at most 7 bytes in a call, and is interrupted before each call that does. It breaks at byte `end`,
+// unless that is the last one.
+#[derive(Drop)]
+struct Pipe {
+    bytes: [u8; 114],
+    at: usize,
+    end: usize,
+    interrupted: bool,
+}
+
+impl Pipe {
+    fn new(bytes: [u8; 114], end: usize) -> Pipe {
+        Pipe {
+            bytes,
+            at: 0,
+            end,
+            interrupted: false,
+        }
+    }
+
+    // The next bytes of it, at most `most`.
+    fn part(&mut self, most: usize) -> io::Result<&mut [u8]> {
+        self.interrupted = !self.interrupted;
+        if self.interrupted {
+            return Err(io::Error::from(ErrorKind::Interrupted));
+        }
+        let start = self.at.min(self.end).min(114);
+        let end = start + most.min(7).min(self.end.min(114) - start);
+        if end == start && start < 114 && most > 0 {
+            return Err(io::Error::from(ErrorKind::BrokenPipe));
+        }
+        self.at = end;
+        Ok(&mut self.bytes[start..end])
+    }
+}
+
+impl Read for Pipe {
+    fn read(&mut self, buf: &mut [u8]) -> io::Result<usize> {
+        let part = self.part(buf.len())?;
+        let n = part.len().min(buf.len());
+        buf[..n].copy_from_slice(&part[..n]);
+        Ok(n)
+    }
+}
+
+impl Write for Pipe {
+    fn write(&mut self, buf: &[u8]) -> io::Result<usize> {
+        let part = self.part(buf.len())?;
+        let n = part.len().min(buf.len());
+        part[..n].copy_from_slice(&buf[..n]);
+        Ok(n)
+    }
+
+    fn flush(&mut self) -> io::Result<()> {
+        Ok(())
+    }
+}
+
+// The RFC's message (section 2.4.2, from block 1 on) from one pipe to another: what was said, and the bytes written.
+fn through(reads: usize, writes: usize) -> (Result<(), StreamError>, [u8; 114], usize) {
+    let mut cipher = ChaCha20::new(&COUNTING, &NONCE);
+    cipher.seek(64u32);
+    let mut reader = Pipe::new(*MESSAGE, reads);
+    let mut writer = Pipe::new([0; 114], writes);
+    let outcome = xor_all(&mut cipher, &mut reader, &mut writer, &mut [0; 10]);
+    (outcome, writer.bytes, writer.at)
+}
+
+#[test]
+fn published(rt: HostRuntime) {
+    let (outcome, bytes, len) = through(114, 114);
+    assert!(rt; outcome.is_ok() && bytes == *CIPHERTEXT && len == 114);
+}
+
+#[test]
+fn broken(rt: HostRuntime) {
+    let (outcome, bytes, len) = through(100, 114);
+    assert!(rt; matches!(outcome, Err(StreamError::Read(e)) if e.kind() == ErrorKind::BrokenPipe));
+    assert!(rt; len == 100 && CIPHERTEXT.starts_with(&bytes[..100]));
+    let (outcome, bytes, len) = through(114, 60);
+    assert!(rt; matches!(outcome, Err(StreamError::Write(e)) if e.kind() == ErrorKind::BrokenPipe));
+    assert!(rt; len == 60 && CIPHERTEXT.starts_with(&bytes[..60]));
+}
+
+// 40 bytes before the end of the keystream, pieces of 7 bytes are written as long as they fit.
+#[test]
+fn too_long(rt: HostRuntime) {
+    let mut cipher = ChaCha20::new(&COUNTING, &NONCE);
+    cipher.seek(274_877_906_904u64);
+    let mut writer = Pipe::new([0; 114], 114);
+    let outcome = xor_all(
+        &mut cipher,
+        &mut Pipe::new(*MESSAGE, 114),
+        &mut writer,
+        &mut [0; 10],
+    );
+    assert!(rt; matches!(outcome, Err(StreamError::TooLong)) && writer.at == 35);
+}
