@@ -1,10 +1,12 @@
-//! A published ciphertext through a reader and a writer that take few bytes at a time and are interrupted, and what is
-//! written before an error.
+//! A published ciphertext through a reader and a writer that take few bytes at a time and are interrupted, what is
+//! written before an error, and a nonce in front.
 
 use chacha20::ChaCha20;
 use chacha20::cipher::{KeyIvInit, StreamCipherSeek};
-use examples::stream::{StreamError, xor_all};
-use known_answers::published::{CIPHERTEXT, COUNTING, MESSAGE, NONCE};
+use examples::stream::{StreamError, decrypt, encrypt, xor_all};
+use known_answers::published::{
+    CIPHERTEXT, COUNTING, FROM_80, MESSAGE, NONCE, X_KEYSTREAM, X_NONCE,
+};
 use std::io;
 use std::io::{ErrorKind, Read, Write};
 
@@ -105,4 +107,31 @@ fn too_long(rt: HostRuntime) {
         &mut [0; 10],
     );
     assert!(rt; matches!(outcome, Err(StreamError::TooLong)) && writer.at == 35);
+}
+
+// Zeros become the keystream, which is published from block 1 on, behind the nonce.
+#[test]
+fn nonce_in_front(rt: HostRuntime) {
+    let mut file = [0; 104];
+    let mut back = [1; 80];
+    let mut room = file.as_mut_slice();
+    let written = encrypt(
+        &FROM_80,
+        &X_NONCE,
+        &mut [0; 80].as_slice(),
+        &mut room,
+        &mut [0; 10],
+    );
+    assert!(rt; written.is_ok() && file.starts_with(&X_NONCE));
+    assert!(rt; X_KEYSTREAM.starts_with(&file[88..]));
+    let mut room = back.as_mut_slice();
+    let read = decrypt(&FROM_80, &mut file.as_slice(), &mut room, &mut [0; 10]);
+    assert!(rt; read.is_ok() && back == [0; 80]);
+    let short = decrypt(
+        &FROM_80,
+        &mut &file[..23],
+        &mut back.as_mut_slice(),
+        &mut [0; 10],
+    );
+    assert!(rt; matches!(short, Err(StreamError::Read(e)) if e.kind() == ErrorKind::UnexpectedEof));
 }
