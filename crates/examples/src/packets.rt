@@ -14,7 +14,7 @@
 ghost use Rattle.std.specs.Prelude.{◌≡◌, ◌≢◌, ◌<◌, ◌≤◌, ◌+◌, ◌↔◌, ◌^◌, ℕ, List, length, replicate, IsOk, IsErrOf, IsTrue, OnOk, OnErr};
 ghost use Rattle.std.specs.Int.{w64, to_le_bytes, from_le_bytes};
 ghost use Rattle.examples.specs.Frames.{Endpoint, nonce_of, encrypted, after};
-ghost use Rattle.examples.specs.Packets.{Takes};
+ghost use Rattle.examples.specs.Packets.{Takes, taken};
 
 use crate::frames;
 use crate::frames::{Channel, FrameError, Sender};
@@ -94,9 +94,9 @@ impl Receiver {
     ) -> Result<(), PacketError>
         ensures accepted { IsOk result ↔ (IsTrue is_authentic
             × Takes self.old (from_le_bytes w64 header.now) × (length body.old ≤ 274877906944)) }
-        ensures forged { IsErrOf result PacketError.Forged ↔ (IsTrue is_authentic → ⊥) }
+        ensures forged { IsErrOf result PacketError.Forged ↔ (¬ IsTrue is_authentic) }
         ensures replayed { IsErrOf result PacketError.Replayed ↔ (IsTrue is_authentic
-            × (Takes self.old (from_le_bytes w64 header.now) → ⊥)) }
+            × ¬ Takes self.old (from_le_bytes w64 header.now)) }
         ensures too_long { IsErrOf result PacketError.TooLong ↔ (IsTrue is_authentic
             × Takes self.old (from_le_bytes w64 header.now) × (274877906944 < length body.old)) }
         // What a sender with this key and channel made of a message gives the message.
@@ -105,13 +105,13 @@ impl Receiver {
             → header.now ≡ to_le_bytes w64 sender.next → body.old ≡ encrypted sender message
             → OnOk result (body.new ≡ message) }
         // This number is refused from now on, and so is each that was refused before.
-        ensures replay { OnOk result (Takes self.new (from_le_bytes w64 header.now) → ⊥) }
+        ensures replay { OnOk result (¬ Takes self.new (from_le_bytes w64 header.now)) }
         ensures stays { OnOk result ((n : ℕ) → Takes self.new n → Takes self.old n) }
         // Any other number that is less than 64 behind this one is taken as before.
         ensures window { OnOk result ((n : ℕ) → n ≢ from_le_bytes w64 header.now
             → from_le_bytes w64 header.now < n + 64 → Takes self.old n → Takes self.new n) }
-        ensures key { self.new.key ≡ self.old.key }
-        ensures channel { self.new.channel ≡ self.old.channel }
+        ensures taken { OnOk result
+            (self.new ≡ taken self.old (from_le_bytes w64 header.now)) }
         ensures refused { OnErr result ((self.new ≡ self.old) × (body.new ≡ body.old)) }
     {
         let number = u64::from_le_bytes(*header);

@@ -23,23 +23,19 @@ fn twice(
 fn any_order(rt: HostRuntime) {
     let mut sender = Sender::new(&[3; 32], &[1, 2, 3, 4]);
     let mut receiver = Receiver::new(&[3; 32], &[1, 2, 3, 4]);
-    let mut headers = [[0; 8]; 3];
-    let mut bodies = [*b"first", *b"other", *b"third"];
-    'each: for i in 0..3usize {
-        assert!(rt; send(&mut sender, &mut headers[i], &mut bodies[i]) == Ok(()));
-    }
-    let [mut first, mut other, mut third] = bodies;
-    let forged = receiver.receive(&headers[2], &mut third, false);
-    assert!(rt; forged == Err(PacketError::Forged) && third == bodies[2]);
-    let refused = twice(&mut receiver, &headers[2], &mut third, &mut bodies[2]);
-    assert!(rt; refused == Ok(true) && third == *b"third");
-    let late = [
-        receiver.receive(&headers[0], &mut first, true),
-        receiver.receive(&headers[1], &mut other, true),
+    let (mut zero, mut one) = ([0; 8], [0; 8]);
+    let (mut first, mut other) = (*b"first", *b"other");
+    let sent = [
+        send(&mut sender, &mut zero, &mut first),
+        send(&mut sender, &mut one, &mut other),
     ];
-    assert!(rt; late == [Ok(()); 2] && first == *b"first" && other == *b"other");
-    let numbers = [0, 1, 2].map(u64::to_le_bytes);
-    assert!(rt; headers == numbers);
+    let mut copy = other;
+    let forged = receiver.receive(&one, &mut other, false);
+    let refused = twice(&mut receiver, &one, &mut other, &mut copy);
+    let late = receiver.receive(&zero, &mut first, true);
+    assert!(rt; sent == [Ok(()); 2] && zero == [0; 8] && one == 1u64.to_le_bytes());
+    assert!(rt; forged == Err(PacketError::Forged) && refused == Ok(true) && late == Ok(()));
+    assert!(rt; first == *b"first" && other == *b"other");
 }
 
 // After number 164 the receiver takes 101 and not 100, and never 2^64 - 1.

@@ -1,8 +1,8 @@
-use Rattle.std.proofs.Common.{◌≡◌, ◌∙◌, ℕ, List, sym, ap}
+use Rattle.std.proofs.Common.{◌≡◌, ◌∙◌, ℕ, List, sym, ap, ap₂}
 use Rattle.std.specs.Int.{w64, from_le_bytes}
 use Rattle.std.proofs.lemmas.Nat.{from_le_bytes-to_le_bytes_8}
 use Rattle.examples.specs.Frames.{Endpoint, encrypted}
-use Rattle.examples.specs.Packets.{Inbox}
+use Rattle.examples.specs.Packets.{Inbox, taken}
 use Rattle.examples.proofs.packets.Receiver.receive.Goals as goal
 
 pub returns-in-Ok-clause-message : goal.returns-in-Ok-clause-message
@@ -18,3 +18,6 @@ returns-in-Ok-clause-message c sender message key channel fits header body =
     ∙ ap (λ d. at sender.key d n) (ap (λ (r : Inbox). r.channel) c.self.view_is ∙ sym channel)
     ∙ ap (at sender.key sender.channel) number in
     c.in-Ok.ensures.message message (body ∙ ap (λ e. encrypted e message) (sym same))
+
+pub returns-in-Ok-clause-taken : goal.returns-in-Ok-clause-taken
+returns-in-Ok-clause-taken c = ap₂ taken c.self.view_is c.from_le_bytes-number.ensures
