@@ -4,6 +4,7 @@ pub mod RepeatedLemmas
 pub mod ResultLemmas
 pub mod ChunkLemmas
 pub mod SeekLemmas
+pub mod ReaderLemmas
 pub mod VecLemmas
 pub use Rattle.chacha_base.proofs.KeystreamLemmas
 pub use Rattle.chacha_base.proofs.PieceLemmas

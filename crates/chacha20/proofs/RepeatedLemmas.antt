@@ -1,7 +1,9 @@
 -- Reads of a generator, one after another, for proofs about simulations that draw in parts.
-use Rattle.std.proofs.Common.{◌≡◌, ℕ, zero, suc, ◌+◌, ◌*◌, ◌/◌, ◌-◌, ◌%◌, ◌<◌, List, [], ◌∷◌, ◌++◌, length, take, slice_index, arith, refl, sym, ap, ap₂, ◌∙◌, drop_at, take_all, length-take-le}
+use Rattle.std.proofs.Common.{◌≡◌, ℕ, zero, suc, ◌+◌, ◌*◌, ◌/◌, ◌-◌, ◌%◌, ◌<◌, List, [], ◌∷◌, ◌++◌, length, take, map, slice_index, arith, refl, sym, ap, ap₂, ◌∙◌, drop_at, take_all, length-take-le}
 use Rattle.std.proofs.Math.Seq.{get_or-append_seam, take-append-add}
+use Rattle.std.proofs.lemmas.List.{map-append, take_more_set}
 use Rattle.std.proofs.lemmas.List.Sums.{fold_push}
+use Rattle.std.specs.Prelude.{slice_set}
 use Rattle.std.specs.List.{fold, slice_range}
 use Rattle.std.specs.Int.{w64, to_le_bytes}
 use Rattle.chacha_base.specs.ChaCha.{start, bytes, stream_part, legacy, mix}
@@ -66,6 +68,21 @@ reads-nth read i m g inside =
     ∙ ap (λ (a : List ℕ × GeneratorState). slice_index a.0 i) (reads-add read i (suc k) g)
     ∙ ap (λ j. slice_index (first.0 ++ here.0 ∷ rest.0) j) (sym (length-repeated read i g))
     ∙ get_or-append_seam first.0 here.0 rest.0 0
+
+-- one read more, as a loop makes it that writes f of each read into a slice: what it has written, and the generator
+pub reads-mapped : {A B : Type 0} {h i : GeneratorState} {y : B} (f : A → B)
+    (read : GeneratorState → A × GeneratorState) (k : ℕ) (g : GeneratorState) (xs : List B) → k < length xs
+    → h ≡ (repeated read k g).1 → take k xs ≡ map f (repeated read k g).0 → y ≡ f (read h).0 → i ≡ (read h).1
+    → (take (k + 1) (slice_set xs k y) ≡ map f (repeated read (k + 1) g).0) × (i ≡ (repeated read (k + 1) g).1)
+reads-mapped {A} {y = y} f read k g xs inside moved written answer after =
+    let before = repeated read k g in
+    let next = read before.1 in
+    let all : (before.0 ++ next.0 ∷ [], next.1) ≡ repeated read (k + 1) g = reads-more read k g refl refl in (
+      take_more_set xs k y inside
+          ∙ ap₂ (λ front z. front ++ z ∷ []) written (answer ∙ ap (λ s. f (read s).0) moved)
+          ∙ sym (map-append f before.0 (next.0 ∷ [])) ∙ ap (λ (a : List A × GeneratorState). map f a.0) all,
+      after ∙ ap (λ s. (read s).1) moved ∙ ap (λ (a : List A × GeneratorState). a.1) all,
+    )
 
 -- one read more, as a loop makes it that folds its reads, such as a count or a sum: what it has folded, and the
 -- generator

@@ -1,6 +1,6 @@
 pub mod Aead
 pub mod Frames
 pub mod Log
+pub mod Packets
 pub mod Pieces
 pub mod Sectors
-pub mod Vault

@@ -10,7 +10,7 @@
 //! In `proofs/pieces`, `Invariants.antt` says what holds before each turn of the loop, and `Answers.antt` why it still
 //! holds after it.
 
-ghost use Rattle.std.specs.Prelude.{◌≡◌, ◌≤◌, ◌<◌, ◌+◌, ◌↔◌, ◌++◌, length, IsOk, OnOk, OnErr};
+ghost use Rattle.std.specs.Prelude.{◌≡◌, ◌≤◌, ◌<◌, ◌+◌, ◌^◌, ◌↔◌, ◌++◌, ℕ, length, IsOk, OnOk, OnErr};
 ghost use Rattle.chacha20.specs.ChaCha.{keystream, xor_stream};
 ghost use Rattle.chacha20.specs.Cipher.{limit_of};
 ghost use Rattle.examples.specs.Pieces.{chunk_nonce, chunk_stream};
@@ -93,9 +93,10 @@ pub fn encrypt_in_chunks(key: &Key, message: &mut [u8], size: usize)
     }
 }
 
-// The nonce of a chunk.
-fn chunk_nonce(number: u64) -> Nonce
-    ensures { result ≡ chunk_nonce number }
+/// The nonce of a chunk (this crate). No other number below 2^64 has it.
+pub fn chunk_nonce(number: u64) -> Nonce
+    ensures value { result ≡ chunk_nonce number }
+    ensures distinct { (other : ℕ) → other < 2 ^ 64 → chunk_nonce other ≡ result → other ≡ number }
 {
     let mut nonce = [0; 12];
     nonce[..8].copy_from_slice(&number.to_le_bytes());

@@ -29,6 +29,23 @@ pub fn below<R: Rounds, B: RngBackend<R>>(rng: &mut ChaChaRng<R, B>, bound: u64)
     (product >> 64) as u64
 }
 
+/// Draws a number below a bound for each place of a slice.
+pub fn fill_below<R: Rounds, B: RngBackend<R>>(
+    rng: &mut ChaChaRng<R, B>,
+    bound: u64,
+    numbers: &mut [u64],
+)
+    requires { 0 < bound }
+    ensures below { All (λ number. number < bound) numbers.new }
+    ensures value { numbers.new ≡ map (λ word. word * bound / 2 ^ 64)
+        (repeated (next_u64 R.COUNT) (length numbers.old) rng.old).0 }
+    ensures moved { rng.new ≡ (repeated (next_u64 R.COUNT) (length numbers.old) rng.old).1 }
+{
+    'each: for i in 0..numbers.len() {
+        numbers[i] = below(rng, bound);
+    }
+}
+
 /// Rolls a die: a number from 1 to 6, by one draw.
 pub fn roll<R: Rounds, B: RngBackend<R>>(rng: &mut ChaChaRng<R, B>) -> u8
     ensures faces { (1 ≤ result) × (result ≤ 6) }

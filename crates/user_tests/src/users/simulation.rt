@@ -3,7 +3,7 @@
 
 use chacha20::{ChaCha20Rng, ChaChaRng, R20, Soft};
 use examples::simulation::{
-    below, die_at, resume, roll, rolls, rolls_in_two, shuffle, total, worker,
+    below, die_at, fill_below, resume, roll, rolls, rolls_in_two, shuffle, total, worker,
 };
 
 // Eight dice of the published words.
@@ -19,6 +19,9 @@ fn drawn_below(rt: HostRuntime) {
         below(&mut rng, u64::MAX),
     ];
     assert!(rt; drawn == [563, 159, 0, 0xc70d_778b_ccef_36a7]);
+    let mut numbers = [0; 2];
+    fill_below(&mut ChaCha20Rng::from_seed([0; 32]), 1000, &mut numbers);
+    assert!(rt; numbers == [563, 159]);
 }
 
 #[test]

@@ -29,7 +29,7 @@ chunks-preserved c =
     c.apply_keystream.ensures.bytes
     ∙ chacha-sought 10 ietf key c.chunk_nonce.result _ made.keystream refl made.first
     ∙ ap₂ (λ nonce rest. xor_stream (chacha_stream 10 ietf key nonce) 0 (take (done + n - done) rest))
-    c.chunk_nonce.ensures before.rest
+    c.chunk_nonce.ensures.value before.rest
     ∙ sym (chunk-same size (λ i. chacha_stream 10 ietf key (chunk_nonce i)) number chunk short)
     ∙ ap (λ p. xor_stream stream p chunk) here in
     record {
