@@ -1,0 +1,126 @@
+//! The calls that are measured, each a function over any backend. They aren't inlined, and take the key as an argument,
+//! so that no call is worked out beforehand.
+
+use chacha20::backends::{Columns8, Lanes4, Lanes8, Lanes16, Rows8, Soft};
+use chacha20::cipher::{
+    KeyIvInit, RngBackend, StreamCipher, StreamCipherBackend, StreamCipherSeek,
+};
+use chacha20::variants::Ietf;
+use chacha20::{ChaChaCore, ChaChaRng, Key, R20, StreamCipherCoreWrapper};
+
+/// A call to be measured, on a slice. `NextU32` takes as many words as the slice holds, `Seek` goes into a block and then
+/// applies in place; all others begin with a new cipher or generator.
+#[derive(Clone, Copy)]
+pub enum Call {
+    InPlace,
+    TwoSlices,
+    Keystream,
+    Seek,
+    Fill,
+    NextU32,
+}
+
+/// The calls by name, with the lengths in bytes for which a table has them.
+pub static CALLS: [(&str, Call, &[usize]); 6] = [
+    (
+        "in_place",
+        Call::InPlace,
+        &[64, 256, 512, 576, 1024, 1500, 4096, 65536],
+    ),
+    ("two_slices", Call::TwoSlices, &[64, 512, 4096, 65536]),
+    ("keystream", Call::Keystream, &[64, 512, 4096, 65536]),
+    ("seek", Call::Seek, &[0, 64]),
+    ("fill", Call::Fill, &[64, 4096]),
+    ("next_u32", Call::NextU32, &[16384]),
+];
+
+/// The names of the backends.
+pub static BACKENDS: [&str; 6] = ["Soft", "Lanes4", "Lanes8", "Rows8", "Lanes16", "Columns8"];
+
+type Cipher<B> = StreamCipherCoreWrapper<ChaChaCore<R20, Ietf, B>>;
+
+#[inline(never)]
+fn in_place<B: StreamCipherBackend<R20, Ietf>>(key: &Key, data: &mut [u8]) -> bool {
+    let mut cipher = Cipher::<B>::new(key, &[0; 12]);
+    cipher.try_apply_keystream(data).is_ok()
+}
+
+#[inline(never)]
+fn two_slices<B>(key: &Key, input: &[u8], data: &mut [u8]) -> bool
+where
+    B: StreamCipherBackend<R20, Ietf>,
+{
+    let mut cipher = Cipher::<B>::new(key, &[0; 12]);
+    cipher.try_apply_keystream_b2b(input, data).is_ok()
+}
+
+#[inline(never)]
+fn keystream<B: StreamCipherBackend<R20, Ietf>>(key: &Key, data: &mut [u8]) -> bool {
+    let mut cipher = Cipher::<B>::new(key, &[0; 12]);
+    cipher.try_write_keystream(data).is_ok()
+}
+
+#[inline(never)]
+fn seek<B: StreamCipherBackend<R20, Ietf>>(cipher: &mut Cipher<B>, data: &mut [u8]) -> bool {
+    cipher.try_seek(1u64).is_ok() && cipher.try_apply_keystream(data).is_ok()
+}
+
+#[inline(never)]
+fn fill<B: RngBackend<R20>>(key: &Key, data: &mut [u8]) -> bool {
+    ChaChaRng::<R20, B>::from_seed(*key).fill_bytes(data);
+    true
+}
+
+#[inline(never)]
+fn next_u32<B: RngBackend<R20>>(key: &Key, data: &mut [u8]) -> bool {
+    let mut rng = ChaChaRng::<R20, B>::from_seed(*key);
+    let mut sum = 0u32;
+    for _ in 0..data.len() / 4 {
+        sum = sum.wrapping_add(rng.next_u32());
+    }
+    sum != 0
+}
+
+// Makes a call so many times over a backend, and says whether each was accepted.
+fn makes_over<B>(call: Call, times: usize, input: &[u8], data: &mut [u8]) -> bool
+where
+    B: StreamCipherBackend<R20, Ietf> + RngBackend<R20>,
+{
+    let key = [(times % 256) as u8; 32];
+    let mut cipher = Cipher::<B>::new(&key, &[0; 12]);
+    let mut accepted = true;
+    for _ in 0..times {
+        accepted &= match call {
+            Call::InPlace => in_place::<B>(&key, data),
+            Call::TwoSlices => two_slices::<B>(&key, input, data),
+            Call::Keystream => keystream::<B>(&key, data),
+            Call::Seek => seek::<B>(&mut cipher, data),
+            Call::Fill => fill::<B>(&key, data),
+            Call::NextU32 => next_u32::<B>(&key, data),
+        };
+    }
+    accepted
+}
+
+/// Makes a call so many times over the backend of a name. It returns true if there is one, and each call was accepted.
+pub fn makes(call: Call, backend: &str, times: usize, input: &[u8], data: &mut [u8]) -> bool {
+    match backend {
+        "Soft" => makes_over::<Soft>(call, times, input, data),
+        "Lanes4" => makes_over::<Lanes4>(call, times, input, data),
+        "Lanes8" => makes_over::<Lanes8>(call, times, input, data),
+        "Rows8" => makes_over::<Rows8>(call, times, input, data),
+        "Lanes16" => makes_over::<Lanes16>(call, times, input, data),
+        "Columns8" => makes_over::<Columns8>(call, times, input, data),
+        _ => false,
+    }
+}
+
+/// The call of a name.
+pub fn call_of(name: &str) -> Option<Call> {
+    for (it, call, _) in &CALLS {
+        if *it == name {
+            return Some(*call);
+        }
+    }
+    None
+}
