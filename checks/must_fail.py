@@ -91,7 +91,10 @@ def applied(edit, folder, without=False):
         for mistake, instead in mistakes if without else ():
             new = new.replace(mistake, instead)
         texts[path] = text.replace(old, new)
-    return texts
+    sources = {path: text for path, text in texts.items() if path.startswith("src/")}
+    # (the answers that an edit brings are those of other code, where its sources are today's without the mistake)
+    is_today = without and all(text == text_of(f"{folder}/{path}") for path, text in sources.items())
+    return sources if is_today else texts
 
 
 def faults(edit, folder):

@@ -14,6 +14,7 @@ pub use Rattle.chacha_base.proofs.BackendLaws
 pub mod BlocksLemmas
 pub mod StartLemmas
 pub mod RunLemmas
+pub mod RunVectors
 pub mod XChaChaVectors
 pub mod GeneratorVectors
 pub mod GeneratorLemmas

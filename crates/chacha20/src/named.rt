@@ -1,19 +1,19 @@
 //! Facts on the named ciphers and generators, which hold by computation. A named type with a wrong number of rounds,
 //! layout, size, text or cost would break one of them.
 
-ghost use Rattle.std.specs.Prelude.{◌≡◌, ◌*◌, length, replicate, Some, codes};
+ghost use Rattle.std.specs.Prelude.{◌≡◌, ◌*◌, ℕ, List, length, take, replicate, Some, codes};
 ghost use Rattle.rand_core.specs.Steps.{stream_of};
 ghost use Rattle.rand_core.specs.Pcg32Seed.{pcg32_seed};
 ghost use Rattle.chacha_base.specs.ChaCha.{keystream, chacha_stream, start, ietf, legacy};
 ghost use Rattle.chacha_base.specs.Counts.{for_bytes};
 ghost use Rattle.chacha20.specs.Generator.{of_seed, reads};
-ghost use Rattle.chacha20.specs.XChaCha.{xchacha_stream};
+ghost use Rattle.chacha20.specs.XChaCha.{hchacha, subnonce, xchacha_stream};
 
-use crate::chacha::{ChaCha8, ChaCha12, ChaCha20};
-use crate::chacha_core::ChaChaCore;
-use crate::legacy::ChaCha20Legacy;
-use crate::rng::{ChaCha8Rng, ChaCha12Rng, ChaCha20Rng, ChaChaRng};
-use crate::xchacha::{XChaCha8, XChaCha12, XChaCha20, XChaChaCore};
+// By the root's names, so that an export under another's name fails.
+use crate::{
+    ChaCha8, ChaCha8Rng, ChaCha12, ChaCha12Rng, ChaCha20, ChaCha20Legacy, ChaCha20Rng, ChaChaCore,
+    ChaChaRng, XChaCha8, XChaCha12, XChaCha20, XChaChaCore,
+};
 use chacha_base::cipher::{
     IvSizeUser, KeyIvInit, KeySizeUser, Keystream, RngBackend, StreamCipher, StreamCipherBackend,
     StreamCipherCore,
@@ -24,7 +24,8 @@ use chacha_base::wrapper::StreamCipherCoreWrapper;
 use rand_core::{Rng, SeedableRng};
 use std::fmt;
 
-// The keystream that a key and a nonce define.
+// The keystream that a key and a nonce define. Published bytes are of XChaCha20 alone, so the subkeys of the other two
+// are spelled out.
 fn ciphers()
     ensures chacha8 { (λ key nonce. keystream ⟦<ChaCha8 as Keystream>⟧.modulus
         (⟦<ChaCha8 as KeyIvInit>⟧.blocks_of key nonce)) ≡ chacha_stream 4 ietf }
@@ -34,10 +35,14 @@ fn ciphers()
         (⟦<ChaCha20 as KeyIvInit>⟧.blocks_of key nonce)) ≡ chacha_stream 10 ietf }
     ensures chacha20_legacy { (λ key nonce. keystream ⟦<ChaCha20Legacy as Keystream>⟧.modulus
         (⟦<ChaCha20Legacy as KeyIvInit>⟧.blocks_of key nonce)) ≡ chacha_stream 10 legacy }
-    ensures xchacha8 { (λ key nonce. keystream ⟦<XChaCha8 as Keystream>⟧.modulus
-        (⟦<XChaCha8 as KeyIvInit>⟧.blocks_of key nonce)) ≡ xchacha_stream 4 }
-    ensures xchacha12 { (λ key nonce. keystream ⟦<XChaCha12 as Keystream>⟧.modulus
-        (⟦<XChaCha12 as KeyIvInit>⟧.blocks_of key nonce)) ≡ xchacha_stream 6 }
+    ensures xchacha8 { ◌≡◌ {A = List ℕ → List ℕ → ℕ → ℕ}
+        (λ key nonce. keystream ⟦<XChaCha8 as Keystream>⟧.modulus
+        (⟦<XChaCha8 as KeyIvInit>⟧.blocks_of key nonce))
+        (λ key nonce. chacha_stream 4 ietf (hchacha 4 key (take 16 nonce)) (subnonce nonce)) }
+    ensures xchacha12 { ◌≡◌ {A = List ℕ → List ℕ → ℕ → ℕ}
+        (λ key nonce. keystream ⟦<XChaCha12 as Keystream>⟧.modulus
+        (⟦<XChaCha12 as KeyIvInit>⟧.blocks_of key nonce))
+        (λ key nonce. chacha_stream 6 ietf (hchacha 6 key (take 16 nonce)) (subnonce nonce)) }
     ensures xchacha20 { (λ key nonce. keystream ⟦<XChaCha20 as Keystream>⟧.modulus
         (⟦<XChaCha20 as KeyIvInit>⟧.blocks_of key nonce)) ≡ xchacha_stream 10 }
 {}

@@ -3,6 +3,7 @@ pub mod BufferedLemmas
 pub mod BytesLemmas
 pub mod CipherLemmas
 pub mod CountsLemmas
+pub mod CountsVectors
 pub mod KeystreamLemmas
 pub mod LaneLemmas
 pub mod LegacyVectors

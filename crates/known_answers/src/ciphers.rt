@@ -146,8 +146,23 @@ where
     let there = data;
     cipher.seek(0u32);
     cipher.apply_keystream(&mut data);
-    let parts = [there == *CIPHERTEXT, data == *PLAINTEXT];
-    (there, failed("there and back", &parts))
+    let back = data;
+    cipher.seek(0u32);
+    cipher.apply_keystream(&mut data[..3]);
+    cipher.apply_keystream(&mut data[3..6]);
+    cipher.apply_keystream(&mut data[6..9]);
+    cipher.apply_keystream(&mut data[9..12]);
+    cipher.apply_keystream(&mut data[12..15]);
+    cipher.apply_keystream(&mut data[15..]);
+    let parts = [
+        there == *CIPHERTEXT,
+        back == *PLAINTEXT,
+        data == *CIPHERTEXT,
+    ];
+    (
+        there,
+        failed("there, back, and there in pieces of 3", &parts),
+    )
 }
 
 /// HChaCha (draft-irtf-cfrg-xchacha, section 2.2.1).

@@ -1,11 +1,12 @@
 //! A run of calls, and ends of streams, for any cipher of a kind.
 
+use super::directly::{Called, wrong_lists};
 use chacha20::CipherAnswer::{Done, Overflow, Position, PositionI32, Refused};
-use chacha20::CipherCall;
 use chacha20::CipherCall::{Apply, ApplyFrom, CheckRemaining, Pos, PosI32, Seek, SeekI32, Write};
+use chacha20::{CipherCall, Nonce};
 use known_answers::ciphers::THREE_INTO_FOUR;
-use known_answers::lists::{CipherList, EMPTY, Listed, gives};
-use known_answers::verdicts::{Verdict, failed};
+use known_answers::lists::{CipherList, EMPTY, Fresh, Listed, gives};
+use known_answers::verdicts::{Verdict, failed, failed_at};
 
 /// The limit of a cipher whose counter has 32 bits: 64 bytes for each counter.
 pub const LIMIT: u128 = 274877906944;
@@ -13,33 +14,62 @@ pub const LIMIT: u128 = 274877906944;
 /// The limit of a cipher whose counter has 64 bits.
 pub const LEGACY_LIMIT: u128 = 1180591620717411303424;
 
-/// A run on a cipher without rounds, for a key and a nonce of zeros. What is refused changes nothing. Then come the
-/// rest of the first block, and the front of the second.
+/// A run on a cipher without rounds, for a key and a nonce of zeros. What is refused changes nothing.
+const RUN: CipherList = CipherList {
+    name: "the run",
+    input: &[1, 2, 3],
+    data: &[0; 4],
+    calls: &[
+        (Apply { at: 0, len: 4 }, Done),
+        (Seek(0), Done),
+        (
+            ApplyFrom {
+                from: 0,
+                from_len: 3,
+                at: 0,
+                len: 3,
+            },
+            Done,
+        ),
+        (THREE_INTO_FOUR, Refused),
+        (Pos, Position(3)),
+        (SeekI32(-1), Refused),
+        (PosI32, PositionI32(3)),
+        (Write { at: 3, len: 1 }, Done),
+    ],
+    after: b"\xcb\xf2\xe3\xc2",
+};
+
+// The data after each of its calls.
+static RUN_DATA: [[u8; 4]; 8] = [
+    *b"\xca\xf0\xe0\xc2",
+    *b"\xca\xf0\xe0\xc2",
+    *b"\xcb\xf2\xe3\xc2",
+    *b"\xcb\xf2\xe3\xc2",
+    *b"\xcb\xf2\xe3\xc2",
+    *b"\xcb\xf2\xe3\xc2",
+    *b"\xcb\xf2\xe3\xc2",
+    *b"\xcb\xf2\xe3\xc2",
+];
+
+/// The number of calls of the run, from 1 to 8, after which an answer or the data is wrong.
+pub fn wrong_run<C: Fresh<Nonce> + Called>() -> Verdict {
+    for count in 1..9usize {
+        let front = CipherList {
+            calls: &RUN.calls[..count],
+            after: &RUN_DATA[count - 1],
+            ..RUN
+        };
+        if wrong_lists::<Nonce, C>(&[0; 32], &[0; 12], &[front]).is_some() {
+            return failed_at("so many calls of the run", count);
+        }
+    }
+    None
+}
+
+/// The run, then the rest of the first block, and the front of the second.
 pub static RUNS: [CipherList; 2] = [
-    CipherList {
-        name: "the run",
-        input: &[1, 2, 3],
-        data: &[0; 4],
-        calls: &[
-            (Apply { at: 0, len: 4 }, Done),
-            (Seek(0), Done),
-            (
-                ApplyFrom {
-                    from: 0,
-                    from_len: 3,
-                    at: 0,
-                    len: 3,
-                },
-                Done,
-            ),
-            (THREE_INTO_FOUR, Refused),
-            (Pos, Position(3)),
-            (SeekI32(-1), Refused),
-            (PosI32, PositionI32(3)),
-            (Write { at: 3, len: 1 }, Done),
-        ],
-        after: b"\xcb\xf2\xe3\xc2",
-    },
+    RUN,
     CipherList {
         name: "the rest of the block, and the next one",
         data: &[0; 64],

@@ -49,6 +49,7 @@ fn wrong_legacy<C: Fresh<LegacyNonce> + Called>() -> Verdict {
 // A cipher without rounds.
 fn wrong_zero<C: Fresh<Nonce> + Called>() -> Verdict {
     first_failure(&[
+        ends::wrong_run::<C>(),
         wrong_lists::<Nonce, C>(&[0; 32], &[0; 12], &ends::RUNS),
         wrong_lists::<Nonce, C>(&[0; 32], &[0; 12], &ends::ZERO_ENDS),
         ends::wrong_last_blocks(&mut C::fresh(&[0; 32], &[0; 12])),

@@ -1,18 +1,21 @@
 //! Checkers that are given known faults: each finds a wrong answer and a wrong byte, the first and the last, and
 //! nothing where all are right.
 
-use super::directly::wrong_lists;
+use super::directly::{Called, wrong_lists};
 use super::everywhere::wrong_soft_part;
 use super::{first_bad_row, first_failure};
 use chacha20::CipherAnswer::{Done, Position, Refused};
 use chacha20::CipherCall::{Apply, Pos, Seek};
 use chacha20::backends::Soft;
-use chacha20::cipher::{KeyIvInit, StreamCipherSeekCore};
+use chacha20::cipher::{KeyIvInit, SeekNum, StreamCipherSeekCore};
 use chacha20::variants::Ietf;
-use chacha20::{ChaChaCore, ChaChaRng, Key, Nonce, RngAnswer, RngCall, StreamCipherCoreWrapper};
+use chacha20::{
+    ChaChaCore, ChaChaRng, CipherAnswer, CipherCall, Key, Nonce, RngAnswer, RngCall,
+    StreamCipherCoreWrapper,
+};
 use known_answers::R0;
 use known_answers::draws::{NO_DRAW, RngList, wrong_draws};
-use known_answers::lists::{CipherList, EMPTY};
+use known_answers::lists::{CipherList, EMPTY, Fresh, Listed};
 use known_answers::published::LEGACY_KEYSTREAM;
 use known_answers::verdicts::{failed, failed_at, numbered};
 
@@ -20,6 +23,11 @@ const RIGHT: CipherList = CipherList {
     data: &[0; 4],
     calls: &[(Seek(0), Done), (Apply { at: 0, len: 4 }, Done)],
     after: b"\xca\xf0\xe0\xc2",
+    ..EMPTY
+};
+
+const RIGHT_SEEK: CipherList = CipherList {
+    calls: &[(Seek(0), Done)],
     ..EMPTY
 };
 
@@ -53,6 +61,58 @@ where
     K: KeyIvInit<Key = Key, Iv = Nonce> + StreamCipherSeekCore + Drop,
 {
     wrong_lists::<Nonce, StreamCipherCoreWrapper<K>>(&[0; 32], &[0; 12], lists).is_some()
+}
+
+// A cipher that gives one answer to each listed call, and one to each direct call.
+#[derive(Drop)]
+struct Answering {
+    listed: CipherAnswer,
+    direct: CipherAnswer,
+}
+
+impl Listed for Answering {
+    fn runs(
+        &mut self,
+        _: &[u8],
+        _: &mut [u8],
+        _: &[CipherCall],
+        answers: &mut [CipherAnswer],
+    ) -> bool {
+        answers.fill(self.listed);
+        true
+    }
+}
+
+impl Called for Answering {
+    fn answers(&mut self, _: &[u8], _: &mut [u8], _: CipherCall) -> CipherAnswer {
+        self.direct
+    }
+}
+
+impl Fresh<[CipherAnswer; 2]> for Answering {
+    fn fresh(_: &Key, answers: &[CipherAnswer; 2]) -> Self {
+        Answering {
+            listed: answers[0],
+            direct: answers[1],
+        }
+    }
+
+    fn seeks<T: SeekNum>(&mut self, _: T) -> bool {
+        false
+    }
+
+    fn applies(&mut self, _: &mut [u8]) -> bool {
+        false
+    }
+
+    fn is_at<T: SeekNum>(&self, _: Option<T>) -> bool {
+        false
+    }
+}
+
+// Whether these answers to a listed and to a direct call, where both should be `Done`, are found wrong.
+fn found(answers: &[CipherAnswer; 2]) -> bool {
+    wrong_lists::<[CipherAnswer; 2], Answering>(&[0; 32], answers, &[RIGHT_SEEK]).is_some()
 }
 
 const AT_0: (RngCall, RngAnswer) = (RngCall::GetWordPos, RngAnswer::U128(0));
@@ -96,6 +156,11 @@ fn lists(rt: HostRuntime) {
     }
     let right = wrong_draws::<ChaChaRng<R0, Soft>>([0; 32], &[RIGHT_DRAW]).is_none();
     assert!(rt; right && !are_wrong::<ChaChaCore<R0, Ietf, Soft>>(&[RIGHT]));
+}
+
+#[test]
+fn each_way(rt: HostRuntime) {
+    assert!(rt; found(&[Refused, Done]) && found(&[Done, Refused]) && !found(&[Done, Done]));
 }
 
 #[test]
