@@ -5,26 +5,8 @@
 
 #include "../include/chacha20.h"
 
-/* Tells MemorySanitizer that bytes are initialized: it doesn't see what the proved code writes. */
-#if defined(__has_feature)
-#if __has_feature(memory_sanitizer)
-#include <sanitizer/msan_interface.h>
-#define WROTE(BYTES, LEN) __msan_unpoison(BYTES, LEN)
-#endif
-#endif
-#if !defined(WROTE)
-#define WROTE(BYTES, LEN) ((void)0)
-#endif
-
-/* The proved functions are hidden: no program can link them. */
-#define HIDDEN __attribute__((visibility("hidden")))
-
-#define RETURN_void
-#define RETURN_uint32_t return
-#define RETURN_uint64_t return
-
-/* PROVED(RESULT, NAME, ..) defines NAME_proved, which calls the proved function NAME; LONG_PROVED does
-   so for a function with a |len|. The Makefile adds the level to the names of each build. */
+/* DECLARE declares a proved function in each build; the Makefile adds the level to its names. PROVED
+   calls it in the build for the processor. */
 #if defined(__x86_64__)
 #include "processor.h"
 
@@ -41,159 +23,197 @@ __attribute__((constructor)) static void choose_level(void) {
 }
 #endif
 
-#define BUILDS(RESULT, NAME, PARAMETERS)                                              \
-    HIDDEN RESULT NAME##_x86_64 PARAMETERS;                                           \
-    HIDDEN RESULT NAME##_x86_64_v2 PARAMETERS;                                        \
-    HIDDEN RESULT NAME##_x86_64_v3 PARAMETERS;
-#define CHOICE(RESULT, NAME, PARAMETERS, ARGUMENTS, CALL_V3)                          \
-    static inline RESULT NAME##_proved PARAMETERS {                                   \
-        if (level == 3) {                                                             \
-            CALL_V3                                                                   \
-        } else if (level == 2) {                                                      \
-            RETURN_##RESULT NAME##_x86_64_v2 ARGUMENTS;                               \
-        } else {                                                                      \
-            RETURN_##RESULT NAME##_x86_64 ARGUMENTS;                                  \
-        }                                                                             \
-    }
-#define PROVED(RESULT, NAME, PARAMETERS, ARGUMENTS)                                   \
-    BUILDS(RESULT, NAME, PARAMETERS)                                                  \
-    CHOICE(RESULT, NAME, PARAMETERS, ARGUMENTS, RETURN_##RESULT NAME##_x86_64_v3 ARGUMENTS;)
+#define DECLARE(RESULT, NAME, ...)        \
+    RESULT NAME##_x86_64(__VA_ARGS__);    \
+    RESULT NAME##_x86_64_v2(__VA_ARGS__); \
+    RESULT NAME##_x86_64_v3(__VA_ARGS__);
+#define PROVED(NAME, ...)                         \
+    (level == 3   ? NAME##_x86_64_v3(__VA_ARGS__) \
+     : level == 2 ? NAME##_x86_64_v2(__VA_ARGS__) \
+                  : NAME##_x86_64(__VA_ARGS__))
 
 /* The build for x86-64-v3 stores vectors of 32 bytes on the stack, and is slow where they cross a page
    or a cache line. So if the page boundary below is near, a long call begins 32 - SHIFT bytes below it.
-   SHIFT is 0 or 16, whichever is faster over many places of the buffers: it depends on the frames of
-   the compiled proved function. No test compares the two.
    Compilers agree on what alloca takes for sizes of 16 n + 8. */
 enum { LONG = 512, NEAR = 3072, PAGE = 4096 };
-
-#define LONG_PROVED(RESULT, NAME, SHIFT, PARAMETERS, ARGUMENTS)                       \
-    BUILDS(RESULT, NAME, PARAMETERS)                                                  \
-    static __attribute__((noinline)) RESULT NAME##_moved PARAMETERS {                 \
-        char *here = __builtin_alloca(8);                                             \
-        __asm__ volatile("" : "+r"(here));                                            \
-        size_t above = (uintptr_t)here % PAGE;                                        \
-        if (above < NEAR) {                                                           \
-            here = __builtin_alloca(above + 24 - SHIFT);                              \
-            __asm__ volatile("" : : "r"(here) : "memory");                            \
-        }                                                                             \
-        RETURN_##RESULT NAME##_x86_64_v3 ARGUMENTS;                                   \
-    }                                                                                 \
-    CHOICE(RESULT, NAME, PARAMETERS, ARGUMENTS,                                       \
-           if (len < LONG) { RETURN_##RESULT NAME##_x86_64_v3 ARGUMENTS; }            \
-           else { RETURN_##RESULT NAME##_moved ARGUMENTS; })
-#else
-#define PROVED(RESULT, NAME, PARAMETERS, ARGUMENTS)  \
-    HIDDEN RESULT NAME##_generic PARAMETERS;         \
-    static inline RESULT NAME##_proved PARAMETERS {  \
-        RETURN_##RESULT NAME##_generic ARGUMENTS;    \
+#define MOVE_STACK(LEN, SHIFT)                             \
+    if (level == 3 && (LEN) >= LONG) {                     \
+        char *here = __builtin_alloca(8);                  \
+        __asm__ volatile("" : "+r"(here));                 \
+        size_t above = (uintptr_t)here % PAGE;             \
+        if (above < NEAR) {                                \
+            here = __builtin_alloca(above + 24 - (SHIFT)); \
+            __asm__ volatile("" : : "r"(here) : "memory"); \
+        }                                                  \
     }
-#define LONG_PROVED(RESULT, NAME, SHIFT, PARAMETERS, ARGUMENTS) PROVED(RESULT, NAME, PARAMETERS, ARGUMENTS)
+#else
+#define DECLARE(RESULT, NAME, ...) RESULT NAME##_generic(__VA_ARGS__);
+#define PROVED(NAME, ...) NAME##_generic(__VA_ARGS__)
+#define MOVE_STACK(LEN, SHIFT)
 #endif
 
-/* A function of chacha20.h with nothing to handle. */
-#define CALL(RESULT, NAME, PARAMETERS, ARGUMENTS) \
-    PROVED(RESULT, NAME, PARAMETERS, ARGUMENTS)   \
-    RESULT NAME PARAMETERS { RETURN_##RESULT NAME##_proved ARGUMENTS; }
+/* SHIFT of each call, 0 or 16: whichever is faster over many places of the buffers. It depends on the
+   frames of the compiled proved function, so a change of the code behind it may change these numbers.
+   No test compares the two. */
+enum {
+    CHACHA_IN_PLACE = 0, CHACHA_BETWEEN = 0, CHACHA_KEYSTREAM = 16,
+    XCHACHA_IN_PLACE = 16, XCHACHA_BETWEEN = 16, XCHACHA_KEYSTREAM = 16,
+    LEGACY_IN_PLACE = 0, LEGACY_BETWEEN = 16, LEGACY_KEYSTREAM = 16,
+    RNG_FILL = 16
+};
 
-static int overlap(const uint8_t *output, const uint8_t *input, size_t len) {
+static int overlap(uint8_t *output, const uint8_t *input, size_t len) {
     uintptr_t to = (uintptr_t)output, from = (uintptr_t)input;
     return (to < from ? from - to : to - from) < len;
 }
 
-/* Ciphers. IN_PLACE and BETWEEN are SHIFT of these calls; AT is the position's parameters, and the rest
-   its arguments. */
+/* Ciphers. Where |len| is 0, the pointers may be null, and the check alone is called. */
 
-#define POSITION uint64_t position
-#define PLACE uint64_t block, uint64_t offset
-#define LIST(...) __VA_ARGS__
-
-CALL(uint32_t, chacha20_check, (POSITION, size_t len), (position, len))
-CALL(uint32_t, chacha20_legacy_check, (PLACE, size_t len), (block, offset, len))
+DECLARE(uint32_t, chacha20_check, uint64_t position, size_t len)
+uint32_t chacha20_check(uint64_t position, size_t len) { return PROVED(chacha20_check, position, len); }
 
 uint64_t chacha20_block_position(uint64_t block) {
     return block > UINT64_MAX / 64 ? UINT64_MAX : 64 * block;
 }
 
-#define KEY(NONCE) const uint8_t key[32], const uint8_t nonce[NONCE]
-#define CIPHER(NAME, NONCE, CHECK, IN_PLACE, BETWEEN, AT, ...)                                         \
-    LONG_PROVED(uint32_t, NAME##_xor_in_place, IN_PLACE, (KEY(NONCE), AT, uint8_t *data, size_t len),  \
-                (key, nonce, __VA_ARGS__, data, len))                                                  \
-    LONG_PROVED(uint32_t, NAME##_xor_between, BETWEEN,                                                 \
-                (KEY(NONCE), AT, uint8_t *output, size_t len, const uint8_t *input, size_t input_len), \
-                (key, nonce, __VA_ARGS__, output, len, input, input_len))                              \
-    LONG_PROVED(uint32_t, NAME##_keystream, 16, (KEY(NONCE), AT, uint8_t *output, size_t len),         \
-                (key, nonce, __VA_ARGS__, output, len))                                                \
-    uint32_t NAME##_xor(KEY(NONCE), AT, uint8_t *output, const uint8_t *input, size_t len) {           \
-        uint32_t result;                                                                               \
-        if (len == 0) return CHECK##_proved(__VA_ARGS__, 0);                                           \
-        if (output == input) return NAME##_xor_in_place_proved(key, nonce, __VA_ARGS__, output, len);  \
-        if (overlap(output, input, len)) return CHACHA20_REFUSED;                                      \
-        result = NAME##_xor_between_proved(key, nonce, __VA_ARGS__, output, len, input, len);          \
-        if (result == CHACHA20_OK) WROTE(output, len);                                                 \
-        return result;                                                                                 \
-    }                                                                                                  \
-    uint32_t NAME##_keystream(KEY(NONCE), AT, uint8_t *output, size_t len) {                           \
-        uint32_t result;                                                                               \
-        if (len == 0) return CHECK##_proved(__VA_ARGS__, 0);                                           \
-        result = NAME##_keystream_proved(key, nonce, __VA_ARGS__, output, len);                        \
-        if (result == CHACHA20_OK) WROTE(output, len);                                                 \
-        return result;                                                                                 \
+#define XOR(NAME, NONCE, IN_PLACE, BETWEEN)                                                              \
+    DECLARE(uint32_t, NAME##_in_place, const uint8_t *key, const uint8_t *nonce, uint64_t position,      \
+            uint8_t *data, size_t len)                                                                   \
+    DECLARE(uint32_t, NAME##_between, const uint8_t *key, const uint8_t *nonce, uint64_t position,       \
+            uint8_t *output, size_t len, const uint8_t *input, size_t input_len)                         \
+    uint32_t NAME(const uint8_t key[32], const uint8_t nonce[NONCE], uint64_t position, uint8_t *output, \
+                  const uint8_t *input, size_t len) {                                                    \
+        if (len == 0) return PROVED(chacha20_check, position, 0);                                        \
+        if (output == input) {                                                                           \
+            MOVE_STACK(len, IN_PLACE)                                                                    \
+            return PROVED(NAME##_in_place, key, nonce, position, output, len);                           \
+        }                                                                                                \
+        if (overlap(output, input, len)) return CHACHA20_REFUSED;                                        \
+        MOVE_STACK(len, BETWEEN)                                                                         \
+        return PROVED(NAME##_between, key, nonce, position, output, len, input, len);                    \
     }
 
-CIPHER(chacha20, 12, chacha20_check, 0, 0, POSITION, position)
-CIPHER(chacha12, 12, chacha20_check, 0, 0, POSITION, position)
-CIPHER(chacha8, 12, chacha20_check, 0, 0, POSITION, position)
-CIPHER(xchacha20, 24, chacha20_check, 16, 16, POSITION, position)
-CIPHER(xchacha12, 24, chacha20_check, 16, 16, POSITION, position)
-CIPHER(xchacha8, 24, chacha20_check, 16, 16, POSITION, position)
-CIPHER(chacha20_legacy, 8, chacha20_legacy_check, 0, 16, LIST(PLACE), block, offset)
+#define KEYSTREAM(NAME, NONCE, SHIFT)                                                                    \
+    DECLARE(uint32_t, NAME, const uint8_t *key, const uint8_t *nonce, uint64_t position,                 \
+            uint8_t *output, size_t len)                                                                 \
+    uint32_t NAME(const uint8_t key[32], const uint8_t nonce[NONCE], uint64_t position, uint8_t *output, \
+                  size_t len) {                                                                          \
+        if (len == 0) return PROVED(chacha20_check, position, 0);                                        \
+        MOVE_STACK(len, SHIFT)                                                                           \
+        return PROVED(NAME, key, nonce, position, output, len);                                          \
+    }
 
-/* HChaCha and generators */
+XOR(chacha20_xor, 12, CHACHA_IN_PLACE, CHACHA_BETWEEN)
+XOR(chacha12_xor, 12, CHACHA_IN_PLACE, CHACHA_BETWEEN)
+XOR(chacha8_xor, 12, CHACHA_IN_PLACE, CHACHA_BETWEEN)
+XOR(xchacha20_xor, 24, XCHACHA_IN_PLACE, XCHACHA_BETWEEN)
+XOR(xchacha12_xor, 24, XCHACHA_IN_PLACE, XCHACHA_BETWEEN)
+XOR(xchacha8_xor, 24, XCHACHA_IN_PLACE, XCHACHA_BETWEEN)
+KEYSTREAM(chacha20_keystream, 12, CHACHA_KEYSTREAM)
+KEYSTREAM(chacha12_keystream, 12, CHACHA_KEYSTREAM)
+KEYSTREAM(chacha8_keystream, 12, CHACHA_KEYSTREAM)
+KEYSTREAM(xchacha20_keystream, 24, XCHACHA_KEYSTREAM)
+KEYSTREAM(xchacha12_keystream, 24, XCHACHA_KEYSTREAM)
+KEYSTREAM(xchacha8_keystream, 24, XCHACHA_KEYSTREAM)
 
-#define SUBKEY(NAME)                                                                                   \
-    PROVED(void, NAME, (const uint8_t key[32], const uint8_t input[16], uint8_t subkey[32]),           \
-           (key, input, subkey))                                                                       \
-    void NAME(const uint8_t key[32], const uint8_t input[16], uint8_t subkey[32]) {                    \
-        NAME##_proved(key, input, subkey);                                                             \
-        WROTE(subkey, 32);                                                                             \
+DECLARE(uint32_t, chacha20_legacy_check, uint64_t block, uint64_t offset, size_t len)
+uint32_t chacha20_legacy_check(uint64_t block, uint64_t offset, size_t len) {
+    return PROVED(chacha20_legacy_check, block, offset, len);
+}
+
+DECLARE(uint32_t, chacha20_legacy_xor_in_place, const uint8_t *key, const uint8_t *nonce, uint64_t block,
+        uint64_t offset, uint8_t *data, size_t len)
+DECLARE(uint32_t, chacha20_legacy_xor_between, const uint8_t *key, const uint8_t *nonce, uint64_t block,
+        uint64_t offset, uint8_t *output, size_t len, const uint8_t *input, size_t input_len)
+uint32_t chacha20_legacy_xor(const uint8_t key[32], const uint8_t nonce[8], uint64_t block, uint64_t offset,
+                             uint8_t *output, const uint8_t *input, size_t len) {
+    if (len == 0) return PROVED(chacha20_legacy_check, block, offset, 0);
+    if (output == input) {
+        MOVE_STACK(len, LEGACY_IN_PLACE)
+        return PROVED(chacha20_legacy_xor_in_place, key, nonce, block, offset, output, len);
+    }
+    if (overlap(output, input, len)) return CHACHA20_REFUSED;
+    MOVE_STACK(len, LEGACY_BETWEEN)
+    return PROVED(chacha20_legacy_xor_between, key, nonce, block, offset, output, len, input, len);
+}
+
+DECLARE(uint32_t, chacha20_legacy_keystream, const uint8_t *key, const uint8_t *nonce, uint64_t block,
+        uint64_t offset, uint8_t *output, size_t len)
+uint32_t chacha20_legacy_keystream(const uint8_t key[32], const uint8_t nonce[8], uint64_t block,
+                                   uint64_t offset, uint8_t *output, size_t len) {
+    if (len == 0) return PROVED(chacha20_legacy_check, block, offset, 0);
+    MOVE_STACK(len, LEGACY_KEYSTREAM)
+    return PROVED(chacha20_legacy_keystream, key, nonce, block, offset, output, len);
+}
+
+/* HChaCha */
+
+#define SUBKEY(NAME)                                                                \
+    DECLARE(void, NAME, const uint8_t *key, const uint8_t *input, uint8_t *subkey)  \
+    void NAME(const uint8_t key[32], const uint8_t input[16], uint8_t subkey[32]) { \
+        PROVED(NAME, key, input, subkey);                                           \
     }
 
 SUBKEY(hchacha20)
 SUBKEY(hchacha12)
 SUBKEY(hchacha8)
 
-#define STATE uint8_t state[49]
-#define GENERATOR(NAME)                                                                                \
-    CALL(uint32_t, NAME##_next_u32, (STATE), (state))                                                  \
-    CALL(uint64_t, NAME##_next_u64, (STATE), (state))                                                  \
-    LONG_PROVED(void, NAME##_fill, 16, (STATE, uint8_t *output, size_t len), (state, output, len))     \
-    void NAME##_fill(STATE, uint8_t *output, size_t len) {                                             \
-        if (len == 0) return;                                                                          \
-        NAME##_fill_proved(state, output, len);                                                        \
-        WROTE(output, len);                                                                            \
+/* Generators */
+
+#define FILL(NAME)                                                    \
+    DECLARE(void, NAME, uint8_t *state, uint8_t *output, size_t len)  \
+    void NAME(uint8_t state[49], uint8_t *output, size_t len) {       \
+        if (len == 0) return;                                         \
+        MOVE_STACK(len, RNG_FILL)                                     \
+        PROVED(NAME, state, output, len);                             \
     }
 
-GENERATOR(chacha20_rng)
-GENERATOR(chacha12_rng)
-GENERATOR(chacha8_rng)
+FILL(chacha20_rng_fill)
+FILL(chacha12_rng_fill)
+FILL(chacha8_rng_fill)
 
-PROVED(void, chacha_rng_from_seed, (const uint8_t seed[32], STATE), (seed, state))
-void chacha_rng_from_seed(const uint8_t seed[32], STATE) {
-    chacha_rng_from_seed_proved(seed, state);
-    WROTE(state, 49);
+#define NEXT(RESULT, NAME)                \
+    DECLARE(RESULT, NAME, uint8_t *state) \
+    RESULT NAME(uint8_t state[49]) { return PROVED(NAME, state); }
+
+NEXT(uint32_t, chacha20_rng_next_u32)
+NEXT(uint32_t, chacha12_rng_next_u32)
+NEXT(uint32_t, chacha8_rng_next_u32)
+NEXT(uint64_t, chacha20_rng_next_u64)
+NEXT(uint64_t, chacha12_rng_next_u64)
+NEXT(uint64_t, chacha8_rng_next_u64)
+
+DECLARE(void, chacha_rng_from_seed, const uint8_t *seed, uint8_t *state)
+void chacha_rng_from_seed(const uint8_t seed[32], uint8_t state[49]) {
+    PROVED(chacha_rng_from_seed, seed, state);
 }
 
-PROVED(void, chacha_rng_get_word_pos, (const STATE, uint64_t *low, uint64_t *high), (state, low, high))
-void chacha_rng_get_word_pos(const STATE, uint64_t *low, uint64_t *high) {
-    chacha_rng_get_word_pos_proved(state, low, high);
-    WROTE(low, sizeof *low);
-    WROTE(high, sizeof *high);
+DECLARE(void, chacha_rng_get_word_pos, const uint8_t *state, uint64_t *low, uint64_t *high)
+void chacha_rng_get_word_pos(const uint8_t state[49], uint64_t *low, uint64_t *high) {
+    PROVED(chacha_rng_get_word_pos, state, low, high);
 }
 
-CALL(void, chacha_rng_set_word_pos, (STATE, uint64_t low, uint64_t high), (state, low, high))
-CALL(uint64_t, chacha_rng_get_block_pos, (const STATE), (state))
-CALL(void, chacha_rng_set_block_pos, (STATE, uint64_t block_pos), (state, block_pos))
-CALL(uint64_t, chacha_rng_get_stream, (const STATE), (state))
-CALL(void, chacha_rng_set_stream, (STATE, uint64_t stream), (state, stream))
+DECLARE(void, chacha_rng_set_word_pos, uint8_t *state, uint64_t low, uint64_t high)
+void chacha_rng_set_word_pos(uint8_t state[49], uint64_t low, uint64_t high) {
+    PROVED(chacha_rng_set_word_pos, state, low, high);
+}
+
+DECLARE(uint64_t, chacha_rng_get_block_pos, const uint8_t *state)
+uint64_t chacha_rng_get_block_pos(const uint8_t state[49]) {
+    return PROVED(chacha_rng_get_block_pos, state);
+}
+
+DECLARE(void, chacha_rng_set_block_pos, uint8_t *state, uint64_t block_pos)
+void chacha_rng_set_block_pos(uint8_t state[49], uint64_t block_pos) {
+    PROVED(chacha_rng_set_block_pos, state, block_pos);
+}
+
+DECLARE(uint64_t, chacha_rng_get_stream, const uint8_t *state)
+uint64_t chacha_rng_get_stream(const uint8_t state[49]) { return PROVED(chacha_rng_get_stream, state); }
+
+DECLARE(void, chacha_rng_set_stream, uint8_t *state, uint64_t stream)
+void chacha_rng_set_stream(uint8_t state[49], uint64_t stream) {
+    PROVED(chacha_rng_set_stream, state, stream);
+}
 
 const char *chacha20_version(void) { return CHACHA20_VERSION; }

@@ -61,8 +61,8 @@ extern "C" {
    keystream has 2^64 blocks. */
 #define CHACHA20_STREAM_BYTES (UINT64_C(1) << 38)
 
-/* An upper bound on the bytes of the stack that a call takes. A third of them is for the dynamic
-   linker, which may bind memcpy and memset in a program's first calls. */
+/* An upper bound on the bytes of the stack that a call takes, measured by a test. A third of them is
+   for the dynamic linker, which may bind memcpy, memmove and memset in a program's first calls. */
 #define CHACHA20_DEEPEST 8704
 
 /* What a cipher returns. After CHACHA20_REFUSED no byte has changed: the data are NOT encrypted and
@@ -73,18 +73,32 @@ extern "C" {
 /* A length has 64 bits in the library. */
 typedef char chacha20_size_t_has_64_bits[sizeof(size_t) == 8 ? 1 : -1];
 
-/* Compilers report an ignored result and a null pointer; in C, gcc also reports a short array. */
+/* Compilers report an ignored result and a null pointer. gcc also reports an output or an input that
+   is shorter than the length, and in C a short array. */
 #if defined(__GNUC__)
 #define CHACHA20_MUST_USE __attribute__((__warn_unused_result__))
-#define CHACHA20_CIPHER __attribute__((__warn_unused_result__, __nonnull__(1, 2)))
-#define CHACHA20_FILL __attribute__((__nonnull__(1)))
 #define CHACHA20_NONNULL __attribute__((__nonnull__))
+#define CHACHA20_NONNULL_1 __attribute__((__nonnull__(1)))
+#define CHACHA20_CIPHER __attribute__((__warn_unused_result__, __nonnull__(1, 2)))
 #else
 #define CHACHA20_MUST_USE
-#define CHACHA20_CIPHER
-#define CHACHA20_FILL
 #define CHACHA20_NONNULL
+#define CHACHA20_NONNULL_1
+#define CHACHA20_CIPHER
 #endif
+/* The parameter at TO is an output and that at FROM an input, both of the length at LEN. */
+#if defined(__GNUC__) && !defined(__clang__) && __GNUC__ >= 10
+#define CHACHA20_WRITES(TO, LEN) __attribute__((__access__(__write_only__, TO, LEN)))
+#define CHACHA20_READS(FROM, LEN) __attribute__((__access__(__read_only__, FROM, LEN)))
+#else
+#define CHACHA20_WRITES(TO, LEN)
+#define CHACHA20_READS(FROM, LEN)
+#endif
+#define CHACHA20_XOR CHACHA20_CIPHER CHACHA20_WRITES(4, 6) CHACHA20_READS(5, 6)
+#define CHACHA20_KEYSTREAM CHACHA20_CIPHER CHACHA20_WRITES(4, 5)
+#define CHACHA20_LEGACY_XOR CHACHA20_CIPHER CHACHA20_WRITES(5, 7) CHACHA20_READS(6, 7)
+#define CHACHA20_LEGACY_KEYSTREAM CHACHA20_CIPHER CHACHA20_WRITES(5, 6)
+#define CHACHA20_FILL CHACHA20_NONNULL_1 CHACHA20_WRITES(2, 3)
 
 /* Ciphers */
 
@@ -102,11 +116,11 @@ typedef char chacha20_size_t_has_64_bits[sizeof(size_t) == 8 ? 1 : -1];
    Never use a nonce twice under one key: the XOR of the two messages would show. Nothing here
    authenticates a message: whoever can change it can flip any bit, so add a MAC. */
 uint32_t chacha20_xor(const uint8_t key[32], const uint8_t nonce[12], uint64_t position,
-                      uint8_t *output, const uint8_t *input, size_t len) CHACHA20_CIPHER;
+                      uint8_t *output, const uint8_t *input, size_t len) CHACHA20_XOR;
 
 /* chacha20_keystream writes the keystream itself, and is refused as chacha20_xor is. */
 uint32_t chacha20_keystream(const uint8_t key[32], const uint8_t nonce[12], uint64_t position,
-                            uint8_t *output, size_t len) CHACHA20_CIPHER;
+                            uint8_t *output, size_t len) CHACHA20_KEYSTREAM;
 
 /* chacha20_check returns CHACHA20_OK if |len| bytes at |position| end within the keystream, and
    CHACHA20_REFUSED otherwise. It serves every cipher with a nonce of 12 or 24 bytes. */
@@ -126,30 +140,31 @@ uint64_t chacha20_block_position(uint64_t block);
                        Its keystream has 2^70 bytes, so a position is two numbers: byte 64 * |block|
                        + |offset|, a sum that doesn't wrap. |offset| may be 64 or more. */
 uint32_t xchacha20_xor(const uint8_t key[32], const uint8_t nonce[24], uint64_t position,
-                       uint8_t *output, const uint8_t *input, size_t len) CHACHA20_CIPHER;
+                       uint8_t *output, const uint8_t *input, size_t len) CHACHA20_XOR;
 uint32_t xchacha20_keystream(const uint8_t key[32], const uint8_t nonce[24], uint64_t position,
-                             uint8_t *output, size_t len) CHACHA20_CIPHER;
+                             uint8_t *output, size_t len) CHACHA20_KEYSTREAM;
 uint32_t chacha12_xor(const uint8_t key[32], const uint8_t nonce[12], uint64_t position,
-                      uint8_t *output, const uint8_t *input, size_t len) CHACHA20_CIPHER;
+                      uint8_t *output, const uint8_t *input, size_t len) CHACHA20_XOR;
 uint32_t chacha12_keystream(const uint8_t key[32], const uint8_t nonce[12], uint64_t position,
-                            uint8_t *output, size_t len) CHACHA20_CIPHER;
+                            uint8_t *output, size_t len) CHACHA20_KEYSTREAM;
 uint32_t chacha8_xor(const uint8_t key[32], const uint8_t nonce[12], uint64_t position,
-                     uint8_t *output, const uint8_t *input, size_t len) CHACHA20_CIPHER;
+                     uint8_t *output, const uint8_t *input, size_t len) CHACHA20_XOR;
 uint32_t chacha8_keystream(const uint8_t key[32], const uint8_t nonce[12], uint64_t position,
-                           uint8_t *output, size_t len) CHACHA20_CIPHER;
+                           uint8_t *output, size_t len) CHACHA20_KEYSTREAM;
 uint32_t xchacha12_xor(const uint8_t key[32], const uint8_t nonce[24], uint64_t position,
-                       uint8_t *output, const uint8_t *input, size_t len) CHACHA20_CIPHER;
+                       uint8_t *output, const uint8_t *input, size_t len) CHACHA20_XOR;
 uint32_t xchacha12_keystream(const uint8_t key[32], const uint8_t nonce[24], uint64_t position,
-                             uint8_t *output, size_t len) CHACHA20_CIPHER;
+                             uint8_t *output, size_t len) CHACHA20_KEYSTREAM;
 uint32_t xchacha8_xor(const uint8_t key[32], const uint8_t nonce[24], uint64_t position,
-                      uint8_t *output, const uint8_t *input, size_t len) CHACHA20_CIPHER;
+                      uint8_t *output, const uint8_t *input, size_t len) CHACHA20_XOR;
 uint32_t xchacha8_keystream(const uint8_t key[32], const uint8_t nonce[24], uint64_t position,
-                            uint8_t *output, size_t len) CHACHA20_CIPHER;
+                            uint8_t *output, size_t len) CHACHA20_KEYSTREAM;
 uint32_t chacha20_legacy_xor(const uint8_t key[32], const uint8_t nonce[8], uint64_t block,
                              uint64_t offset, uint8_t *output, const uint8_t *input,
-                             size_t len) CHACHA20_CIPHER;
+                             size_t len) CHACHA20_LEGACY_XOR;
 uint32_t chacha20_legacy_keystream(const uint8_t key[32], const uint8_t nonce[8], uint64_t block,
-                                   uint64_t offset, uint8_t *output, size_t len) CHACHA20_CIPHER;
+                                   uint64_t offset, uint8_t *output,
+                                   size_t len) CHACHA20_LEGACY_KEYSTREAM;
 uint32_t chacha20_legacy_check(uint64_t block, uint64_t offset, size_t len) CHACHA20_MUST_USE;
 
 /* HChaCha */
@@ -221,9 +236,16 @@ void chacha_rng_set_stream(uint8_t state[49], uint64_t stream) CHACHA20_NONNULL;
 const char *chacha20_version(void);
 
 #undef CHACHA20_MUST_USE
-#undef CHACHA20_CIPHER
-#undef CHACHA20_FILL
 #undef CHACHA20_NONNULL
+#undef CHACHA20_NONNULL_1
+#undef CHACHA20_CIPHER
+#undef CHACHA20_WRITES
+#undef CHACHA20_READS
+#undef CHACHA20_XOR
+#undef CHACHA20_KEYSTREAM
+#undef CHACHA20_LEGACY_XOR
+#undef CHACHA20_LEGACY_KEYSTREAM
+#undef CHACHA20_FILL
 
 #ifdef __cplusplus
 }

@@ -1,9 +1,9 @@
-/* SPDX-License-Identifier: Apache-2.0 OR MIT */
+/* SPDX-License-Identifier: Apache-2.0 OR MIT
 
-/* The table of one build. The Makefile compiles it for each build under another name, and links it with the build into one
+   The table of one build. The Makefile compiles it for each build under another name, and links it with the build into one
    object that shows the table alone. */
 
-#include "library.h"
+#include "compare.h"
 
 #define CIPHER(NAME, POSITION)                                                                                    \
     static uint32_t NAME##_1(const uint8_t *key, const uint8_t *nonce, uint64_t block, uint64_t offset,           \
@@ -25,19 +25,28 @@ CIPHER(xchacha12, ONE_NUMBER)
 CIPHER(xchacha20, ONE_NUMBER)
 CIPHER(chacha20_legacy, TWO_NUMBERS)
 
-static uint32_t check(uint64_t block, uint64_t offset, size_t len) { return chacha20_check(ONE_NUMBER, len); }
+static uint32_t ietf_check(uint64_t block, uint64_t offset, size_t len) { return chacha20_check(ONE_NUMBER, len); }
 
 #define IN_TABLE(NAME) {NAME##_1, NAME##_2}
 
+#if defined(CHOSEN)
+/* Of chacha20.c; the Makefile shows it here alone. A library of one level has no choice. */
+extern int level __attribute__((weak));
+#define ITS_LEVEL &level
+#else
+#define ITS_LEVEL NULL
+#endif
+
 const struct library LIBRARY = {
     .level = LEVEL,
+    .chosen = ITS_LEVEL,
     .ciphers =
         {
             [IETF] = {IN_TABLE(chacha8), IN_TABLE(chacha12), IN_TABLE(chacha20)},
             [XCHACHA] = {IN_TABLE(xchacha8), IN_TABLE(xchacha12), IN_TABLE(xchacha20)},
             [LEGACY] = {[2] = IN_TABLE(chacha20_legacy)},
         },
-    .check = {check, check, chacha20_legacy_check},
+    .check = {ietf_check, ietf_check, chacha20_legacy_check},
     .hchacha = {hchacha8, hchacha12, hchacha20},
     .next_u32 = {chacha8_rng_next_u32, chacha12_rng_next_u32, chacha20_rng_next_u32},
     .next_u64 = {chacha8_rng_next_u64, chacha12_rng_next_u64, chacha20_rng_next_u64},

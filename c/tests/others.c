@@ -1,6 +1,6 @@
 /* SPDX-License-Identifier: Apache-2.0 OR MIT */
 
-#include "others.h"
+#include "compare.h"
 
 #include <dlfcn.h>
 #include <stdio.h>
@@ -23,6 +23,9 @@ static int look_up(void *handle, const char *name, void *function) {
     return found != NULL;
 }
 
+#define XOR_PARAMETERS \
+    int rounds, const uint8_t *key, const uint8_t *nonce, uint64_t block, uint8_t *output, const uint8_t *input, size_t len
+
 static void store_le(uint8_t *bytes, uint64_t number, int count) {
     for (int i = 0; i < count; i++) bytes[i] = (uint8_t)(number >> (8 * i));
 }
@@ -36,104 +39,51 @@ static int (*evp_update)(void *, uint8_t *, int *, const uint8_t *, int);
 static void *evp_context;
 
 /* The context keeps the cipher that it has, so that OpenSSL fetches it once. */
-static void openssl_xor(const uint8_t *key, const uint8_t iv[16], uint8_t *output, const uint8_t *input, size_t len) {
+static void openssl_xor(int counter_bytes, XOR_PARAMETERS) {
+    uint8_t iv[16];
+    (void)rounds;
+    store_le(iv, block, counter_bytes), memcpy(iv + counter_bytes, nonce, (size_t)(16 - counter_bytes));
     int done = evp_init(evp_context, NULL, NULL, key, iv);
     while (done && len > 0) {
         int part = len < 1 << 30 ? (int)len : 1 << 30, out = 0;
         done = evp_update(evp_context, output, &out, input, part) && out == part;
-        output += part;
-        input += part;
-        len -= (size_t)part;
+        output += part, input += part, len -= (size_t)part;
     }
-    if (!done) {
-        puts("OpenSSL refused a call");
-        exit(2);
-    }
+    if (!done) puts("OpenSSL refused a call"), exit(2);
 }
 
-static void openssl_ietf(int rounds, const uint8_t *key, const uint8_t *nonce, uint64_t block, uint8_t *data,
-                         size_t len) {
-    uint8_t iv[16];
-    (void)rounds;
-    store_le(iv, block, 4);
-    memcpy(iv + 4, nonce, 12);
-    openssl_xor(key, iv, data, data, len);
-}
-
-static void openssl_between(const uint8_t *key, const uint8_t *nonce, uint8_t *output, const uint8_t *input,
-                            size_t len) {
-    uint8_t iv[16] = {0};
-    memcpy(iv + 4, nonce, 12);
-    openssl_xor(key, iv, output, input, len);
-}
-
-static void openssl_legacy(int rounds, const uint8_t *key, const uint8_t *nonce, uint64_t block, uint8_t *data,
-                           size_t len) {
-    uint8_t iv[16];
-    (void)rounds;
-    store_le(iv, block, 8);
-    memcpy(iv + 8, nonce, 8);
-    openssl_xor(key, iv, data, data, len);
-}
+static void openssl_ietf(XOR_PARAMETERS) { openssl_xor(4, rounds, key, nonce, block, output, input, len); }
+static void openssl_legacy(XOR_PARAMETERS) { openssl_xor(8, rounds, key, nonce, block, output, input, len); }
 
 static int find_openssl(struct other *found) {
     static const char *const names[] = {"libcrypto.so.3", "libcrypto.so.1.1", "libcrypto.so", NULL};
     const char *(*version)(int) = NULL;
     void *handle = open_first(names);
-    if (!handle || !look_up(handle, "EVP_CIPHER_CTX_new", &evp_new) ||
-        !look_up(handle, "EVP_chacha20", &evp_chacha20) || !look_up(handle, "EVP_EncryptInit_ex", &evp_init) ||
-        !look_up(handle, "EVP_EncryptUpdate", &evp_update) || !look_up(handle, "OpenSSL_version", &version)) {
-        puts("not found: OpenSSL (libcrypto.so)");
-        return 0;
-    }
-    evp_context = evp_new();
-    if (!evp_context || !evp_init(evp_context, evp_chacha20(), NULL, NULL, NULL)) {
-        puts("found without ChaCha20: OpenSSL");
+    if (!handle || !look_up(handle, "EVP_CIPHER_CTX_new", &evp_new) || !look_up(handle, "EVP_chacha20", &evp_chacha20) ||
+        !look_up(handle, "EVP_EncryptInit_ex", &evp_init) || !look_up(handle, "EVP_EncryptUpdate", &evp_update) ||
+        !look_up(handle, "OpenSSL_version", &version) || !(evp_context = evp_new()) ||
+        !evp_init(evp_context, evp_chacha20(), NULL, NULL, NULL)) {
+        puts("not found: OpenSSL (libcrypto.so) with ChaCha20");
         return 0;
     }
     printf("found: %s\n", version(0));
-    *found = (struct other){.name = "OpenSSL",
-                            .xor_from_block = {[IETF] = openssl_ietf, [LEGACY] = openssl_legacy},
-                            .xor_between = openssl_between};
+    *found = (struct other){.name = "OpenSSL", .xor_from_block = {[IETF] = openssl_ietf, [LEGACY] = openssl_legacy}};
     return 1;
 }
 
 /* libsodium */
 
-static int (*sodium_ietf_ic)(uint8_t *, const uint8_t *, unsigned long long, const uint8_t *, uint32_t,
-                             const uint8_t *);
-static int (*sodium_legacy_ic)(uint8_t *, const uint8_t *, unsigned long long, const uint8_t *, uint64_t,
-                               const uint8_t *);
-static int (*sodium_xchacha_ic)(uint8_t *, const uint8_t *, unsigned long long, const uint8_t *, uint64_t,
-                                const uint8_t *);
+static int (*sodium_ietf_ic)(uint8_t *, const uint8_t *, unsigned long long, const uint8_t *, uint32_t, const uint8_t *);
+static int (*sodium_legacy_ic)(uint8_t *, const uint8_t *, unsigned long long, const uint8_t *, uint64_t, const uint8_t *);
+static int (*sodium_xchacha_ic)(uint8_t *, const uint8_t *, unsigned long long, const uint8_t *, uint64_t, const uint8_t *);
 static int (*sodium_hchacha)(uint8_t *, const uint8_t *, const uint8_t *, const uint8_t *);
 
-static void sodium_ietf(int rounds, const uint8_t *key, const uint8_t *nonce, uint64_t block, uint8_t *data,
-                        size_t len) {
-    (void)rounds;
-    sodium_ietf_ic(data, data, len, nonce, (uint32_t)block, key);
-}
-
-static void sodium_between(const uint8_t *key, const uint8_t *nonce, uint8_t *output, const uint8_t *input,
-                           size_t len) {
-    sodium_ietf_ic(output, input, len, nonce, 0, key);
-}
-
-static void sodium_xchacha(int rounds, const uint8_t *key, const uint8_t *nonce, uint64_t block, uint8_t *data,
-                           size_t len) {
-    (void)rounds;
-    sodium_xchacha_ic(data, data, len, nonce, block, key);
-}
-
-static void sodium_legacy(int rounds, const uint8_t *key, const uint8_t *nonce, uint64_t block, uint8_t *data,
-                          size_t len) {
-    (void)rounds;
-    sodium_legacy_ic(data, data, len, nonce, block, key);
-}
+static void sodium_ietf(XOR_PARAMETERS) { (void)rounds, sodium_ietf_ic(output, input, len, nonce, (uint32_t)block, key); }
+static void sodium_xchacha(XOR_PARAMETERS) { (void)rounds, sodium_xchacha_ic(output, input, len, nonce, block, key); }
+static void sodium_legacy(XOR_PARAMETERS) { (void)rounds, sodium_legacy_ic(output, input, len, nonce, block, key); }
 
 static void sodium_hchacha20(int rounds, const uint8_t *key, const uint8_t *input, uint8_t *subkey) {
-    (void)rounds;
-    sodium_hchacha(subkey, input, key, NULL);
+    (void)rounds, sodium_hchacha(subkey, input, key, NULL);
 }
 
 static int find_sodium(struct other *found) {
@@ -153,7 +103,6 @@ static int find_sodium(struct other *found) {
     *found = (struct other){
         .name = "libsodium",
         .xor_from_block = {[IETF] = sodium_ietf, [XCHACHA] = sodium_xchacha, [LEGACY] = sodium_legacy},
-        .xor_between = sodium_between,
         .hchacha = sodium_hchacha20};
     return 1;
 }
@@ -202,8 +151,7 @@ static void plain_hchacha(int rounds, const uint8_t *key, const uint8_t *input, 
     for (int i = 0; i < 4; i++) store_le(subkey + 4 * i, x[i], 4), store_le(subkey + 16 + 4 * i, x[12 + i], 4);
 }
 
-static void plain_xor(int rounds, int counter_bytes, const uint8_t *key, const uint8_t *nonce, uint64_t block,
-                      uint8_t *data, size_t len) {
+static void plain_xor(int counter_bytes, XOR_PARAMETERS) {
     uint8_t last[16], made[64];
     uint32_t first[16], x[16];
     memcpy(last + counter_bytes, nonce, (size_t)(16 - counter_bytes));
@@ -213,26 +161,18 @@ static void plain_xor(int rounds, int counter_bytes, const uint8_t *key, const u
         memcpy(x, first, sizeof x);
         all_rounds(x, rounds);
         for (int i = 0; i < 16; i++) store_le(made + 4 * i, x[i] + first[i], 4);
-        for (size_t i = 0; i < 64 && at + i < len; i++) data[at + i] ^= made[i];
+        for (size_t i = 0; i < 64 && at + i < len; i++) output[at + i] = input[at + i] ^ made[i];
     }
 }
 
-static void plain_ietf(int rounds, const uint8_t *key, const uint8_t *nonce, uint64_t block, uint8_t *data,
-                       size_t len) {
-    plain_xor(rounds, 4, key, nonce, block, data, len);
-}
+static void plain_ietf(XOR_PARAMETERS) { plain_xor(4, rounds, key, nonce, block, output, input, len); }
+static void plain_legacy(XOR_PARAMETERS) { plain_xor(8, rounds, key, nonce, block, output, input, len); }
 
-static void plain_legacy(int rounds, const uint8_t *key, const uint8_t *nonce, uint64_t block, uint8_t *data,
-                         size_t len) {
-    plain_xor(rounds, 8, key, nonce, block, data, len);
-}
-
-static void plain_xchacha(int rounds, const uint8_t *key, const uint8_t *nonce, uint64_t block, uint8_t *data,
-                          size_t len) {
+static void plain_xchacha(XOR_PARAMETERS) {
     uint8_t subkey[32], subnonce[12] = {0};
     plain_hchacha(rounds, key, nonce, subkey);
     memcpy(subnonce + 4, nonce + 16, 8);
-    plain_xor(rounds, 4, subkey, subnonce, block, data, len);
+    plain_xor(4, rounds, subkey, subnonce, block, output, input, len);
 }
 
 const struct other plain_c = {

@@ -1,0 +1,90 @@
+/* SPDX-License-Identifier: Apache-2.0 OR MIT
+
+   Negative controls: a build that is spoilt in one way. The turns of check.c must find each. */
+
+#include <stdio.h>
+
+#include "compare.h"
+
+static const struct library *good;
+
+static enum {
+    XOR_BYTE, XOR_NEXT, XOR_TAKES, XOR_WRITES, XOR_REFUSES, KEYSTREAM_BIT, KEYSTREAM_32, CHECK_TAKES, CHECK_REFUSES, SUBKEY_BIT,
+    WORD, TWO_WORDS, FILL_BIT, FILL_LOSES, SEED_BIT, WORD_POS, SET_WORD_POS, BLOCK_POS, SET_BLOCK_POS, STREAM, SET_STREAM, CONTROLS
+} spoilt;
+
+#define POSITION const uint8_t *key, const uint8_t *nonce, uint64_t block, uint64_t offset
+
+static uint32_t xor(POSITION, uint8_t *output, const uint8_t *input, size_t len) {
+    uint32_t answer = good->ciphers[IETF][2].xor(key, nonce, block, offset + (spoilt == XOR_NEXT), output, input, len);
+    if (len > 0 && spoilt == (answer == CHACHA20_OK ? XOR_BYTE : XOR_WRITES)) output[len - 1] += 0x40;
+    if (spoilt == XOR_REFUSES && 64 * block + offset + len == CHACHA20_STREAM_BYTES) return CHACHA20_REFUSED;
+    return spoilt == XOR_TAKES ? CHACHA20_OK : answer;
+}
+
+static uint32_t keystream(POSITION, uint8_t *output, size_t len) {
+    uint64_t at = spoilt == KEYSTREAM_32 ? (uint32_t)block : block;
+    uint32_t answer = good->ciphers[LEGACY][2].keystream(key, nonce, at, offset, output, len);
+    if (len > 0 && answer == CHACHA20_OK && spoilt == KEYSTREAM_BIT) output[0] ^= 1;
+    return answer;
+}
+
+static uint32_t check_of(uint64_t block, uint64_t offset, size_t len) {
+    return spoilt == CHECK_TAKES ? CHACHA20_OK : good->check[IETF](block, offset, len + (spoilt == CHECK_REFUSES));
+}
+
+static void hchacha(const uint8_t *key, const uint8_t *input, uint8_t *subkey) {
+    good->hchacha[2](key, input, subkey), subkey[31] ^= spoilt == SUBKEY_BIT;
+}
+
+static uint32_t next_u32(uint8_t *state) { return good->next_u32[2](state) ^ (spoilt == WORD); }
+static uint64_t next_u64(uint8_t *state) {
+    uint64_t words = good->next_u64[2](state);
+    return spoilt == TWO_WORDS ? words << 32 | words >> 32 : words;
+}
+
+static void fill(uint8_t *state, uint8_t *output, size_t len) {
+    good->fill[2](state, output, len);
+    if (len > 0 && spoilt == FILL_BIT) output[len / 2] ^= 1;
+    if (len > 0 && len % 64 == 0 && spoilt == FILL_LOSES) (void)good->next_u32[2](state);
+}
+
+static void from_seed(const uint8_t *seed, uint8_t *state) { good->from_seed(seed, state), state[31] ^= spoilt == SEED_BIT; }
+
+static void get_word_pos(const uint8_t *state, uint64_t *low, uint64_t *high) {
+    good->get_word_pos(state, low, high);
+    if (spoilt == WORD_POS) *high = 0;
+}
+
+/* All of a number, or its low half. */
+static uint64_t half_if(int is_half, uint64_t number) { return is_half ? (uint32_t)number : number; }
+static void set_word_pos(uint8_t *state, uint64_t low, uint64_t high) { good->set_word_pos(state, low, high * (spoilt != SET_WORD_POS)); }
+static uint64_t get_block_pos(const uint8_t *state) { return good->get_block_pos(state) + (spoilt == BLOCK_POS); }
+static void set_block_pos(uint8_t *state, uint64_t block) { good->set_block_pos(state, half_if(spoilt == SET_BLOCK_POS, block)); }
+static uint64_t get_stream(const uint8_t *state) { return half_if(spoilt == STREAM, good->get_stream(state)); }
+
+static void set_stream(uint8_t *state, uint64_t stream) {
+    uint64_t low, high;
+    good->get_word_pos(state, &low, &high), good->set_stream(state, stream);
+    if (spoilt == SET_STREAM) good->set_word_pos(state, low, high);
+}
+
+int control(const struct machine *machine) {
+    struct machine only = *machine;
+    int lost = 0;
+    good = machine->builds[machine->build_count - 1];
+    struct library one = *good;
+    only.builds[0] = &one, only.build_count = 1;
+    one.ciphers[IETF][2].xor = xor, one.ciphers[LEGACY][2].keystream = keystream, one.check[IETF] = check_of;
+    one.hchacha[2] = hchacha, one.next_u32[2] = next_u32, one.next_u64[2] = next_u64, one.fill[2] = fill;
+    one.from_seed = from_seed, one.get_word_pos = get_word_pos, one.set_word_pos = set_word_pos;
+    one.get_block_pos = get_block_pos, one.set_block_pos = set_block_pos;
+    one.get_stream = get_stream, one.set_stream = set_stream;
+    for (spoilt = 0; spoilt <= CONTROLS; spoilt++) {
+        if (turns_find(&only, 800) == (spoilt < CONTROLS)) continue;
+        printf("wrong: negative control %d, of which the last has no fault\n", (int)spoilt);
+        lost++;
+    }
+    printf("negative controls: %d, %d not found\n", CONTROLS, lost);
+    return lost;
+}
