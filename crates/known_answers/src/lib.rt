@@ -1,5 +1,27 @@
-//! Known answers: the rows, which are calls with the answers that they must give, published or worked out by hand. A
-//! row runs on any cipher, core or generator of its kind.
+//! Known answers: the rows, which are calls with the answers that they must give. A row runs on any cipher, core or
+//! generator of its kind.
+//!
+//! | row | of | what | source |
+//! |---|---|---|---|
+//! | 1 | `ChaCha20` | a message there and back, and in pieces | OpenSSL |
+//! | 2 | quarter round | four words (a test of `user_tests`) | RFC 8439, 2.1.1 |
+//! | 3 | `hchacha` | a key and 16 bytes | draft, 2.2.1 |
+//! | 4 | `ChaCha20` | a message from block 1 on | RFC 8439, 2.4.2 |
+//! | 5 | `XChaCha20` | the keystream from block 1 on | an earlier draft |
+//! | 6 | `ChaCha20Legacy` | the keystream, and a seek into a block | OpenSSL |
+//! | 7 | generator | fills that lose bytes of a word | OpenSSL |
+//! | 8 | generator | how far each read moves | RFC 8439, A.1, number 4 |
+//! | 9, 10 | generator | across 2^64 blocks, across 2^32 | OpenSSL |
+//! | 11, 18, 22 | `ChaCha20` | the limit | by hand |
+//! | 12, 22 | `ChaCha20Legacy` | positions of more than 64 bits, the limit | by hand |
+//! | 13 | cores without rounds | the counter wraps | by hand |
+//! | 14, 15 | generators | stored states | by hand |
+//! | 16 | `ChaCha20` | slices of different lengths | by hand |
+//! | 17 | generator | one seeds another | the Rust crate's tests |
+//! | 19 | generator | a stream and a block | RFC 8439, 2.3.2 |
+//! | 20 | generator | two words around the wrap | OpenSSL |
+//! | 21 | generator | another stream | RFC 8439, A.1, numbers 1 and 5 |
+//! | 23 | generators | equality | by hand |
 #![tactic(auto)]
 
 pub mod ciphers;

@@ -1,15 +1,15 @@
 //! Published bytes, and answers that were computed by hand, over each backend; and the wrapper over a user's own core.
 
+mod agreement;
+mod all_backends;
 mod backends;
-mod beside;
 mod calls;
 mod core_calls;
-mod directly;
-mod ends;
-mod everywhere;
+mod cuts;
+mod direct_calls;
 mod faults;
 mod generator_traits;
-mod odd_cuts;
+mod limits;
 mod report;
 mod streams;
 mod toy_cipher;

@@ -2,7 +2,6 @@
 //! `examples` does, and the exports for C.
 
 mod aead;
-mod base;
 mod contracts;
 mod exports;
 mod file;
@@ -20,3 +19,4 @@ mod simulation;
 mod stream;
 mod tags;
 mod texts;
+mod unexported;

@@ -3,9 +3,9 @@
 ghost use Rattle.std.specs.Prelude.{◌≤◌, ◌^◌};
 ghost use Rattle.chacha20.specs.Cipher.{limit_of};
 
-use super::directly::{Called, Directly};
-use super::ends::{FIRST_FOUR, INTO_LAST_BLOCK, LAST_SIXTEEN, LEGACY_LIMIT};
+use super::direct_calls::{Called, Directly};
 use super::first_failure;
+use super::limits::{FIRST_FOUR, INTO_LAST_BLOCK, LAST_SIXTEEN, LEGACY_LIMIT};
 use chacha20::cipher::{KeyIvInit, StreamCipherSeek};
 use chacha20::{Key, LegacyNonce, Nonce};
 use known_answers::lists::{Fresh, wrong_list};

@@ -1,8 +1,8 @@
 //! Checkers that are given known faults: each finds a wrong answer and a wrong byte, the first and the last, and
 //! nothing where all are right.
 
-use super::directly::{Called, wrong_lists};
-use super::everywhere::wrong_soft_part;
+use super::all_backends::wrong_soft_part;
+use super::direct_calls::{Called, wrong_lists};
 use super::{first_bad_row, first_failure};
 use chacha20::CipherAnswer::{Done, Position, Refused};
 use chacha20::CipherCall::{Apply, Pos, Seek};

@@ -1,6 +1,6 @@
 //! The wrapper over a user's own core.
 
-use super::ends::LIMIT;
+use super::limits::LIMIT;
 use super::stop_if;
 use chacha20::CipherAnswer::{Done, Position, Refused};
 use chacha20::CipherCall::{Apply, CheckRemaining, Pos, Seek, Write};

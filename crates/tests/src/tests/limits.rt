@@ -1,6 +1,6 @@
 //! A run of calls, and ends of streams, for any cipher of a kind.
 
-use super::directly::{Called, wrong_lists};
+use super::direct_calls::{Called, wrong_lists};
 use chacha20::CipherAnswer::{Done, Overflow, Position, PositionI32, Refused};
 use chacha20::CipherCall::{Apply, ApplyFrom, CheckRemaining, Pos, PosI32, Seek, SeekI32, Write};
 use chacha20::{CipherCall, Nonce};

@@ -1,7 +1,7 @@
 //! Every test of a kind of cipher or generator, over each backend and a user's own. A proof meets each core once, here.
 
-use super::beside::wrong_beside;
-use super::directly::{Called, wrong_lists};
+use super::agreement::wrong_beside;
+use super::direct_calls::{Called, wrong_lists};
 use super::streams::wrong_part;
 use super::{
     backends, beside, calls, core_calls, ends, first_bad_row, first_failure, generator_traits,

@@ -2,7 +2,7 @@
 
 ghost use Rattle.std.specs.Prelude.{◌≤◌, ◌+◌};
 
-use super::directly::{Called, Directly};
+use super::direct_calls::{Called, Directly};
 use super::first_failure;
 use super::streams::is_multiple;
 use chacha20::CipherAnswer::Done;
