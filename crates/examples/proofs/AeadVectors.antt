@@ -1,5 +1,5 @@
--- Facts on `mac_text`, the text that the MAC takes: another order, padding or length doesn't check, and equal texts have
--- equal parts.
+-- Facts on `mac_text`, the text that the MAC takes: another order, padding or length doesn't check, and equal texts
+-- have equal parts.
 use Rattle.std.proofs.Common.{◌≡◌, ℕ, ◌+◌, ◌<◌, ◌^◌, List, [], ◌∷◌, ◌++◌, ◌∙◌, length, take, drop, replicate, refl, sym, ap, arith}
 use Rattle.std.proofs.Math.Seq.{take-append_seam, drop-append_seam}
 use Rattle.std.proofs.lemmas.List.{length-append}
@@ -24,9 +24,12 @@ long_part = refl
 -- lists with ends of one length
 same_ends : (xs ys xs' ys' : List ℕ) → length ys ≡ length ys' → xs ++ ys ≡ xs' ++ ys' → (xs ≡ xs') × (ys ≡ ys')
 same_ends xs ys xs' ys' long same =
-    let front : length xs ≡ length xs' = omega (arith, long, ap length same, length-append xs ys, length-append xs' ys') in (
-      sym (take-append_seam xs ys) ∙ ap (take (length xs)) same ∙ ap (λ n. take n (xs' ++ ys')) front ∙ take-append_seam xs' ys',
-      sym (drop-append_seam xs ys) ∙ ap (drop (length xs)) same ∙ ap (λ n. drop n (xs' ++ ys')) front ∙ drop-append_seam xs' ys',
+    let front : length xs ≡ length xs' =
+    omega (arith, long, ap length same, length-append xs ys, length-append xs' ys') in (
+      sym (take-append_seam xs ys) ∙ ap (take (length xs)) same ∙ ap (λ n. take n (xs' ++ ys')) front
+          ∙ take-append_seam xs' ys',
+      sym (drop-append_seam xs ys) ∙ ap (drop (length xs)) same ∙ ap (λ n. drop n (xs' ++ ys')) front
+          ∙ drop-append_seam xs' ys',
     )
 
 -- numbers with equal bytes
@@ -43,6 +46,8 @@ mac_text-injective a t a' t' fits_a fits_a' fits_t fits_t' same =
     let fourth = same_ends _ (to_le_bytes w64 (length a)) _ (to_le_bytes w64 (length a')) refl fifth.0 in
     let long_t = same_numbers (length t) (length t') fits_t fits_t' fifth.1 in
     let long_a = same_numbers (length a) (length a') fits_a fits_a' fourth.1 in
-    let third = same_ends _ (padding (length t)) _ (padding (length t')) (ap (λ n. length (padding n)) long_t) fourth.0 in
+    let pad = λ n. length (padding n) in
+    let third = same_ends _ (padding (length t)) _ (padding (length t')) (ap pad long_t) fourth.0 in
     let second = same_ends _ t _ t' long_t third.0 in
-    ((same_ends a (padding (length a)) a' (padding (length a')) (ap (λ n. length (padding n)) long_a) second.0).0, second.1)
+    let first = same_ends a (padding (length a)) a' (padding (length a')) (ap pad long_a) second.0 in
+    (first.0, second.1)

@@ -9,13 +9,13 @@
 //! ```
 //!
 //! The message is encrypted from block 1 on. The tag covers the associated data, which isn't encrypted, and the
-//! ciphertext; its key is the first half of block 0. Send or store the tag, and the nonce if the receiver can't tell it.
+//! ciphertext; its key is the first half of block 0. Send or store the tag, and if need be the nonce.
 //!
 //! Contracts say what `seal` computes, that `open` accepts exactly the right tag and otherwise leaves the message as it
-//! was, and that `open` of what `seal` made restores the message. They don't say how hard a tag is to forge. Never use a
-//! nonce twice under one key: the two messages reveal the XOR of their texts, and tags can be forged.
+//! was, and that `open` of what `seal` made restores the message. They don't say how hard a tag is to forge. Never use
+//! a nonce twice under one key: the two messages reveal the XOR of their texts, and tags can be forged.
 //!
-//! `seal` and `open` over any cipher `C` of the library and any MAC `M` are at the end. For another MAC, implement `Mac`.
+//! `seal` and `open` at the end take any cipher of the library and any MAC. For another MAC, implement `Mac`.
 
 ghost use Rattle.std.specs.Prelude.{◌≡◌, ◌≢◌, ◌<◌, ◌≤◌, ◌+◌, ◌↔◌, ◌++◌, [], ℕ, List, length, IsOk, IfOk, OnOk, OnErr, IsErrOf};
 ghost use Rattle.chacha20.specs.ChaCha.{keystream, chacha_stream, ietf};
@@ -31,8 +31,8 @@ use poly1305::{Poly1305, Tag, is_equal};
 pub struct ChaCha20Poly1305;
 
 impl ChaCha20Poly1305 {
-    /// Encrypts a message in place, and returns the tag of associated data and ciphertext. Fails if the message has more
-    /// than 274877906880 bytes, and then leaves it as it was.
+    /// Encrypts a message in place, and returns the tag of associated data and ciphertext. Fails if the message has
+    /// more than 274877906880 bytes, and then leaves it as it was.
     pub fn seal(
         key: &Key,
         nonce: &Nonce,
@@ -49,8 +49,8 @@ impl ChaCha20Poly1305 {
         seal::<ChaCha20, Poly1305>(key, nonce, aad, message)
     }
 
-    /// Checks the tag, and decrypts the message in place. Fails if the message is too long or the tag is wrong, and then
-    /// leaves the message as it was.
+    /// Checks the tag, and decrypts the message in place. Fails if the message is too long or the tag is wrong, and
+    /// then leaves the message as it was.
     pub fn open(
         key: &Key,
         nonce: &Nonce,
@@ -79,8 +79,8 @@ impl ChaCha20Poly1305 {
 pub struct XChaCha20Poly1305;
 
 impl XChaCha20Poly1305 {
-    /// Encrypts a message in place, and returns the tag of associated data and ciphertext. Fails if the message has more
-    /// than 274877906880 bytes, and then leaves it as it was.
+    /// Encrypts a message in place, and returns the tag of associated data and ciphertext. Fails if the message has
+    /// more than 274877906880 bytes, and then leaves it as it was.
     pub fn seal(
         key: &Key,
         nonce: &XNonce,
@@ -97,8 +97,8 @@ impl XChaCha20Poly1305 {
         seal::<XChaCha20, Poly1305>(key, nonce, aad, message)
     }
 
-    /// Checks the tag, and decrypts the message in place. Fails if the message is too long or the tag is wrong, and then
-    /// leaves the message as it was.
+    /// Checks the tag, and decrypts the message in place. Fails if the message is too long or the tag is wrong, and
+    /// then leaves the message as it was.
     pub fn open(
         key: &Key,
         nonce: &XNonce,

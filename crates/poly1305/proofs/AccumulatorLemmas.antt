@@ -15,14 +15,16 @@ pub block_behind : (text : List ℕ) (k n : ℕ) → block text (k + n) ≡ bloc
 block_behind text k n =
     let e : 16 * (k + n) ≡ 16 * k + 16 * n = omega arith in
     ap (λ bs. number (bs ++ 1 ∷ []))
-    (take_16 text (k + n) ∙ ap (λ m. take 16 (drop m text)) e ∙ ap (take 16) (sym (drop-drop (16 * n) (16 * k) text)) ∙ sym (take_16 (drop (16 * k) text) n))
+    (take_16 text (k + n) ∙ ap (λ m. take 16 (drop m text)) e
+    ∙ ap (take 16) (sym (drop-drop (16 * n) (16 * k) text)) ∙ sym (take_16 (drop (16 * k) text) n))
 
 pub block_front : (xs ys : List ℕ) (n : ℕ) → 16 * n + 16 ≤ length xs → block (xs ++ ys) n ≡ block xs n
 block_front xs ys n h =
     let start : 16 * n ≤ length xs = omega arith in
     let room : 16 ≤ length (drop (16 * n) xs) = omega (arith, length-drop (16 * n) xs) in
     ap (λ bs. number (bs ++ 1 ∷ []))
-    (take_16 (xs ++ ys) n ∙ ap (take 16) (drop-append-le (16 * n) xs ys start) ∙ take-append-le 16 (drop (16 * n) xs) ys room ∙ sym (take_16 xs n))
+    (take_16 (xs ++ ys) n ∙ ap (take 16) (drop-append-le (16 * n) xs ys start)
+    ∙ take-append-le 16 (drop (16 * n) xs) ys room ∙ sym (take_16 xs n))
 
 pub accumulator_behind : (r a : ℕ) (text : List ℕ) (k n : ℕ)
     → accumulator r a text (k + n) ≡ accumulator r (accumulator r a text k) (drop (16 * k) text) n
@@ -90,9 +92,11 @@ after-blocks key text piece whole rest same long =
     let count : length (text ++ piece) / 16 ≡ k + (1 + m) = omega (arith, length-append text piece, sizes) in
     let behind : drop (16 * k) (text ++ piece) ≡ whole ++ rest =
     drop-append-le (16 * k) text piece fits ∙ sym same in
-    let one : drop 16 (whole ++ rest) ≡ rest = ap (λ n. drop n (whole ++ rest)) (sym long) ∙ drop-append_seam whole rest in
+    let one : drop 16 (whole ++ rest) ≡ rest =
+    ap (λ n. drop n (whole ++ rest)) (sym long) ∙ drop-append_seam whole rest in
     let first : block (whole ++ rest) 0 ≡ number (whole ++ 1 ∷ []) =
-    block_front whole rest 0 (omega arith) ∙ ap (λ bs. number (bs ++ 1 ∷ [])) (take_16 whole 0 ∙ take_all 16 whole (omega arith)) in
+    block_front whole rest 0 (omega arith)
+    ∙ ap (λ bs. number (bs ++ 1 ∷ [])) (take_16 whole 0 ∙ take_all 16 whole (omega arith)) in
     let rest_is : drop (16 * (k + (1 + m))) (text ++ piece) ≡ drop (16 * m) rest =
     ap (λ n. drop n (text ++ piece)) (omega arith) ∙ sym (drop-drop (16 * (1 + m)) (16 * k) (text ++ piece))
     ∙ ap (drop (16 * (1 + m))) behind ∙ ap (λ n. drop n (whole ++ rest)) (omega arith)

@@ -21,7 +21,7 @@
 //!
 //! What is only read: no branch and no index depends on the key, the text's bytes or a tag. In the source all depend on
 //! lengths alone; so do those of `new`, `update`, `finish` and `is_equal` in the machine code for x86-64 at its default
-//! level, and a block takes 4 products, 2 short ones, sums and shifts. Nothing is wiped: copies of the key stay in memory.
+//! level, and a block takes 6 products, sums and shifts. Nothing is wiped: copies of the key stay in memory.
 #![tactic(auto)]
 
 mod accumulator;

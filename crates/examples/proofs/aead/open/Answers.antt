@@ -1,7 +1,8 @@
-use Rattle.std.proofs.Common.{◌∙◌, refl, ap}
+use Rattle.std.proofs.Common.{◌∙◌, refl, ap, sym}
 use Rattle.chacha20.specs.ChaCha.{xor_stream}
 use Rattle.chacha20.proofs.KeystreamLemmas.{xor_stream-xor_stream}
 use Rattle.chacha20.proofs.SeekLemmas.{keystream-sought}
+use Rattle.examples.specs.Aead.{mac_text}
 use Rattle.examples.proofs.aead.open.Goals as goal
 
 pub returns-clause-decrypted : goal.returns-clause-decrypted
@@ -12,3 +13,14 @@ returns-clause-decrypted g c plaintext same =
     ∙ keystream-sought (λ s p. xor_stream s p c.args.message.now) cipher.block_at cipher.modulus
     at_1.keystream refl at_1.position
     ∙ ap (xor_stream _ 64) same ∙ xor_stream-xor_stream _ 64 plaintext
+
+pub returns-clause-accepted : goal.returns-clause-accepted
+returns-clause-accepted g c =
+    let text = mac_text c.args.aad.now c.args.message.now in (
+      λ ok. (
+        c.in-Ok.ensures.accepted.0 refl,
+        sym (c.if-not-is_equal.ensures.0 refl) ∙ c.tag-expected.ensures
+            ∙ ap (λ key. g.M.Mac.tag_of key text) c.one_time_key.ensures,
+      ),
+      λ right. refl,
+    )

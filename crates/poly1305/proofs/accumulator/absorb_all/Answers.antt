@@ -21,7 +21,8 @@ loop-block-preserved c =
     record {
       value = rw (add-one)
           (c.absorb-h.ensures.value
-          ∙ ap (λ (bs : List ℕ). r_value c.args.r * (value_of c.loop-block.h % prime + number (bs ++ 1 ∷ [])) % prime) chunk
+          ∙ ap (λ (bs : List ℕ). r_value c.args.r * (value_of c.loop-block.h % prime + number (bs ++ 1 ∷ [])) % prime)
+          chunk
           ∙ ap (λ (a : ℕ). r_value c.args.r * (a + block bytes i) % prime) c.loop-block.invariant.value);
       small = c.absorb-h.ensures.small;
     }

@@ -16,12 +16,13 @@ pub returns-then-piece-room : goal.returns-then-piece-room
 returns-then-piece-room c key text same =
     let mac = c.self.inside in
     let piece : List ℕ = c.args.piece.now in
+    let kept : List ℕ = take mac.filled mac.buffer in
     let before = c.self.view_is ∙ same in
-    let kept : take mac.filled mac.buffer ≡ drop (16 * (length text / 16)) text = ap (λ (m : State). m.rest) before in
+    let kept_is : kept ≡ drop (16 * (length text / 16)) text = ap (λ (m : State). m.rest) before in
     let short : length text % 16 + length piece < 16 =
-    omega (arith, length-take mac.filled mac.buffer, ap length kept, length-drop (16 * (length text / 16)) text) in
+    omega (arith, length-take mac.filled mac.buffer, ap length kept_is, length-drop (16 * (length text / 16)) text) in
     let view : State =
-    record { r = r_value mac.r; s = mac.s; accumulator = value_of mac.accumulator % prime; rest = take mac.filled mac.buffer } in
+    record { r = r_value mac.r; s = mac.s; accumulator = value_of mac.accumulator % prime; rest = kept } in
     ap (λ rest. record view { rest = rest }) c.put.ensures
     ∙ ap (λ (m : State). record m { rest = m.rest ++ piece }) before ∙ sym (after-short key text piece short)
 
@@ -42,7 +43,8 @@ returns c key text same =
     let few : length whole ≤ mac.filled + length front = omega (arith, c.put-2.array_long, c.self.invariant) in
     let filled : whole ≡ kept ++ front = sym (take_all (mac.filled + length front) whole few) ∙ c.put-2.ensures in
     let cut : front ++ rest ≡ piece =
-    ap (λ xs. xs ++ rest) c.split_at.ensures.front ∙ ap (λ xs. take (16 - mac.filled) piece ++ xs) c.split_at.ensures.back
+    ap (λ xs. xs ++ rest) c.split_at.ensures.front
+    ∙ ap (λ xs. take (16 - mac.filled) piece ++ xs) c.split_at.ensures.back
     ∙ take-append-drop (16 - mac.filled) piece in
     let joined : whole ++ rest ≡ drop (16 * (length text / 16)) text ++ piece =
     ap (λ xs. xs ++ rest) filled ∙ append_assoc kept front rest ∙ ap (λ xs. kept ++ xs) cut
