@@ -1,13 +1,13 @@
 //! Packets under one key over a channel that loses, doubles and reorders them, as IPsec, DTLS and WireGuard have it.
 //!
-//! A packet is a header, which is its number in eight little-endian bytes, and a body, the frame of this number
-//! (`frames.rt`, whose rules hold here too). The receiver takes packets in any order and none twice: it remembers the
-//! last number of each of 64 slots, and takes a number only if it is greater than the last one of its slot. So it takes
-//! each packet that is less than 64 behind the newest, once.
+//! A packet is a header, its number in eight little-endian bytes, and a body, the frame of this number (`frames.rt`,
+//! whose rules hold here too). The receiver takes packets in any order and none twice. It has 64 slots, one for each
+//! remainder modulo 64, and takes a number only if it is greater than the last one in its slot. So it takes each packet
+//! that is less than 64 behind the newest, once.
 //!
-//! A packet must be authenticated before it moves the window: else a forged packet with a great number would block the
-//! real ones. So `receive` wants to know whether the packet is authentic, and changes nothing if it isn't. Send a MAC
-//! of the channel, the header and the body with each packet, under a key of its own, and compare it before the call.
+//! A packet must be authenticated before it moves this window: a forged packet with a large number would block the real
+//! ones. So `receive` asks whether the packet is authentic, and changes nothing if it isn't. Send with each packet a MAC
+//! of the channel, the header and the body, under a key of its own, and compare it before the call.
 //!
 //! `specs/Frames.antt` and `specs/Packets.antt` define the words of the contracts.
 
@@ -40,6 +40,7 @@ pub enum PacketError {
 pub fn send(sender: &mut Sender, header: &mut Header, body: &mut [u8]) -> Result<(), FrameError>
     ensures accepted { IsOk result
         ↔ ((sender.old.next + 1 < 2 ^ 64) × (length body.old ≤ 274877906944)) }
+    ensures used_up { IsErrOf result FrameError.NumbersUsedUp ↔ (sender.old.next + 1 ≡ 2 ^ 64) }
     ensures header { OnOk result (header.new ≡ to_le_bytes w64 sender.old.next) }
     ensures body { OnOk result (body.new ≡ encrypted sender.old body.old) }
     ensures next { OnOk result (sender.new ≡ after sender.old) }

@@ -29,11 +29,11 @@ use std::io::{ErrorKind, Read, Write};
 /// Why a text wasn't written to its end (this crate).
 #[derive(Debug, Drop)]
 pub enum StreamError {
-    /// The reader failed.
+    /// The reader failed, or gave 2^64 - 1 pieces.
     Read(io::Error),
     /// The writer failed.
     Write(io::Error),
-    /// The text is longer than the keystream from the cipher's position on, or than 2^64 - 1 pieces.
+    /// The text is longer than the keystream from the cipher's position on.
     TooLong,
 }
 
@@ -71,6 +71,9 @@ pub fn xor_all<C: StreamCipher, R: Read, W: Write>(
         × Consumes (R.remaining reader.old) (R.remaining reader.new) text
         × Appends (W.contents writer.old) (W.contents writer.new)
         (take n (xor_stream stream (C.position cipher.old) text)) }
+    ensures too_long { IsErrOf result TooLong → (text : List ℕ)
+        × Consumes (R.remaining reader.old) (R.remaining reader.new) text
+        × (limit_of C.modulus < C.position cipher.old + length text) }
     ensures retried { (e : Error)
         → IsErrOf result (StreamError.Read e) → error_kind e ≢ ErrorKind.Interrupted }
 {
@@ -80,7 +83,7 @@ pub fn xor_all<C: StreamCipher, R: Read, W: Write>(
             return Ok(());
         }
     }
-    Err(StreamError::TooLong)
+    Err(StreamError::Read(io::Error::from(ErrorKind::TimedOut)))
 }
 
 /// Writes a nonce, and then the encryption of all bytes that the reader has left (draft-irtf-cfrg-xchacha, section 2.3,
@@ -96,6 +99,9 @@ pub fn encrypt<R: Read, W: Write>(
     ensures written { OnOk result (IfSome (R.remaining reader.old) (λ text.
         Appends (W.contents writer.old) (W.contents writer.new)
         (nonce.now ++ xor_stream (xchacha_stream 10 key.now nonce.now) 0 text))) }
+    ensures too_long { IsErrOf result TooLong → (text : List ℕ)
+        × Consumes (R.remaining reader.old) (R.remaining reader.new) text
+        × (274877906944 < length text) }
 {
     write_whole(writer, nonce).map_err(StreamError::Write)?;
     xor_all(&mut XChaCha20::new(key, nonce), reader, writer, buf)
@@ -114,6 +120,9 @@ pub fn decrypt<R: Read, W: Write>(
         ≡ Some (nonce ++ xor_stream (xchacha_stream 10 key.now nonce) 0 text)
         → OnOk result (Appends (W.contents writer.old) (W.contents writer.new) text) }
     ensures short { IfSome (R.remaining reader.old) (λ bytes. length bytes < 24 → IsErr result) }
+    ensures too_long { IsErrOf result TooLong → (bytes : List ℕ)
+        × Consumes (R.remaining reader.old) (R.remaining reader.new) bytes
+        × (24 + 274877906944 < length bytes) }
 {
     let nonce = read_nonce(reader)?;
     xor_all(&mut XChaCha20::new(key, &nonce), reader, writer, buf)
@@ -123,6 +132,7 @@ fn read_nonce<R: Read>(reader: &mut R) -> Result<XNonce, StreamError>
     ensures bytes { IfOk result (λ nonce.
         Consumes (R.remaining reader.old) (R.remaining reader.new) nonce) }
     ensures size { IfOk result (λ nonce. length nonce ≡ 24) }
+    ensures never_too_long { ¬ IsErrOf result TooLong }
 {
     let mut nonce = [0; 24];
     reader.read_exact(&mut nonce).map_err(StreamError::Read)?;
@@ -151,6 +161,9 @@ fn xor_piece<C: StreamCipher, R: Read, W: Write>(
         × Consumes (R.remaining reader.old) (R.remaining reader.new) text
         × Appends (W.contents writer.old) (W.contents writer.new)
         (take n (xor_stream stream (C.position cipher.old) text)) }
+    ensures too_long { IsErrOf result TooLong → (text : List ℕ)
+        × Consumes (R.remaining reader.old) (R.remaining reader.new) text
+        × (limit_of C.modulus < C.position cipher.old + length text) }
     ensures retried { (e : Error)
         → IsErrOf result (StreamError.Read e) → error_kind e ≢ ErrorKind.Interrupted }
 {

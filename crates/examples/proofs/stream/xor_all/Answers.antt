@@ -1,10 +1,12 @@
-use Rattle.std.proofs.Common.{◌+◌, ◌++◌, ◌∙◌, ℕ, List, length, take, arith, length-append}
+use Rattle.std.proofs.Common.{◌+◌, ◌++◌, ◌∙◌, ℕ, List, length, take, arith, rules, length-append}
 use Rattle.std.proofs.Math.Seq.{take-append-add, take-length}
 use Rattle.std.specs.declared.option.Option.{Option}
+use Rattle.std.specs.Prelude.{IsErrOf}
 use Rattle.std.specs.Io.KnownBytes.{Appends}
 use Rattle.std.proofs.KnownBytes.{Appends-trans, Consumes-trans}
 use Rattle.chacha20.specs.ChaCha.{keystream, xor_stream}
 use Rattle.chacha20.proofs.KeystreamLemmas.{xor_stream-append}
+use Rattle.examples.specs.declared.stream.StreamError.TheVariants.{TooLong}
 use Rattle.examples.proofs.stream.xor_all.Goals as goal
 
 pub pieces-preserved : goal.pieces-preserved
@@ -61,3 +63,10 @@ returns-clause-partly g c =
     let stream = keystream cipher.modulus (cipher.block_at (cipher.fixed old)) in
     let (moved, size, fixed, position, read, written) = c.pieces.invariant in
     (moved, length (xor_stream stream (cipher.position old) moved), read, rw (take-length) written)
+
+pub returns-in_err-n-clause-too_long : goal.returns-in_err-n-clause-too_long
+returns-in_err-n-clause-too_long g c same =
+    let (moved, size, fixed, position, read, written) = c.pieces.invariant in
+    let said : IsErrOf c.xor_piece.result TooLong = search rules in
+    let (more, read', past) = c.xor_piece.ensures.too_long said in
+    (moved ++ more, Consumes-trans _ _ _ _ _ read read', omega (arith, length-append moved more, position, past))
