@@ -17,7 +17,7 @@
 enum { OFTEN_LONGEST = 1 << 18, LONGEST = 1 << 22, MOST_CUTS = 40, PAGE = 4096 };
 
 /* What a run makes at least, of each kind of case and by each build. */
-enum { LEAST_CASES = 10, LEAST_CALLS = 100 };
+enum { KINDS = 4, LEAST_CASES = 10, LEAST_CALLS = 100 };
 
 /* A position in a stream: those of the legacy layout have more than 64 bits. */
 __extension__ typedef unsigned __int128 wide;
@@ -41,8 +41,6 @@ struct call {
     uint8_t *output;
     const uint8_t *input;
 };
-
-enum { KINDS = 4 };
 
 struct run {
     const struct machine *machine;
@@ -485,7 +483,7 @@ int check(const struct machine *machine, uint64_t seed, uint64_t bytes) {
     run.differences += far_apart(machine);
     if (bytes >= 1000000000) run.differences += over_4_gib(machine);
     run.random = seed;
-    for (int i = 0; *done < bytes || i < 32 * LEAST_CASES; i++) one_turn(&run);
+    for (int i = 0; *done < bytes || i < 64 * LEAST_CASES; i++) one_turn(&run);
     for (int i = 0; i < machine->build_count; i++) calls += run.calls[i], few += run.calls[i] < LEAST_CALLS;
     for (int i = 0; i < KINDS; i++) few += run.cases[i] < LEAST_CASES;
     if (few > 0) puts("wrong: too few cases of a kind, or too few calls of a build");

@@ -58,7 +58,9 @@ static void get_word_pos(const uint8_t *state, uint64_t *low, uint64_t *high) {
 
 /* All of a number, or its low half. */
 static uint64_t half_if(int is_half, uint64_t number) { return is_half ? (uint32_t)number : number; }
-static void set_word_pos(uint8_t *state, uint64_t low, uint64_t high) { good->set_word_pos(state, low, high * (spoilt != SET_WORD_POS)); }
+static void set_word_pos(uint8_t *state, uint64_t low, uint64_t high) {
+    good->set_word_pos(state, low, spoilt == SET_WORD_POS ? 0 : high);
+}
 static uint64_t get_block_pos(const uint8_t *state) { return good->get_block_pos(state) + (spoilt == BLOCK_POS); }
 static void set_block_pos(uint8_t *state, uint64_t block) { good->set_block_pos(state, half_if(spoilt == SET_BLOCK_POS, block)); }
 static uint64_t get_stream(const uint8_t *state) { return half_if(spoilt == STREAM, good->get_stream(state)); }

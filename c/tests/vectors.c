@@ -39,9 +39,9 @@ static void positions(void) {
         {0, 0}, {1, 64}, {0x7fffffff, 0x1fffffffc0}, {0xffffffff, 0x3fffffffc0}, {0x100000000, 0x4000000000},
         {0x123456789abcdef, 0x48d159e26af37bc0}, {0x3ffffffffffffff, 0xffffffffffffffc0}, {0x400000000000000, UINT64_MAX},
         {0x400000000000001, UINT64_MAX}, {0x8000000000000000, UINT64_MAX}, {UINT64_MAX, UINT64_MAX}};
-    for (size_t i = 0; i < sizeof all / sizeof all[0]; i++) is("a block's position", chacha20_block_position(all[i][0]) == all[i][1]);
-    is("a check", chacha20_check(CHACHA20_STREAM_BYTES, 0) == CHACHA20_OK && chacha20_check(CHACHA20_STREAM_BYTES, 1) == CHACHA20_REFUSED &&
-                      chacha20_check(UINT64_MAX, 0) == CHACHA20_REFUSED && chacha20_check(0, SIZE_MAX) == CHACHA20_REFUSED);
+    for (size_t i = 0; i < sizeof all / sizeof all[0]; i++) is("a position", chacha20_block_position(all[i][0]) == all[i][1]);
+    is("a check", chacha20_check(CHACHA20_STREAM_BYTES, 0) == CHACHA20_OK && chacha20_check(UINT64_MAX, 0) == CHACHA20_REFUSED &&
+                      chacha20_check(CHACHA20_STREAM_BYTES, 1) == CHACHA20_REFUSED && chacha20_check(0, SIZE_MAX) == CHACHA20_REFUSED);
     is("a legacy check", chacha20_legacy_check(0, 0, SIZE_MAX) == CHACHA20_OK &&
                              chacha20_legacy_check(UINT64_MAX, 64, 1) == CHACHA20_REFUSED);
 }
@@ -71,7 +71,8 @@ static void ietf(void) {
         {"RFC 8439, A.1, #5", "0000000000000000000000000000000000000000000000000000000000000000", "000000000000000000000002",
          "c2c64d378cd536374ae204b9ef933fcd1a8b2288b3dfa49672ab765b54ee27c7"
          "8a970e0e955c14f3a88e741b97c286f75f8fc299e8148362fa198a39531bed6d", 0},
-        {"RFC 8439, 2.6.2", "808182838485868788898a8b8c8d8e8f909192939495969798999a9b9c9d9e9f", "000000000001020304050607", "8ad5a08b905f81cc815040274ab29471a833b637e3fd0da508dbb8e2fdd1a646", 0},
+        {"RFC 8439, 2.6.2", "808182838485868788898a8b8c8d8e8f909192939495969798999a9b9c9d9e9f", "000000000001020304050607",
+         "8ad5a08b905f81cc815040274ab29471a833b637e3fd0da508dbb8e2fdd1a646", 0},
     };
     static const char text[] = "Ladies and Gentlemen of the class of '99: If I could offer you only one tip for the "
                                "future, sunscreen would be it.";
