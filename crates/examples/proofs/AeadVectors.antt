@@ -1,6 +1,6 @@
 -- Facts on `mac_text`, the text that the MAC takes: another order, padding or length doesn't check, and equal texts
 -- have equal parts.
-use Rattle.std.proofs.Common.{◌≡◌, ℕ, ◌+◌, ◌<◌, ◌^◌, List, [], ◌∷◌, ◌++◌, ◌∙◌, length, take, drop, replicate, refl, sym, ap, arith}
+use Rattle.std.proofs.Common.{◌≡◌, ℕ, ◌<◌, ◌^◌, List, [], ◌∷◌, ◌++◌, ◌∙◌, length, take, drop, replicate, refl, sym, ap, arith}
 use Rattle.std.proofs.Math.Seq.{take-append_seam, drop-append_seam}
 use Rattle.std.proofs.lemmas.List.{length-append}
 use Rattle.std.proofs.lemmas.Nat.{from_le_bytes-to_le_bytes_8}
@@ -46,7 +46,7 @@ mac_text-injective a t a' t' fits_a fits_a' fits_t fits_t' same =
     let fourth = same_ends _ (to_le_bytes w64 (length a)) _ (to_le_bytes w64 (length a')) refl fifth.0 in
     let long_t = same_numbers (length t) (length t') fits_t fits_t' fifth.1 in
     let long_a = same_numbers (length a) (length a') fits_a fits_a' fourth.1 in
-    let pad = λ n. length (padding n) in
+    let pad : ℕ → ℕ = λ n. length (padding n) in
     let third = same_ends _ (padding (length t)) _ (padding (length t')) (ap pad long_t) fourth.0 in
     let second = same_ends _ t _ t' long_t third.0 in
     let first = same_ends a (padding (length a)) a' (padding (length a')) (ap pad long_a) second.0 in
