@@ -1,5 +1,5 @@
 -- Worked runs without rounds, so that a case of a list of calls that is changed together with the code does not check.
-use Rattle.std.proofs.Common.{◌≡◌, ◌+◌, ◌-◌, ◌^◌, List, ℕ, [], ◌∷◌, ◌++◌, replicate, pos, negsuc, refl}
+use Rattle.std.proofs.Common.{◌≡◌, ◌+◌, ◌^◌, ℕ, [], ◌∷◌, ◌++◌, replicate, pos, negsuc, refl}
 use Rattle.chacha_base.specs.ChaCha.{quarter, columns, diagonals, rounds, add_states, ietf, block}
 use Rattle.chacha20.specs.Generator.{of_seed}
 use Rattle.chacha20.specs.GeneratorRuns.{rng_run}

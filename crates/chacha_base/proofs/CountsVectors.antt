@@ -1,5 +1,5 @@
 -- Worked counts and remaining blocks, so that a definition that is changed together with the code does not check.
-use Rattle.std.proofs.Common.{◌≡◌, ◌+◌, ◌*◌, ◌-◌, ◌^◌, Some, None, List, [], ◌∷◌, refl}
+use Rattle.std.proofs.Common.{◌≡◌, ◌+◌, ◌*◌, ◌-◌, ◌^◌, Some, None, [], ◌∷◌, refl}
 use Rattle.chacha_base.specs.Cipher.{remaining}
 use Rattle.chacha_base.specs.Counts.{for_bytes, tail_of_16}
 
