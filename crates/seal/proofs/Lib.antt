@@ -1,0 +1,3 @@
+pub mod ChunkLemmas
+pub mod NonceLemmas
+pub mod ReaderLemmas
