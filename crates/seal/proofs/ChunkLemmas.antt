@@ -76,17 +76,17 @@ piece-front m rest i fits =
 piece-next : (m rest : List ℕ) (i : ℕ) → length m ≡ 65536 * i → piece (m ++ rest) i ≡ take 65536 rest
 piece-next m rest i long = ap (take 65536) (drop_at m rest (65536 * i) long)
 
-length-piece : (text : List ℕ) (i : ℕ) → 65536 * suc i ≤ length text → length (piece text i) ≡ 65536
+pub length-piece : (text : List ℕ) (i : ℕ) → 65536 * suc i ≤ length text → length (piece text i) ≡ 65536
 length-piece text i fits =
     length-take-le 65536 (drop (65536 * i) text) (omega (arith, fits, length-drop (65536 * i) text))
 
 -- the last piece: all that is left
-last-piece : (text : List ℕ) → piece text (last_number text) ≡ drop (65536 * last_number text) text
+pub last-piece : (text : List ℕ) → piece text (last_number text) ≡ drop (65536 * last_number text) text
 last-piece text =
     let n = last_number text in
     take_all 65536 (drop (65536 * n) text) (omega (arith, length-drop (65536 * n) text))
 
-length-last : (text : List ℕ) → length (piece text (last_number text)) ≡ length text - 65536 * last_number text
+pub length-last : (text : List ℕ) → length (piece text (last_number text)) ≡ length text - 65536 * last_number text
 length-last text = ap length (last-piece text) ∙ length-drop (65536 * last_number text) text
 
 last-is : (i n : ℕ) → n ≤ 65536 → (0 < i → 0 < n) → (65536 * i + n - 1) / 65536 ≡ i
@@ -125,7 +125,7 @@ module _ (key salt : List ℕ) where
       ∙ ap₂ (λ cs p. (header salt ++ cs) ++ chunk key salt i true p) (chunks-front m t i (omega (arith, long)))
       (piece-next m t i long ∙ take_all 65536 t fits))
 
-  sealed-is : (text : List ℕ) → sealed key salt text ≡ header salt ++ body text
+  pub sealed-is : (text : List ℕ) → sealed key salt text ≡ header salt ++ body text
   sealed-is text =
       let n = last_number text in
       append_assoc (header salt) (chunks key salt text n) (chunk key salt n true (piece text n))
@@ -138,7 +138,7 @@ module _ (key salt : List ℕ) where
       omega (arith, length-append before here, length-chunks text i (omega (arith, fits)),
       length-chunk key salt i false (piece text i), length-piece text i fits)
 
-  length-body : (text : List ℕ) → length (body text) ≡ length text + 16 * (last_number text + 1)
+  pub length-body : (text : List ℕ) → length (body text) ≡ length text + 16 * (last_number text + 1)
   length-body text =
       let n = last_number text in
       let here = chunk key salt n true (piece text n) in
@@ -146,7 +146,7 @@ module _ (key salt : List ℕ) where
       length-chunk key salt n true (piece text n), length-last text)
 
   -- chunk i of the first n
-  chunk-at : (text : List ℕ) (n i : ℕ) → i < n → (rest : List ℕ)
+  pub chunk-at : (text : List ℕ) (n i : ℕ) → i < n → (rest : List ℕ)
       × (chunks key salt text n ≡ chunks key salt text i ++ (chunk key salt i false (piece text i) ++ rest))
   chunk-at text zero i less = absurd (omega (arith, less))
   chunk-at text (suc n) i less =

@@ -1,6 +1,6 @@
 //! From a reader to a writer.
 
-ghost use Rattle.std.specs.Prelude.{◌≡◌, ◌≢◌, ◌<◌, ◌≤◌, ◌+◌, ◌++◌, ℕ, List, length, take, Some, IfOk, OnOk, IfErr, IfSome};
+ghost use Rattle.std.specs.Prelude.{◌≡◌, ◌≢◌, ◌<◌, ◌≤◌, ◌+◌, ◌^◌, ◌++◌, ℕ, List, length, take, Some, IfOk, OnOk, IfErr, IfSome};
 ghost use Rattle.std.specs.Io.KnownBytes.{Appends, Consumes, IsAtEnd, Keeps, prepend_known};
 ghost use Rattle.seal.specs.declared.error.Damage.{Damage};
 ghost use Rattle.seal.specs.Sealed.{header, chunk, sealed, BeginsWith};
@@ -53,7 +53,8 @@ pub fn decrypt<R: Read, W: Write>(
         → IfSome (R.remaining reader.old) (λ file. (salt text : List ℕ)
         → length salt ≡ 16 → file ≢ sealed key.now salt text)) }
     ensures only_right { IfErr result (λ e. (damage : Damage) → e ≡ SealError.Damaged damage
-        → IfSome (R.remaining reader.old) (λ file. (text : List ℕ) × BeginsWith key.now file text
+        → IfSome (R.remaining reader.old) (λ file. (text : List ℕ)
+        × (0 < length text → BeginsWith key.now file text)
         × Appends (W.contents writer.old) (W.contents writer.new) text)) }
     ensures text { (salt text : List ℕ) → length salt ≡ 16
         → R.remaining reader.old ≡ Some (sealed key.now salt text)
@@ -78,6 +79,7 @@ pub fn decrypt<R: Read, W: Write>(
 pub fn read_header<R: Read>(reader: &mut R) -> Result<Salt, SealError>
     ensures read { IfOk result (λ salt.
         Consumes (R.remaining reader.old) (R.remaining reader.new) (header salt)) }
+    ensures size { IfOk result (λ salt. length salt ≡ 16) }
     ensures refused { IfErr result (λ e. (damage : Damage) → e ≡ SealError.Damaged damage
         → IfSome (R.remaining reader.old) (λ file. (salt rest : List ℕ)
         → length salt ≡ 16 → file ≢ header salt ++ rest)) }

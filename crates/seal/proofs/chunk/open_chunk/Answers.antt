@@ -1,5 +1,5 @@
 use Rattle.std.proofs.Common.{◌≡◌, ◌∙◌, ◌-◌, ◌<◌, ◌≤◌, ◌++◌, IsOk, IsTrue, rules, arith, length, take, drop, sym, ap, refl, take_at, length-take-le, true≢false}
-use Rattle.std.proofs.lemmas.List.{take-append-drop}
+use Rattle.std.proofs.lemmas.List.{take-append-drop, take_rest}
 use Rattle.chacha20.specs.ChaCha.{xor_stream}
 use Rattle.chacha20.specs.XChaCha.{xchacha_stream}
 use Rattle.chacha20.proofs.KeystreamLemmas.{xor_stream-xor_stream}
@@ -29,7 +29,7 @@ returns-clause-right c opened =
     let stream = xchacha_stream 10 key nonce in
     let accepted : IsOk c.open.result = sym c.is_ok.ensures.value ∙ opened in
     let right : drop end bytes ≡ poly1305_tag stream c.header.result ciphertext =
-    sym c.copy_from_slice.ensures.after ∙ (c.open.ensures.accepted.0 accepted).1 in
+    sym (c.copy_from_slice.ensures.after ∙ take_rest bytes end) ∙ (c.open.ensures.accepted.0 accepted).1 in
     let size : length text ≡ end = c.open.auto.message ∙ length-take-le end bytes (omega arith) in
     let plain : text ≡ encrypted stream ciphertext =
     on_ok-holds c.open.result accepted
@@ -48,5 +48,5 @@ returns-clause-wrong c refused text some same =
     let end = length c.args.bytes.now - 16 in
     let size = length-take-le end c.args.bytes.now (omega arith) in
     let accepted : IsOk c.open.result =
-    c.open.ensures.accepted.1 (omega (arith, size, c.requires.size), c.copy_from_slice.ensures.after ∙ tag) in
+    c.open.ensures.accepted.1 (omega (arith, size, c.requires.size), c.copy_from_slice.ensures.after ∙ take_rest c.args.bytes.now end ∙ tag) in
     true≢false (sym accepted ∙ sym c.is_ok.ensures.value ∙ refused)
