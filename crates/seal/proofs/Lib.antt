@@ -1,0 +1,5 @@
+pub mod ChunkLemmas
+pub mod FileLemmas
+pub mod NonceLemmas
+pub mod OpenLemmas
+pub mod ReaderLemmas

@@ -1,0 +1,75 @@
+//! Why the program stops: each failure prints as a sentence.
+
+use crate::error::{Damage, SealError};
+use std::alloc::AllocError;
+use std::fmt;
+use std::fmt::{Display, Formatter};
+use std::io;
+
+/// Why a call of the program failed. A path is the file's name as it was given.
+#[derive(Debug, Drop)]
+pub enum Failure<'a> {
+    /// The words aren't those of a call.
+    Usage,
+    /// START or LEN isn't a number below 2^64.
+    NotANumber(&'a str),
+    OutOfMemory,
+    NoRandomBytes(io::Error),
+    Read(&'a str, io::Error),
+    Write(&'a str, io::Error),
+    /// A key file with so many bytes.
+    NotAKey(&'a str, usize),
+    /// A file that stands for two of the call's words.
+    SameFile(&'a str),
+    /// A device or a directory.
+    NotAFile(&'a str),
+    Damaged(&'a str, Damage),
+    TooLong(&'a str),
+    /// START and LEN end behind the text, which has so many bytes.
+    PastEnd(&'a str, u64),
+}
+
+impl<'a> Failure<'a> {
+    /// The failure of a stream between two files.
+    pub fn of_stream(error: SealError, from: &'a str, to: &'a str) -> Failure<'a> {
+        match error {
+            SealError::Read(e) => Failure::Read(from, e),
+            SealError::Write(e) => Failure::Write(to, e),
+            SealError::Damaged(damage) => Failure::Damaged(from, damage),
+            SealError::TooLong => Failure::TooLong(from),
+        }
+    }
+}
+
+impl From<AllocError> for Failure<'_> {
+    fn from(_: AllocError) -> Self {
+        Failure::OutOfMemory
+    }
+}
+
+impl Display for Failure<'_> {
+    fn fmt<W: fmt::Write>(&self, f: &mut Formatter<W>) -> fmt::Result {
+        match self {
+            Failure::Usage => write!(
+                f,
+                "usage: seal encrypt KEYFILE IN OUT | seal decrypt KEYFILE IN OUT | seal cat KEYFILE IN START LEN | \
+                 seal key KEYFILE"
+            ),
+            Failure::NotANumber(word) => write!(f, "{word} is not a number of bytes"),
+            Failure::OutOfMemory => write!(f, "out of memory"),
+            Failure::NoRandomBytes(e) => write!(f, "the system gives no random bytes: {e}"),
+            Failure::Read(path, e) => write!(f, "cannot read {path}: {e}"),
+            Failure::Write(path, e) => write!(f, "cannot write {path}: {e}"),
+            Failure::NotAKey(path, len) => {
+                write!(f, "the key file {path} has {len} bytes, not 32")
+            }
+            Failure::SameFile(path) => write!(f, "{path} would replace a file that is read"),
+            Failure::NotAFile(path) => write!(f, "{path} is there and isn't a file"),
+            Failure::Damaged(path, damage) => write!(f, "{path}: {damage}"),
+            Failure::TooLong(path) => write!(f, "{path} has more chunks than a sealed file may have"),
+            Failure::PastEnd(path, len) => {
+                write!(f, "START and LEN end behind the text of {path}, which has {len} bytes")
+            }
+        }
+    }
+}

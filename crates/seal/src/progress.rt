@@ -1,0 +1,41 @@
+//! A reader that says on a terminal how far it is.
+
+use std::io;
+use std::io::{IsTerminal, Read};
+
+const STEP: u64 = 1 << 26;
+
+/// Prints a line on standard error, where that is a terminal, after each 64 MiB.
+#[derive(Drop)]
+pub struct Progress<'a, R> {
+    rt: &'a HostRuntime,
+    inner: R,
+    // The bytes of the file, those that were read, and those after which the next line comes.
+    len: u64,
+    read: u64,
+    next: u64,
+    shows: bool,
+}
+
+impl<'a, R> Progress<'a, R> {
+    pub fn new(rt: &'a HostRuntime, inner: R, len: u64) -> Progress<'a, R> {
+        let shows = rt.stderr().is_terminal();
+        Progress { rt, inner, len, read: 0, next: STEP, shows }
+    }
+}
+
+impl<R: Read> Read for Progress<'_, R> {
+    fn read(&mut self, buf: &mut [u8]) -> io::Result<usize> {
+        let n = self.inner.read(buf)?;
+        self.read = self.read.saturating_add(n as u64);
+        if self.shows && self.read >= self.next {
+            self.next = self.next.saturating_add(STEP);
+            let (read, len) = (self.read >> 20, self.len >> 20);
+            let _ = eprint!(self.rt; "\r{read} of {len} MiB");
+            if self.next > self.len {
+                let _ = eprintln!(self.rt; "");
+            }
+        }
+        Ok(n)
+    }
+}
