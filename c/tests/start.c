@@ -15,7 +15,7 @@
 
 #include "compare.h"
 
-enum { THREADS = 8, TURNS = 200, LEN = 5000, LEAST_CALLS = 4 + THREADS * TURNS + 2 };
+enum { THREADS = 8, TURNS = 2000, LEN = 5000, LEAST_CALLS = 4 + THREADS * TURNS + 2 };
 
 static int calls, wrong;
 static uint8_t data[LEN], right[THREADS][LEN];
