@@ -18,8 +18,12 @@ unfolding chunk
 length-chunk key salt i last text =
     let stream = xchacha_stream 10 key (chunk_nonce salt i last) in
     let ciphertext = encrypted stream text in
-    omega (arith, length-append ciphertext (poly1305_tag stream (header salt) ciphertext),
-    length-xor_stream stream 64 text, length-tag stream (header salt) ciphertext)
+    omega (
+      arith,
+      length-append ciphertext (poly1305_tag stream (header salt) ciphertext),
+      length-xor_stream stream 64 text,
+      length-tag stream (header salt) ciphertext,
+    )
 
 -- a chunk has one text
 pub chunk-same : (key salt : List ℕ) (i : ℕ) (last : Bool) (xs ys : List ℕ)
@@ -30,7 +34,7 @@ chunk-same key salt i last xs ys same =
     let size : length xs ≡ length ys =
     omega (arith, sym (length-chunk key salt i last xs) ∙ ap length same ∙ length-chunk key salt i last ys) in
     let front : (zs : List ℕ) → take (length zs) (xchacha20_poly1305 key (chunk_nonce salt i last) (header salt) zs)
-        ≡ encrypted stream zs =
+    ≡ encrypted stream zs =
     λ zs. take_at (encrypted stream zs) (poly1305_tag stream (header salt) (encrypted stream zs)) (length zs)
     (length-xor_stream stream 64 zs) in
     let ciphertext : encrypted stream xs ≡ encrypted stream ys =
@@ -135,15 +139,25 @@ module _ (key salt : List ℕ) where
   length-chunks text (suc i) fits =
       let before = chunks key salt text i in
       let here = chunk key salt i false (piece text i) in
-      omega (arith, length-append before here, length-chunks text i (omega (arith, fits)),
-      length-chunk key salt i false (piece text i), length-piece text i fits)
+      omega (
+        arith,
+        length-append before here,
+        length-chunks text i (omega (arith, fits)),
+        length-chunk key salt i false (piece text i),
+        length-piece text i fits,
+      )
 
   pub length-body : (text : List ℕ) → length (body text) ≡ length text + 16 * (last_number text + 1)
   length-body text =
       let n = last_number text in
       let here = chunk key salt n true (piece text n) in
-      omega (arith, length-append (chunks key salt text n) here, length-chunks text n (omega arith),
-      length-chunk key salt n true (piece text n), length-last text)
+      omega (
+        arith,
+        length-append (chunks key salt text n) here,
+        length-chunks text n (omega arith),
+        length-chunk key salt n true (piece text n),
+        length-last text,
+      )
 
   -- chunk i of the first n
   pub chunk-at : (text : List ℕ) (n i : ℕ) → i < n → (rest : List ℕ)
@@ -152,13 +166,13 @@ module _ (key salt : List ℕ) where
   chunk-at text (suc n) i less =
       let within : i ≤ n = omega (arith, less) in
       elim (eq-or-lt_of_le within) [
-      inl same ↦ ([], rw (same, append-nil) refl)
-    | inr before ↦
-      let next = chunk key salt n false (piece text n) in
-      let (rest, found) = chunk-at text n i before in (
-        rest ++ next,
-        ap (λ cs. cs ++ next) found
-        ∙ append_assoc (chunks key salt text i) (chunk key salt i false (piece text i) ++ rest) next
-        ∙ ap (λ cs. chunks key salt text i ++ cs) (append_assoc (chunk key salt i false (piece text i)) rest next),
-      )
-    ]
+        | inl same ↦ ([], rw (same, append-nil) refl)
+        | inr before ↦
+            let next = chunk key salt n false (piece text n) in
+            let (rest, found) = chunk-at text n i before in (
+              rest ++ next,
+              ap (λ cs. cs ++ next) found
+                  ∙ append_assoc (chunks key salt text i) (chunk key salt i false (piece text i) ++ rest) next
+                  ∙ ap (λ cs. chunks key salt text i ++ cs) (append_assoc (chunk key salt i false (piece text i)) rest next),
+            )
+      ]

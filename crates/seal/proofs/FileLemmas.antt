@@ -65,17 +65,17 @@ module _ (key salt : List ℕ) where
       (λ more. omega (arith, length-chunk key salt n true (piece xs n))) in
       let each : (i : ℕ) → i < n → piece xs i ≡ piece ys i =
       λ i less.
-          let here = chunk key salt i false (piece xs i) in
-          let (others, at) = chunk-at key salt xs n i less in
-          let split : chunks key salt xs i ++ (here ++ (others ++ last)) ≡ body key salt ys =
-          ap (λ cs. chunks key salt xs i ++ cs) (sym (append_assoc here others last))
-          ∙ sym (append_assoc (chunks key salt xs i) (here ++ others) last)
-          ∙ sym (ap (λ cs. cs ++ last) at) ∙ same in
-          let found = found-mid (chunks key salt xs i) here (others ++ last) ys i split
-          (length-chunks key salt xs i (omega (arith, less)))
-          (omega (arith, length-chunk key salt i false (piece xs i), length-piece xs i (omega (arith, less))))
-          (omega (arith, length-append others last, length-chunk key salt n true (piece xs n))) in
-          chunk-same key salt i false (piece xs i) (piece ys i) found.1 in
+      let here = chunk key salt i false (piece xs i) in
+      let (others, at) = chunk-at key salt xs n i less in
+      let split : chunks key salt xs i ++ (here ++ (others ++ last)) ≡ body key salt ys =
+      ap (λ cs. chunks key salt xs i ++ cs) (sym (append_assoc here others last))
+      ∙ sym (append_assoc (chunks key salt xs i) (here ++ others) last)
+      ∙ sym (ap (λ cs. cs ++ last) at) ∙ same in
+      let found = found-mid (chunks key salt xs i) here (others ++ last) ys i split
+      (length-chunks key salt xs i (omega (arith, less)))
+      (omega (arith, length-chunk key salt i false (piece xs i), length-piece xs i (omega (arith, less))))
+      (omega (arith, length-append others last, length-chunk key salt n true (piece xs n))) in
+      chunk-same key salt i false (piece xs i) (piece ys i) found.1 in
       let ends : drop (65536 * n) xs ≡ drop (65536 * n) ys =
       sym (last-piece xs) ∙ chunk-same key salt n true (piece xs n) (piece ys n) lasts
       ∙ ap (piece ys) end ∙ last-piece ys ∙ ap (λ k. drop (65536 * k) ys) (sym end) in
@@ -131,5 +131,10 @@ wrong-last key salt salt' m c text i size size' long wide some wrong same =
 pub text-size : (key salt text : List ℕ) (file : ℕ) → length salt ≡ 16 → length (sealed key salt text) ≡ file
     → file - 32 - 16 * div_ceil (file - 32) 65552 ≡ length text
 text-size key salt text file size is =
-    omega (arith, sym is ∙ ap length (sealed-is key salt text), length-append (header salt) (body key salt text), size,
-    length-body key salt text)
+    omega (
+      arith,
+      sym is ∙ ap length (sealed-is key salt text),
+      length-append (header salt) (body key salt text),
+      size,
+      length-body key salt text,
+    )

@@ -56,13 +56,21 @@ no-header (Some file) None bytes n read size most end other = absurd read
 no-header (Some file) (Some left) bytes n read size most end other = λ salt rest long same.
     let split = ap length read ∙ length-append (take n bytes) left in
     elim (eq-or-lt_of_le most) [
-      inl whole ↦
-        other whole
-        (sym (ap (take 16) read ∙ ap (λ k. take 16 (take k bytes ++ left)) whole
-        ∙ ap (λ bs. take 16 (bs ++ left)) (take_all 32 bytes (omega (arith, size)))
-        ∙ take-append-le 16 bytes left (omega (arith, size)))
-        ∙ ap (take 16) same)
-    | inr short ↦
-        omega (arith, ap length same, length-append (header salt) rest, long, split, ap length (end short),
-        length-take-le n bytes (omega (arith, size, most)), short)
+      | inl whole ↦
+          other whole
+          (sym (ap (take 16) read ∙ ap (λ k. take 16 (take k bytes ++ left)) whole
+          ∙ ap (λ bs. take 16 (bs ++ left)) (take_all 32 bytes (omega (arith, size)))
+          ∙ take-append-le 16 bytes left (omega (arith, size)))
+          ∙ ap (take 16) same)
+      | inr short ↦
+          omega (
+            arith,
+            ap length same,
+            length-append (header salt) rest,
+            long,
+            split,
+            ap length (end short),
+            length-take-le n bytes (omega (arith, size, most)),
+            short,
+          )
     ]

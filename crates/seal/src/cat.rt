@@ -4,7 +4,7 @@ ghost use Rattle.std.specs.Prelude.{◌≡◌, ◌<◌, ◌≤◌, ◌+◌, ◌-
 ghost use Rattle.std.specs.Io.KnownBytes.{Appends};
 ghost use Rattle.seal.specs.Sealed.{sealed};
 
-use crate::chunk::{CHUNK, Salt, TAG, open_chunk, put};
+use crate::chunk::{Salt, TAG, open_chunk, put};
 use crate::error::{Damage, SealError};
 use crate::stream::fill;
 use chacha20::Key;
@@ -48,7 +48,7 @@ pub fn print_part<R: Read, W: Write>(
     let last = (text_len - 1) / 65536;
     'chunks: for number in start / 65536..(end - 1) / 65536 + 1 {
         let first = 65536 * number;
-        let size = if number < last { CHUNK } else { (text_len - first) as usize };
+        let size = (text_len - first).min(65536) as usize;
         let n = fill(reader, &mut buf[..size + TAG], 0)?;
         if n < size + TAG || !open_chunk(key, salt, number, number == last, &mut buf[..n]) {
             return Err(SealError::Damaged(Damage::WrongChunk(number)));

@@ -1,9 +1,8 @@
 //! Why a file is refused.
 
 use std::error::Error;
-use std::fmt;
 use std::fmt::{Display, Formatter};
-use std::io;
+use std::{fmt, io};
 
 /// What is wrong with a file that isn't a sealed one under the key.
 #[derive(Clone, Copy, Debug, PartialEq, Eq)]

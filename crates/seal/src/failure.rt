@@ -2,9 +2,8 @@
 
 use crate::error::{Damage, SealError};
 use std::alloc::AllocError;
-use std::fmt;
 use std::fmt::{Display, Formatter};
-use std::io;
+use std::{fmt, io};
 
 /// Why a call of the program failed. A path is the file's name as it was given.
 #[derive(Debug, Drop)]
@@ -66,9 +65,15 @@ impl Display for Failure<'_> {
             Failure::SameFile(path) => write!(f, "{path} would replace a file that is read"),
             Failure::NotAFile(path) => write!(f, "{path} is there and isn't a file"),
             Failure::Damaged(path, damage) => write!(f, "{path}: {damage}"),
-            Failure::TooLong(path) => write!(f, "{path} has more chunks than a sealed file may have"),
+            Failure::TooLong(path) => write!(
+                f,
+                "{path} has more chunks than a sealed file may have"
+            ),
             Failure::PastEnd(path, len) => {
-                write!(f, "START and LEN end behind the text of {path}, which has {len} bytes")
+                write!(
+                    f,
+                    "START and LEN end behind the text of {path}, which has {len} bytes"
+                )
             }
         }
     }

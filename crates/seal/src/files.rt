@@ -2,17 +2,24 @@
 
 use crate::failure::Failure;
 use chacha20::Key;
-use std::fs;
 use std::fs::{File, Metadata, OpenOptions};
-use std::io;
 use std::io::{ErrorKind, Read, Write};
 use std::os::unix::fs::{MetadataExt, OpenOptionsExt};
 use std::random::RandomSource;
+use std::{fs, io};
+
+/// Fills bytes with random ones.
+pub fn random<'a>(rt: &HostRuntime, bytes: &mut [u8]) -> Result<(), Failure<'a>> {
+    match rt.fill_bytes(bytes) {
+        Ok(()) => Ok(()),
+        Err(e) => Err(Failure::NoRandomBytes(e)),
+    }
+}
 
 /// Writes a new key of 32 random bytes, which its owner alone may read. Fails if the file is there.
 pub fn new_key<'a>(rt: &HostRuntime, path: &'a str) -> Result<(), Failure<'a>> {
     let mut key = [0; 32];
-    rt.fill_bytes(&mut key).map_err(Failure::NoRandomBytes)?;
+    random(rt, &mut key)?;
     let mut options = OpenOptions::new();
     options.write(true).create_new(true).mode(0o600);
     let mut file = options.open(rt, path).map_err(|e| Failure::Write(path, e))?;
@@ -69,21 +76,30 @@ pub fn check_target<'a>(
             return Err(Failure::SameFile(to));
         }
     }
-    if there.is_file() { Ok(()) } else { Err(Failure::NotAFile(to)) }
+    if there.is_file() {
+        Ok(())
+    } else {
+        Err(Failure::NotAFile(to))
+    }
 }
 
 /// A new file beside `to`, and its name, which ends in 16 random digits.
 pub fn beside<'a>(rt: &HostRuntime, to: &'a str) -> Result<(String, File), Failure<'a>> {
-    let mut random = [0; 8];
-    rt.fill_bytes(&mut random).map_err(Failure::NoRandomBytes)?;
-    let number = u64::from_le_bytes(random);
+    let mut digits = [0; 8];
+    random(rt, &mut digits)?;
+    let number = u64::from_le_bytes(digits);
     let path = format!(in rt.alloc(); "{to}.{number:016x}")?;
     let file = File::create_new(rt, path.as_str()).map_err(|e| Failure::Write(to, e))?;
     Ok((path, file))
 }
 
 /// Puts a finished file in the place of `to`.
-pub fn rename<'a>(rt: &HostRuntime, file: File, path: &str, to: &'a str) -> Result<(), Failure<'a>> {
+pub fn rename<'a>(
+    rt: &HostRuntime,
+    file: File,
+    path: &str,
+    to: &'a str,
+) -> Result<(), Failure<'a>> {
     file.sync_all().map_err(|e| Failure::Write(to, e))?;
     fs::rename(rt, path, to).map_err(|e| Failure::Write(to, e))
 }

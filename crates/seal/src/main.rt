@@ -18,7 +18,6 @@ use progress::Progress;
 use std::fs::File;
 use std::io::{Seek, SeekFrom, Write};
 use std::process::ExitCode;
-use std::random::RandomSource;
 use std::{env, fs, io};
 
 fn main(rt: HostRuntime) -> io::Result<ExitCode> {
@@ -87,7 +86,7 @@ fn write<'a>(
     let mut reader = Progress::new(rt, files::open(rt, from)?, len);
     let done = if encrypts {
         let mut salt = [0; 16];
-        rt.fill_bytes(&mut salt).map_err(Failure::NoRandomBytes)?;
+        files::random(rt, &mut salt)?;
         let mut buf = vec![in rt.alloc(); 0u8; CHUNK + 1]?;
         stream::encrypt(&secret, &salt, &mut reader, file, &mut buf)
     } else {
@@ -115,9 +114,22 @@ fn print<'a>(
         return Err(Failure::PastEnd(from, text_len));
     }
     let place = cat::chunk_place(start);
-    file.seek(SeekFrom::Start(place)).map_err(|e| Failure::Read(from, e))?;
+    file.seek(SeekFrom::Start(place))
+        .map_err(|e| Failure::Read(from, e))?;
     let mut buf = vec![in rt.alloc(); 0u8; CHUNK + TAG]?;
     let mut writer = io::writer(rt);
-    cat::print_part(&secret, &salt, text_len, start, len, &mut file, &mut writer, &mut buf).map_err(told)?;
-    writer.flush().map_err(|e| Failure::Write("standard output", e))
+    cat::print_part(
+        &secret,
+        &salt,
+        text_len,
+        start,
+        len,
+        &mut file,
+        &mut writer,
+        &mut buf,
+    )
+    .map_err(told)?;
+    writer
+        .flush()
+        .map_err(|e| Failure::Write("standard output", e))
 }

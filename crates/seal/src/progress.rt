@@ -20,7 +20,14 @@ pub struct Progress<'a, R> {
 impl<'a, R> Progress<'a, R> {
     pub fn new(rt: &'a HostRuntime, inner: R, len: u64) -> Progress<'a, R> {
         let shows = rt.stderr().is_terminal();
-        Progress { rt, inner, len, read: 0, next: STEP, shows }
+        Progress {
+            rt,
+            inner,
+            len,
+            read: 0,
+            next: STEP,
+            shows,
+        }
     }
 }
 

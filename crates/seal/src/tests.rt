@@ -8,8 +8,8 @@ use std::io::{ErrorKind, Read, Write};
 use std::test::Fail;
 
 const KEY: Key = [
-    0, 1, 2, 3, 4, 5, 6, 7, 8, 9, 10, 11, 12, 13, 14, 15, 16, 17, 18, 19, 20, 21, 22, 23, 24, 25, 26, 27, 28, 29, 30,
-    31,
+    0, 1, 2, 3, 4, 5, 6, 7, 8, 9, 10, 11, 12, 13, 14, 15, 16, 17, 18, 19, 20, 21, 22, 23, 24, 25,
+    26, 27, 28, 29, 30, 31,
 ];
 
 const SALT: Salt = [
@@ -60,8 +60,14 @@ fn round_trips(rt: HostRuntime) -> Result<(), Fail> {
     for len in [0, 1, 65535, 65536, 65537, 200000usize] {
         let (text, file) = sealed(rt.alloc(), len, &SALT)?;
         let (error, back) = opened(rt.alloc(), file.as_slice())?;
-        assert!(rt; error.is_none() && back.as_slice() == text.as_slice(), "{len} bytes");
-        assert!(rt; file.len() == 32 + len + 16 * len.max(1).div_ceil(65536), "{len} bytes");
+        assert!(rt;
+            error.is_none() && back.as_slice() == text.as_slice(),
+            "{len} bytes"
+        );
+        assert!(rt;
+            file.len() == 32 + len + 16 * len.max(1).div_ceil(65536),
+            "{len} bytes"
+        );
     }
     Ok(())
 }
@@ -107,10 +113,26 @@ fn rebuilt(alloc: Global, parts: &[usize]) -> Result<Vec<u8>, Fail> {
     let (_, two) = sealed(alloc, 200000, &[7; 16])?;
     let mut file = Vec::new(alloc);
     for part in parts {
-        let from = if *part <= 4 { one.as_slice() } else { two.as_slice() };
-        let at = if *part <= 4 { *part } else { part.saturating_sub(4) };
-        let start = if at == 0 { 0 } else { 32 + 65552 * at.saturating_sub(1).min(3) };
-        let end = if at == 0 { 32 } else { (start + 65552).min(from.len()) };
+        let from = if *part <= 4 {
+            one.as_slice()
+        } else {
+            two.as_slice()
+        };
+        let at = if *part <= 4 {
+            *part
+        } else {
+            part.saturating_sub(4)
+        };
+        let start = if at == 0 {
+            0
+        } else {
+            32 + 65552 * at.saturating_sub(1).min(3)
+        };
+        let end = if at == 0 {
+            32
+        } else {
+            (start + 65552).min(from.len())
+        };
         if start <= end && end <= from.len() {
             file.extend_from_slice(&from[start..end])?;
         }
@@ -132,7 +154,10 @@ fn moved_chunks_are_refused(rt: HostRuntime) -> Result<(), Fail> {
     ];
     for (parts, wanted, written) in cases {
         let file = rebuilt(rt.alloc(), parts)?;
-        assert!(rt; damage(rt.alloc(), file.as_slice())? == (Some(wanted), written), "{parts:?}");
+        assert!(rt;
+            damage(rt.alloc(), file.as_slice())? == (Some(wanted), written),
+            "{parts:?}"
+        );
     }
     Ok(())
 }
@@ -141,7 +166,9 @@ fn moved_chunks_are_refused(rt: HostRuntime) -> Result<(), Fail> {
 fn cut_files_are_refused(rt: HostRuntime) -> Result<(), Fail> {
     let (_, file) = sealed(rt.alloc(), 65537, &SALT)?;
     let mut tried = 0;
-    for len in [0usize, 1, 15, 16, 31, 32, 33, 48, 65583, 65584, 65585, 65600] {
+    for len in [
+        0usize, 1, 15, 16, 31, 32, 33, 48, 65583, 65584, 65585, 65600,
+    ] {
         if len < file.len() {
             let (found, _) = damage(rt.alloc(), &file.as_slice()[..len])?;
             assert!(rt; found.is_some(), "{len} bytes");
@@ -166,7 +193,11 @@ fn step(calls: &mut u32, fails: u32) -> io::Result<()> {
     if *calls == fails {
         return Err(io::Error::from(ErrorKind::PermissionDenied));
     }
-    if *calls % 3 == 0 { Err(io::Error::from(ErrorKind::Interrupted)) } else { Ok(()) }
+    if *calls % 3 == 0 {
+        Err(io::Error::from(ErrorKind::Interrupted))
+    } else {
+        Ok(())
+    }
 }
 
 impl<R: Read> Read for Unsteady<R> {
@@ -195,8 +226,16 @@ fn unsteady_files(rt: HostRuntime) -> Result<(), Fail> {
     let (text, file) = sealed(rt.alloc(), 70000, &SALT)?;
     let mut buf = vec![in rt.alloc(); 0u8; CHUNK + TAG + 1]?;
     for (reads, writes) in [(0, 0), (1, 0), (40, 0), (100, 0), (0, 1), (0, 40), (0, 100)] {
-        let mut reader = Unsteady { inner: file.as_slice(), calls: 0, fails: reads };
-        let mut writer = Unsteady { inner: Vec::new(rt.alloc()), calls: 0, fails: writes };
+        let mut reader = Unsteady {
+            inner: file.as_slice(),
+            calls: 0,
+            fails: reads,
+        };
+        let mut writer = Unsteady {
+            inner: Vec::new(rt.alloc()),
+            calls: 0,
+            fails: writes,
+        };
         let done = decrypt(&KEY, &mut reader, &mut writer, &mut buf);
         let right = match done {
             Ok(()) => reads == 0 && writes == 0 && writer.inner.as_slice() == text.as_slice(),

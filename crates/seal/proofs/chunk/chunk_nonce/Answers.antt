@@ -11,8 +11,8 @@ returns-clause-value c =
     let back = c.copy_from_slice-2 in
     let mark : c.if-last.mark ≡ (if c.args.last then 2 ^ 56 else 0) =
     elim c.if-last.branch [
-      then-last w ↦ w.mark-is ∙ sym (ap (λ b. if b then 2 ^ 56 else 0) w.if-last.true)
-    | else-last w ↦ w.mark-is ∙ sym (ap (λ b. if b then 2 ^ 56 else 0) w.if-last.false)
+      | then-last w ↦ w.mark-is ∙ sym (ap (λ b. if b then 2 ^ 56 else 0) w.if-last.true)
+      | else-last w ↦ w.mark-is ∙ sym (ap (λ b. if b then 2 ^ 56 else 0) w.if-last.false)
     ] in
     put_mid-at 16 8 front.new.self (replicate 8 0) back.new.self front.ensures.len
     ∙ ap₂ ◌++◌ front.ensures.after

@@ -14,8 +14,8 @@ pub returns-then-bytes-least-clause-wrong : goal.returns-then-bytes-least-clause
 returns-then-bytes-least-clause-wrong c refused text some same =
     let long = ap length same ∙ length-chunk c.args.key.now c.args.salt.now c.args.number c.args.last text in
     elim c.if-number-eq0.branch [
-      then-number-eq0 w ↦ omega (arith, w.least-is, c.if-bytes-least.true, long)
-    | else-number-eq0 w ↦ omega (arith, w.least-is, c.if-bytes-least.true, long, some (omega (arith, w.if-number-eq0.false)))
+      | then-number-eq0 w ↦ omega (arith, w.least-is, c.if-bytes-least.true, long)
+      | else-number-eq0 w ↦ omega (arith, w.least-is, c.if-bytes-least.true, long, some (omega (arith, w.if-number-eq0.false)))
     ]
 
 pub returns-clause-right : goal.returns-clause-right

@@ -20,7 +20,7 @@ chunks-init g c =
       λ less. absurd (omega (arith, less)),
       refl,
       subst (λ h. Consumes a h (head ++ [])) (sym (prepend_known-nil b))
-      (subst (Consumes a b) (sym (append-nil head)) c.in_ok-salt.ensures.read),
+          (subst (Consumes a b) (sym (append-nil head)) c.in_ok-salt.ensures.read),
       Appends-nil _,
     )
 
@@ -144,15 +144,23 @@ chunks-preserved g c =
     let next = first-byte old buf 65552 full in
     let whole = ap (λ xs. front ++ xs) is ∙ chunks-more key salt moved text c.chunks.number long text_size in (
       moved ++ text,
-      omega (arith, length-set (old ++ drop 65552 buf) 0 (get_or buf 65552 0), length-append old (drop 65552 buf),
-      length-drop 65552 buf, c.write_text-in-chunks.auto.bytes, wide, full, c.requires),
+      omega (
+        arith,
+        length-set (old ++ drop 65552 buf) 0 (get_or buf 65552 0),
+        length-append old (drop 65552 buf),
+        length-drop 65552 buf,
+        c.write_text-in-chunks.auto.bytes,
+        wide,
+        full,
+        c.requires,
+      ),
       omega arith,
       λ less. refl,
       omega (arith, length-append moved text, long, text_size),
       subst (λ h. Consumes before (prepend_known h after) (header salt ++ chunks key salt (moved ++ text) (c.chunks.number + 1)))
-      (sym next)
-      (subst (Consumes before (prepend_known (drop 65552 buf) after)) whole
-      (Consumes-held before after (front ++ bytes) (drop 65552 buf)
-      (subst (Consumes before after) split (Consumes-trans _ _ _ _ _ read got.read)))),
+          (sym next)
+          (subst (Consumes before (prepend_known (drop 65552 buf) after)) whole
+          (Consumes-held before after (front ++ bytes) (drop 65552 buf)
+          (subst (Consumes before after) split (Consumes-trans _ _ _ _ _ read got.read)))),
       Appends-trans _ _ _ _ _ written more,
     )

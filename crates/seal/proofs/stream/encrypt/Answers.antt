@@ -46,12 +46,12 @@ returns-then-n-le-CHUNK g c =
     (λ more. omega (arith, wide, held more, got.bounds.0)) in
     record {
       written = on_ok_weaker c.write_chunk.result
-      (λ last.
-      Consumes-whole _ _ _
-      (λ text. Appends (g.W.Write.contents c.args.writer.now) (g.W.Write.contents c.write_chunk.new.writer) (sealed key salt text))
-      (Consumes-trans _ _ _ _ _ read got.read) end
-      (subst (Appends _ _) whole (Appends-trans _ _ _ _ _ written last)))
-      c.write_chunk.ensures;
+          (λ last.
+          Consumes-whole _ _ _
+          (λ text. Appends (g.W.Write.contents c.args.writer.now) (g.W.Write.contents c.write_chunk.new.writer) (sealed key salt text))
+          (Consumes-trans _ _ _ _ _ read got.read) end
+          (subst (Appends _ _) whole (Appends-trans _ _ _ _ _ written last)))
+          c.write_chunk.ensures;
     }
 
 pub chunks-preserved : goal.chunks-preserved
@@ -73,13 +73,21 @@ chunks-preserved g c =
     let after = g.R.Read.remaining c.fill.new.reader in
     let next = first-byte old buf 65536 full in (
       moved ++ text,
-      omega (arith, length-set (old ++ drop 65536 buf) 0 (get_or buf 65536 0), length-append old (drop 65536 buf),
-      length-drop 65536 buf, c.write_chunk-in-chunks.auto.text, wide, full, c.requires),
+      omega (
+        arith,
+        length-set (old ++ drop 65536 buf) 0 (get_or buf 65536 0),
+        length-append old (drop 65536 buf),
+        length-drop 65536 buf,
+        c.write_chunk-in-chunks.auto.text,
+        wide,
+        full,
+        c.requires,
+      ),
       omega arith,
       λ less. refl,
       omega (arith, length-append moved text, long, wide),
       subst (λ h. Consumes before (prepend_known h after) (moved ++ text)) (sym next)
-      (Consumes-held before after (moved ++ text) (drop 65536 buf) (subst (Consumes _ _) split (Consumes-trans _ _ _ _ _ read got.read))),
+          (Consumes-held before after (moved ++ text) (drop 65536 buf) (subst (Consumes _ _) split (Consumes-trans _ _ _ _ _ read got.read))),
       subst (Appends _ _) (chunks-more key salt moved text c.chunks.number long wide)
-      (Appends-trans _ _ _ _ _ written c.in_ok-write_chunk.ensures),
+          (Appends-trans _ _ _ _ _ written c.in_ok-write_chunk.ensures),
     )

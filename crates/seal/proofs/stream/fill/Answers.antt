@@ -14,18 +14,22 @@ reads-preserved g c =
     let old = c.reads.buf in
     let new = c.read.new.buf in
     elim c.match-read.branch [
-      in-Ok w ↦ (
-        search rules, search rules, search rules,
+      | in-Ok w ↦ (
+        search rules,
+        search rules,
+        search rules,
         subst (Consumes _ _)
-        (sym (ap (λ n. take n (put_mid c.reads.at room old new)) w.at-is
-        ∙ take-put_mid c.reads.at w.in-Ok.n room old new within w.in-Ok.ensures.bound.0))
-        (Consumes-trans _ _ _ _ _ read w.in-Ok.ensures.bytes.0),
+            (sym (ap (λ n. take n (put_mid c.reads.at room old new)) w.at-is
+            ∙ take-put_mid c.reads.at w.in-Ok.n room old new within w.in-Ok.ensures.bound.0))
+            (Consumes-trans _ _ _ _ _ read w.in-Ok.ensures.bytes.0),
       )
-    | in-Err w ↦ (
-        search rules, search rules, search rules,
+      | in-Err w ↦ (
+        search rules,
+        search rules,
+        search rules,
         subst (Consumes _ _)
-        (sym (ap (λ n. take n (put_mid c.reads.at room old new)) w.at-is
-        ∙ take-put_mid_below _ _ _ _ _ (le_refl _) within))
-        (Consumes-kept _ _ _ _ read w.in-Err.ensures.bytes),
+            (sym (ap (λ n. take n (put_mid c.reads.at room old new)) w.at-is
+            ∙ take-put_mid_below _ _ _ _ _ (le_refl _) within))
+            (Consumes-kept _ _ _ _ read w.in-Err.ensures.bytes),
       )
     ]
