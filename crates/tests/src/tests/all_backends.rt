@@ -4,8 +4,8 @@ use super::agreement::wrong_beside;
 use super::direct_calls::{Called, wrong_lists};
 use super::streams::wrong_part;
 use super::{
-    backends, beside, calls, core_calls, ends, first_bad_row, first_failure, generator_traits,
-    odd_cuts, stop_if, streams, wraps,
+    agreement, backends, calls, core_calls, cuts, first_bad_row, first_failure, generator_traits,
+    limits, stop_if, streams, wraps,
 };
 use chacha20::backends::{Columns8, Lanes4, Lanes8, Lanes16, Rows8, Soft};
 use chacha20::cipher::{KeyIvInit, RngBackend, StreamCipherBackend, StreamCipherSeekCore};
@@ -30,7 +30,7 @@ type Cipher<K> = StreamCipherCoreWrapper<K>;
 // A cipher of RFC 8439 with 20 rounds.
 fn wrong_ietf<C: Fresh<Nonce> + Called>() -> Verdict {
     first_failure(&[
-        wrong_lists::<Nonce, C>(&COUNTING, &[0; 12], &ends::IETF_ENDS),
+        wrong_lists::<Nonce, C>(&COUNTING, &[0; 12], &limits::IETF_ENDS),
         wrong_lists::<Nonce, C>(&COUNTING, &NONCE, &streams::IETF_STREAM),
         streams::wrong_block::<C>(),
     ])
@@ -41,18 +41,18 @@ fn wrong_legacy<C: Fresh<LegacyNonce> + Called>() -> Verdict {
     let part = wrong_part(&mut C::fresh(&FROM_1, &LEGACY_NONCE), LEGACY_KEYSTREAM, 17);
     first_failure(&[
         failed("the legacy stream", &[part.is_none()]),
-        wrong_lists::<LegacyNonce, C>(&FROM_1, &LEGACY_NONCE, &ends::LEGACY_ENDS),
-        odd_cuts::wrong_cuts::<LegacyNonce, C>(&LEGACY_NONCE),
+        wrong_lists::<LegacyNonce, C>(&FROM_1, &LEGACY_NONCE, &limits::LEGACY_ENDS),
+        cuts::wrong_cuts::<LegacyNonce, C>(&LEGACY_NONCE),
     ])
 }
 
 // A cipher without rounds.
 fn wrong_zero<C: Fresh<Nonce> + Called>() -> Verdict {
     first_failure(&[
-        ends::wrong_run::<C>(),
-        wrong_lists::<Nonce, C>(&[0; 32], &[0; 12], &ends::RUNS),
-        wrong_lists::<Nonce, C>(&[0; 32], &[0; 12], &ends::ZERO_ENDS),
-        ends::wrong_last_blocks(&mut C::fresh(&[0; 32], &[0; 12])),
+        limits::wrong_run::<C>(),
+        wrong_lists::<Nonce, C>(&[0; 32], &[0; 12], &limits::RUNS),
+        wrong_lists::<Nonce, C>(&[0; 32], &[0; 12], &limits::ZERO_ENDS),
+        limits::wrong_last_blocks(&mut C::fresh(&[0; 32], &[0; 12])),
     ])
 }
 
@@ -117,9 +117,9 @@ where
     K: KeyIvInit<Key = Key, Iv = Nonce> + StreamCipherSeekCore + Drop,
 {
     first_failure(&[
-        odd_cuts::wrong_cuts::<Nonce, Cipher<K>>(&[7; 12]),
-        odd_cuts::wrong_cuts::<XNonce, Cipher<X>>(&[7; 24]),
-        beside::wrong_stream::<R, Cipher<X>, Cipher<K>>(),
+        cuts::wrong_cuts::<Nonce, Cipher<K>>(&[7; 12]),
+        cuts::wrong_cuts::<XNonce, Cipher<X>>(&[7; 24]),
+        agreement::wrong_stream::<R, Cipher<X>, Cipher<K>>(),
     ])
 }
 
@@ -138,7 +138,7 @@ where
     first_failure(&[
         wrong_zero::<Cipher<I>>(),
         calls::wrong_zero_seeks::<Cipher<I>>(),
-        wrong_lists::<XNonce, Cipher<X>>(&[0; 32], &[0; 24], &ends::ZERO_ENDS),
+        wrong_lists::<XNonce, Cipher<X>>(&[0; 32], &[0; 24], &limits::ZERO_ENDS),
         wraps::wrong_core::<I, L>(),
     ])
 }
@@ -165,7 +165,7 @@ fn wrong_generators<B: RngBackend<R0> + RngBackend<R20>>() -> Verdict {
         generator_traits::wrong_reads::<B>(),
         wrong_draws::<ChaChaRng<R0, B>>(ZEROS, &wraps::RNG_RUNS),
         wraps::wrong_generator::<B>(),
-        beside::wrong_fill::<ChaChaRng<R20, B>, ChaChaRng<R20, Soft>>(),
+        agreement::wrong_fill::<ChaChaRng<R20, B>, ChaChaRng<R20, Soft>>(),
     ])
 }
 

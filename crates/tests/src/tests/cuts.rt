@@ -1,4 +1,4 @@
-//! Odd cuts, for any cipher: called directly, and by lists of calls.
+//! Cuts at odd places, for any cipher: by direct calls, and by lists of calls.
 
 ghost use Rattle.std.specs.Prelude.{◌≤◌, ◌+◌};
 
