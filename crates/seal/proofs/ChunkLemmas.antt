@@ -1,6 +1,6 @@
 -- Chunks of a file: where each stands, and that a file has one text.
-use Rattle.std.proofs.Common.{◌≡◌, ◌<◌, ◌≤◌, ◌+◌, ◌-◌, ◌*◌, ◌/◌, ◌∙◌, ◌⊎◌, ℕ, zero, suc, Bool, true, false, List, [], ◌∷◌, ◌++◌, length, take, drop, arith, refl, sym, ap, ap₂, append_assoc, append-nil, length-append, length-drop, length-take-le, take_at, drop_at, take_all, take-add, drop-drop, inl, inr, eq-or-lt_of_le, add-one}
-use Rattle.std.proofs.lemmas.List.{take-append-le, drop-append-le, take-append-drop, nil_from_length}
+use Rattle.std.proofs.Common.{◌≡◌, ◌<◌, ◌≤◌, ◌+◌, ◌-◌, ◌*◌, ◌/◌, ◌∙◌, ℕ, zero, suc, Bool, true, false, List, [], ◌++◌, length, take, drop, arith, refl, sym, ap, ap₂, append_assoc, append-nil, length-append, length-drop, length-take-le, take_at, drop_at, take_all, inl, inr, eq-or-lt_of_le, add-one}
+use Rattle.std.proofs.lemmas.List.{take-append-le, drop-append-le}
 use Rattle.chacha20.specs.ChaCha.{xor_stream}
 use Rattle.chacha20.specs.XChaCha.{xchacha_stream}
 use Rattle.chacha20.proofs.KeystreamLemmas.{length-xor_stream, xor_stream-xor_stream}

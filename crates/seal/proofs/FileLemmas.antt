@@ -1,5 +1,5 @@
 -- What a whole file says of its text.
-use Rattle.std.proofs.Common.{◌≡◌, ◌≢◌, ◌<◌, ◌≤◌, ◌+◌, ◌-◌, ◌*◌, ◌∙◌, ℕ, zero, suc, Bool, true, false, List, [], ◌++◌, length, take, drop, arith, refl, sym, ap, ap₂, subst, append_assoc, length-append, take_at, drop_at, take-add, length-take-le}
+use Rattle.std.proofs.Common.{◌≡◌, ◌≢◌, ◌<◌, ◌≤◌, ◌+◌, ◌-◌, ◌*◌, ◌∙◌, ℕ, zero, suc, true, false, List, ◌++◌, length, take, drop, arith, refl, sym, ap, ap₂, append_assoc, length-append, take_at, drop_at, take-add}
 use Rattle.std.proofs.lemmas.List.{take-append-drop}
 use Rattle.std.specs.Int.{div_ceil}
 use Rattle.seal.specs.Sealed.{header, chunk, chunks, piece, last_number, sealed}

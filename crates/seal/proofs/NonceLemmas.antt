@@ -1,5 +1,5 @@
 -- The number of a chunk and its mark, in the last 8 bytes of its nonce.
-use Rattle.std.proofs.Common.{◌≡◌, ◌<◌, ◌+◌, ◌*◌, ◌^◌, ◌∙◌, ℕ, Bool, true, false, List, ◌++◌, if◌then◌else◌, length, arith, refl, sym, ap}
+use Rattle.std.proofs.Common.{◌≡◌, ◌<◌, ◌+◌, ◌^◌, ℕ, Bool, true, false, List, if◌then◌else◌, length, arith, refl}
 use Rattle.chacha20.proofs.PartLemmas.{ending-same_64}
 use Rattle.seal.specs.Sealed.{chunk_nonce}
 

@@ -1,5 +1,5 @@
 -- What a reader had, of which the chunks before chunk i were right.
-use Rattle.std.proofs.Common.{◌≡◌, ◌≢◌, ◌<◌, ◌≤◌, ◌*◌, ◌+◌, ◌∙◌, ℕ, true, false, List, ◌++◌, Some, None, Ok, Err, IfSome, IfErr, IsErrAnd, length, arith, refl, sym, ap, subst, append_assoc, length-append}
+use Rattle.std.proofs.Common.{◌≡◌, ◌≢◌, ◌<◌, ◌≤◌, ◌*◌, ◌∙◌, ℕ, true, false, List, ◌++◌, Some, None, Ok, Err, IfSome, IfErr, IsErrAnd, length, arith, sym, ap, subst, append_assoc, length-append}
 use Rattle.std.specs.declared.option.Option.{Option}
 use Rattle.std.specs.declared.result.Result.{Result}
 use Rattle.std.specs.Io.KnownBytes.{Appends, Consumes, IsAtEnd}

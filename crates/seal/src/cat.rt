@@ -39,7 +39,6 @@ pub fn print_part<R: Read, W: Write>(
 ) -> Result<(), SealError>
     requires buffer { length buf.old ≡ 65552 }
     requires range { start + len ≤ text_len }
-    requires size { text_len < 2 ^ 64 }
 {
     let end = start + len;
     if len == 0 {

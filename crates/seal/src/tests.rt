@@ -165,17 +165,15 @@ fn moved_chunks_are_refused(rt: HostRuntime) -> Result<(), Fail> {
 #[test]
 fn cut_files_are_refused(rt: HostRuntime) -> Result<(), Fail> {
     let (_, file) = sealed(rt.alloc(), 65537, &SALT)?;
-    let mut tried = 0;
+    assert_eq!(rt; file.len(), 65601);
     for len in [
         0usize, 1, 15, 16, 31, 32, 33, 48, 65583, 65584, 65585, 65600,
     ] {
         if len < file.len() {
             let (found, _) = damage(rt.alloc(), &file.as_slice()[..len])?;
             assert!(rt; found.is_some(), "{len} bytes");
-            tried += 1;
         }
     }
-    assert_eq!(rt; tried, 12);
     Ok(())
 }
 
@@ -224,7 +222,6 @@ impl<W: Write> Write for Unsteady<W> {
 #[test]
 fn unsteady_files(rt: HostRuntime) -> Result<(), Fail> {
     let (text, file) = sealed(rt.alloc(), 70000, &SALT)?;
-    let mut buf = vec![in rt.alloc(); 0u8; CHUNK + TAG + 1]?;
     for (reads, writes) in [(0, 0), (1, 0), (40, 0), (100, 0), (0, 1), (0, 40), (0, 100)] {
         let mut reader = Unsteady {
             inner: file.as_slice(),
@@ -236,6 +233,7 @@ fn unsteady_files(rt: HostRuntime) -> Result<(), Fail> {
             calls: 0,
             fails: writes,
         };
+        let mut buf = vec![in rt.alloc(); 0u8; CHUNK + TAG + 1]?;
         let done = decrypt(&KEY, &mut reader, &mut writer, &mut buf);
         let right = match done {
             Ok(()) => reads == 0 && writes == 0 && writer.inner.as_slice() == text.as_slice(),

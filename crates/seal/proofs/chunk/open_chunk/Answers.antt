@@ -1,6 +1,5 @@
-use Rattle.std.proofs.Common.{◌≡◌, ◌∙◌, ◌-◌, ◌<◌, ◌≤◌, ◌++◌, IsOk, IsTrue, rules, arith, length, take, drop, sym, ap, refl, take_at, length-take-le, true≢false}
+use Rattle.std.proofs.Common.{◌≡◌, ◌∙◌, ◌-◌, IsOk, arith, length, take, drop, sym, ap, take_at, length-take-le, true≢false}
 use Rattle.std.proofs.lemmas.List.{take-append-drop, take_rest}
-use Rattle.chacha20.specs.ChaCha.{xor_stream}
 use Rattle.chacha20.specs.XChaCha.{xchacha_stream}
 use Rattle.chacha20.proofs.KeystreamLemmas.{xor_stream-xor_stream}
 use Rattle.chacha20.proofs.ResultLemmas.{on_ok-holds}

@@ -1,10 +1,10 @@
-use Rattle.std.proofs.Common.{◌≡◌, ◌≢◌, ◌≤◌, ◌<◌, ◌+◌, ◌∙◌, ◌++◌, List, ℕ, [], length, take, drop, rules, arith, refl, sym, ap, subst, append-nil, append_assoc, take_all, length-take-le, length-set, length-append, length-drop, get_or, le_of_eq, IfSome, false}
+use Rattle.std.proofs.Common.{◌≡◌, ◌+◌, ◌∙◌, ◌++◌, [], length, take, drop, arith, refl, sym, ap, subst, append-nil, append_assoc, take_all, length-take-le, length-set, length-append, length-drop, get_or, le_of_eq, false}
 use Rattle.std.proofs.lemmas.List.{take-append-drop}
-use Rattle.std.proofs.lemmas.Result.{on_ok_weaker, IfErr-weaker}
+use Rattle.std.proofs.lemmas.Result.{on_ok_weaker}
 use Rattle.std.specs.Io.KnownBytes.{Appends, Consumes, prepend_known}
-use Rattle.std.proofs.KnownBytes.{Appends-nil, Appends-trans, Consumes-trans, Consumes-whole, prepend_known-nil}
-use Rattle.seal.specs.Sealed.{header, chunk, chunks, sealed, BeginsWith}
-use Rattle.seal.proofs.ChunkLemmas.{chunks-more, sealed-end, length-chunk}
+use Rattle.std.proofs.KnownBytes.{Appends-nil, Appends-trans, Consumes-trans, prepend_known-nil}
+use Rattle.seal.specs.Sealed.{header, chunks}
+use Rattle.seal.proofs.ChunkLemmas.{chunks-more, length-chunk}
 use Rattle.seal.proofs.OpenLemmas.{refusal-weaker, passed-on, no-file, text-of, opened, refused-last, refused-mid, right-before}
 use Rattle.seal.proofs.ReaderLemmas.{Consumes-held, first-byte}
 use Rattle.seal.proofs.stream.decrypt.Goals as goal

@@ -1,9 +1,9 @@
-use Rattle.std.proofs.Common.{◌≡◌, ◌≤◌, ◌<◌, ◌∙◌, ◌++◌, List, ℕ, [], length, take, drop, rules, arith, refl, sym, ap, subst, append-nil, append_assoc, take_all, length-take-le, length-set, length-append, length-drop, get_or, le_of_eq}
+use Rattle.std.proofs.Common.{◌≡◌, ◌∙◌, ◌++◌, [], length, take, drop, arith, refl, sym, ap, subst, append-nil, append_assoc, take_all, length-take-le, length-set, length-append, length-drop, get_or, le_of_eq}
 use Rattle.std.proofs.lemmas.List.{take-append-drop}
 use Rattle.std.proofs.lemmas.Result.{on_ok_weaker}
 use Rattle.std.specs.Io.KnownBytes.{Appends, Consumes, prepend_known}
 use Rattle.std.proofs.KnownBytes.{Appends-trans, Consumes-trans, Consumes-nil, Consumes-whole, prepend_known-nil}
-use Rattle.seal.specs.Sealed.{header, chunk, chunks, sealed}
+use Rattle.seal.specs.Sealed.{header, sealed}
 use Rattle.seal.proofs.ChunkLemmas.{chunks-more, sealed-end}
 use Rattle.seal.proofs.ReaderLemmas.{Consumes-held, first-byte}
 use Rattle.seal.proofs.stream.encrypt.Goals as goal

@@ -1,4 +1,4 @@
-use Rattle.std.proofs.Common.{◌≡◌, ◌∙◌, ◌<◌, ◌++◌, [], arith, length, take, drop, codes, sym, ap, ap₂, subst, take_all, length-drop, true≢false, ℕ, List, Bool, true, nat_eq}
+use Rattle.std.proofs.Common.{◌≡◌, ◌∙◌, ◌++◌, arith, take, drop, codes, sym, ap₂, subst, take_all, length-drop, true≢false, ℕ, List, Bool, nat_eq}
 use Rattle.std.proofs.lemmas.List.{take-append-drop}
 use Rattle.std.specs.Io.KnownBytes.{Consumes}
 use Rattle.std.proofs.KnownBytes.{prepend_known-nil}
