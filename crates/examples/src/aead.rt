@@ -123,7 +123,7 @@ impl XChaCha20Poly1305 {
     }
 }
 
-/// Why `open` refuses (this crate).
+/// Why `open` refuses.
 #[derive(Clone, Copy, Debug, PartialEq, Eq)]
 pub enum AeadError {
     /// The message is longer than the keystream from block 1 on.

@@ -18,7 +18,7 @@ use chacha20::{ChaCha20, Key, Nonce};
 
 /// Reads the plaintext of a part of an encrypted file: as many bytes as the window has, from byte `start` on. `Err`
 /// exactly where the part would pass the file's end or 274877906944 bytes (256 GiB), the keystream's; then the window
-/// stays (this crate).
+/// stays.
 pub fn read_at(
     key: &Key,
     nonce: &Nonce,
@@ -43,7 +43,7 @@ pub fn read_at(
 
 /// Encrypts or decrypts a record in place, by a cipher under the file's key and nonce: record `number` of a file of
 /// records of one length, each at its own place in the keystream. The number is counted from 0. `Err` exactly where the
-/// record would pass the cipher's limit; then nothing changes (this crate).
+/// record would pass the cipher's limit; then nothing changes.
 pub fn encrypt_record<S: StreamCipherSeek>(
     cipher: &mut S,
     number: u64,

@@ -20,10 +20,10 @@ use chacha20::cipher::{KeyIvInit, StreamCipher};
 use chacha20::{ChaCha20, Key, Nonce};
 use std::marker::Model;
 
-/// What names a direction, so that the frames of two directions differ in their nonces (this crate).
+/// What names a direction, so that the frames of two directions differ in their nonces.
 pub type Channel = [u8; 4];
 
-/// Why a call refused a frame. It has changed nothing (this crate).
+/// Why a call refused a frame. It has changed nothing.
 #[derive(Clone, Copy, Debug, PartialEq, Eq)]
 pub enum FrameError {
     /// All numbers below 2^64 - 1 are used: take another key.
@@ -32,7 +32,7 @@ pub enum FrameError {
     FrameTooLong,
 }
 
-/// Encrypts messages, each as the frame with the next number (this crate).
+/// Encrypts messages, each as the frame with the next number.
 #[derive(Drop)]
 pub struct Sender {
     key: Key,
@@ -89,7 +89,7 @@ impl Sender {
     }
 }
 
-/// Decrypts the frames of a sender, in their order (this crate).
+/// Decrypts the frames of a sender, in their order.
 #[derive(Drop)]
 pub struct Receiver {
     key: Key,
@@ -149,7 +149,7 @@ impl Receiver {
     }
 }
 
-/// The nonce of a frame (this crate). No other channel and no other number below 2^64 has it.
+/// The nonce of a frame. No other channel and no other number below 2^64 has it.
 pub fn nonce_of(channel: &Channel, number: u64) -> Nonce
     ensures value { result ≡ nonce_of channel.now number }
     ensures distinct { (other : List ℕ) (i : ℕ) → length other ≡ 4 → i < 2 ^ 64

@@ -19,7 +19,7 @@ use chacha20::cipher::{KeyIvInit, StreamCipher, StreamCipherError, StreamCipherS
 use chacha20::{ChaCha20, Key, Nonce};
 use std::marker::Model;
 
-/// Encrypts the lines of a log in their order (this crate).
+/// Encrypts the lines of a log in their order.
 #[derive(Drop)]
 pub struct LogWriter {
     cipher: ChaCha20,

@@ -53,7 +53,7 @@ pub fn encrypt_from_block_1(
     cipher.try_apply_keystream(message)
 }
 
-/// As `encrypt`, by any cipher `C` (this crate): `C.modulus` is the number of its blocks, `C.blocks_of` the blocks of a
+/// As `encrypt`, by any cipher `C`: `C.modulus` is the number of its blocks, `C.blocks_of` the blocks of a
 /// key and a nonce. For a named type the prover puts in that type's own numbers, as in the functions below.
 pub fn encrypt_by<C: KeyIvInit + StreamCipher + Drop>(
     key: &C::Key,
@@ -83,7 +83,7 @@ pub fn encrypt_xchacha(
     encrypt_by::<XChaCha20>(key, nonce, message)
 }
 
-/// Encrypts a message by the cipher from before RFC 8439, with a nonce of 8 bytes and 2^64 blocks (this crate). No
+/// Encrypts a message by the cipher from before RFC 8439, with a nonce of 8 bytes and 2^64 blocks. No
 /// message is too long for it, so no call is refused.
 pub fn encrypt_legacy(
     key: &Key,
@@ -111,7 +111,7 @@ impl Rounds for R6 {
 /// ChaCha with six rounds (this crate).
 pub type ChaCha6 = StreamCipherCoreWrapper<ChaChaCore<R6, Ietf, Lanes16>>;
 
-/// Encrypts a message by `ChaCha6` (this crate). `Err` as in `encrypt`.
+/// Encrypts a message by `ChaCha6`. `Err` as in `encrypt`.
 pub fn encrypt_6(key: &Key, nonce: &Nonce, message: &mut [u8]) -> Result<(), StreamCipherError>
     ensures accepted { IsOk result ↔ (length message.old ≤ 274877906944) }
     ensures bytes { OnOk result (message.new

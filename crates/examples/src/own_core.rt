@@ -8,7 +8,7 @@ use chacha20::cipher::{
     StreamCipherCore, StreamCipherSeekCore,
 };
 
-/// A core that encrypts nothing safely (this crate). Byte i of its block with counter c is (seed + 100 * c + i) mod
+/// A core that encrypts nothing safely. Byte i of its block with counter c is (seed + 100 * c + i) mod
 /// 256. The key is the seed, and there is no nonce. A new core is at block 5, but a cipher over it begins at block 0.
 #[derive(Drop)]
 pub struct Toy {

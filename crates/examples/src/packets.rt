@@ -21,10 +21,10 @@ use crate::frames::{Channel, FrameError, Sender};
 use chacha20::Key;
 use std::marker::Model;
 
-/// The number of a packet, little-endian (this crate).
+/// The number of a packet, little-endian.
 pub type Header = [u8; 8];
 
-/// Why a packet was refused. Nothing has changed (this crate).
+/// Why a packet was refused. Nothing has changed.
 #[derive(Clone, Copy, Debug, PartialEq, Eq)]
 pub enum PacketError {
     /// It isn't authentic.
@@ -35,7 +35,7 @@ pub enum PacketError {
     TooLong,
 }
 
-/// Encrypts a body in place, as the sender's next packet, and writes its header (this crate). `Err` exactly where the
+/// Encrypts a body in place, as the sender's next packet, and writes its header. `Err` exactly where the
 /// numbers are used up or the body is longer than 274877906944 bytes; then nothing changes.
 pub fn send(sender: &mut Sender, header: &mut Header, body: &mut [u8]) -> Result<(), FrameError>
     ensures accepted { IsOk result
@@ -56,7 +56,7 @@ pub fn send(sender: &mut Sender, header: &mut Header, body: &mut [u8]) -> Result
     Ok(())
 }
 
-/// Decrypts the packets of a sender, in any order and each once (this crate).
+/// Decrypts the packets of a sender, in any order and each once.
 #[derive(Drop)]
 pub struct Receiver {
     key: Key,

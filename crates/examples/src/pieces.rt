@@ -18,7 +18,7 @@ ghost use Rattle.examples.specs.Pieces.{chunk_nonce, chunk_stream};
 use chacha20::cipher::{KeyIvInit, StreamCipher, StreamCipherError};
 use chacha20::{ChaCha20, Key, Nonce};
 
-/// XORs bytes with the keystream in pieces of `size` bytes, of which the last may be shorter (this crate). The bytes
+/// XORs bytes with the keystream in pieces of `size` bytes, of which the last may be shorter. The bytes
 /// and the cipher become those of one call for all bytes. The caller proves that these end within the limit.
 pub fn apply_in_pieces<C: StreamCipher>(cipher: &mut C, bytes: &mut [u8], size: usize)
     requires some { 0 < size }
@@ -36,7 +36,7 @@ pub fn apply_in_pieces<C: StreamCipher>(cipher: &mut C, bytes: &mut [u8], size: 
     }
 }
 
-/// The same for callers who don't know whether the bytes end within the limit (this crate). `Err` exactly where they
+/// The same for callers who don't know whether the bytes end within the limit. `Err` exactly where they
 /// don't; then nothing changes, not even a piece that would fit.
 pub fn try_apply_in_pieces<C: StreamCipher>(
     cipher: &mut C,
@@ -59,7 +59,7 @@ pub fn try_apply_in_pieces<C: StreamCipher>(
     Ok(())
 }
 
-/// XORs a message in two buffers, wherever it is cut, with the keystream (this crate). One after the other (`++`), the
+/// XORs a message in two buffers, wherever it is cut, with the keystream. One after the other (`++`), the
 /// buffers become what one call makes of the whole. The caller proves that both together end within the limit.
 pub fn apply_in_two<C: StreamCipher>(cipher: &mut C, first: &mut [u8], rest: &mut [u8])
     requires fits { C.position cipher.old + (length first.old + length rest.old)
@@ -93,7 +93,7 @@ pub fn encrypt_in_chunks(key: &Key, message: &mut [u8], size: usize)
     }
 }
 
-/// The nonce of a chunk (this crate). No other number below 2^64 has it.
+/// The nonce of a chunk. No other number below 2^64 has it.
 pub fn chunk_nonce(number: u64) -> Nonce
     ensures value { result ≡ chunk_nonce number }
     ensures distinct { (other : ℕ) → other < 2 ^ 64 → chunk_nonce other ≡ result → other ≡ number }

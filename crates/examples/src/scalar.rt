@@ -16,7 +16,7 @@ use chacha20::cipher::{ParBlocksSizeUser, RngBackend, StreamCipherBackend};
 use chacha20::variants::{Legacy, Variant};
 use chacha20::{Rounds, Steps};
 
-/// One block at a time, on words. It counts its quarter rounds, but not its calls: no trait requires that (this crate).
+/// One block at a time, on words. It counts its quarter rounds, but not its calls: no trait requires that.
 pub struct Scalar;
 
 // The words of a state's block.

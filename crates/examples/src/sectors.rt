@@ -18,10 +18,10 @@ ghost use Rattle.examples.specs.Sectors.{nonce_of, sector, version_of, text_of};
 use chacha20::cipher::{KeyIvInit, StreamCipher, StreamCipherError};
 use chacha20::{ChaCha20, Key, Nonce};
 
-/// How many bytes a sector has (this crate).
+/// How many bytes a sector has.
 pub const SECTOR: usize = 512;
 
-/// The nonce of a version of a sector: the number in 4 bytes and the version in 8, little-endian (this crate). No other
+/// The nonce of a version of a sector: the number in 4 bytes and the version in 8, little-endian. No other
 /// number or version has it.
 pub fn nonce(number: u32, version: u64) -> Nonce
     ensures value { result ≡ nonce_of number version }
@@ -36,7 +36,7 @@ pub fn nonce(number: u32, version: u64) -> Nonce
 
 /// Writes a sector: encrypts the text under the sector's next version. `Err` exactly where the disk or the versions
 /// have no sector of this number, counted from 0, or its versions are used up, after 2^64 - 1 writes; then nothing
-/// changes (this crate).
+/// changes.
 pub fn write(
     key: &Key,
     versions: &mut [u64],
@@ -71,7 +71,7 @@ pub fn write(
 }
 
 /// Reads the text of a sector. `Err` exactly where the disk has no sector of this number, or its version is 0: it has
-/// not been written. Then the text stays (this crate).
+/// not been written. Then the text stays.
 pub fn read(
     key: &Key,
     versions: &[u64],

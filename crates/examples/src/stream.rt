@@ -27,7 +27,7 @@ use chacha20::{Key, XChaCha20, XNonce};
 use std::io;
 use std::io::{ErrorKind, Read, Write};
 
-/// Why a text wasn't written to its end (this crate).
+/// Why a text wasn't written to its end.
 #[derive(Debug, Drop)]
 pub enum StreamError {
     /// The reader failed, or gave 2^64 - 1 pieces.
@@ -47,7 +47,7 @@ impl From<StreamCipherError> for StreamError {
 }
 
 /// XORs all bytes that the reader has left with the keystream, from the cipher's position on, and writes them, in
-/// pieces of at most the buffer's length (this crate). It repeats reads and writes that a signal interrupts. If it
+/// pieces of at most the buffer's length. It repeats reads and writes that a signal interrupts. If it
 /// fails, the writer has the first bytes of the encryption of what was read. The last piece stays in the buffer.
 pub fn xor_all<C: StreamCipher, R: Read, W: Write>(
     cipher: &mut C,
