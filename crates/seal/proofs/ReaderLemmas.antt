@@ -6,11 +6,6 @@ use Rattle.std.specs.declared.option.Option.{Option}
 use Rattle.std.specs.Io.KnownBytes.{Consumes, IsAtEnd, prepend_known}
 use Rattle.seal.specs.Sealed.{header}
 
--- bytes that are held, before the reader's
-pub held-Consumes : (a : Option (List ℕ)) (held : List ℕ) → Consumes (prepend_known held a) a held
-held-Consumes None held = tt
-held-Consumes (Some rest) held = refl
-
 -- of the bytes that were read the last are held
 pub Consumes-held : (a b : Option (List ℕ)) (xs held : List ℕ) → Consumes a b (xs ++ held)
     → Consumes a (prepend_known held b) xs
@@ -74,3 +69,16 @@ no-header (Some file) (Some left) bytes n read size most end other = λ salt res
             short,
           )
     ]
+
+-- what a reader gives whose bytes are known
+pub known-Consumes : (a b : Option (List ℕ)) (front rest got : List ℕ) → a ≡ Some (front ++ rest)
+    → length got ≡ length front → Consumes (prepend_known [] a) b got → (got ≡ front) × (b ≡ Some rest)
+known-Consumes a b front rest got same size read =
+    known b (subst (λ o. Consumes (prepend_known [] o) b got) same read)
+  where
+    known : (b : Option (List ℕ)) → Consumes (prepend_known [] (Some (front ++ rest))) b got → (got ≡ front) × (b ≡ Some rest)
+    known None read = absurd read
+    known (Some left) read = (
+      sym (take_at got left (length front) size) ∙ ap (take (length front)) (sym read) ∙ take_at front rest (length front) refl,
+      ap Some (sym (drop_at got left (length front) size) ∙ ap (drop (length front)) (sym read) ∙ drop_at front rest (length front) refl),
+    )

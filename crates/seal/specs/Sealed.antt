@@ -44,6 +44,10 @@ sealed key salt text =
     let n = last_number text in
     header salt ++ chunks key salt text n ++ chunk key salt n true (piece text n)
 
+-- the file from chunk i on
+abbrev pub from_chunk : List ℕ → List ℕ → List ℕ → ℕ → List ℕ
+from_chunk key salt text i = drop (32 + 65552 * i) (sealed key salt text)
+
 -- the text of the file's first chunks, whose tags are right
 abbrev pub BeginsWith : List ℕ → List ℕ → List ℕ → Type 0
 BeginsWith key file text =
