@@ -38,13 +38,12 @@ impl Display for Damage {
             Damage::NotSealed => write!(f, "not a sealed file"),
             Damage::OtherVersion => write!(f, "sealed in another version of the format"),
             Damage::NoChunk => write!(f, "the file ends in its header"),
-            Damage::WrongChunk(0) => write!(f, "chunk 0 is wrong, or the key is"),
-            Damage::WrongChunk(number) => write!(f, "chunk {number} is wrong"),
-            Damage::WrongEnd(0) => {
-                write!(f, "chunk 0 is wrong, or the key is, or the file ends early")
-            }
-            Damage::WrongEnd(number) => {
-                write!(f, "chunk {number} is wrong, or the file ends early")
+            Damage::WrongChunk(0) | Damage::WrongEnd(0) => write!(
+                f,
+                "wrong key, or chunk 0 is damaged, or the file ends early"
+            ),
+            Damage::WrongChunk(number) | Damage::WrongEnd(number) => {
+                write!(f, "chunk {number} is damaged, or the file ends early")
             }
         }
     }

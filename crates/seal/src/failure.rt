@@ -24,7 +24,7 @@ pub enum Failure<'a> {
     NotAFile(&'a str),
     Damaged(&'a str, Damage),
     TooLong(&'a str),
-    /// START and LEN end behind the text, which has so many bytes.
+    /// START + LEN is past the end of the text, which has so many bytes.
     PastEnd(&'a str, u64),
 }
 
@@ -62,7 +62,7 @@ impl Display for Failure<'_> {
             Failure::NotAKey(path, len) => {
                 write!(f, "the key file {path} has {len} bytes, not 32")
             }
-            Failure::SameFile(path) => write!(f, "{path} would replace a file that is read"),
+            Failure::SameFile(path) => write!(f, "OUT {path} is the same file as IN or KEYFILE"),
             Failure::NotAFile(path) => write!(f, "{path} is there and isn't a file"),
             Failure::Damaged(path, damage) => write!(f, "{path}: {damage}"),
             Failure::TooLong(path) => write!(
@@ -72,7 +72,7 @@ impl Display for Failure<'_> {
             Failure::PastEnd(path, len) => {
                 write!(
                     f,
-                    "START and LEN end behind the text of {path}, which has {len} bytes"
+                    "START + LEN is past the end: by its length, {path} has {len} bytes of text"
                 )
             }
         }
