@@ -16,7 +16,8 @@ use chacha_base::cipher::{
 use chacha_base::wrapper::StreamCipherCoreWrapper;
 pub use rng::{RngAnswer, RngCall, run_rng};
 
-/// A call on a cipher. Ranges, lengths and positions are in bytes; `at` is a place in the data, `from` one in the input.
+/// A call on a cipher. Ranges, lengths and positions are in bytes; `at` is a place in the data, `from` one in the
+/// input.
 #[derive(Clone, Copy, Debug, PartialEq, Eq)]
 pub enum CipherCall {
     /// `check_remaining`

@@ -3,8 +3,8 @@ use Rattle.std.proofs.Common.{◌≡◌, ◌+◌, ◌*◌, ◌-◌, ◌^◌, Som
 use Rattle.chacha_base.specs.Cipher.{remaining}
 use Rattle.chacha_base.specs.Counts.{for_bytes, tail_of_16}
 
--- from byte 20 of a block on: the 44 bytes that it still has, seven blocks and 50 bytes. Four blocks are a parallel call
--- of 80 quarter rounds, and a single block takes 7
+-- from byte 20 of a block on: the 44 bytes that it still has, seven blocks and 50 bytes. Four blocks are a parallel
+-- call of 80 quarter rounds, and a single block takes 7
 pub inside_a_block : for_bytes 4 80 7 (64 + 20) (44 + 7 * 64 + 50)
     ≡ record { par = 1; other = 3 + 1; least = 80 + 2 * 7; most = 80 + 4 * 7 }
 inside_a_block = refl

@@ -1,5 +1,5 @@
--- Lanes of vectors: their words rotated, the lanes rotated, interleaved, and written as bytes. The proofs of `vector`, and some of rows and
--- columns, cite these. Read `Lanes` first.
+-- Lanes of vectors: their words rotated, the lanes rotated, interleaved, and written as bytes. The proofs of `vector`,
+-- and some of rows and columns, cite these. Read `Lanes` first.
 use Rattle.std.proofs.Common.{w32, Fits, ◌≡◌, ℕ, zero, suc, ◌<◌, ◌+◌, ◌-◌, ◌*◌, ◌/◌, ◌%◌, ◌^◌, List, [], ◌∷◌, ◌++◌, length, map, slice_index, replicate, bit_or, bit_xor, arith, refl, sym, ap, ap₂, ◌∙◌}
 use Rattle.std.specs.List.{range_with_len}
 use Rattle.std.specs.Simd.Lanes.{zip2, Each1, pick_l, number_l, digits_l}

@@ -6,8 +6,8 @@
 //! that is less than 64 behind the newest, once.
 //!
 //! A packet must be authenticated before it moves this window: a forged packet with a large number would block the real
-//! ones. So `receive` asks whether the packet is authentic, and changes nothing if it isn't. Send with each packet a MAC
-//! of the channel, the header and the body, under a key of its own, and compare it before the call.
+//! ones. So `receive` asks whether the packet is authentic, and changes nothing if it isn't. Send with each packet a
+//! MAC of the channel, the header and the body, under a key of its own, and compare it before the call.
 //!
 //! `specs/Frames.antt` and `specs/Packets.antt` define the words of the contracts.
 

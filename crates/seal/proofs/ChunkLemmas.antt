@@ -111,7 +111,8 @@ module _ (key salt : List ℕ) where
 
   -- one more chunk
   pub chunks-more : (m t : List ℕ) (i : ℕ) → length m ≡ 65536 * i → length t ≡ 65536
-      → (header salt ++ chunks key salt m i) ++ chunk key salt i false t ≡ header salt ++ chunks key salt (m ++ t) (i + 1)
+      → (header salt ++ chunks key salt m i) ++ chunk key salt i false t
+      ≡ header salt ++ chunks key salt (m ++ t) (i + 1)
   chunks-more m t i long size =
       append_assoc (header salt) (chunks key salt m i) (chunk key salt i false t)
       ∙ ap (λ cs. header salt ++ cs)
@@ -173,6 +174,7 @@ module _ (key salt : List ℕ) where
               rest ++ next,
               ap (λ cs. cs ++ next) found
                   ∙ append_assoc (chunks key salt text i) (chunk key salt i false (piece text i) ++ rest) next
-                  ∙ ap (λ cs. chunks key salt text i ++ cs) (append_assoc (chunk key salt i false (piece text i)) rest next),
+                  ∙ ap (λ cs. chunks key salt text i ++ cs) (append_assoc (chunk key salt i false
+                  (piece text i)) rest next),
             )
       ]

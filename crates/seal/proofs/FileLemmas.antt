@@ -89,8 +89,11 @@ salt-same salt salt' xs ys size size' same =
     let long : length (header salt) ≡ 32 = omega (arith, size) in
     let long' : length (header salt') ≡ 32 = omega (arith, size') in
     let heads : header salt ≡ header salt' =
-    sym (take_at (header salt) xs 32 long) ∙ ap (take 32) same ∙ take_at (header salt') ys 32 long' in
-    (ap (drop 16) heads, sym (drop_at (header salt) xs 32 long) ∙ ap (drop 32) same ∙ drop_at (header salt') ys 32 long')
+    sym (take_at (header salt) xs 32 long) ∙ ap (take 32) same ∙ take_at (header salt') ys 32 long' in (
+      ap (drop 16) heads,
+      sym (drop_at (header salt) xs 32 long) ∙ ap (drop 32) same
+          ∙ drop_at (header salt') ys 32 long',
+    )
 
 -- a file has one text
 pub one-text : (key salt salt' xs ys : List ℕ) → length salt ≡ 16 → length salt' ≡ 16

@@ -30,7 +30,8 @@ pub no-file : (a : Option (List ℕ)) (key : List ℕ)
     → IfSome a (λ file. (salt rest : List ℕ) → length salt ≡ 16 → file ≢ header salt ++ rest)
     → IfSome a (λ file. (salt text : List ℕ) → length salt ≡ 16 → file ≢ sealed key salt text)
 no-file None key none = tt
-no-file (Some file) key none = λ salt text size same. none salt (body key salt text) size (same ∙ sealed-is key salt text)
+no-file (Some file) key none = λ salt text size same. none salt (body key salt text) size (same
+    ∙ sealed-is key salt text)
 
 -- one text
 pub text-of : (a w v : Option (List ℕ)) (key : List ℕ)
@@ -38,17 +39,21 @@ pub text-of : (a w v : Option (List ℕ)) (key : List ℕ)
     → (salt text : List ℕ) → length salt ≡ 16 → a ≡ Some (sealed key salt text) → Appends w v text
 text-of a w v key holds salt text size is =
     let (salt', text', size', same, written) =
-    subst (λ o. IfSome o (λ file. (s t : List ℕ) × (length s ≡ 16) × (file ≡ sealed key s t) × Appends w v t)) is holds in
+    subst (λ o. IfSome o (λ file. (s t : List ℕ) × (length s ≡ 16) × (file ≡ sealed key s t)
+    × Appends w v t)) is holds in
     subst (Appends w v) (sym (one-text key salt salt' text text' size size' same)) written
 
-module _ (a b : Option (List ℕ)) (key salt moved bytes : List ℕ) (i : ℕ) (size : length salt ≡ 16) (long : length moved ≡ 65536 * i) where
+module _ (a b : Option (List ℕ)) (key salt moved bytes : List ℕ) (i : ℕ) (size : length salt
+    ≡ 16) (long : length moved ≡ 65536 * i) where
   abbrev pub front : List ℕ
   front = header salt ++ chunks key salt moved i
 
   -- the last chunk is right
   pub opened : (w v u : Option (List ℕ)) (text : List ℕ) → length bytes ≤ 65552 → (0 < i → 0 < length text)
-      → bytes ≡ chunk key salt i true text → Consumes a b (front ++ bytes) → IsAtEnd b → Appends w v moved → Appends v u text
-      → IfSome a (λ file. (salt' text' : List ℕ) × (length salt' ≡ 16) × (file ≡ sealed key salt' text') × Appends w u text')
+      → bytes ≡ chunk key salt i true text → Consumes a b (front ++ bytes) → IsAtEnd b → Appends w v moved
+      → Appends v u text
+      → IfSome a (λ file. (salt' text' : List ℕ) × (length salt' ≡ 16) × (file ≡ sealed key salt' text')
+      × Appends w u text')
   opened w v u text fits some is read end before more =
       let whole = ap (λ cs. front ++ cs) is
       ∙ sealed-end key salt moved text i long

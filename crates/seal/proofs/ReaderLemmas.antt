@@ -76,9 +76,12 @@ pub known-Consumes : (a b : Option (List ℕ)) (front rest got : List ℕ) → a
 known-Consumes a b front rest got same size read =
     known b (subst (λ o. Consumes (prepend_known [] o) b got) same read)
   where
-    known : (b : Option (List ℕ)) → Consumes (prepend_known [] (Some (front ++ rest))) b got → (got ≡ front) × (b ≡ Some rest)
+    known : (b : Option (List ℕ)) → Consumes (prepend_known [] (Some (front ++ rest))) b got → (got ≡ front) × (b
+        ≡ Some rest)
     known None read = absurd read
     known (Some left) read = (
-      sym (take_at got left (length front) size) ∙ ap (take (length front)) (sym read) ∙ take_at front rest (length front) refl,
-      ap Some (sym (drop_at got left (length front) size) ∙ ap (drop (length front)) (sym read) ∙ drop_at front rest (length front) refl),
+      sym (take_at got left (length front) size) ∙ ap (take (length front)) (sym read)
+          ∙ take_at front rest (length front) refl,
+      ap Some (sym (drop_at got left (length front) size) ∙ ap (drop (length front)) (sym read)
+          ∙ drop_at front rest (length front) refl),
     )

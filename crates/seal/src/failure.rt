@@ -25,7 +25,7 @@ pub enum Failure<'a> {
     Damaged(&'a str, Damage),
     TooLong(&'a str),
     /// START + LEN is past the end of the text, which has so many bytes.
-    PastEnd(&'a str, u64),
+    EndOfText(&'a str, u64),
 }
 
 impl<'a> Failure<'a> {
@@ -69,7 +69,7 @@ impl Display for Failure<'_> {
                 f,
                 "{path} has more chunks than a sealed file may have"
             ),
-            Failure::PastEnd(path, len) => {
+            Failure::EndOfText(path, len) => {
                 write!(
                     f,
                     "START + LEN is past the end: by its length, {path} has {len} bytes of text"

@@ -111,7 +111,7 @@ fn print<'a>(
     let salt = stream::read_header(&mut file).map_err(told)?;
     let text_len = cat::text_len(total);
     if start > text_len || len > text_len - start {
-        return Err(Failure::PastEnd(from, text_len));
+        return Err(Failure::EndOfText(from, text_len));
     }
     let place = cat::chunk_place(start);
     file.seek(SeekFrom::Start(place))

@@ -8,8 +8,8 @@ use chacha20::cipher::{
 use chacha20::variants::Ietf;
 use chacha20::{ChaChaCore, ChaChaRng, Key, R20, StreamCipherCoreWrapper};
 
-/// A call to be measured, on a slice. `NextU32` takes as many words as the slice holds, `Seek` goes into a block and then
-/// applies in place; all others begin with a new cipher or generator.
+/// A call to be measured, on a slice. `NextU32` takes as many words as the slice holds, `Seek` goes into a block and
+/// then applies in place; all others begin with a new cipher or generator.
 #[derive(Clone, Copy)]
 pub enum Call {
     InPlace,

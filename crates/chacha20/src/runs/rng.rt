@@ -8,8 +8,8 @@ use crate::rng::{ChaChaRng, Seed, SerializedRngState};
 use chacha_base::cipher::RngBackend;
 use chacha_base::rounds::Rounds;
 
-/// A call on a generator. Ranges and lengths are in bytes; `at` is a place in the data. Word positions count words of 32
-/// bits, and block positions blocks of 16 words.
+/// A call on a generator. Ranges and lengths are in bytes; `at` is a place in the data. Word positions count words of
+/// 32 bits, and block positions blocks of 16 words.
 #[derive(Clone, Copy, Debug, PartialEq, Eq)]
 pub enum RngCall {
     /// `next_u32`

@@ -71,9 +71,11 @@ chunks-preserved g c =
           c.in_ok-n.ensures.read in
           let texts : found_text ≡ piece text i =
           chunk-same key salt i last found_text (piece text i)
-          (sym same ∙ take_at buf (drop span old) span full ∙ sym (take_all n buf (omega (arith, full, c.if-n-size.false)))
+          (sym same ∙ take_at buf (drop span old) span full
+          ∙ sym (take_all n buf (omega (arith, full, c.if-n-size.false)))
           ∙ found) in
-          let part : before_chunk text start end i ++ slice_range found_text c.saturating_sub-from.result c.min-to.result
+          let part : before_chunk text start end i ++ slice_range found_text c.saturating_sub-from.result
+          c.min-to.result
           ≡ before_chunk text start end (i + 1) =
           ap (λ xs. before_chunk text start end i ++ xs)
           (ap (λ t. slice_range t c.saturating_sub-from.result c.min-to.result) texts

@@ -14,7 +14,14 @@ returns-then-bytes-least-clause-wrong c refused text some same =
     let long = ap length same ∙ length-chunk c.args.key.now c.args.salt.now c.args.number c.args.last text in
     elim c.if-number-eq0.branch [
       | then-number-eq0 w ↦ omega (arith, w.least-is, c.if-bytes-least.true, long)
-      | else-number-eq0 w ↦ omega (arith, w.least-is, c.if-bytes-least.true, long, some (omega (arith, w.if-number-eq0.false)))
+      | else-number-eq0 w ↦ omega (
+        arith,
+        w.least-is,
+        c.if-bytes-least.true,
+        long,
+        some (omega
+            (arith, w.if-number-eq0.false)),
+      )
     ]
 
 pub returns-clause-right : goal.returns-clause-right
@@ -47,5 +54,9 @@ returns-clause-wrong c refused text some same =
     let end = length c.args.bytes.now - 16 in
     let size = length-take-le end c.args.bytes.now (omega arith) in
     let accepted : IsOk c.open.result =
-    c.open.ensures.accepted.1 (omega (arith, size, c.requires.size), c.copy_from_slice.ensures.after ∙ take_rest c.args.bytes.now end ∙ tag) in
+    c.open.ensures.accepted.1 (
+      omega (arith, size, c.requires.size),
+      c.copy_from_slice.ensures.after
+          ∙ take_rest c.args.bytes.now end ∙ tag,
+    ) in
     true≢false (sym accepted ∙ sym c.is_ok.ensures.value ∙ refused)

@@ -39,7 +39,8 @@ write_text-requires-in-chunks-clause-size g c =
 pub returns-in_err-salt-clause-refused : goal.returns-in_err-salt-clause-refused
 returns-in_err-salt-clause-refused g c =
     passed-on c.from_residual.result _ c.from_residual.ensures.1
-    (λ damage is. no-file (g.R.Read.remaining c.args.reader.now) c.args.key.now (c.in_err-salt.ensures.refused damage is))
+    (λ damage is. no-file (g.R.Read.remaining c.args.reader.now) c.args.key.now
+    (c.in_err-salt.ensures.refused damage is))
 
 pub returns-then-n-clause-accepted : goal.returns-then-n-clause-accepted
 returns-then-n-clause-accepted g c =
@@ -51,8 +52,12 @@ returns-then-n-clause-accepted g c =
     let end = got.end (omega (arith, c.if-n.true, size, c.requires)) in
     on_ok_weaker c.write_text.result
     (λ right.
-    opened (g.R.Read.remaining c.args.reader.now) (g.R.Read.remaining c.fill.new.reader) c.args.key.now c.in_ok-salt.salt moved (take n c.fill.new.buf) c.chunks.number c.in_ok-salt.ensures.size
-    long (g.W.Write.contents c.args.writer.now) (g.W.Write.contents c.chunks.writer) (g.W.Write.contents c.write_text.new.writer) right.0 (omega (arith, wide, c.if-n.true)) right.1 right.2 (Consumes-trans _ _ _ _ _ read got.read) end
+    opened (g.R.Read.remaining c.args.reader.now)
+    (g.R.Read.remaining c.fill.new.reader) c.args.key.now c.in_ok-salt.salt moved
+    (take n c.fill.new.buf) c.chunks.number c.in_ok-salt.ensures.size
+    long (g.W.Write.contents c.args.writer.now) (g.W.Write.contents c.chunks.writer)
+    (g.W.Write.contents c.write_text.new.writer) right.0 (omega (arith, wide, c.if-n.true)) right.1 right.2
+    (Consumes-trans _ _ _ _ _ read got.read) end
     written right.3)
     c.write_text.ensures.right
 
@@ -66,8 +71,11 @@ returns-then-n-clause-refused g c =
     let end = got.end (omega (arith, c.if-n.true, size, c.requires)) in
     refusal-weaker c.write_text.result
     (λ wrong.
-    refused-last (g.R.Read.remaining c.args.reader.now) (g.R.Read.remaining c.fill.new.reader) c.args.key.now c.in_ok-salt.salt moved (take n c.fill.new.buf) c.chunks.number
-    c.in_ok-salt.ensures.size long (omega (arith, wide, c.if-n.true)) (λ more. omega (arith, wide, held more, got.bounds.0))
+    refused-last (g.R.Read.remaining c.args.reader.now)
+    (g.R.Read.remaining c.fill.new.reader) c.args.key.now c.in_ok-salt.salt moved
+    (take n c.fill.new.buf) c.chunks.number
+    c.in_ok-salt.ensures.size long (omega (arith, wide, c.if-n.true)) (λ more. omega
+    (arith, wide, held more, got.bounds.0))
     wrong.1 (Consumes-trans _ _ _ _ _ read got.read) end)
     c.write_text.ensures.wrong
 
@@ -77,7 +85,9 @@ returns-then-n-clause-only_right g c =
     let w = g.W.Write.contents c.args.writer.now in
     refusal-weaker c.write_text.result
     (λ wrong.
-    right-before (g.R.Read.remaining c.args.reader.now) (g.R.Read.remaining c.fill.new.reader) c.args.key.now c.in_ok-salt.salt moved (take c.in_ok-n.n c.fill.new.buf) c.chunks.number
+    right-before (g.R.Read.remaining c.args.reader.now)
+    (g.R.Read.remaining c.fill.new.reader) c.args.key.now c.in_ok-salt.salt moved
+    (take c.in_ok-n.n c.fill.new.buf) c.chunks.number
     c.in_ok-salt.ensures.size long w (g.W.Write.contents c.write_text.new.writer)
     (Consumes-trans _ _ _ _ _ read c.in_ok-n.ensures.read)
     (subst (λ v. Appends w v moved) (sym wrong.0) written))
@@ -104,7 +114,8 @@ returns-in_err-write_text-clause-refused g c =
     let b = g.R.Read.remaining c.fill.new.reader in
     passed-on c.from_residual-in_err-write_text.result _ c.from_residual-in_err-write_text.ensures.1
     (λ damage is.
-    refused-mid a b c.args.key.now c.in_ok-salt.salt moved (take 65552 buf) c.chunks.number c.in_ok-salt.ensures.size long
+    refused-mid a b c.args.key.now c.in_ok-salt.salt moved
+    (take 65552 buf) c.chunks.number c.in_ok-salt.ensures.size long
     (drop 65552 buf) (length-take-le 65552 buf (omega (arith, full))) (omega (arith, length-drop 65552 buf, full))
     (c.in_err-write_text.ensures.wrong damage is).1
     (subst (Consumes a b) split (Consumes-trans _ _ _ _ _ read c.in_ok-n.ensures.read)))
@@ -115,7 +126,9 @@ returns-in_err-write_text-clause-only_right g c =
     let w = g.W.Write.contents c.args.writer.now in
     passed-on c.from_residual-in_err-write_text.result _ c.from_residual-in_err-write_text.ensures.1
     (λ damage is.
-    right-before (g.R.Read.remaining c.args.reader.now) (g.R.Read.remaining c.fill.new.reader) c.args.key.now c.in_ok-salt.salt moved (take c.in_ok-n.n c.fill.new.buf) c.chunks.number
+    right-before (g.R.Read.remaining c.args.reader.now)
+    (g.R.Read.remaining c.fill.new.reader) c.args.key.now c.in_ok-salt.salt moved
+    (take c.in_ok-n.n c.fill.new.buf) c.chunks.number
     c.in_ok-salt.ensures.size long w (g.W.Write.contents c.write_text-in-chunks.new.writer)
     (Consumes-trans _ _ _ _ _ read c.in_ok-n.ensures.read)
     (subst (λ v. Appends w v moved) (sym (c.in_err-write_text.ensures.wrong damage is).0) written))
@@ -157,7 +170,8 @@ chunks-preserved g c =
       omega arith,
       λ less. refl,
       omega (arith, length-append moved text, long, text_size),
-      subst (λ h. Consumes before (prepend_known h after) (header salt ++ chunks key salt (moved ++ text) (c.chunks.number + 1)))
+      subst (λ h. Consumes before (prepend_known h after) (header salt ++ chunks key salt (moved ++ text)
+          (c.chunks.number + 1)))
           (sym next)
           (subst (Consumes before (prepend_known (drop 65552 buf) after)) whole
           (Consumes-held before after (front ++ bytes) (drop 65552 buf)

@@ -48,7 +48,8 @@ returns-then-n-le-CHUNK g c =
       written = on_ok_weaker c.write_chunk.result
           (λ last.
           Consumes-whole _ _ _
-          (λ text. Appends (g.W.Write.contents c.args.writer.now) (g.W.Write.contents c.write_chunk.new.writer) (sealed key salt text))
+          (λ text. Appends (g.W.Write.contents c.args.writer.now) (g.W.Write.contents c.write_chunk.new.writer)
+          (sealed key salt text))
           (Consumes-trans _ _ _ _ _ read got.read) end
           (subst (Appends _ _) whole (Appends-trans _ _ _ _ _ written last)))
           c.write_chunk.ensures;
@@ -87,7 +88,8 @@ chunks-preserved g c =
       λ less. refl,
       omega (arith, length-append moved text, long, wide),
       subst (λ h. Consumes before (prepend_known h after) (moved ++ text)) (sym next)
-          (Consumes-held before after (moved ++ text) (drop 65536 buf) (subst (Consumes _ _) split (Consumes-trans _ _ _ _ _ read got.read))),
+          (Consumes-held before after (moved ++ text) (drop 65536 buf) (subst (Consumes _ _) split
+          (Consumes-trans _ _ _ _ _ read got.read))),
       subst (Appends _ _) (chunks-more key salt moved text c.chunks.number long wide)
           (Appends-trans _ _ _ _ _ written c.in_ok-write_chunk.ensures),
     )

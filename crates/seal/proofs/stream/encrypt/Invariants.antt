@@ -10,5 +10,7 @@ invariant-chunks g l =
     let salt = l.fn.salt in
     (moved : List ℕ) × (length l.buf ≡ length l.initial.buf) × (l.held ≤ 1) × (0 < l.number → l.held ≡ 1)
     × (length moved ≡ 65536 * l.number)
-    × Consumes (g.R.Read.remaining l.initial.reader) (prepend_known (take l.held l.buf) (g.R.Read.remaining l.reader)) moved
-    × Appends (g.W.Write.contents l.fn.writer) (g.W.Write.contents l.writer) (header salt ++ chunks key salt moved l.number)
+    × Consumes (g.R.Read.remaining l.initial.reader) (prepend_known (take l.held l.buf)
+    (g.R.Read.remaining l.reader)) moved
+    × Appends (g.W.Write.contents l.fn.writer) (g.W.Write.contents l.writer)
+    (header salt ++ chunks key salt moved l.number)

@@ -20,8 +20,10 @@ returns-then-not-starts_with-clause-refused g c damage is =
     no-header _ _ c.fill.new.buf c.in_ok-n.n got.read c.fill.auto.buf got.bounds.1 got.end
     (elim c.then-not-starts_with.branch [
       | then-not-starts_with-via-then-not-starts_with w ↦ λ whole magic.
-          true≢false (sym ((is_magic c.fill.new.buf c.starts_with.result c.starts_with.ensures.value).1 (sym magic)) ∙ w.if-not-starts_with.true)
-      | then-not-starts_with-via-else-not-starts_with+then-n-lt32 w ↦ λ whole magic. omega (arith, w.if-n-lt32.true, whole)
+          true≢false (sym ((is_magic c.fill.new.buf c.starts_with.result c.starts_with.ensures.value).1 (sym magic))
+          ∙ w.if-not-starts_with.true)
+      | then-not-starts_with-via-else-not-starts_with+then-n-lt32 w ↦ λ whole magic. omega
+          (arith, w.if-n-lt32.true, whole)
     ])
 
 pub returns-clause-read : goal.returns-clause-read

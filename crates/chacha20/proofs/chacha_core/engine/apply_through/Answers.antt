@@ -16,7 +16,8 @@ record Next (i l e n : ℕ) (scratch : List (List ℕ)) : Type 0 where
   inside : 64 * e ≤ n
 
 -- those of group k, and those behind the last group; the scratch space holds a group, or else all blocks
-group : {w b r : ℕ} (k n : ℕ) (scratch : List (List ℕ)) → w ≡ b → length scratch ≡ r → min b (n / 64) ≤ r → k < n / 64 / w
+group : {w b r : ℕ} (k n : ℕ) (scratch : List (List ℕ)) → w ≡ b → length scratch ≡ r → min b (n / 64) ≤ r → k < n / 64 /
+    w
     → Next (w * k) w (w * (k + 1)) n scratch
 group {w} k n scratch same kept fits less =
     let end = column_fits w k w (n / 64 / w) less (omega arith) in
@@ -59,13 +60,15 @@ gen_par_ks_blocks-requires g c =
 
 pub xor_blocks-requires-clause-inside : goal.xor_blocks-requires-clause-inside
 xor_blocks-requires-clause-inside g c =
-    let next = group c.groups.group (length c.args.data.now) c.groups.scratch c.PAR_BLOCKS-width.ensures c.groups.auto.scratch
+    let next = group c.groups.group (length c.args.data.now) c.groups.scratch c.PAR_BLOCKS-width.ensures
+    c.groups.auto.scratch
     c.requires.scratch c.groups-test.true in
     rw (c.groups.auto.data, c.gen_par_ks_blocks.auto.blocks, next.long, next.all) next.inside
 
 pub groups-preserved : goal.groups-preserved
 groups-preserved g c =
-    let next = group c.groups.group (length c.args.data.now) c.groups.scratch c.PAR_BLOCKS-width.ensures c.groups.auto.scratch
+    let next = group c.groups.group (length c.args.data.now) c.groups.scratch c.PAR_BLOCKS-width.ensures
+    c.groups.auto.scratch
     c.requires.scratch c.groups-test.true in
     let made = c.gen_par_ks_blocks.ensures in
     let so_far = g.T.Target.so_far c.args.input.now in
