@@ -124,7 +124,8 @@ fn write_text<W: Write>(
         × ((text : List ℕ) → (0 < number → 0 < length text)
         → bytes.old ≢ chunk key.now salt.now number last text)) }
 {
-    if !open_chunk(key, salt, number, last, bytes) {
+    let right = open_chunk(key, salt, number, last, bytes);
+    if !right {
         return Err(SealError::Damaged(if last {
             Damage::WrongEnd(number)
         } else {
