@@ -3,4 +3,5 @@ pub mod Frames
 pub mod Log
 pub mod Packets
 pub mod Pieces
+pub mod Sealed
 pub mod Sectors

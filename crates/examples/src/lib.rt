@@ -20,6 +20,7 @@ pub mod own_core;
 pub mod packets;
 pub mod pieces;
 pub mod scalar;
+pub mod sealed;
 pub mod sectors;
 pub mod simulation;
 pub mod stream;

@@ -1,12 +1,12 @@
 //! Why the program stops: each failure prints as a sentence.
 
-use crate::error::{Damage, SealError};
+use examples::sealed::error::{Damage, SealError};
 use std::alloc::AllocError;
 use std::fmt::{Display, Formatter};
 use std::{fmt, io};
 
 /// Why a call of the program failed. A path is the file's name as it was given.
-#[derive(Debug, Drop)]
+#[derive(Drop)]
 pub enum Failure<'a> {
     /// The words aren't those of a call.
     Usage,
@@ -49,13 +49,12 @@ impl From<AllocError> for Failure<'_> {
 impl Display for Failure<'_> {
     fn fmt<W: fmt::Write>(&self, f: &mut Formatter<W>) -> fmt::Result {
         match self {
-            Failure::Usage => write!(
-                f,
+            Failure::Usage => f.write_str(
                 "usage: seal encrypt KEYFILE IN OUT | seal decrypt KEYFILE IN OUT | seal cat KEYFILE IN START LEN | \
-                 seal key KEYFILE"
+                 seal key KEYFILE",
             ),
             Failure::NotANumber(word) => write!(f, "{word} is not a number of bytes"),
-            Failure::OutOfMemory => write!(f, "out of memory"),
+            Failure::OutOfMemory => f.write_str("out of memory"),
             Failure::NoRandomBytes(e) => write!(f, "the system gives no random bytes: {e}"),
             Failure::Read(path, e) => write!(f, "cannot read {path}: {e}"),
             Failure::Write(path, e) => write!(f, "cannot write {path}: {e}"),

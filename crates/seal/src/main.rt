@@ -1,18 +1,13 @@
 //! Encrypts files so that a change to one is noticed. README.md has the calls and the format.
 #![tactic(auto)]
 
-mod cat;
-mod chunk;
-mod error;
 mod failure;
 mod files;
 mod progress;
-mod stream;
-#[cfg(test)]
-mod tests;
 
-use chunk::{CHUNK, TAG};
-use error::SealError;
+use examples::sealed::chunk::{CHUNK, TAG};
+use examples::sealed::error::SealError;
+use examples::sealed::{cat, stream};
 use failure::Failure;
 use progress::Progress;
 use std::fs::File;

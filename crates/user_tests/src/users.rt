@@ -14,6 +14,7 @@ mod packets;
 mod pieces;
 mod readme;
 mod scalar;
+mod sealed;
 mod sectors;
 mod simulation;
 mod stream;

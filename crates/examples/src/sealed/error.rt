@@ -1,0 +1,51 @@
+//! Why a file is refused.
+
+use std::error::Error;
+use std::fmt::{Display, Formatter};
+use std::{fmt, io};
+
+/// What is wrong with a file that isn't a sealed one under the key.
+#[derive(Clone, Copy, Debug, PartialEq, Eq)]
+pub enum Damage {
+    /// It doesn't begin with the magic word.
+    NotSealed,
+    /// It has another version of the format.
+    OtherVersion,
+    /// It ends in its header.
+    NoChunk,
+    /// The tag of the chunk with this number is wrong.
+    WrongChunk(u64),
+    /// The file ends in or behind the chunk with this number, which isn't a last chunk with a right tag.
+    WrongEnd(u64),
+}
+
+/// Why a stream was not encrypted or decrypted.
+#[derive(Debug, Drop)]
+pub enum SealError {
+    /// The input can't be read.
+    Read(io::Error),
+    /// The output can't be written.
+    Write(io::Error),
+    /// The input isn't a sealed file under this key.
+    Damaged(Damage),
+    /// The input has more than 2^56 chunks, or took 2^64 reads for one.
+    TooLong,
+}
+
+impl Display for Damage {
+    fn fmt<W: fmt::Write>(&self, f: &mut Formatter<W>) -> fmt::Result {
+        match self {
+            Damage::NotSealed => f.write_str("not a sealed file"),
+            Damage::OtherVersion => f.write_str("sealed in another version of the format"),
+            Damage::NoChunk => f.write_str("the file ends in its header"),
+            Damage::WrongChunk(0) | Damage::WrongEnd(0) => f.write_str(
+                "wrong key, or chunk 0 is damaged, or the file ends early",
+            ),
+            Damage::WrongChunk(number) | Damage::WrongEnd(number) => {
+                write!(f, "chunk {number} is damaged, or the file ends early")
+            }
+        }
+    }
+}
+
+impl Error for Damage {}
