@@ -21,3 +21,4 @@ mod stream;
 mod tags;
 mod texts;
 mod unexported;
+mod unsteady;

@@ -1,12 +1,11 @@
 //! Sealed files: one of another implementation, round trips, damage, and readers and writers that fail.
 
+use super::unsteady::Unsteady;
 use chacha20::Key;
 use examples::sealed::chunk::{CHUNK, Salt, TAG};
 use examples::sealed::error::{Damage, SealError};
 use examples::sealed::stream::{decrypt, encrypt};
 use std::alloc::Global;
-use std::io;
-use std::io::{ErrorKind, Read, Write};
 use std::test::Fail;
 
 const KEY: Key = [
@@ -157,62 +156,13 @@ fn damaged_files_are_refused(rt: HostRuntime) -> Result<(), Fail> {
     Ok(())
 }
 
-// A reader and a writer that give or take at most 1000 bytes a call, are interrupted each third call, and fail at the
-// call with the number `fails`.
-#[derive(Drop)]
-struct Unsteady<T> {
-    inner: T,
-    calls: u32,
-    fails: u32,
-}
-
-fn step(calls: &mut u32, fails: u32) -> io::Result<()> {
-    *calls = calls.saturating_add(1);
-    if *calls == fails {
-        return Err(io::Error::from(ErrorKind::PermissionDenied));
-    }
-    if *calls % 3 == 0 {
-        Err(io::Error::from(ErrorKind::Interrupted))
-    } else {
-        Ok(())
-    }
-}
-
-impl<R: Read> Read for Unsteady<R> {
-    fn read(&mut self, buf: &mut [u8]) -> io::Result<usize> {
-        step(&mut self.calls, self.fails)?;
-        let len = buf.len().min(1000);
-        self.inner.read(&mut buf[..len])
-    }
-}
-
-impl<W: Write> Write for Unsteady<W> {
-    fn write(&mut self, buf: &[u8]) -> io::Result<usize> {
-        step(&mut self.calls, self.fails)?;
-        let len = buf.len().min(1000);
-        self.inner.write(&buf[..len])
-    }
-
-    fn flush(&mut self) -> io::Result<()> {
-        self.inner.flush()
-    }
-}
-
 // Short and interrupted reads and writes change nothing, and a failure at any call is the error that comes out.
 #[test]
 fn unsteady_files(rt: HostRuntime) -> Result<(), Fail> {
     let (text, file) = sealed(rt.alloc(), 70000, &SALT)?;
     for (reads, writes) in [(0, 0), (1, 0), (40, 0), (100, 0), (0, 1), (0, 40), (0, 100)] {
-        let mut reader = Unsteady {
-            inner: file.as_slice(),
-            calls: 0,
-            fails: reads,
-        };
-        let mut writer = Unsteady {
-            inner: Vec::new(rt.alloc()),
-            calls: 0,
-            fails: writes,
-        };
+        let mut reader = Unsteady::new(file.as_slice(), 1000, reads);
+        let mut writer = Unsteady::new(Vec::new(rt.alloc()), 1000, writes);
         let mut buf = vec![in rt.alloc(); 0u8; CHUNK + TAG + 1]?;
         let done = decrypt(&KEY, &mut reader, &mut writer, &mut buf);
         let right = match done {
