@@ -1,4 +1,4 @@
-//! What people build on `chacha20`, one file each. `docs/GUIDE.md` has the steps to copy a file.
+//! What people build on `chacha20`, one module each. `docs/GUIDE.md` has the steps to copy a file.
 //!
 //! The lines between a function's signature and its body are its contract. A caller must show what `requires` says.
 //! What `ensures` says holds when the call returns, and is proved for every input before the crate is built. There
@@ -7,7 +7,7 @@
 //! `proofs` has the answers that the prover needs, or that make its check quicker: often a line or two for a function.
 //!
 //! The proofs use only the public contracts, definitions and lemmas of `chacha20`, in `scalar` those of `chacha_base`,
-//! and in `aead` those of `poly1305`.
+//! and in `aead` and `sealed` those of `poly1305`.
 #![tactic(auto)]
 
 pub mod aead;

@@ -16,9 +16,9 @@ pub enum Failure<'a> {
     NoRandomBytes(io::Error),
     Read(&'a str, io::Error),
     Write(&'a str, io::Error),
-    /// A key file with so many bytes.
-    NotAKey(&'a str, usize),
-    /// A file that stands for two of the call's words.
+    /// A key file that doesn't have 32 bytes.
+    NotAKey(&'a str),
+    /// OUT is also IN or KEYFILE.
     SameFile(&'a str),
     /// A device or a directory.
     NotAFile(&'a str),
@@ -58,9 +58,7 @@ impl Display for Failure<'_> {
             Failure::NoRandomBytes(e) => write!(f, "the system gives no random bytes: {e}"),
             Failure::Read(path, e) => write!(f, "cannot read {path}: {e}"),
             Failure::Write(path, e) => write!(f, "cannot write {path}: {e}"),
-            Failure::NotAKey(path, len) => {
-                write!(f, "the key file {path} has {len} bytes, not 32")
-            }
+            Failure::NotAKey(path) => write!(f, "the key file {path} doesn't have 32 bytes"),
             Failure::SameFile(path) => write!(f, "OUT {path} is the same file as IN or KEYFILE"),
             Failure::NotAFile(path) => write!(f, "{path} is there and isn't a file"),
             Failure::Damaged(path, damage) => write!(f, "{path}: {damage}"),

@@ -2,7 +2,7 @@
 
 use crate::failure::Failure;
 use chacha20::Key;
-use std::fs::{File, Metadata, OpenOptions};
+use std::fs::{File, OpenOptions};
 use std::io::{ErrorKind, Read, Write};
 use std::os::unix::fs::{MetadataExt, OpenOptionsExt};
 use std::random::RandomSource;
@@ -39,10 +39,14 @@ fn write_synced(file: &mut File, bytes: &[u8]) -> io::Result<()> {
 
 /// Reads a key. Fails if the file has another length than 32 bytes.
 pub fn read_key<'a>(rt: &HostRuntime, path: &'a str) -> Result<Key, Failure<'a>> {
-    let bytes = fs::read(rt, path).map_err(|e| Failure::Read(path, e))?;
+    let mut bytes = Vec::new(rt.alloc());
+    open(rt, path)?
+        .take(33)
+        .read_to_end(&mut bytes)
+        .map_err(|e| Failure::Read(path, e))?;
     let bytes = bytes.as_slice();
     if bytes.len() != 32 {
-        return Err(Failure::NotAKey(path, bytes.len()));
+        return Err(Failure::NotAKey(path));
     }
     let mut key = [0; 32];
     key.copy_from_slice(bytes);
@@ -54,9 +58,10 @@ pub fn open<'a>(rt: &HostRuntime, path: &'a str) -> Result<File, Failure<'a>> {
     fs::open(rt, path).map_err(|e| Failure::Read(path, e))
 }
 
-/// What the system knows of a file.
-pub fn metadata<'a>(rt: &HostRuntime, path: &'a str) -> Result<Metadata, Failure<'a>> {
-    fs::metadata(rt, path).map_err(|e| Failure::Read(path, e))
+/// The bytes of an open file.
+pub fn len<'a>(file: &File, path: &'a str) -> Result<u64, Failure<'a>> {
+    let metadata = file.metadata().map_err(|e| Failure::Read(path, e))?;
+    Ok(metadata.len())
 }
 
 /// Fails if `to` is there and is one of the files that are read, or no file.
@@ -71,7 +76,7 @@ pub fn check_target<'a>(
         Err(e) => return Err(Failure::Write(to, e)),
     };
     for path in read {
-        let other = metadata(rt, path)?;
+        let other = fs::metadata(rt, path).map_err(|e| Failure::Read(path, e))?;
         if other.dev() == there.dev() && other.ino() == there.ino() {
             return Err(Failure::SameFile(to));
         }

@@ -1,4 +1,4 @@
-//! Encrypts files so that a change to one is noticed. README.md has the calls and the format.
+//! Encrypts files so that a change within one is noticed. README.md has the calls and the format.
 #![tactic(auto)]
 
 mod failure;
@@ -77,8 +77,9 @@ fn write<'a>(
     file: &mut File,
 ) -> Result<(), Failure<'a>> {
     let secret = files::read_key(rt, key)?;
-    let len = files::metadata(rt, from)?.len();
-    let mut reader = Progress::new(rt, files::open(rt, from)?, len);
+    let from_file = files::open(rt, from)?;
+    let len = files::len(&from_file, from)?;
+    let mut reader = Progress::new(rt, from_file, len);
     let done = if encrypts {
         let mut salt = [0; 16];
         files::random(rt, &mut salt)?;
@@ -102,7 +103,7 @@ fn print<'a>(
     let told = |e: SealError| Failure::of_stream(e, from, "standard output");
     let secret = files::read_key(rt, key)?;
     let mut file = files::open(rt, from)?;
-    let total = files::metadata(rt, from)?.len();
+    let total = files::len(&file, from)?;
     let salt = stream::read_header(&mut file).map_err(told)?;
     let text_len = cat::text_len(total);
     if start > text_len || len > text_len - start {

@@ -38,7 +38,8 @@ impl<R: Read> Read for Progress<'_, R> {
         if self.shows && self.read >= self.next {
             self.next = self.next.saturating_add(STEP);
             let (read, len) = (self.read >> 20, self.len >> 20);
-            let _ = eprint!(self.rt; "\r{read} of {len} MiB");
+            // What comes next overwrites it.
+            let _ = eprint!(self.rt; "{read} of {len} MiB\r");
             if self.next > self.len {
                 let _ = eprintln!(self.rt; "");
             }

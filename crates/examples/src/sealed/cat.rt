@@ -11,7 +11,7 @@ use crate::sealed::stream::fill;
 use chacha20::Key;
 use std::io::{Read, Write};
 
-/// The bytes of text in a sealed file of so many bytes, 0 for a number that no sealed file has.
+/// The bytes of text in a sealed file of so many bytes, and for a number that no sealed file has, any number up to it.
 pub fn text_len(file: u64) -> u64
     ensures exact { (key salt text : List ℕ) → length salt ≡ 16 → length (sealed key salt text) ≡ file
         → result ≡ length text }
@@ -21,15 +21,16 @@ pub fn text_len(file: u64) -> u64
     body.saturating_sub(16 * body.div_ceil(65552))
 }
 
-/// Where the chunk with this byte of text begins in a file, or 2^64 - 1 if a file isn't that long.
+/// Where the chunk with this byte of text begins in a file, or 2^64 - 1 if that is less.
 pub fn chunk_place(start: u64) -> u64
     ensures { result ≡ min (32 + 65552 * (start / 65536)) (2 ^ 64 - 1) }
 {
     (start / 65536).saturating_mul(65552).saturating_add(32)
 }
 
-/// Writes `len` bytes of text from byte `start` on. The reader stands where the chunk with the byte `start` begins, and
-/// the whole text has `text_len` bytes. It reads only the chunks that hold the part.
+/// Writes `len` bytes of text from byte `start` on. The reader stands at `chunk_place(start)`, and the whole text has
+/// `text_len` bytes. It reads only the chunks that hold the part, and writes that of a chunk once its tag was right. `buf`
+/// is scratch space of `CHUNK + TAG` bytes.
 pub fn print_part<R: Read, W: Write>(
     key: &Key,
     salt: &Salt,

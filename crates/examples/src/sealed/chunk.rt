@@ -10,7 +10,7 @@ use crate::sealed::error::SealError;
 use chacha20::{Key, XNonce};
 use std::io::Write;
 
-/// 16 random bytes, which no other file under the key has.
+/// 16 random bytes, which no other file under the key may have.
 pub type Salt = [u8; 16];
 
 /// The bytes of text in a chunk, but for the last.
@@ -19,7 +19,7 @@ pub const CHUNK: usize = 65536;
 /// The bytes of a tag.
 pub const TAG: usize = 16;
 
-/// More chunks than this have no nonce.
+/// The most chunks that a file may have.
 pub const CHUNKS: u64 = 1 << 56;
 
 /// The bytes that a sealed file begins with, of which the last is its version.
@@ -50,7 +50,7 @@ pub fn chunk_nonce(salt: &Salt, number: u64, last: bool) -> XNonce
     nonce
 }
 
-/// Encrypts a text, and writes its chunk.
+/// Encrypts a text in place, and writes its chunk.
 pub fn write_chunk<W: Write>(
     key: &Key,
     salt: &Salt,

@@ -7,15 +7,15 @@ use std::{fmt, io};
 /// What is wrong with a file that isn't a sealed one under the key.
 #[derive(Clone, Copy, Debug, PartialEq, Eq)]
 pub enum Damage {
-    /// It doesn't begin with the magic word.
+    /// It doesn't begin with the magic word, apart from the version.
     NotSealed,
     /// It has another version of the format.
     OtherVersion,
     /// It ends in its header.
-    NoChunk,
-    /// The tag of the chunk with this number is wrong.
+    CutHeader,
+    /// The chunk with this number has a wrong tag.
     WrongChunk(u64),
-    /// The file ends in or behind the chunk with this number, which isn't a last chunk with a right tag.
+    /// The file ends in or after the chunk with this number, and that isn't a last chunk with a right tag.
     WrongEnd(u64),
 }
 
@@ -28,7 +28,7 @@ pub enum SealError {
     Write(io::Error),
     /// The input isn't a sealed file under this key.
     Damaged(Damage),
-    /// The input has more than 2^56 chunks, or took 2^64 reads for one.
+    /// The input has more than 2^56 chunks, or takes 2^64 - 1 reads for one.
     TooLong,
 }
 
@@ -37,7 +37,7 @@ impl Display for Damage {
         match self {
             Damage::NotSealed => f.write_str("not a sealed file"),
             Damage::OtherVersion => f.write_str("sealed in another version of the format"),
-            Damage::NoChunk => f.write_str("the file ends in its header"),
+            Damage::CutHeader => f.write_str("the file ends in its header"),
             Damage::WrongChunk(0) | Damage::WrongEnd(0) => f.write_str(
                 "wrong key, or chunk 0 is damaged, or the file ends early",
             ),

@@ -1,7 +1,7 @@
 //! From a reader to a writer.
 
 ghost use Rattle.std.specs.Prelude.{◌≡◌, ◌≢◌, ◌<◌, ◌≤◌, ◌+◌, ◌^◌, ◌++◌, ℕ, List, length, take, Some, IfOk, OnOk, IfErr, IfSome};
-ghost use Rattle.std.specs.Io.KnownBytes.{Appends, Consumes, IsAtEnd, Keeps, prepend_known};
+ghost use Rattle.std.specs.Io.KnownBytes.{Appends, Consumes, IsAtEnd, prepend_known};
 ghost use Rattle.examples.specs.declared.sealed.error.Damage.{Damage};
 ghost use Rattle.examples.specs.Sealed.{header, chunk, sealed, BeginsWith};
 
@@ -10,7 +10,8 @@ use crate::sealed::error::{Damage, SealError};
 use chacha20::Key;
 use std::io::{ErrorKind, Read, Write};
 
-/// Writes the sealed file of all that the reader has left.
+/// Writes the sealed file of all that the reader has left. The salt must be 16 new random bytes for each file: a salt that
+/// is used twice under a key gives away both texts, and lets others forge. `buf` is scratch space of `CHUNK + 1` bytes.
 pub fn encrypt<R: Read, W: Write>(
     key: &Key,
     salt: &Salt,
@@ -37,8 +38,8 @@ pub fn encrypt<R: Read, W: Write>(
     Err(SealError::TooLong)
 }
 
-/// Writes the text of a sealed file, which is all that the reader has left. The text of a chunk is written once its tag
-/// was right.
+/// Reads a sealed file up to the reader's end, and writes its text, that of a chunk once its tag was right. If it fails, the
+/// writer has the front of the text. `buf` is scratch space of `CHUNK + TAG + 1` bytes.
 pub fn decrypt<R: Read, W: Write>(
     key: &Key,
     reader: &mut R,
@@ -75,7 +76,7 @@ pub fn decrypt<R: Read, W: Write>(
     Err(SealError::TooLong)
 }
 
-/// Reads the header.
+/// Reads the header, and returns its salt.
 pub fn read_header<R: Read>(reader: &mut R) -> Result<Salt, SealError>
     ensures read { IfOk result (λ salt.
         Consumes (R.remaining reader.old) (R.remaining reader.new) (header salt)) }
@@ -87,21 +88,21 @@ pub fn read_header<R: Read>(reader: &mut R) -> Result<Salt, SealError>
     let mut bytes = [0; 32];
     let n = fill(reader, &mut bytes, 0)?;
     if !bytes.starts_with(&MAGIC) || n < 32 {
-        return Err(SealError::Damaged(header_damage(&bytes)));
+        return Err(SealError::Damaged(header_damage(&bytes, n)));
     }
     let mut salt = [0; 16];
     salt.copy_from_slice(&bytes[16..]);
     Ok(salt)
 }
 
-// What is wrong with a header.
-fn header_damage(bytes: &[u8; 32]) -> Damage {
+// What is wrong with a header of which n bytes were read.
+fn header_damage(bytes: &[u8; 32], n: usize) -> Damage {
     if !bytes.starts_with(&MAGIC[..15]) {
         Damage::NotSealed
-    } else if bytes[15] != MAGIC[15] {
-        Damage::OtherVersion
+    } else if n < 32 {
+        Damage::CutHeader
     } else {
-        Damage::NoChunk
+        Damage::OtherVersion
     }
 }
 
@@ -135,8 +136,8 @@ fn write_text<W: Write>(
     put(writer, &bytes[..bytes.len() - TAG])
 }
 
-/// Reads until the buffer is full or the reader ends. The buffer's first `held` bytes are there already. A read that is
-/// interrupted is tried again.
+/// Reads until the buffer is full or the reader ends, behind the `held` bytes that the buffer has already. Returns how many
+/// bytes it has then. A read that is interrupted is tried again.
 pub fn fill<R: Read>(reader: &mut R, buf: &mut [u8], held: usize) -> Result<usize, SealError>
     requires { held ≤ length buf.old }
     ensures read { IfOk result (λ n. Consumes

@@ -116,8 +116,8 @@ fn damaged_files_are_refused(rt: HostRuntime) -> Result<(), Fail> {
     let cases: [(&[(usize, usize)], usize, Damage, usize); 26] = [
         (&[], NONE, Damage::NotSealed, 0),
         (&[(0, 1)], NONE, Damage::NotSealed, 0),
-        (&[(0, 16)], NONE, Damage::NoChunk, 0),
-        (&[(0, 31)], NONE, Damage::NoChunk, 0),
+        (&[(0, 15)], NONE, Damage::CutHeader, 0),
+        (&[(0, 31)], NONE, Damage::CutHeader, 0),
         (&[H], NONE, Damage::WrongEnd(0), 0),
         (&[(0, 33)], NONE, Damage::WrongEnd(0), 0),
         (&[(0, 48)], NONE, Damage::WrongEnd(0), 0),
