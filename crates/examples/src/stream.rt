@@ -196,7 +196,7 @@ fn read_some<R: Read>(reader: &mut R, buf: &mut [u8]) -> io::Result<usize>
 }
 
 // `write_all`, whose contract doesn't say what was written before an error.
-fn write_whole<W: Write>(writer: &mut W, bytes: &[u8]) -> io::Result<()>
+pub(crate) fn write_whole<W: Write>(writer: &mut W, bytes: &[u8]) -> io::Result<()>
     ensures written { OnOk result
         (Appends (W.contents writer.old) (W.contents writer.new) bytes.now) }
     ensures partly { (n : ℕ)

@@ -7,6 +7,7 @@ ghost use Rattle.examples.specs.Sealed.{header, chunk_nonce, chunk};
 
 use crate::aead::XChaCha20Poly1305;
 use crate::sealed::error::SealError;
+use crate::stream::write_whole;
 use chacha20::{Key, XNonce};
 use std::io::Write;
 
@@ -75,8 +76,10 @@ pub fn put<W: Write>(writer: &mut W, bytes: &[u8]) -> Result<(), SealError>
     ensures written { OnOk result
         (Appends (W.contents writer.old) (W.contents writer.new) bytes.now) }
     ensures failed { IfErr result (λ e. (damage : Damage) → e ≢ SealError.Damaged damage) }
+    ensures partly { (n : ℕ)
+        × Appends (W.contents writer.old) (W.contents writer.new) (take n bytes.now) }
 {
-    writer.write_all(bytes).map_err(SealError::Write)
+    write_whole(writer, bytes).map_err(SealError::Write)
 }
 
 /// Checks the tag of a chunk, and decrypts it in place: its text stands before its last 16 bytes. Of the chunks of a

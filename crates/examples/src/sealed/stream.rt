@@ -3,7 +3,7 @@
 ghost use Rattle.std.specs.Prelude.{◌≡◌, ◌≢◌, ◌<◌, ◌≤◌, ◌+◌, ◌^◌, ◌++◌, ℕ, List, length, take, Some, IfOk, OnOk, IfErr, IfSome};
 ghost use Rattle.std.specs.Io.KnownBytes.{Appends, Consumes, IsAtEnd, prepend_known};
 ghost use Rattle.examples.specs.declared.sealed.error.Damage.{Damage};
-ghost use Rattle.examples.specs.Sealed.{header, chunk, sealed, BeginsWith};
+ghost use Rattle.examples.specs.Sealed.{header, chunk, sealed, IsRight};
 
 use crate::sealed::chunk::{CHUNK, CHUNKS, MAGIC, Salt, TAG, header, open_chunk, put, write_chunk};
 use crate::sealed::error::{Damage, SealError};
@@ -53,10 +53,10 @@ pub fn decrypt<R: Read, W: Write>(
     ensures refused { IfErr result (λ e. (damage : Damage) → e ≡ SealError.Damaged damage
         → IfSome (R.remaining reader.old) (λ file. (salt text : List ℕ)
         → length salt ≡ 16 → file ≢ sealed key.now salt text)) }
-    ensures only_right { IfErr result (λ e. (damage : Damage) → e ≡ SealError.Damaged damage
-        → IfSome (R.remaining reader.old) (λ file. (text : List ℕ)
-        × (0 < length text → BeginsWith key.now file text)
-        × Appends (W.contents writer.old) (W.contents writer.new) text)) }
+    // Also after an error.
+    ensures only_right { IfSome (R.remaining reader.old) (λ file. (text : List ℕ) × (n : ℕ)
+        × (0 < n → IsRight key.now file text)
+        × Appends (W.contents writer.old) (W.contents writer.new) (take n text)) }
     ensures text { (salt text : List ℕ) → length salt ≡ 16
         → R.remaining reader.old ≡ Some (sealed key.now salt text)
         → OnOk result (Appends (W.contents writer.old) (W.contents writer.new) text) }
@@ -124,6 +124,10 @@ fn write_text<W: Write>(
         → (W.contents writer.new ≡ W.contents writer.old)
         × ((text : List ℕ) → (0 < number → 0 < length text)
         → bytes.old ≢ chunk key.now salt.now number last text)) }
+    ensures partly { (text : List ℕ) × (n : ℕ)
+        × (0 < n → (0 < number → 0 < length text)
+        × (bytes.old ≡ chunk key.now salt.now number last text))
+        × Appends (W.contents writer.old) (W.contents writer.new) (take n text) }
 {
     let right = open_chunk(key, salt, number, last, bytes);
     if !right {

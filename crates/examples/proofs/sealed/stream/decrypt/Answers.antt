@@ -1,11 +1,10 @@
-use Rattle.std.proofs.Common.{◌≡◌, ◌+◌, ◌∙◌, ◌++◌, [], length, take, drop, arith, refl, sym, ap, subst, append-nil, append_assoc, take_all, length-take-le, length-set, length-append, length-drop, get_or, le_of_eq, false}
-use Rattle.std.proofs.lemmas.List.{take-append-drop}
+use Rattle.std.proofs.Common.{◌≡◌, ◌+◌, ◌∙◌, ◌++◌, [], length, take, drop, arith, refl, sym, ap, subst, append-nil, length-take-le, length-set, length-append, length-drop, get_or, le_of_eq, false}
 use Rattle.std.proofs.lemmas.Result.{on_ok_weaker}
-use Rattle.std.specs.Io.KnownBytes.{Appends, Consumes, prepend_known}
+use Rattle.std.specs.Io.KnownBytes.{Consumes, prepend_known}
 use Rattle.std.proofs.KnownBytes.{Appends-nil, Appends-trans, Consumes-trans, prepend_known-nil}
 use Rattle.examples.specs.Sealed.{header, chunks}
 use Rattle.examples.proofs.sealed.ChunkLemmas.{chunks-more, length-chunk}
-use Rattle.examples.proofs.sealed.OpenLemmas.{refusal-weaker, passed-on, no-file, text-of, opened, refused-last, refused-mid, right-before}
+use Rattle.examples.proofs.sealed.OpenLemmas.{refusal-weaker, passed-on, no-file, text-of, opened, refused-last, refused-mid, right-before, right-last, right-mid, split-full}
 use Rattle.examples.proofs.sealed.ReaderLemmas.{Consumes-held, first-byte}
 use Rattle.examples.proofs.sealed.stream.decrypt.Goals as goal
 
@@ -82,16 +81,18 @@ returns-then-n-clause-refused g c =
 pub returns-then-n-clause-only_right : goal.returns-then-n-clause-only_right
 returns-then-n-clause-only_right g c =
     let (moved, size, most, held, long, read, written) = c.chunks.invariant in
-    let w = g.W.Write.contents c.args.writer.now in
-    refusal-weaker c.write_text.result
-    (λ wrong.
-    right-before (g.R.Read.remaining c.args.reader.now)
+    let n = c.in_ok-n.n in
+    let got = c.in_ok-n.ensures in
+    let wide : length (take n c.fill.new.buf) ≡ n =
+    length-take-le n c.fill.new.buf (omega (arith, got.bounds.1, c.fill.auto.buf)) in
+    let (text, k, right, more) = c.write_text.ensures.partly in
+    right-last (g.R.Read.remaining c.args.reader.now)
     (g.R.Read.remaining c.fill.new.reader) c.args.key.now c.in_ok-salt.salt moved
-    (take c.in_ok-n.n c.fill.new.buf) c.chunks.number
-    c.in_ok-salt.ensures.size long w (g.W.Write.contents c.write_text.new.writer)
-    (Consumes-trans _ _ _ _ _ read c.in_ok-n.ensures.read)
-    (subst (λ v. Appends w v moved) (sym wrong.0) written))
-    c.write_text.ensures.wrong
+    (take n c.fill.new.buf) c.chunks.number c.in_ok-salt.ensures.size long _
+    (g.W.Write.contents c.args.writer.now) (g.W.Write.contents c.chunks.writer)
+    (g.W.Write.contents c.write_text.new.writer) text k (omega (arith, wide, c.if-n.true)) right read
+    (Consumes-trans _ _ _ _ _ read got.read) (got.end (omega (arith, c.if-n.true, size, c.requires)))
+    written more
 
 pub returns-then-n-clause-text : goal.returns-then-n-clause-text
 returns-then-n-clause-text g c salt text size is =
@@ -100,6 +101,18 @@ returns-then-n-clause-text g c salt text size is =
     (g.W.Write.contents c.write_text.new.writer) c.args.key.now holds salt text size is)
     (returns-then-n-clause-accepted g c)
 
+pub returns-in_err-n-clause-only_right : goal.returns-in_err-n-clause-only_right
+returns-in_err-n-clause-only_right g c =
+    let (moved, size, most, held, long, read, written) = c.chunks.invariant in
+    right-before _ _ _ _ c.args.key.now c.in_ok-salt.salt moved c.chunks.number c.in_ok-salt.ensures.size long
+    read written
+
+pub returns-clause-only_right : goal.returns-clause-only_right
+returns-clause-only_right g c =
+    let (moved, size, most, held, long, read, written) = c.chunks.invariant in
+    right-before _ _ _ _ c.args.key.now c.in_ok-salt.salt moved c.chunks.number c.in_ok-salt.ensures.size long
+    read written
+
 pub returns-in_err-write_text-clause-refused : goal.returns-in_err-write_text-clause-refused
 returns-in_err-write_text-clause-refused g c =
     let (moved, size, most, held, long, read, written) = c.chunks.invariant in
@@ -107,9 +120,6 @@ returns-in_err-write_text-clause-refused g c =
     let buf = c.fill.new.buf in
     let before = header c.in_ok-salt.salt ++ chunks c.args.key.now c.in_ok-salt.salt moved c.chunks.number in
     let full : length buf ≡ 65553 = omega (arith, c.fill.auto.buf, size, c.requires) in
-    let split : before ++ take n buf ≡ (before ++ take 65552 buf) ++ drop 65552 buf =
-    ap (λ xs. before ++ xs) (take_all n buf (omega (arith, c.if-n.false, full)) ∙ sym (take-append-drop 65552 buf))
-    ∙ sym (append_assoc before (take 65552 buf) (drop 65552 buf)) in
     let a = g.R.Read.remaining c.args.reader.now in
     let b = g.R.Read.remaining c.fill.new.reader in
     passed-on c.from_residual-in_err-write_text.result _ c.from_residual-in_err-write_text.ensures.1
@@ -118,20 +128,26 @@ returns-in_err-write_text-clause-refused g c =
     (take 65552 buf) c.chunks.number c.in_ok-salt.ensures.size long
     (drop 65552 buf) (length-take-le 65552 buf (omega (arith, full))) (omega (arith, length-drop 65552 buf, full))
     (c.in_err-write_text.ensures.wrong damage is).1
-    (subst (Consumes a b) split (Consumes-trans _ _ _ _ _ read c.in_ok-n.ensures.read)))
+    (subst (Consumes a b) (split-full before buf n full (omega (arith, c.if-n.false)))
+    (Consumes-trans _ _ _ _ _ read c.in_ok-n.ensures.read)))
 
 pub returns-in_err-write_text-clause-only_right : goal.returns-in_err-write_text-clause-only_right
 returns-in_err-write_text-clause-only_right g c =
     let (moved, size, most, held, long, read, written) = c.chunks.invariant in
-    let w = g.W.Write.contents c.args.writer.now in
-    passed-on c.from_residual-in_err-write_text.result _ c.from_residual-in_err-write_text.ensures.1
-    (λ damage is.
-    right-before (g.R.Read.remaining c.args.reader.now)
-    (g.R.Read.remaining c.fill.new.reader) c.args.key.now c.in_ok-salt.salt moved
-    (take c.in_ok-n.n c.fill.new.buf) c.chunks.number
-    c.in_ok-salt.ensures.size long w (g.W.Write.contents c.write_text-in-chunks.new.writer)
-    (Consumes-trans _ _ _ _ _ read c.in_ok-n.ensures.read)
-    (subst (λ v. Appends w v moved) (sym (c.in_err-write_text.ensures.wrong damage is).0) written))
+    let (text, k, right, more) = c.write_text-in-chunks.ensures.partly in
+    let buf = c.fill.new.buf in
+    let before = header c.in_ok-salt.salt ++ chunks c.args.key.now c.in_ok-salt.salt moved c.chunks.number in
+    let full : length buf ≡ 65553 = omega (arith, c.fill.auto.buf, size, c.requires) in
+    let a = g.R.Read.remaining c.args.reader.now in
+    let b = g.R.Read.remaining c.fill.new.reader in
+    right-mid a b c.args.key.now c.in_ok-salt.salt moved
+    (take 65552 buf) c.chunks.number c.in_ok-salt.ensures.size long
+    _ (g.W.Write.contents c.args.writer.now) (g.W.Write.contents c.chunks.writer)
+    (g.W.Write.contents c.write_text-in-chunks.new.writer) (drop 65552 buf) text k
+    (length-take-le 65552 buf (omega (arith, full))) (λ some. (right some).1) read
+    (subst (Consumes a b) (split-full before buf c.in_ok-n.n full (omega (arith, c.if-n.false)))
+    (Consumes-trans _ _ _ _ _ read c.in_ok-n.ensures.read))
+    written more
 
 pub chunks-preserved : goal.chunks-preserved
 chunks-preserved g c =
@@ -145,9 +161,7 @@ chunks-preserved g c =
     let bytes = take 65552 buf in
     let front = header salt ++ chunks key salt moved c.chunks.number in
     let full : length buf ≡ 65553 = omega (arith, c.fill.auto.buf, size, c.requires) in
-    let all : take n buf ≡ buf = take_all n buf (omega (arith, c.if-n.false, full)) in
-    let split : front ++ take n buf ≡ (front ++ bytes) ++ drop 65552 buf =
-    ap (λ xs. front ++ xs) (all ∙ sym (take-append-drop 65552 buf)) ∙ sym (append_assoc front bytes (drop 65552 buf)) in
+    let split = split-full front buf n full (omega (arith, c.if-n.false)) in
     let wide : length bytes ≡ 65552 = length-take-le 65552 buf (omega (arith, full)) in
     let text_size : length text ≡ 65536 =
     omega (arith, sym wide ∙ ap length is ∙ length-chunk key salt c.chunks.number false text) in

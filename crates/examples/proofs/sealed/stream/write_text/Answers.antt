@@ -17,3 +17,20 @@ returns-clause-right g c =
       written,
     ))
     c.put.ensures.written
+
+pub returns-clause-partly : goal.returns-clause-partly
+returns-clause-partly g c =
+    let right = c.if-not-right.false in
+    let bytes = c.open_chunk-right.new.bytes in
+    let same = c.open_chunk-right.auto.bytes in
+    let end = length bytes - 16 in
+    let size = length-take-le end bytes (omega arith) in
+    let (n, written) = c.put.ensures.partly in (
+      take end bytes,
+      n,
+      λ _. (
+        (λ later. omega (arith, same, size, (c.open_chunk-right.ensures.long right).1 later)),
+        rw (sym same) at c.open_chunk-right.ensures.right right,
+      ),
+      written,
+    )
