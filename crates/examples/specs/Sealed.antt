@@ -1,5 +1,5 @@
 -- The format of a sealed file. A key, a text and a file are lists of bytes, and a salt is 16 random bytes.
-use Rattle.std.specs.Prelude.{◌≡◌, ℕ, zero, suc, ◌+◌, ◌-◌, ◌*◌, ◌/◌, ◌^◌, Bool, true, false, if◌then◌else◌}
+use Rattle.std.specs.Prelude.{◌≡◌, ℕ, zero, suc, ◌+◌, ◌-◌, ◌*◌, ◌/◌, ◌^◌, Bool, true, false, if◌then◌else◌, nat_eq}
 use Rattle.std.specs.Prelude.{List, [], ◌++◌, take, drop, length, codes}
 use Rattle.std.specs.Int.{w64, to_le_bytes}
 use Rattle.chacha20.specs.XChaCha.{xchacha_stream}
@@ -47,6 +47,13 @@ sealed key salt text =
 -- the file from chunk i on
 abbrev pub from_chunk : List ℕ → List ℕ → List ℕ → ℕ → List ℕ
 from_chunk key salt text i = drop (32 + 65552 * i) (sealed key salt text)
+
+-- the n chunks of a file from chunk i on
+abbrev pub chunks_from : List ℕ → List ℕ → List ℕ → ℕ → ℕ → List ℕ
+chunks_from key salt text i zero = []
+chunks_from key salt text i (suc n) =
+    let j = i + n in
+    chunks_from key salt text i n ++ chunk key salt j (nat_eq j (last_number text)) (piece text j)
 
 -- the text of the file's first chunks, whose tags are right
 abbrev pub BeginsWith : List ℕ → List ℕ → List ℕ → Type 0

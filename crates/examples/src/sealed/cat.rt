@@ -1,9 +1,9 @@
 //! A part of a sealed file's text.
 
-ghost use Rattle.std.specs.Prelude.{◌≡◌, ◌<◌, ◌≤◌, ◌+◌, ◌-◌, ◌*◌, ◌/◌, ◌^◌, ℕ, List, length, take, drop, Some, OnOk, min};
+ghost use Rattle.std.specs.Prelude.{◌≡◌, ◌<◌, ◌≤◌, ◌+◌, ◌-◌, ◌*◌, ◌/◌, ◌^◌, ℕ, List, length, take, drop, ◌++◌, Some, OnOk, IfSome, min};
 ghost use Rattle.std.specs.List.{slice_range};
 ghost use Rattle.std.specs.Io.KnownBytes.{Appends};
-ghost use Rattle.examples.specs.Sealed.{chunk, from_chunk, sealed};
+ghost use Rattle.examples.specs.Sealed.{chunk, chunks_from, from_chunk, sealed};
 
 use crate::sealed::chunk::{Salt, TAG, open_chunk, put};
 use crate::sealed::error::{Damage, SealError};
@@ -29,7 +29,8 @@ pub fn chunk_place(start: u64) -> u64
 }
 
 /// Writes `len` bytes of text from byte `start` on. The reader stands where the chunk with the byte `start` begins, and
-/// the whole text has `text_len` bytes. It reads only the chunks that hold the part.
+/// the whole text has `text_len` bytes. It reads only the chunks that hold the part. The text of a chunk is written
+/// once its tag was right.
 pub fn print_part<R: Read, W: Write>(
     key: &Key,
     salt: &Salt,
@@ -46,6 +47,11 @@ pub fn print_part<R: Read, W: Write>(
         → R.remaining reader.old ≡ Some (from_chunk key.now salt.now text (start / 65536))
         → OnOk result (Appends (W.contents writer.old) (W.contents writer.new)
         (take len (drop start text))) }
+    ensures checked { let first = start / 65536 in let n = (start + len - 1) / 65536 + 1 - first in
+        OnOk result (IfSome (R.remaining reader.old) (λ bytes. (text rest : List ℕ)
+        × (length text ≡ text_len)
+        × (0 < len → bytes ≡ chunks_from key.now salt.now text first n ++ rest)
+        × Appends (W.contents writer.old) (W.contents writer.new) (take len (drop start text)))) }
 {
     if len == 0 {
         return Ok(());
