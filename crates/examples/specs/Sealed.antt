@@ -1,5 +1,5 @@
 -- The format of a sealed file. A key, a text and a file are lists of bytes, and a salt is 16 random bytes.
-use Rattle.std.specs.Prelude.{◌≡◌, ◌⊎◌, ℕ, zero, suc, ◌+◌, ◌-◌, ◌*◌, ◌/◌, ◌^◌, Bool, true, false, if◌then◌else◌}
+use Rattle.std.specs.Prelude.{◌≡◌, ◌⊎◌, ℕ, zero, suc, ◌+◌, ◌-◌, ◌*◌, ◌/◌, ◌^◌, Bool, true, false, if◌then◌else◌, nat_eq}
 use Rattle.std.specs.Prelude.{List, [], ◌++◌, take, drop, length, codes}
 use Rattle.std.specs.Int.{w64, to_le_bytes}
 use Rattle.chacha20.specs.XChaCha.{xchacha_stream}
@@ -48,13 +48,20 @@ sealed key salt text =
 abbrev pub from_chunk : List ℕ → List ℕ → List ℕ → ℕ → List ℕ
 from_chunk key salt text i = drop (32 + 65552 * i) (sealed key salt text)
 
--- the text of the file's first chunks, whose tags are right
+-- n chunks of a file, from chunk i on
+abbrev pub chunks_from : List ℕ → List ℕ → List ℕ → ℕ → ℕ → List ℕ
+chunks_from key salt text i zero = []
+chunks_from key salt text i (suc n) =
+    let j = i + n in
+    chunks_from key salt text i n ++ chunk key salt j (nat_eq j (last_number text)) (piece text j)
+
+-- the text of the file's first chunks
 abbrev pub BeginsWith : List ℕ → List ℕ → List ℕ → Type 0
 BeginsWith key file text =
     (salt rest : List ℕ) × (n : ℕ) × (length salt ≡ 16) × (length text ≡ 65536 * n)
     × (file ≡ header salt ++ chunks key salt text n ++ rest)
 
--- or of the whole file
+-- a text whose tags are right: that of the file's first chunks, or of the whole file
 abbrev pub IsRight : List ℕ → List ℕ → List ℕ → Type 0
 IsRight key file text =
     BeginsWith key file text ⊎ ((salt : List ℕ) × (length salt ≡ 16) × (file ≡ sealed key salt text))

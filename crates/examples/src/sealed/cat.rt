@@ -1,9 +1,9 @@
 //! A part of a sealed file's text.
 
-ghost use Rattle.std.specs.Prelude.{◌≡◌, ◌<◌, ◌≤◌, ◌+◌, ◌-◌, ◌*◌, ◌/◌, ◌^◌, ℕ, List, length, take, drop, Some, OnOk, min};
+ghost use Rattle.std.specs.Prelude.{◌≡◌, ◌<◌, ◌≤◌, ◌+◌, ◌-◌, ◌*◌, ◌/◌, ◌^◌, ℕ, List, length, take, drop, ◌++◌, Some, OnOk, IfSome, min};
 ghost use Rattle.std.specs.List.{slice_range};
 ghost use Rattle.std.specs.Io.KnownBytes.{Appends};
-ghost use Rattle.examples.specs.Sealed.{chunk, from_chunk, sealed};
+ghost use Rattle.examples.specs.Sealed.{chunk, chunks_from, from_chunk, sealed};
 
 use crate::sealed::chunk::{Salt, TAG, open_chunk, put};
 use crate::sealed::error::{Damage, SealError};
@@ -47,6 +47,11 @@ pub fn print_part<R: Read, W: Write>(
         → R.remaining reader.old ≡ Some (from_chunk key.now salt.now text (start / 65536))
         → OnOk result (Appends (W.contents writer.old) (W.contents writer.new)
         (take len (drop start text))) }
+    ensures checked { let first = start / 65536 in let n = (start + len - 1) / 65536 + 1 - first in
+        OnOk result (IfSome (R.remaining reader.old) (λ bytes. (text rest : List ℕ)
+        × (length text ≡ text_len)
+        × (0 < len → bytes ≡ chunks_from key.now salt.now text first n ++ rest)
+        × Appends (W.contents writer.old) (W.contents writer.new) (take len (drop start text)))) }
 {
     if len == 0 {
         return Ok(());

@@ -82,8 +82,8 @@ pub fn put<W: Write>(writer: &mut W, bytes: &[u8]) -> Result<(), SealError>
     write_whole(writer, bytes).map_err(SealError::Write)
 }
 
-/// Checks the tag of a chunk, and decrypts it in place: its text stands before its last 16 bytes. Of the chunks of a
-/// file only the first may have an empty text.
+/// Checks the tag of a chunk, and decrypts it in place: its text stands before its last 16 bytes. With a wrong tag the
+/// bytes stay as they were. Of the chunks of a file only the first may have an empty text.
 pub fn open_chunk(key: &Key, salt: &Salt, number: u64, last: bool, bytes: &mut [u8]) -> bool
     requires number { number < 2 ^ 56 }
     requires size { length bytes.old ≤ 65552 }
@@ -92,6 +92,7 @@ pub fn open_chunk(key: &Key, salt: &Salt, number: u64, last: bool, bytes: &mut [
     ensures long { IsTrue result → (16 ≤ length bytes.old) × (0 < number → 16 < length bytes.old) }
     ensures wrong { IsFalse result → (text : List ℕ) → (0 < number → 0 < length text)
         → bytes.old ≢ chunk key.now salt.now number last text }
+    ensures refused { IsFalse result → bytes.new ≡ bytes.old }
 {
     let least = if number == 0 { TAG } else { TAG + 1 };
     if bytes.len() < least {

@@ -1,15 +1,20 @@
-use Rattle.std.proofs.Common.{◌≡◌, ◌≤◌, ◌/◌, ℕ, List, Some, length}
-use Rattle.std.specs.Io.KnownBytes.{Appends}
-use Rattle.examples.specs.Sealed.{from_chunk}
+use Rattle.std.proofs.Common.{◌≡◌, ◌≤◌, ◌-◌, ◌/◌, ℕ, List, Some, length}
+use Rattle.std.specs.Io.KnownBytes.{Appends, Consumes}
+use Rattle.examples.specs.Sealed.{from_chunk, chunks_from}
 use Rattle.examples.proofs.sealed.PartLemmas.{before_chunk}
 use Rattle.examples.proofs.sealed.cat.print_part.Given as goal
 
--- the reader is at this chunk, and the part before it is written
+-- the reader is at this chunk, and the part before it is written; and whatever the reader had, it was the chunks of
+-- some text
 abbrev pub invariant-chunks : goal.invariant-chunks
 invariant-chunks g l =
-    (length l.buf ≡ 65552) × (l.start / 65536 ≤ l.number)
+    let first = l.start / 65536 in
+    let a = g.R.Read.remaining l.fn.reader in
+    let w = g.W.Write.contents l.fn.writer in (length l.buf ≡ 65552) × (first ≤ l.number)
     × ((text : List ℕ) → length text ≡ l.text_len
-    → g.R.Read.remaining l.fn.reader ≡ Some (from_chunk l.fn.key l.fn.salt text (l.start / 65536))
+    → a ≡ Some (from_chunk l.fn.key l.fn.salt text first)
     → (g.R.Read.remaining l.reader ≡ Some (from_chunk l.fn.key l.fn.salt text l.number))
-    × Appends (g.W.Write.contents l.fn.writer) (g.W.Write.contents l.writer)
-    (before_chunk text l.start l.end l.number))
+    × Appends w (g.W.Write.contents l.writer) (before_chunk text l.start l.end l.number))
+    × ((text : List ℕ) × (length text ≡ l.text_len)
+    × Consumes a (g.R.Read.remaining l.reader) (chunks_from l.fn.key l.fn.salt text first (l.number - first))
+    × Appends w (g.W.Write.contents l.writer) (before_chunk text l.start l.end l.number))
