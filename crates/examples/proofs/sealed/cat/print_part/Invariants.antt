@@ -4,8 +4,8 @@ use Rattle.examples.specs.Sealed.{from_chunk, chunks_from}
 use Rattle.examples.proofs.sealed.PartLemmas.{before_chunk}
 use Rattle.examples.proofs.sealed.cat.print_part.Given as goal
 
--- the reader is at this chunk, and the part before it is written; and whatever the reader had, it was the chunks of
--- some text
+-- of an undamaged file: the reader is at this chunk, and the part before it is written; of any bytes: those that were
+-- read are chunks of a text, whose part before this chunk is written
 abbrev pub invariant-chunks : goal.invariant-chunks
 invariant-chunks g l =
     let first = l.start / 65536 in
