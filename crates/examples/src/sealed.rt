@@ -1,6 +1,6 @@
-//! Sealed files, in which a change is noticed: XChaCha20-Poly1305 by chunks of 64 KiB (the STREAM construction), from any
-//! reader to any writer. The program `seal` calls this. `specs/Sealed.antt` has the format. As in `aead.rt`, no contract
-//! says how hard a tag is to forge.
+//! Sealed files, in which a change is noticed: XChaCha20-Poly1305 by chunks of 64 KiB (the STREAM construction), from
+//! any reader to any writer. The program `seal` calls this. `specs/Sealed.antt` has the format. As in `aead.rt`, no
+//! contract says how hard a tag is to forge.
 
 pub mod cat;
 pub mod chunk;

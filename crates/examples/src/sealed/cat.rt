@@ -29,8 +29,8 @@ pub fn chunk_place(start: u64) -> u64
 }
 
 /// Writes `len` bytes of text from byte `start` on. The reader stands at `chunk_place(start)`, and the whole text has
-/// `text_len` bytes. It reads only the chunks that hold the part, and writes that of a chunk once its tag was right. `buf`
-/// is scratch space of `CHUNK + TAG` bytes.
+/// `text_len` bytes. It reads only the chunks that hold the part, and writes that of a chunk once its tag was right.
+/// `buf` is scratch space of `CHUNK + TAG` bytes.
 pub fn print_part<R: Read, W: Write>(
     key: &Key,
     salt: &Salt,

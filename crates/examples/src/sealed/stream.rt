@@ -10,8 +10,9 @@ use crate::sealed::error::{Damage, SealError};
 use chacha20::Key;
 use std::io::{ErrorKind, Read, Write};
 
-/// Writes the sealed file of all that the reader has left. The salt must be 16 new random bytes for each file: a salt that
-/// is used twice under a key gives away both texts, and lets others forge. `buf` is scratch space of `CHUNK + 1` bytes.
+/// Writes the sealed file of all that the reader has left. The salt must be 16 new random bytes for each file: a salt
+/// that is used twice under a key gives away both texts, and lets others forge. `buf` is scratch space of `CHUNK + 1`
+/// bytes.
 pub fn encrypt<R: Read, W: Write>(
     key: &Key,
     salt: &Salt,
@@ -38,8 +39,8 @@ pub fn encrypt<R: Read, W: Write>(
     Err(SealError::TooLong)
 }
 
-/// Reads a sealed file up to the reader's end, and writes its text, that of a chunk once its tag was right. If it fails, the
-/// writer has the front of the text. `buf` is scratch space of `CHUNK + TAG + 1` bytes.
+/// Reads a sealed file up to the reader's end, and writes its text, that of a chunk once its tag was right. If it
+/// fails, the writer has the front of the text. `buf` is scratch space of `CHUNK + TAG + 1` bytes.
 pub fn decrypt<R: Read, W: Write>(
     key: &Key,
     reader: &mut R,
@@ -140,8 +141,8 @@ fn write_text<W: Write>(
     put(writer, &bytes[..bytes.len() - TAG])
 }
 
-/// Reads until the buffer is full or the reader ends, behind the `held` bytes that the buffer has already. Returns how many
-/// bytes it has then. A read that is interrupted is tried again.
+/// Reads until the buffer is full or the reader ends, behind the `held` bytes that the buffer has already. Returns how
+/// many bytes it has then. A read that is interrupted is tried again.
 pub fn fill<R: Read>(reader: &mut R, buf: &mut [u8], held: usize) -> Result<usize, SealError>
     requires { held ≤ length buf.old }
     ensures read { IfOk result (λ n. Consumes
