@@ -1,7 +1,5 @@
-pub mod Aead
 pub mod Frames
 pub mod Log
 pub mod Packets
 pub mod Pieces
-pub mod Sealed
 pub mod Sectors

@@ -6,12 +6,10 @@
 //! equal, and `OnOk result (..)` says what holds if the call returns `Ok`. `specs` has the definitions of the examples.
 //! `proofs` has the answers that the prover needs, or that make its check quicker: often a line or two for a function.
 //!
-//! The proofs use only the public contracts, definitions and lemmas of `chacha20`, in `scalar` those of `chacha_base`,
-//! and in `aead` and `sealed` those of `poly1305`.
+//! The proofs use only the public contracts, definitions and lemmas of `chacha20`, and in `scalar` those of
+//! `chacha_base`.
 #![tactic(auto)]
 
-pub mod aead;
-pub mod backend;
 pub mod file;
 pub mod frames;
 pub mod log;
@@ -20,7 +18,5 @@ pub mod own_core;
 pub mod packets;
 pub mod pieces;
 pub mod scalar;
-pub mod sealed;
 pub mod sectors;
 pub mod simulation;
-pub mod stream;

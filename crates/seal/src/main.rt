@@ -5,9 +5,9 @@ mod failure;
 mod files;
 mod progress;
 
-use examples::sealed::chunk::{CHUNK, TAG};
-use examples::sealed::error::SealError;
-use examples::sealed::{cat, stream};
+use aead::sealed::chunk::{CHUNK, TAG};
+use aead::sealed::error::SealError;
+use aead::sealed::{cat, stream};
 use failure::Failure;
 use progress::Progress;
 use std::fs::File;

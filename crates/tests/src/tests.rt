@@ -12,6 +12,7 @@ mod generator_traits;
 mod limits;
 mod report;
 mod streams;
+mod texts;
 mod toy_cipher;
 mod wraps;
 

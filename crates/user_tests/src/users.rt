@@ -19,6 +19,5 @@ mod sectors;
 mod simulation;
 mod stream;
 mod tags;
-mod texts;
 mod unexported;
 mod unsteady;

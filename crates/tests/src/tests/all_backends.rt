@@ -7,6 +7,7 @@ use super::{
     agreement, backends, calls, core_calls, cuts, first_bad_row, first_failure, generator_traits,
     limits, stop_if, streams, wraps,
 };
+use crate::width3::Width3;
 use chacha20::backends::{Columns8, Lanes4, Lanes8, Lanes16, Rows8, Soft};
 use chacha20::cipher::{KeyIvInit, RngBackend, StreamCipherBackend, StreamCipherSeekCore};
 use chacha20::rand_core::SeedableRng;
@@ -15,7 +16,6 @@ use chacha20::{
     ChaChaCore, ChaChaRng, Key, LegacyNonce, Nonce, R8, R12, R20, Rounds, Seed,
     StreamCipherCoreWrapper, XChaChaCore, XNonce,
 };
-use examples::backend::Width3;
 use known_answers::draws::wrong_draws;
 use known_answers::generators::ZEROS;
 use known_answers::lists::Fresh;

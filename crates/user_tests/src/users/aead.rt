@@ -3,11 +3,9 @@
 ghost use Rattle.std.specs.Prelude.{◌≡◌, ◌≤◌, ◌+◌, ◌↔◌, length, IsOk, OnOk};
 ghost use Rattle.chacha20.specs.Cipher.{limit_of};
 
+use aead::{AeadError, ChaCha20Poly1305, Mac, XChaCha20Poly1305, one_time_key, open, seal};
 use chacha20::cipher::{KeyIvInit, StreamCipherSeek};
 use chacha20::{ChaCha20, Key, Nonce, XNonce};
-use examples::aead::{
-    AeadError, ChaCha20Poly1305, Mac, XChaCha20Poly1305, one_time_key, open, seal,
-};
 use known_answers::published::{FROM_80, MESSAGE};
 use poly1305::Tag;
 

@@ -1,10 +1,10 @@
 //! Sealed files: one of another implementation, round trips, damage, and readers and writers that fail.
 
 use super::unsteady::Unsteady;
+use aead::sealed::chunk::{CHUNK, Salt, TAG};
+use aead::sealed::error::{Damage, SealError};
+use aead::sealed::stream::{decrypt, encrypt};
 use chacha20::Key;
-use examples::sealed::chunk::{CHUNK, Salt, TAG};
-use examples::sealed::error::{Damage, SealError};
-use examples::sealed::stream::{decrypt, encrypt};
 use std::alloc::Global;
 use std::test::Fail;
 

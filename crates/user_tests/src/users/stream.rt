@@ -2,9 +2,9 @@
 //! written before an error, and a nonce in front.
 
 use super::unsteady::Unsteady;
+use aead::stream::{StreamError, decrypt, encrypt, xor_all};
 use chacha20::ChaCha20;
 use chacha20::cipher::{KeyIvInit, StreamCipherSeek};
-use examples::stream::{StreamError, decrypt, encrypt, xor_all};
 use known_answers::published::{
     CIPHERTEXT, COUNTING, FROM_80, MESSAGE, NONCE, X_KEYSTREAM, X_NONCE,
 };

@@ -1,0 +1,26 @@
+use Rattle.std.proofs.Common.{◌∙◌, refl, ap, sym}
+use Rattle.chacha20.specs.ChaCha.{xor_stream}
+use Rattle.chacha20.proofs.KeystreamLemmas.{xor_stream-xor_stream}
+use Rattle.chacha20.proofs.SeekLemmas.{keystream-sought}
+use Rattle.aead.specs.Aead.{mac_text}
+use Rattle.aead.proofs.open.Goals as goal
+
+pub returns-clause-decrypted : goal.returns-clause-decrypted
+returns-clause-decrypted g c plaintext same =
+    let cipher = g.C.Keystream in
+    let at_1 = c.in-Ok.ensures in
+    c.apply_keystream.ensures.bytes
+    ∙ keystream-sought (λ s p. xor_stream s p c.args.message.now) cipher.block_at cipher.modulus
+    at_1.keystream refl at_1.position
+    ∙ ap (xor_stream _ 64) same ∙ xor_stream-xor_stream _ 64 plaintext
+
+pub returns-clause-accepted : goal.returns-clause-accepted
+returns-clause-accepted g c =
+    let text = mac_text c.args.aad.now c.args.message.now in (
+      λ ok. (
+        c.in-Ok.ensures.accepted.0 refl,
+        sym (c.if-not-is_equal.ensures.0 refl) ∙ c.tag-expected.ensures
+            ∙ ap (λ key. g.M.Mac.tag_of key text) c.one_time_key.ensures,
+      ),
+      λ right. refl,
+    )

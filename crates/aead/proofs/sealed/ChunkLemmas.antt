@@ -1,0 +1,180 @@
+-- Chunks of a file: where each stands, and that a file has one text.
+use Rattle.std.proofs.Common.{◌≡◌, ◌<◌, ◌≤◌, ◌+◌, ◌-◌, ◌*◌, ◌/◌, ◌∙◌, ℕ, zero, suc, Bool, true, false, List, [], ◌++◌, length, take, drop, arith, refl, sym, ap, ap₂, append_assoc, append-nil, length-append, length-drop, length-take-le, take_at, drop_at, take_all, inl, inr, eq-or-lt_of_le, add-one}
+use Rattle.std.proofs.lemmas.List.{take-append-le, drop-append-le}
+use Rattle.chacha20.specs.ChaCha.{xor_stream}
+use Rattle.chacha20.specs.XChaCha.{xchacha_stream}
+use Rattle.chacha20.proofs.KeystreamLemmas.{length-xor_stream, xor_stream-xor_stream}
+use Rattle.poly1305.specs.Poly1305.{tag_from}
+use Rattle.aead.specs.Aead.{encrypted, poly1305_tag}
+use Rattle.aead.specs.Sealed.{xchacha20_poly1305, header, chunk_nonce, chunk, chunks, piece, last_number, sealed}
+
+length-tag : (stream : ℕ → ℕ) (aad ciphertext : List ℕ) → length (poly1305_tag stream aad ciphertext) ≡ 16
+unfolding tag_from
+length-tag stream aad ciphertext = refl
+
+pub length-chunk : (key salt : List ℕ) (i : ℕ) (last : Bool) (text : List ℕ)
+    → length (chunk key salt i last text) ≡ length text + 16
+unfolding chunk
+length-chunk key salt i last text =
+    let stream = xchacha_stream 10 key (chunk_nonce salt i last) in
+    let ciphertext = encrypted stream text in
+    omega (
+      arith,
+      length-append ciphertext (poly1305_tag stream (header salt) ciphertext),
+      length-xor_stream stream 64 text,
+      length-tag stream (header salt) ciphertext,
+    )
+
+-- a chunk has one text
+pub chunk-same : (key salt : List ℕ) (i : ℕ) (last : Bool) (xs ys : List ℕ)
+    → chunk key salt i last xs ≡ chunk key salt i last ys → xs ≡ ys
+unfolding chunk
+chunk-same key salt i last xs ys same =
+    let stream = xchacha_stream 10 key (chunk_nonce salt i last) in
+    let size : length xs ≡ length ys =
+    omega (arith, sym (length-chunk key salt i last xs) ∙ ap length same ∙ length-chunk key salt i last ys) in
+    let front : (zs : List ℕ) → take (length zs) (xchacha20_poly1305 key (chunk_nonce salt i last) (header salt) zs)
+    ≡ encrypted stream zs =
+    λ zs. take_at (encrypted stream zs) (poly1305_tag stream (header salt) (encrypted stream zs)) (length zs)
+    (length-xor_stream stream 64 zs) in
+    let ciphertext : encrypted stream xs ≡ encrypted stream ys =
+    sym (front xs) ∙ ap₂ take size same ∙ front ys in
+    sym (xor_stream-xor_stream stream 64 xs) ∙ ap (xor_stream stream 64) ciphertext ∙ xor_stream-xor_stream stream 64 ys
+
+-- what the AEAD made or accepted is a chunk
+pub chunk-is : (key salt : List ℕ) (i : ℕ) (last : Bool) (text nonce head ciphertext tag : List ℕ)
+    → nonce ≡ chunk_nonce salt i last → head ≡ header salt
+    → ciphertext ≡ encrypted (xchacha_stream 10 key nonce) text
+    → tag ≡ poly1305_tag (xchacha_stream 10 key nonce) head ciphertext
+    → ciphertext ++ tag ≡ chunk key salt i last text
+unfolding chunk
+chunk-is key salt i last text nonce head ciphertext tag nonce_is head_is encrypts tags =
+    ap₂ ◌++◌ encrypts (tags ∙ ap (poly1305_tag (xchacha_stream 10 key nonce) head) encrypts)
+    ∙ ap₂ (λ n h. xchacha20_poly1305 key n h text) nonce_is head_is
+
+-- the last 16 bytes of a chunk are the tag of the bytes before them
+pub chunk-tag : (key salt : List ℕ) (i : ℕ) (last : Bool) (text nonce head bytes : List ℕ)
+    → nonce ≡ chunk_nonce salt i last → head ≡ header salt → bytes ≡ chunk key salt i last text
+    → drop (length bytes - 16) bytes
+    ≡ poly1305_tag (xchacha_stream 10 key nonce) head (take (length bytes - 16) bytes)
+unfolding chunk
+chunk-tag key salt i last text nonce head bytes nonce_is head_is same =
+    let stream = xchacha_stream 10 key (chunk_nonce salt i last) in
+    let ciphertext = encrypted stream text in
+    let tag = poly1305_tag stream (header salt) ciphertext in
+    let end = length bytes - 16 in
+    let size : length ciphertext ≡ end =
+    omega (arith, ap length same, length-append ciphertext tag, length-tag stream (header salt) ciphertext) in
+    let front : take end bytes ≡ ciphertext = ap (take end) same ∙ take_at ciphertext tag end size in
+    ap (drop end) same ∙ drop_at ciphertext tag end size
+    ∙ sym (ap₂ (λ n h. poly1305_tag (xchacha_stream 10 key n) h (take end bytes)) nonce_is head_is
+    ∙ ap (poly1305_tag stream (header salt)) front)
+
+-- Pieces of a text.
+
+piece-front : (m rest : List ℕ) (i : ℕ) → 65536 * suc i ≤ length m → piece (m ++ rest) i ≡ piece m i
+piece-front m rest i fits =
+    ap (take 65536) (drop-append-le (65536 * i) m rest (omega (arith, fits)))
+    ∙ take-append-le 65536 (drop (65536 * i) m) rest (omega (arith, fits, length-drop (65536 * i) m))
+
+piece-next : (m rest : List ℕ) (i : ℕ) → length m ≡ 65536 * i → piece (m ++ rest) i ≡ take 65536 rest
+piece-next m rest i long = ap (take 65536) (drop_at m rest (65536 * i) long)
+
+pub length-piece : (text : List ℕ) (i : ℕ) → 65536 * suc i ≤ length text → length (piece text i) ≡ 65536
+length-piece text i fits =
+    length-take-le 65536 (drop (65536 * i) text) (omega (arith, fits, length-drop (65536 * i) text))
+
+-- the last piece: all that is left
+pub last-piece : (text : List ℕ) → piece text (last_number text) ≡ drop (65536 * last_number text) text
+last-piece text =
+    let n = last_number text in
+    take_all 65536 (drop (65536 * n) text) (omega (arith, length-drop (65536 * n) text))
+
+pub length-last : (text : List ℕ) → length (piece text (last_number text)) ≡ length text - 65536 * last_number text
+length-last text = ap length (last-piece text) ∙ length-drop (65536 * last_number text) text
+
+last-is : (i n : ℕ) → n ≤ 65536 → (0 < i → 0 < n) → (65536 * i + n - 1) / 65536 ≡ i
+last-is zero n fits some = omega (arith, fits)
+last-is (suc i) n fits some = omega (arith, fits, some (omega arith))
+
+module _ (key salt : List ℕ) where
+  -- the chunks of a text, and then its last one: a file without its header
+  abbrev pub body : List ℕ → List ℕ
+  body text = let n = last_number text in chunks key salt text n ++ chunk key salt n true (piece text n)
+
+  -- chunks are those of the text's front
+  chunks-front : (m rest : List ℕ) (n : ℕ) → 65536 * n ≤ length m → chunks key salt (m ++ rest) n ≡ chunks key salt m n
+  chunks-front m rest zero fits = refl
+  chunks-front m rest (suc i) fits =
+      ap₂ (λ cs p. cs ++ chunk key salt i false p) (chunks-front m rest i (omega (arith, fits)))
+      (piece-front m rest i fits)
+
+  -- one more chunk
+  pub chunks-more : (m t : List ℕ) (i : ℕ) → length m ≡ 65536 * i → length t ≡ 65536
+      → (header salt ++ chunks key salt m i) ++ chunk key salt i false t
+      ≡ header salt ++ chunks key salt (m ++ t) (i + 1)
+  chunks-more m t i long size =
+      append_assoc (header salt) (chunks key salt m i) (chunk key salt i false t)
+      ∙ ap (λ cs. header salt ++ cs)
+      (sym (ap (chunks key salt (m ++ t)) (add-one i)
+      ∙ ap₂ (λ cs p. cs ++ chunk key salt i false p) (chunks-front m t i (omega (arith, long)))
+      (piece-next m t i long ∙ take_all 65536 t (omega (arith, size)))))
+
+  -- the last chunk
+  pub sealed-end : (m t : List ℕ) (i : ℕ) → length m ≡ 65536 * i → length t ≤ 65536 → (0 < i → 0 < length t)
+      → (header salt ++ chunks key salt m i) ++ chunk key salt i true t ≡ sealed key salt (m ++ t)
+  sealed-end m t i long fits some =
+      let n : last_number (m ++ t) ≡ i =
+      ap (λ k. (k - 1) / 65536) (length-append m t ∙ ap (λ k. k + length t) long) ∙ last-is i (length t) fits some in
+      sym (ap (λ k. (header salt ++ chunks key salt (m ++ t) k) ++ chunk key salt k true (piece (m ++ t) k)) n
+      ∙ ap₂ (λ cs p. (header salt ++ cs) ++ chunk key salt i true p) (chunks-front m t i (omega (arith, long)))
+      (piece-next m t i long ∙ take_all 65536 t fits))
+
+  pub sealed-is : (text : List ℕ) → sealed key salt text ≡ header salt ++ body text
+  sealed-is text =
+      let n = last_number text in
+      append_assoc (header salt) (chunks key salt text n) (chunk key salt n true (piece text n))
+
+  pub length-chunks : (text : List ℕ) (n : ℕ) → 65536 * n ≤ length text → length (chunks key salt text n) ≡ 65552 * n
+  length-chunks text zero fits = refl
+  length-chunks text (suc i) fits =
+      let before = chunks key salt text i in
+      let here = chunk key salt i false (piece text i) in
+      omega (
+        arith,
+        length-append before here,
+        length-chunks text i (omega (arith, fits)),
+        length-chunk key salt i false (piece text i),
+        length-piece text i fits,
+      )
+
+  pub length-body : (text : List ℕ) → length (body text) ≡ length text + 16 * (last_number text + 1)
+  length-body text =
+      let n = last_number text in
+      let here = chunk key salt n true (piece text n) in
+      omega (
+        arith,
+        length-append (chunks key salt text n) here,
+        length-chunks text n (omega arith),
+        length-chunk key salt n true (piece text n),
+        length-last text,
+      )
+
+  -- chunk i of the first n
+  pub chunk-at : (text : List ℕ) (n i : ℕ) → i < n → (rest : List ℕ)
+      × (chunks key salt text n ≡ chunks key salt text i ++ (chunk key salt i false (piece text i) ++ rest))
+  chunk-at text zero i less = absurd (omega (arith, less))
+  chunk-at text (suc n) i less =
+      let within : i ≤ n = omega (arith, less) in
+      elim (eq-or-lt_of_le within) [
+        | inl same ↦ ([], rw (same, append-nil) refl)
+        | inr before ↦
+            let next = chunk key salt n false (piece text n) in
+            let (rest, found) = chunk-at text n i before in (
+              rest ++ next,
+              ap (λ cs. cs ++ next) found
+                  ∙ append_assoc (chunks key salt text i) (chunk key salt i false (piece text i) ++ rest) next
+                  ∙ ap (λ cs. chunks key salt text i ++ cs) (append_assoc (chunk key salt i false
+                  (piece text i)) rest next),
+            )
+      ]

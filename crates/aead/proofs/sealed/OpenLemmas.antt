@@ -1,0 +1,168 @@
+-- What a reader had, of which the chunks before chunk i were right.
+use Rattle.std.proofs.Common.{◌≡◌, ◌≢◌, ◌<◌, ◌≤◌, ◌+◌, ◌*◌, ◌∙◌, ℕ, zero, suc, true, false, List, [], ◌++◌, Some, None, Ok, Err, inl, inr, IfSome, IfErr, IsErrAnd, length, take, drop, take_all, arith, refl, sym, ap, subst, append-nil, append_assoc, length-append}
+use Rattle.std.proofs.lemmas.List.{take-append-drop}
+use Rattle.std.proofs.Math.Seq.{take-append-add, take-length}
+use Rattle.std.specs.declared.option.Option.{Option}
+use Rattle.std.specs.declared.result.Result.{Result}
+use Rattle.std.specs.Io.KnownBytes.{Appends, Consumes, IsAtEnd, prepend_known}
+use Rattle.std.proofs.KnownBytes.{Appends-nil, Appends-trans, Consumes-whole}
+use Rattle.aead.specs.declared.sealed.error.Damage.{Damage}
+use Rattle.aead.specs.declared.sealed.error.SealError.{SealError}
+use Rattle.aead.specs.declared.sealed.error.SealError.TheVariants.{Damaged}
+use Rattle.aead.specs.Sealed.{header, chunk, chunks, sealed, IsRight}
+use Rattle.aead.proofs.sealed.ChunkLemmas.{body, chunks-more, sealed-is, sealed-end, length-chunk}
+use Rattle.aead.proofs.sealed.FileLemmas.{one-text, wrong-mid, wrong-last}
+use Rattle.aead.proofs.sealed.ReaderLemmas.{Consumes-held, Consumes-some}
+
+-- what follows from each refusal
+pub refusal-weaker : {T P Q : Type 0} (r : Result T SealError) → (P → Q)
+    → IfErr r (λ e. (damage : Damage) → e ≡ Damaged damage → P)
+    → IfErr r (λ e. (damage : Damage) → e ≡ Damaged damage → Q)
+refusal-weaker (Ok x) next holds = tt
+refusal-weaker (Err e) next holds = λ damage is. next (holds damage is)
+
+-- an error that is passed on
+pub passed-on : {T P : Type 0} (r : Result T SealError) (e : SealError) → IsErrAnd r (λ y. y ≡ e)
+    → ((damage : Damage) → e ≡ Damaged damage → P) → IfErr r (λ y. (damage : Damage) → y ≡ Damaged damage → P)
+passed-on (Ok x) e err holds = tt
+passed-on (Err y) e err holds = λ damage is. holds damage (sym err ∙ is)
+
+-- no header
+pub no-file : (a : Option (List ℕ)) (key : List ℕ)
+    → IfSome a (λ file. (salt rest : List ℕ) → length salt ≡ 16 → file ≢ header salt ++ rest)
+    → IfSome a (λ file. (salt text : List ℕ) → length salt ≡ 16 → file ≢ sealed key salt text)
+no-file None key none = tt
+no-file (Some file) key none = λ salt text size same. none salt (body key salt text) size (same
+    ∙ sealed-is key salt text)
+
+-- one text
+pub text-of : (a w v : Option (List ℕ)) (key : List ℕ)
+    → IfSome a (λ file. (salt text : List ℕ) × (length salt ≡ 16) × (file ≡ sealed key salt text) × Appends w v text)
+    → (salt text : List ℕ) → length salt ≡ 16 → a ≡ Some (sealed key salt text) → Appends w v text
+text-of a w v key holds salt text size is =
+    let (salt', text', size', same, written) =
+    subst (λ o. IfSome o (λ file. (s t : List ℕ) × (length s ≡ 16) × (file ≡ sealed key s t)
+    × Appends w v t)) is holds in
+    subst (Appends w v) (sym (one-text key salt salt' text text' size size' same)) written
+
+-- a full buffer: a chunk, and the next one's first byte
+pub split-full : (before buf : List ℕ) (n : ℕ) → length buf ≡ 65553 → 65552 < n
+    → before ++ take n buf ≡ (before ++ take 65552 buf) ++ drop 65552 buf
+split-full before buf n full more =
+    ap (λ xs. before ++ xs) (take_all n buf (omega (arith, more, full)) ∙ sym (take-append-drop 65552 buf))
+    ∙ sym (append_assoc before (take 65552 buf) (drop 65552 buf))
+
+-- what was written is the front of a right text
+abbrev pub RightFront : Option (List ℕ) → List ℕ → Option (List ℕ) → Option (List ℕ) → Type 0
+RightFront a key w v = IfSome a (λ file. (text : List ℕ) × (n : ℕ) × (0 < n → IsRight key file text)
+    × Appends w v (take n text))
+
+-- all of the chunks before, and a front of the next one
+right-then : (a w v u : Option (List ℕ)) (key moved text : List ℕ) (n : ℕ) → IfSome a (λ file. IsRight key file moved)
+    → (0 < n → IfSome a (λ file. IsRight key file (moved ++ text))) → Appends w v moved → Appends v u (take n text)
+    → RightFront a key w u
+right-then None w v u key moved text n before after written more = tt
+right-then (Some file) w v u key moved text zero before after written more = (
+  moved,
+  length moved,
+  λ _. before,
+  subst (Appends w u) (append-nil moved ∙ sym (take-length moved)) (Appends-trans w v u moved [] written more),
+)
+right-then (Some file) w v u key moved text (suc n) before after written more = (
+  moved ++ text,
+  length moved + suc n,
+  λ _. after (omega arith),
+  subst (Appends w u) (sym (take-append-add moved text (suc n)))
+      (Appends-trans w v u moved (take (suc n) text) written more),
+)
+
+-- the chunks before are right
+begins : (a b : Option (List ℕ)) (key salt moved : List ℕ) (i : ℕ) → length salt ≡ 16 → length moved ≡ 65536 * i
+    → Consumes a b (header salt ++ chunks key salt moved i) → IfSome a (λ file. IsRight key file moved)
+begins a b key salt moved i size long read =
+    Consumes-some a b (header salt ++ chunks key salt moved i) (λ file. IsRight key file moved) read
+    (λ rest. inl (salt, rest, i, size, long, refl))
+
+-- only the text of the chunks before is written
+pub right-before : (a b w v : Option (List ℕ)) (key salt moved : List ℕ) (i : ℕ) → length salt ≡ 16
+    → length moved ≡ 65536 * i → Consumes a b (header salt ++ chunks key salt moved i) → Appends w v moved
+    → RightFront a key w v
+right-before a b w v key salt moved i size long read written =
+    right-then a w v v key moved [] 0 (begins a b key salt moved i size long read)
+    (λ less. absurd (omega (arith, less))) written (Appends-nil v)
+
+module _ (a b : Option (List ℕ)) (key salt moved bytes : List ℕ) (i : ℕ) (size : length salt
+    ≡ 16) (long : length moved ≡ 65536 * i) where
+  abbrev pub front : List ℕ
+  front = header salt ++ chunks key salt moved i
+
+  -- the last chunk is right
+  whole : (text : List ℕ) → length bytes ≤ 65552 → (0 < i → 0 < length text) → bytes ≡ chunk key salt i true text
+      → front ++ bytes ≡ sealed key salt (moved ++ text)
+  whole text fits some is =
+      ap (λ cs. front ++ cs) is
+      ∙ sealed-end key salt moved text i long
+      (omega (arith, fits, ap length is, length-chunk key salt i true text)) some
+
+  pub opened : (w v u : Option (List ℕ)) (text : List ℕ) → length bytes ≤ 65552 → (0 < i → 0 < length text)
+      → bytes ≡ chunk key salt i true text → Consumes a b (front ++ bytes) → IsAtEnd b → Appends w v moved
+      → Appends v u text
+      → IfSome a (λ file. (salt' text' : List ℕ) × (length salt' ≡ 16) × (file ≡ sealed key salt' text')
+      × Appends w u text')
+  opened w v u text fits some is read end before more =
+      Consumes-whole a b (front ++ bytes)
+      (λ file. (salt' text' : List ℕ) × (length salt' ≡ 16) × (file ≡ sealed key salt' text') × Appends w u text')
+      read end (salt, moved ++ text, size, whole text fits some is, Appends-trans w v u moved text before more)
+
+  -- the last chunk is wrong
+  pub refused-last : length bytes ≤ 65552 → (0 < i → 0 < length bytes)
+      → ((text : List ℕ) → (0 < i → 0 < length text) → bytes ≢ chunk key salt i true text)
+      → Consumes a b (front ++ bytes) → IsAtEnd b
+      → IfSome a (λ file. (salt' text' : List ℕ) → length salt' ≡ 16 → file ≢ sealed key salt' text')
+  refused-last fits some wrong read end =
+      Consumes-whole a b (front ++ bytes)
+      (λ file. (salt' text' : List ℕ) → length salt' ≡ 16 → file ≢ sealed key salt' text') read end
+      (λ salt' text' size' same. wrong-last key salt salt' moved bytes text' i size size' long fits some wrong same)
+
+  -- another chunk is wrong
+  pub refused-mid : (held : List ℕ) → length bytes ≡ 65552 → 0 < length held
+      → ((text : List ℕ) → (0 < i → 0 < length text) → bytes ≢ chunk key salt i false text)
+      → Consumes a b ((front ++ bytes) ++ held)
+      → IfSome a (λ file. (salt' text' : List ℕ) → length salt' ≡ 16 → file ≢ sealed key salt' text')
+  refused-mid held wide more wrong read =
+      Consumes-some a b ((front ++ bytes) ++ held)
+      (λ file. (salt' text' : List ℕ) → length salt' ≡ 16 → file ≢ sealed key salt' text') read
+      (λ rest salt' text' size' same.
+      wrong-mid key salt salt' moved bytes (held ++ rest) text' i size size' long wide
+      (omega (arith, length-append held rest, more)) wrong
+      (sym (append_assoc (front ++ bytes) held rest) ∙ same))
+
+  -- a front of the last chunk's text is written
+  pub right-last : (c w v u : Option (List ℕ)) (text : List ℕ) (n : ℕ) → length bytes ≤ 65552
+      → (0 < n → (0 < i → 0 < length text) × (bytes ≡ chunk key salt i true text)) → Consumes a c front
+      → Consumes a b (front ++ bytes) → IsAtEnd b → Appends w v moved → Appends v u (take n text)
+      → RightFront a key w u
+  right-last c w v u text n fits right read read' end written more =
+      right-then a w v u key moved text n (begins a c key salt moved i size long read)
+      (λ less.
+      let (some, is) = right less in
+      Consumes-whole a b (front ++ bytes) (λ file. IsRight key file (moved ++ text)) read' end
+      (inr (salt, size, whole text fits some is)))
+      written more
+
+  -- a front of another chunk's text is written
+  pub right-mid : (c w v u : Option (List ℕ)) (held text : List ℕ) (n : ℕ) → length bytes ≡ 65552
+      → (0 < n → bytes ≡ chunk key salt i false text) → Consumes a c front
+      → Consumes a b ((front ++ bytes) ++ held) → Appends w v moved → Appends v u (take n text)
+      → RightFront a key w u
+  right-mid c w v u held text n wide right read read' written more =
+      right-then a w v u key moved text n (begins a c key salt moved i size long read)
+      (λ less.
+      let is = right less in
+      let all : length text ≡ 65536 = omega (arith, sym wide ∙ ap length is ∙ length-chunk key salt i false text) in
+      begins a (prepend_known held b) key salt (moved ++ text) (i + 1) size
+      (omega (arith, length-append moved text, long, all))
+      (subst (Consumes a (prepend_known held b))
+      (ap (λ cs. front ++ cs) is ∙ chunks-more key salt moved text i long all)
+      (Consumes-held a b (front ++ bytes) held read')))
+      written more

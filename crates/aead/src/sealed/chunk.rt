@@ -1,0 +1,106 @@
+//! The parts of a sealed file.
+
+ghost use Rattle.std.specs.Prelude.{◌≡◌, ◌≢◌, ◌<◌, ◌≤◌, ◌+◌, ◌-◌, ◌^◌, ◌++◌, ℕ, List, Bool, length, take, IsTrue, IsFalse, OnOk, IfErr};
+ghost use Rattle.std.specs.Io.KnownBytes.{Appends};
+ghost use Rattle.aead.specs.declared.sealed.error.Damage.{Damage};
+ghost use Rattle.aead.specs.Sealed.{header, chunk_nonce, chunk};
+
+use crate::XChaCha20Poly1305;
+use crate::sealed::error::SealError;
+use crate::stream::write_whole;
+use chacha20::{Key, XNonce};
+use std::io::Write;
+
+/// 16 random bytes, which no other file under the key may have.
+pub type Salt = [u8; 16];
+
+/// The bytes of text in a chunk, but for the last.
+pub const CHUNK: usize = 65536;
+
+/// The bytes of a tag.
+pub const TAG: usize = 16;
+
+/// The most chunks that a file may have.
+pub const CHUNKS: u64 = 1 << 56;
+
+/// The bytes that a sealed file begins with, of which the last is its version.
+pub const MAGIC: [u8; 16] = *b"chacha20-seal v1";
+
+/// The header of a file.
+pub fn header(salt: &Salt) -> [u8; 32]
+    ensures { result ≡ header salt.now }
+{
+    let mut header = [0; 32];
+    header[..16].copy_from_slice(&MAGIC);
+    header[16..].copy_from_slice(salt);
+    header
+}
+
+/// The nonce of a chunk. No other chunk and no other salt has it.
+pub fn chunk_nonce(salt: &Salt, number: u64, last: bool) -> XNonce
+    requires { number < 2 ^ 56 }
+    ensures value { result ≡ chunk_nonce salt.now number last }
+    ensures distinct { (other : List ℕ) (i : ℕ) (is_last : Bool) → length other ≡ 16 → i < 2 ^ 56
+        → chunk_nonce other i is_last ≡ result
+        → (other ≡ salt.now) × (i ≡ number) × (is_last ≡ last) }
+{
+    let mut nonce = [0; 24];
+    nonce[..16].copy_from_slice(salt);
+    let mark = if last { CHUNKS } else { 0 };
+    nonce[16..].copy_from_slice(&(number + mark).to_le_bytes());
+    nonce
+}
+
+/// Encrypts a text in place, and writes its chunk.
+pub fn write_chunk<W: Write>(
+    key: &Key,
+    salt: &Salt,
+    number: u64,
+    last: bool,
+    text: &mut [u8],
+    writer: &mut W,
+) -> Result<(), SealError>
+    requires number { number < 2 ^ 56 }
+    requires size { length text.old ≤ 65536 }
+    ensures { OnOk result (Appends (W.contents writer.old) (W.contents writer.new)
+        (chunk key.now salt.now number last text.old)) }
+{
+    let nonce = chunk_nonce(salt, number, last);
+    let tag = XChaCha20Poly1305::seal(key, &nonce, &header(salt), text).unwrap();
+    put(writer, text)?;
+    put(writer, &tag)
+}
+
+/// Writes bytes.
+pub fn put<W: Write>(writer: &mut W, bytes: &[u8]) -> Result<(), SealError>
+    ensures written { OnOk result
+        (Appends (W.contents writer.old) (W.contents writer.new) bytes.now) }
+    ensures failed { IfErr result (λ e. (damage : Damage) → e ≢ SealError.Damaged damage) }
+    ensures partly { (n : ℕ)
+        × Appends (W.contents writer.old) (W.contents writer.new) (take n bytes.now) }
+{
+    write_whole(writer, bytes).map_err(SealError::Write)
+}
+
+/// Checks the tag of a chunk, and decrypts it in place: its text stands before its last 16 bytes. With a wrong tag the
+/// bytes stay as they were. Of the chunks of a file only the first may have an empty text.
+pub fn open_chunk(key: &Key, salt: &Salt, number: u64, last: bool, bytes: &mut [u8]) -> bool
+    requires number { number < 2 ^ 56 }
+    requires size { length bytes.old ≤ 65552 }
+    ensures right { IsTrue result → bytes.old
+        ≡ chunk key.now salt.now number last (take (length bytes.old - 16) bytes.new) }
+    ensures long { IsTrue result → (16 ≤ length bytes.old) × (0 < number → 16 < length bytes.old) }
+    ensures wrong { IsFalse result → (text : List ℕ) → (0 < number → 0 < length text)
+        → bytes.old ≢ chunk key.now salt.now number last text }
+    ensures refused { IsFalse result → bytes.new ≡ bytes.old }
+{
+    let least = if number == 0 { TAG } else { TAG + 1 };
+    if bytes.len() < least {
+        return false;
+    }
+    let end = bytes.len() - TAG;
+    let mut tag = [0; 16];
+    tag.copy_from_slice(&bytes[end..]);
+    let nonce = chunk_nonce(salt, number, last);
+    XChaCha20Poly1305::open(key, &nonce, &header(salt), &mut bytes[..end], &tag).is_ok()
+}

@@ -1,0 +1,218 @@
+//! Encrypts or decrypts from a reader to a writer through one buffer, so a long text takes no more memory than a short
+//! one.
+//!
+//! `xor_all` is the loop, for any cipher. `encrypt` also writes a nonce of 24 bytes in front, and `decrypt` reads it.
+//! Choose each nonce at random: with 24 bytes, two random nonces are never equal in practice.
+//!
+//! `R.remaining reader` are the bytes that a reader has left, and `W.contents writer` those that a writer holds, where
+//! they are known (`Some`), as for a slice and a `Vec`. `Consumes a b text`: a reader with a left gave the text and has
+//! b left. `Appends a b bytes`: a writer that held a took the bytes and holds b. A reader or a writer may fail at any
+//! time, so no clause says when a call returns `Ok`.
+//!
+//! Nothing is authenticated: where a bit of the ciphertext is changed, that bit of the text changes. For a tag, see
+//! `aead.rt`.
+
+ghost use Rattle.std.specs.Prelude.{◌≡◌, ◌≢◌, ◌<◌, ◌≤◌, ◌+◌, ◌++◌, ℕ, List, length, take, Some, IsErr, IsErrOf, IfOk, IfErr, OnOk, OnErr, IfSome};
+ghost use Rattle.std.specs.declared.io.Error.{Error};
+ghost use Rattle.std.specs.IoError.{error_kind};
+ghost use Rattle.std.specs.Io.{ReadsAtMost};
+ghost use Rattle.std.specs.Io.KnownBytes.{Appends, Consumes, IsAtEnd, Keeps};
+ghost use Rattle.chacha20.specs.ChaCha.{keystream, xor_stream};
+ghost use Rattle.chacha20.specs.XChaCha.{xchacha_stream};
+ghost use Rattle.chacha20.specs.Cipher.{limit_of};
+ghost use Rattle.aead.specs.declared.stream.StreamError.TheVariants.{TooLong};
+
+use chacha20::cipher::{KeyIvInit, StreamCipher, StreamCipherError};
+use chacha20::{Key, XChaCha20, XNonce};
+use std::io;
+use std::io::{ErrorKind, Read, Write};
+
+/// Why a text wasn't written to its end.
+#[derive(Debug, Drop)]
+pub enum StreamError {
+    /// The reader failed, or gave 2^64 - 1 pieces.
+    Read(io::Error),
+    /// The writer failed.
+    Write(io::Error),
+    /// The text is longer than the keystream from the cipher's position on.
+    TooLong,
+}
+
+impl From<StreamCipherError> for StreamError {
+    ghost from_gives = { λ _ e. e ≡ TooLong };
+
+    fn from(_: StreamCipherError) -> StreamError {
+        StreamError::TooLong
+    }
+}
+
+/// XORs all bytes that the reader has left with the keystream, from the cipher's position on, and writes them, in
+/// pieces of at most the buffer's length. It repeats reads and writes that a signal interrupts. If it
+/// fails, the writer has the first bytes of the encryption of what was read. The last piece stays in the buffer.
+pub fn xor_all<C: StreamCipher, R: Read, W: Write>(
+    cipher: &mut C,
+    reader: &mut R,
+    writer: &mut W,
+    buf: &mut [u8],
+) -> Result<(), StreamError>
+    requires room { 0 < length buf.old }
+    ensures written { let stream = keystream C.modulus (C.block_at (C.fixed cipher.old)) in
+        OnOk result (IfSome (R.remaining reader.old) (λ text.
+        Appends (W.contents writer.old) (W.contents writer.new)
+        (xor_stream stream (C.position cipher.old) text))) }
+    ensures end { OnOk result (IsAtEnd (R.remaining reader.new)) }
+    ensures fixed { C.fixed cipher.new ≡ C.fixed cipher.old }
+    ensures position { OnOk result (IfSome (R.remaining reader.old) (λ text.
+        C.position cipher.new ≡ C.position cipher.old + length text)) }
+    ensures within { OnOk result (IfSome (R.remaining reader.old) (λ text.
+        C.position cipher.old + length text ≤ limit_of C.modulus)) }
+    // Also after an error.
+    ensures partly { let stream = keystream C.modulus (C.block_at (C.fixed cipher.old)) in
+        (text : List ℕ) × (n : ℕ)
+        × Consumes (R.remaining reader.old) (R.remaining reader.new) text
+        × Appends (W.contents writer.old) (W.contents writer.new)
+        (take n (xor_stream stream (C.position cipher.old) text)) }
+    ensures too_long { IsErrOf result TooLong → (text : List ℕ)
+        × Consumes (R.remaining reader.old) (R.remaining reader.new) text
+        × (limit_of C.modulus < C.position cipher.old + length text) }
+    ensures retried { (e : Error)
+        → IsErrOf result (StreamError.Read e) → error_kind e ≢ ErrorKind.Interrupted }
+{
+    'pieces: for _ in 0..u64::MAX {
+        let n = xor_piece(cipher, reader, writer, buf)?;
+        if n == 0 {
+            return Ok(());
+        }
+    }
+    Err(StreamError::Read(io::Error::from(ErrorKind::TimedOut)))
+}
+
+/// Writes a nonce, and then the encryption of all bytes that the reader has left (draft-irtf-cfrg-xchacha, section 2.3,
+/// from block 0 on). It fails as `xor_all` does.
+pub fn encrypt<R: Read, W: Write>(
+    key: &Key,
+    nonce: &XNonce,
+    reader: &mut R,
+    writer: &mut W,
+    buf: &mut [u8],
+) -> Result<(), StreamError>
+    requires room { 0 < length buf.old }
+    ensures written { OnOk result (IfSome (R.remaining reader.old) (λ text.
+        Appends (W.contents writer.old) (W.contents writer.new)
+        (nonce.now ++ xor_stream (xchacha_stream 10 key.now nonce.now) 0 text))) }
+    ensures too_long { IsErrOf result TooLong → (text : List ℕ)
+        × Consumes (R.remaining reader.old) (R.remaining reader.new) text
+        × (274877906944 < length text) }
+{
+    write_whole(writer, nonce).map_err(StreamError::Write)?;
+    xor_all(&mut XChaCha20::new(key, nonce), reader, writer, buf)
+}
+
+/// Reads a nonce, and writes the decryption of all that follows it. It fails for less than 24 bytes, and as `xor_all`
+/// does.
+pub fn decrypt<R: Read, W: Write>(
+    key: &Key,
+    reader: &mut R,
+    writer: &mut W,
+    buf: &mut [u8],
+) -> Result<(), StreamError>
+    requires room { 0 < length buf.old }
+    ensures text { (nonce text : List ℕ) → length nonce ≡ 24 → R.remaining reader.old
+        ≡ Some (nonce ++ xor_stream (xchacha_stream 10 key.now nonce) 0 text)
+        → OnOk result (Appends (W.contents writer.old) (W.contents writer.new) text) }
+    ensures short { IfSome (R.remaining reader.old) (λ bytes. length bytes < 24 → IsErr result) }
+    ensures too_long { IsErrOf result TooLong → (bytes : List ℕ)
+        × Consumes (R.remaining reader.old) (R.remaining reader.new) bytes
+        × (24 + 274877906944 < length bytes) }
+{
+    let nonce = read_nonce(reader)?;
+    xor_all(&mut XChaCha20::new(key, &nonce), reader, writer, buf)
+}
+
+fn read_nonce<R: Read>(reader: &mut R) -> Result<XNonce, StreamError>
+    ensures bytes { IfOk result (λ nonce.
+        Consumes (R.remaining reader.old) (R.remaining reader.new) nonce) }
+    ensures size { IfOk result (λ nonce. length nonce ≡ 24) }
+    ensures never_too_long { ¬ IsErrOf result TooLong }
+{
+    let mut nonce = [0; 24];
+    reader.read_exact(&mut nonce).map_err(StreamError::Read)?;
+    Ok(nonce)
+}
+
+// The next piece, from one read. It is empty only at the reader's end.
+fn xor_piece<C: StreamCipher, R: Read, W: Write>(
+    cipher: &mut C,
+    reader: &mut R,
+    writer: &mut W,
+    buf: &mut [u8],
+) -> Result<usize, StreamError>
+    ensures moved { let stream = keystream C.modulus (C.block_at (C.fixed cipher.old)) in
+        IfOk result (λ n. (text : List ℕ) × (length text ≡ n)
+        × Consumes (R.remaining reader.old) (R.remaining reader.new) text
+        × Appends (W.contents writer.old) (W.contents writer.new)
+        (xor_stream stream (C.position cipher.old) text)) }
+    ensures end { IfOk result (λ n. n ≡ 0 → 0 < length buf.old
+        → IsAtEnd (R.remaining reader.new)) }
+    ensures fixed { C.fixed cipher.new ≡ C.fixed cipher.old }
+    ensures position { IfOk result (λ n. C.position cipher.new ≡ C.position cipher.old + n) }
+    ensures within { IfOk result (λ n. C.position cipher.old + n ≤ limit_of C.modulus) }
+    ensures partly { let stream = keystream C.modulus (C.block_at (C.fixed cipher.old)) in
+        (text : List ℕ) × (n : ℕ)
+        × Consumes (R.remaining reader.old) (R.remaining reader.new) text
+        × Appends (W.contents writer.old) (W.contents writer.new)
+        (take n (xor_stream stream (C.position cipher.old) text)) }
+    ensures too_long { IsErrOf result TooLong → (text : List ℕ)
+        × Consumes (R.remaining reader.old) (R.remaining reader.new) text
+        × (limit_of C.modulus < C.position cipher.old + length text) }
+    ensures retried { (e : Error)
+        → IsErrOf result (StreamError.Read e) → error_kind e ≢ ErrorKind.Interrupted }
+{
+    let n = read_some(reader, buf).map_err(StreamError::Read)?;
+    let piece = &mut buf[..n];
+    cipher.try_apply_keystream(piece)?;
+    write_whole(writer, piece).map_err(StreamError::Write)?;
+    Ok(n)
+}
+
+// One read, repeated while a signal interrupts it.
+fn read_some<R: Read>(reader: &mut R, buf: &mut [u8]) -> io::Result<usize>
+    ensures bound { ReadsAtMost result buf.new }
+    ensures bytes { IfOk result (λ n.
+        Consumes (R.remaining reader.old) (R.remaining reader.new) (take n buf.new)) }
+    ensures end { IfOk result (λ n. n ≡ 0 → 0 < length buf.old
+        → IsAtEnd (R.remaining reader.new)) }
+    ensures refused { OnErr result (Keeps (R.remaining reader.old) (R.remaining reader.new)) }
+    ensures retried { IfErr result (λ e. error_kind e ≢ ErrorKind.Interrupted) }
+{
+    'tries: for _ in 0..u64::MAX {
+        match reader.read(buf) {
+            Ok(n) => return Ok(n),
+            Err(e) if e.kind() == ErrorKind::Interrupted => {}
+            Err(e) => return Err(e),
+        }
+    }
+    Err(io::Error::from(ErrorKind::TimedOut))
+}
+
+// `write_all`, whose contract doesn't say what was written before an error.
+pub(crate) fn write_whole<W: Write>(writer: &mut W, bytes: &[u8]) -> io::Result<()>
+    ensures written { OnOk result
+        (Appends (W.contents writer.old) (W.contents writer.new) bytes.now) }
+    ensures partly { (n : ℕ)
+        × Appends (W.contents writer.old) (W.contents writer.new) (take n bytes.now) }
+{
+    let mut done = 0;
+    'tries: for _ in 0..u64::MAX {
+        if done == bytes.len() {
+            return Ok(());
+        }
+        match writer.write(&bytes[done..]) {
+            Ok(0) => return Err(io::Error::from(ErrorKind::WriteZero)),
+            Ok(n) => done += n,
+            Err(e) if e.kind() == ErrorKind::Interrupted => {}
+            Err(e) => return Err(e),
+        }
+    }
+    Err(io::Error::from(ErrorKind::TimedOut))
+}
