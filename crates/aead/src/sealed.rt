@@ -1,5 +1,5 @@
 //! Sealed files, in which a change is noticed: XChaCha20-Poly1305 by chunks of 64 KiB (the STREAM construction), from
-//! any reader to any writer. The program `seal` calls this. `specs/Sealed.antt` has the format. As in `aead.rt`, no
+//! any reader to any writer. The program `seal` calls this. `specs/Sealed.antt` has the format. As for messages, no
 //! contract says how hard a tag is to forge.
 
 pub mod cat;

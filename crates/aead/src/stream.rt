@@ -10,7 +10,7 @@
 //! time, so no clause says when a call returns `Ok`.
 //!
 //! Nothing is authenticated: where a bit of the ciphertext is changed, that bit of the text changes. For a tag, see
-//! `aead.rt`.
+//! `sealed`.
 
 ghost use Rattle.std.specs.Prelude.{◌≡◌, ◌≢◌, ◌<◌, ◌≤◌, ◌+◌, ◌++◌, ℕ, List, length, take, Some, IsErr, IsErrOf, IfOk, IfErr, OnOk, OnErr, IfSome};
 ghost use Rattle.std.specs.declared.io.Error.{Error};

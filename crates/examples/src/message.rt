@@ -9,7 +9,7 @@
 //! - `refused`: on `Err` the message is as it was.
 //!
 //! Decryption is the same call. Never use a nonce twice under one key. Nothing here authenticates a message: see
-//! `aead.rt`.
+//! the crate `aead`.
 
 ghost use Rattle.std.specs.Prelude.{◌≡◌, ◌≤◌, ◌+◌, ◌↔◌, length, IsOk, OnOk, OnErr};
 ghost use Rattle.chacha20.specs.ChaCha.{chacha_stream, keystream, xor_stream, ietf, legacy};
@@ -36,8 +36,8 @@ pub fn encrypt(key: &Key, nonce: &Nonce, message: &mut [u8]) -> Result<(), Strea
 }
 
 /// Encrypts a message from block 1 on, so from byte 64 of the keystream (RFC 8439, section 2.4.2). Protocols do so that
-/// take block 0 for something else, as `aead.rt`. `Err` exactly where the message is longer than the 274877906880 bytes
-/// that are left there; then it is as it was.
+/// take block 0 for something else, as `aead` does. `Err` exactly where the message is longer than the 274877906880
+/// bytes that are left there; then it is as it was.
 pub fn encrypt_from_block_1(
     key: &Key,
     nonce: &Nonce,

@@ -1,5 +1,6 @@
 -- Chunks of a file: where each stands, and that a file has one text.
-use Rattle.std.proofs.Common.{◌≡◌, ◌<◌, ◌≤◌, ◌+◌, ◌-◌, ◌*◌, ◌/◌, ◌∙◌, ℕ, zero, suc, Bool, true, false, List, [], ◌++◌, length, take, drop, arith, refl, sym, ap, ap₂, append_assoc, append-nil, length-append, length-drop, length-take-le, take_at, drop_at, take_all, inl, inr, eq-or-lt_of_le, add-one}
+use Rattle.std.proofs.Common.{◌≡◌, ◌<◌, ◌≤◌, ◌+◌, ◌-◌, ◌*◌, ◌/◌, ◌∙◌, ℕ, zero, suc, Bool, true, false, List, [], ◌++◌, length, take, drop, arith, refl, sym, ap, ap₂, subst, append_assoc, append-nil, length-append, length-drop, length-take, length-take-le, take_at, drop_at, take_all, min, inl, inr, eq-or-lt_of_le, add-one}
+use Rattle.std.proofs.Math.Nat.{min_comm, min-le_left}
 use Rattle.std.proofs.lemmas.List.{take-append-le, drop-append-le}
 use Rattle.chacha20.specs.ChaCha.{xor_stream}
 use Rattle.chacha20.specs.XChaCha.{xchacha_stream}
@@ -18,12 +19,15 @@ unfolding chunk
 length-chunk key salt i last text =
     let stream = xchacha_stream 10 key (chunk_nonce salt i last) in
     let ciphertext = encrypted stream text in
-    omega (
-      arith,
-      length-append ciphertext (poly1305_tag stream (header salt) ciphertext),
-      length-xor_stream stream 64 text,
-      length-tag stream (header salt) ciphertext,
-    )
+    length-append ciphertext (poly1305_tag stream (header salt) ciphertext)
+    ∙ ap₂ ◌+◌ (length-xor_stream stream 64 text) (length-tag stream (header salt) ciphertext)
+
+pub some-chunk : (key salt : List ℕ) (i : ℕ) (last : Bool) (text : List ℕ) → 0 < length (chunk key salt i last text)
+some-chunk key salt i last text = subst (λ k. 0 < k) (sym (length-chunk key salt i last text)) (omega arith)
+
+pub full-chunk : (key salt : List ℕ) (i : ℕ) (last : Bool) (text : List ℕ) → length text ≡ 65536
+    → length (chunk key salt i last text) ≡ 65552
+full-chunk key salt i last text full = length-chunk key salt i last text ∙ ap (λ k. k + 16) full
 
 -- a chunk has one text
 pub chunk-same : (key salt : List ℕ) (i : ℕ) (last : Bool) (xs ys : List ℕ)
@@ -52,6 +56,9 @@ chunk-is key salt i last text nonce head ciphertext tag nonce_is head_is encrypt
     ap₂ ◌++◌ encrypts (tags ∙ ap (poly1305_tag (xchacha_stream 10 key nonce) head) encrypts)
     ∙ ap₂ (λ n h. xchacha20_poly1305 key n h text) nonce_is head_is
 
+without-tag : (bytes text : ℕ) → bytes ≡ text + 16 → text ≡ bytes - 16
+without-tag bytes text long = omega (arith, long)
+
 -- the last 16 bytes of a chunk are the tag of the bytes before them
 pub chunk-tag : (key salt : List ℕ) (i : ℕ) (last : Bool) (text nonce head bytes : List ℕ)
     → nonce ≡ chunk_nonce salt i last → head ≡ header salt → bytes ≡ chunk key salt i last text
@@ -64,7 +71,8 @@ chunk-tag key salt i last text nonce head bytes nonce_is head_is same =
     let tag = poly1305_tag stream (header salt) ciphertext in
     let end = length bytes - 16 in
     let size : length ciphertext ≡ end =
-    omega (arith, ap length same, length-append ciphertext tag, length-tag stream (header salt) ciphertext) in
+    length-xor_stream stream 64 text
+    ∙ without-tag (length bytes) (length text) (ap length same ∙ length-chunk key salt i last text) in
     let front : take end bytes ≡ ciphertext = ap (take end) same ∙ take_at ciphertext tag end size in
     ap (drop end) same ∙ drop_at ciphertext tag end size
     ∙ sym (ap₂ (λ n h. poly1305_tag (xchacha_stream 10 key n) h (take end bytes)) nonce_is head_is
@@ -80,9 +88,19 @@ piece-front m rest i fits =
 piece-next : (m rest : List ℕ) (i : ℕ) → length m ≡ 65536 * i → piece (m ++ rest) i ≡ take 65536 rest
 piece-next m rest i long = ap (take 65536) (drop_at m rest (65536 * i) long)
 
+pub length-piece-at : (text : List ℕ) (i : ℕ) → length (piece text i) ≡ min (length text - 65536 * i) 65536
+length-piece-at text i =
+    length-take 65536 (drop (65536 * i) text) ∙ min_comm 65536 (length (drop (65536 * i) text))
+    ∙ ap (λ k. min k 65536) (length-drop (65536 * i) text)
+
 pub length-piece : (text : List ℕ) (i : ℕ) → 65536 * suc i ≤ length text → length (piece text i) ≡ 65536
 length-piece text i fits =
     length-take-le 65536 (drop (65536 * i) text) (omega (arith, fits, length-drop (65536 * i) text))
+
+pub length-piece-le : (text : List ℕ) (i : ℕ) → length (piece text i) ≤ 65536
+length-piece-le text i =
+    subst (λ k. k ≤ 65536) (sym (length-take 65536 (drop (65536 * i) text)))
+    (min-le_left 65536 (length (drop (65536 * i) text)))
 
 -- the last piece: all that is left
 pub last-piece : (text : List ℕ) → piece text (last_number text) ≡ drop (65536 * last_number text) text
@@ -96,6 +114,9 @@ length-last text = ap length (last-piece text) ∙ length-drop (65536 * last_num
 last-is : (i n : ℕ) → n ≤ 65536 → (0 < i → 0 < n) → (65536 * i + n - 1) / 65536 ≡ i
 last-is zero n fits some = omega (arith, fits)
 last-is (suc i) n fits some = omega (arith, fits, some (omega arith))
+
+body-size : (len : ℕ) → let n = (len - 1) / 65536 in 65552 * n + (len - 65536 * n + 16) ≡ len + 16 * (n + 1)
+body-size len = omega arith
 
 module _ (key salt : List ℕ) where
   -- the chunks of a text, and then its last one: a file without its header
@@ -138,27 +159,19 @@ module _ (key salt : List ℕ) where
   pub length-chunks : (text : List ℕ) (n : ℕ) → 65536 * n ≤ length text → length (chunks key salt text n) ≡ 65552 * n
   length-chunks text zero fits = refl
   length-chunks text (suc i) fits =
-      let before = chunks key salt text i in
-      let here = chunk key salt i false (piece text i) in
-      omega (
-        arith,
-        length-append before here,
-        length-chunks text i (omega (arith, fits)),
-        length-chunk key salt i false (piece text i),
-        length-piece text i fits,
-      )
+      length-append (chunks key salt text i) (chunk key salt i false (piece text i))
+      ∙ ap₂ ◌+◌ (length-chunks text i (omega (arith, fits)))
+      (full-chunk key salt i false (piece text i) (length-piece text i fits))
+      ∙ omega arith
 
   pub length-body : (text : List ℕ) → length (body text) ≡ length text + 16 * (last_number text + 1)
   length-body text =
       let n = last_number text in
       let here = chunk key salt n true (piece text n) in
-      omega (
-        arith,
-        length-append (chunks key salt text n) here,
-        length-chunks text n (omega arith),
-        length-chunk key salt n true (piece text n),
-        length-last text,
-      )
+      length-append (chunks key salt text n) here
+      ∙ ap₂ ◌+◌ (length-chunks text n (omega arith))
+      (length-chunk key salt n true (piece text n) ∙ ap (λ k. k + 16) (length-last text))
+      ∙ body-size (length text)
 
   -- chunk i of the first n
   pub chunk-at : (text : List ℕ) (n i : ℕ) → i < n → (rest : List ℕ)

@@ -4,7 +4,7 @@ use Rattle.std.proofs.lemmas.List.{drop_all}
 use Rattle.std.proofs.lemmas.Slice.{between_is}
 use Rattle.std.specs.List.{slice_range}
 use Rattle.aead.specs.Sealed.{header, chunk, chunks, piece, last_number, from_chunk, chunks_from}
-use Rattle.aead.proofs.sealed.ChunkLemmas.{body, sealed-is, length-body, chunk-at, length-chunks, length-chunk, length-piece}
+use Rattle.aead.proofs.sealed.ChunkLemmas.{body, sealed-is, length-body, chunk-at, length-chunks, full-chunk, length-piece}
 
 module _ (key salt text : List ℕ) (size : length salt ≡ 16) where
   from-body : (i : ℕ) → from_chunk key salt text i ≡ drop (65552 * i) (body key salt text)
@@ -24,8 +24,7 @@ module _ (key salt text : List ℕ) (size : length salt ≡ 16) where
       let (others, at) = chunk-at key salt text n i less in
       let before = chunks key salt text i in
       let place = length-chunks key salt text i (omega (arith, less)) in
-      let wide : length here ≡ 65552 =
-      omega (arith, length-chunk key salt i false (piece text i), length-piece text i (omega (arith, less))) in
+      let wide = full-chunk key salt i false (piece text i) (length-piece text i (omega (arith, less))) in
       let split : body key salt text ≡ before ++ (here ++ (others ++ last)) =
       ap (λ cs. cs ++ last) at ∙ append_assoc before (here ++ others) last
       ∙ ap (λ cs. before ++ cs) (append_assoc here others last) in
@@ -45,7 +44,8 @@ module _ (key salt text : List ℕ) (size : length salt ≡ 16) where
       let n = last_number text in
       let here = chunk key salt n true (piece text n) in
       let none = from-body (n + 1)
-      ∙ drop_all (65552 * (n + 1)) (body key salt text) (omega (arith, length-body key salt text)) in
+      ∙ drop_all (65552 * (n + 1)) (body key salt text)
+      (subst (λ k. k ≤ 65552 * (n + 1)) (sym (length-body key salt text)) (omega arith)) in
       from-body n ∙ drop_at (chunks key salt text n) here (65552 * n) (length-chunks key salt text n (omega arith))
       ∙ sym (ap (λ cs. here ++ cs) none ∙ append-nil here)
 

@@ -8,6 +8,7 @@ use Rattle.chacha20.proofs.KeystreamLemmas.{xor_stream-xor_stream}
 use Rattle.chacha20.proofs.ReaderLemmas.{header-read}
 use Rattle.chacha20.proofs.SeekLemmas.{xchacha-sought}
 use Rattle.aead.specs.declared.stream.StreamError.TheVariants.{TooLong}
+use Rattle.aead.proofs.sealed.ReaderLemmas.{Consumes-some}
 use Rattle.aead.proofs.stream.decrypt.Goals as goal
 
 pub returns-clause-text : goal.returns-clause-text
@@ -35,3 +36,9 @@ pub returns-in_err-nonce-clause-too_long : goal.returns-in_err-nonce-clause-too_
 returns-in_err-nonce-clause-too_long g c same =
     let said : IsErrOf c.read_nonce.result TooLong = search rules in
     absurd (c.read_nonce.ensures.never_too_long said)
+
+pub returns-clause-short : goal.returns-clause-short
+returns-clause-short g c =
+    let got = c.in_ok-nonce.nonce in
+    Consumes-some _ _ got _ c.in_ok-nonce.ensures.bytes
+    (λ rest few. absurd (omega (arith, few, length-append got rest, c.in_ok-nonce.ensures.size)))

@@ -8,8 +8,7 @@ invariant-pieces g l =
     let cipher = g.C.Keystream in
     let old = l.fn.cipher in
     let stream = keystream cipher.modulus (cipher.block_at (cipher.fixed old)) in
-    (moved : List ℕ) × (length l.buf ≡ length l.initial.buf)
-    × (cipher.fixed l.cipher ≡ cipher.fixed old)
+    (moved : List ℕ) × (cipher.fixed l.cipher ≡ cipher.fixed old)
     × (cipher.position l.cipher ≡ cipher.position old + length moved)
     × Consumes (g.R.Read.remaining l.initial.reader) (g.R.Read.remaining l.reader) moved
     × Appends (g.W.Write.contents l.initial.writer) (g.W.Write.contents l.writer)

@@ -4,7 +4,7 @@ use Rattle.std.specs.Io.KnownBytes.{Appends, Consumes}
 use Rattle.std.specs.List.{slice_range}
 use Rattle.std.proofs.KnownBytes.{Appends-nil, Appends-trans, Consumes-nil, Consumes-trans, prepend_known-nil}
 use Rattle.aead.specs.Sealed.{chunk, piece, last_number, from_chunk, chunks_from}
-use Rattle.aead.proofs.sealed.ChunkLemmas.{chunk-same, length-chunk}
+use Rattle.aead.proofs.sealed.ChunkLemmas.{chunk-same, length-chunk, length-piece-at}
 use Rattle.aead.proofs.sealed.PartLemmas.{from-chunk, before_chunk, before-first, before-next, put_piece, length-put, chunks-put, before-put}
 use Rattle.aead.proofs.sealed.ReaderLemmas.{known-Consumes, Consumes-some}
 use Rattle.aead.proofs.sealed.cat.print_part.Goals as goal
@@ -26,7 +26,7 @@ returns-then-len-eq0-clause-checked g c =
 
 pub returns-clause-checked : goal.returns-clause-checked
 returns-clause-checked g c =
-    let (size, within, done, others) = c.chunks.invariant in
+    let (within, done, others) = c.chunks.invariant in
     let (text, long, read, written) = others in
     let first = c.args.start / 65536 in
     let end = c.args.start + c.args.len in
@@ -51,7 +51,6 @@ chunks-init g c =
     let end = c.args.start + c.args.len in
     let zeros : List ℕ = replicate c.args.text_len 0 in
     let none : first - first ≡ 0 = omega arith in (
-      c.requires.buffer,
       le_refl _,
       λ text long is. (is, subst (Appends w w) (sym (before-first text c.args.start end)) (Appends-nil w)),
       (
@@ -64,7 +63,7 @@ chunks-init g c =
 
 pub chunks-preserved : goal.chunks-preserved
 chunks-preserved g c =
-    let (size, first, done, others) = c.chunks.invariant in
+    let (first, done, others) = c.chunks.invariant in
     let (front, long, read, written) = others in
     let key = c.args.key.now in
     let salt = c.args.salt.now in
@@ -76,26 +75,19 @@ chunks-preserved g c =
     let span = c.min.result + 16 in
     let buf = c.fill.new.buf in
     let n = c.in_ok-n.n in
-    let whole = buf ++ drop span old in
-    let full : length buf ≡ span =
-    omega (arith, c.fill.auto.buf, length-take-le span old (omega (arith, size, c.min.ensures))) in
+    let room : span ≤ length old = omega (arith, c.chunks.auto.buf, c.requires.buffer, c.min.ensures) in
+    let full : length buf ≡ span = c.fill.auto.buf ∙ length-take-le span old room in
     let less : 65536 * i < end = omega (arith, c.chunks-test.true, c.if-len-eq0.false) in
     let (found_text, same, more) = c.in_ok-print_chunk.ensures in
+    let all : take n buf ≡ buf = take_all n buf (omega (arith, full, c.if-n-size.false)) in
     let is_chunk : take n buf ≡ chunk key salt i last found_text =
-    take_all n buf (omega (arith, full, c.if-n-size.false)) ∙ sym (take_at buf (drop span old) span full) ∙ same in
+    all ∙ sym (take_at buf (drop span old) span full) ∙ same in
     let from_to = ap₂ (slice_range found_text) c.saturating_sub-from.ensures c.min-to.ensures in
     let inside : 65536 * i ≤ length front = omega (arith, long, less, c.requires.range) in
+    let sized : length found_text ≡ c.min.result =
+    omega (arith, full, ap length all, ap length is_chunk, length-chunk key salt i last found_text) in
     let wide : length found_text ≡ min (length front - 65536 * i) 65536 =
-    omega (
-      arith,
-      ap length is_chunk,
-      length-take n buf,
-      full,
-      c.if-n-size.false,
-      length-chunk key salt i last found_text,
-      long,
-      c.min.ensures,
-    ) in
+    sized ∙ c.min.ensures ∙ ap (λ k. min (k - 65536 * i) 65536) (sym long) in
     let a = g.R.Read.remaining c.args.reader.now in
     let b = g.R.Read.remaining c.chunks.reader in
     let b' = g.R.Read.remaining c.fill.new.reader in
@@ -108,18 +100,6 @@ chunks-preserved g c =
     ≡ before_chunk (put_piece front i found_text) start end (i + 1) =
     ap (λ xs. before_chunk front start end i ++ xs) from_to
     ∙ before-put front found_text i inside wide start end first less in (
-      omega (
-        arith,
-        length-append c.print_chunk.new.bytes (drop span whole),
-        length-drop span whole,
-        length-append buf (drop span old),
-        length-drop span old,
-        c.print_chunk.auto.bytes,
-        ap length (take_at buf (drop span old) span full),
-        full,
-        size,
-        c.min.ensures,
-      ),
       omega (arith, first),
       λ text is_long is.
           let (at, wrote) = done text is_long is in
@@ -127,18 +107,11 @@ chunks-preserved g c =
           let within : i ≤ last_number text = omega (arith, is_long, less, c.requires.range) in
           let here = chunk key salt i last (piece text i) in
           let rest = from_chunk key salt text (i + 1) in
+          let same_size : length found_text ≡ length (piece text i) =
+          wide ∙ ap (λ k. min (k - 65536 * i) 65536) (long ∙ sym is_long) ∙ sym (length-piece-at text i) in
           let size_is : length (take n buf) ≡ length here =
-          omega (
-            arith,
-            length-take n buf,
-            full,
-            c.if-n-size.false,
-            length-chunk key salt i last (piece text i),
-            length-take 65536 (drop (65536 * i) text),
-            length-drop (65536 * i) text,
-            is_long,
-            c.min.ensures,
-          ) in
+          ap length is_chunk ∙ length-chunk key salt i last found_text ∙ ap (λ k. k + 16) same_size
+          ∙ sym (length-chunk key salt i last (piece text i)) in
           let (found, left) = known-Consumes b b' here rest (take n buf)
           (at ∙ ap Some (from-chunk key salt text c.told-salt i last within last_is)) size_is c.in_ok-n.ensures.read in
           let texts : found_text ≡ piece text i =

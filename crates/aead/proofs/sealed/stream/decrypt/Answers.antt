@@ -1,4 +1,4 @@
-use Rattle.std.proofs.Common.{◌≡◌, ◌+◌, ◌∙◌, ◌++◌, [], length, take, drop, arith, refl, sym, ap, subst, append-nil, length-take-le, length-set, length-append, length-drop, get_or, le_of_eq, false}
+use Rattle.std.proofs.Common.{◌≡◌, ◌+◌, ◌∙◌, ◌++◌, [], length, take, drop, arith, refl, sym, ap, subst, append-nil, length-take-le, length-append, length-drop, le_of_eq, false}
 use Rattle.std.proofs.lemmas.Result.{on_ok_weaker}
 use Rattle.std.specs.Io.KnownBytes.{Consumes, prepend_known}
 use Rattle.std.proofs.KnownBytes.{Appends-nil, Appends-trans, Consumes-trans, prepend_known-nil}
@@ -14,7 +14,6 @@ chunks-init g c =
     let b = g.R.Read.remaining c.read_header.new.reader in
     let head = header c.in_ok-salt.salt in (
       [],
-      refl,
       omega arith,
       λ less. absurd (omega (arith, less)),
       refl,
@@ -25,14 +24,14 @@ chunks-init g c =
 
 pub slice_bounds-write_text-end-in-chunks-2 : goal.slice_bounds-write_text-end-in-chunks-2
 slice_bounds-write_text-end-in-chunks-2 g c =
-    let (moved, size, most, held, long, read, written) = c.chunks.invariant in
-    let full : length c.fill.new.buf ≡ 65553 = omega (arith, size, c.requires, c.fill.auto.buf) in
+    let (moved, most, held, long, read, written) = c.chunks.invariant in
+    let full : length c.fill.new.buf ≡ 65553 = omega (arith, c.chunks.auto.buf, c.requires, c.fill.auto.buf) in
     omega (arith, length-take-le 65552 c.fill.new.buf (omega (arith, full)))
 
 pub write_text-requires-in-chunks-clause-size : goal.write_text-requires-in-chunks-clause-size
 write_text-requires-in-chunks-clause-size g c =
-    let (moved, size, most, held, long, read, written) = c.chunks.invariant in
-    let full : length c.fill.new.buf ≡ 65553 = omega (arith, size, c.requires, c.fill.auto.buf) in
+    let (moved, most, held, long, read, written) = c.chunks.invariant in
+    let full : length c.fill.new.buf ≡ 65553 = omega (arith, c.chunks.auto.buf, c.requires, c.fill.auto.buf) in
     le_of_eq (length-take-le 65552 c.fill.new.buf (omega (arith, full)))
 
 pub returns-in_err-salt-clause-refused : goal.returns-in_err-salt-clause-refused
@@ -43,12 +42,12 @@ returns-in_err-salt-clause-refused g c =
 
 pub returns-then-n-clause-accepted : goal.returns-then-n-clause-accepted
 returns-then-n-clause-accepted g c =
-    let (moved, size, most, held, long, read, written) = c.chunks.invariant in
+    let (moved, most, held, long, read, written) = c.chunks.invariant in
     let n = c.in_ok-n.n in
     let got = c.in_ok-n.ensures in
     let wide : length (take n c.fill.new.buf) ≡ n =
     length-take-le n c.fill.new.buf (omega (arith, got.bounds.1, c.fill.auto.buf)) in
-    let end = got.end (omega (arith, c.if-n.true, size, c.requires)) in
+    let end = got.end (omega (arith, c.if-n.true, c.chunks.auto.buf, c.requires)) in
     on_ok_weaker c.write_text.result
     (λ right.
     opened (g.R.Read.remaining c.args.reader.now)
@@ -62,12 +61,12 @@ returns-then-n-clause-accepted g c =
 
 pub returns-then-n-clause-refused : goal.returns-then-n-clause-refused
 returns-then-n-clause-refused g c =
-    let (moved, size, most, held, long, read, written) = c.chunks.invariant in
+    let (moved, most, held, long, read, written) = c.chunks.invariant in
     let n = c.in_ok-n.n in
     let got = c.in_ok-n.ensures in
     let wide : length (take n c.fill.new.buf) ≡ n =
     length-take-le n c.fill.new.buf (omega (arith, got.bounds.1, c.fill.auto.buf)) in
-    let end = got.end (omega (arith, c.if-n.true, size, c.requires)) in
+    let end = got.end (omega (arith, c.if-n.true, c.chunks.auto.buf, c.requires)) in
     refusal-weaker c.write_text.result
     (λ wrong.
     refused-last (g.R.Read.remaining c.args.reader.now)
@@ -80,7 +79,7 @@ returns-then-n-clause-refused g c =
 
 pub returns-then-n-clause-only_right : goal.returns-then-n-clause-only_right
 returns-then-n-clause-only_right g c =
-    let (moved, size, most, held, long, read, written) = c.chunks.invariant in
+    let (moved, most, held, long, read, written) = c.chunks.invariant in
     let n = c.in_ok-n.n in
     let got = c.in_ok-n.ensures in
     let wide : length (take n c.fill.new.buf) ≡ n =
@@ -91,7 +90,7 @@ returns-then-n-clause-only_right g c =
     (take n c.fill.new.buf) c.chunks.number c.in_ok-salt.ensures.size long _
     (g.W.Write.contents c.args.writer.now) (g.W.Write.contents c.chunks.writer)
     (g.W.Write.contents c.write_text.new.writer) text k (omega (arith, wide, c.if-n.true)) right read
-    (Consumes-trans _ _ _ _ _ read got.read) (got.end (omega (arith, c.if-n.true, size, c.requires)))
+    (Consumes-trans _ _ _ _ _ read got.read) (got.end (omega (arith, c.if-n.true, c.chunks.auto.buf, c.requires)))
     written more
 
 pub returns-then-n-clause-text : goal.returns-then-n-clause-text
@@ -103,23 +102,23 @@ returns-then-n-clause-text g c salt text size is =
 
 pub returns-in_err-n-clause-only_right : goal.returns-in_err-n-clause-only_right
 returns-in_err-n-clause-only_right g c =
-    let (moved, size, most, held, long, read, written) = c.chunks.invariant in
+    let (moved, most, held, long, read, written) = c.chunks.invariant in
     right-before _ _ _ _ c.args.key.now c.in_ok-salt.salt moved c.chunks.number c.in_ok-salt.ensures.size long
     read written
 
 pub returns-clause-only_right : goal.returns-clause-only_right
 returns-clause-only_right g c =
-    let (moved, size, most, held, long, read, written) = c.chunks.invariant in
+    let (moved, most, held, long, read, written) = c.chunks.invariant in
     right-before _ _ _ _ c.args.key.now c.in_ok-salt.salt moved c.chunks.number c.in_ok-salt.ensures.size long
     read written
 
 pub returns-in_err-write_text-clause-refused : goal.returns-in_err-write_text-clause-refused
 returns-in_err-write_text-clause-refused g c =
-    let (moved, size, most, held, long, read, written) = c.chunks.invariant in
+    let (moved, most, held, long, read, written) = c.chunks.invariant in
     let n = c.in_ok-n.n in
     let buf = c.fill.new.buf in
     let before = header c.in_ok-salt.salt ++ chunks c.args.key.now c.in_ok-salt.salt moved c.chunks.number in
-    let full : length buf ≡ 65553 = omega (arith, c.fill.auto.buf, size, c.requires) in
+    let full : length buf ≡ 65553 = omega (arith, c.fill.auto.buf, c.chunks.auto.buf, c.requires) in
     let a = g.R.Read.remaining c.args.reader.now in
     let b = g.R.Read.remaining c.fill.new.reader in
     passed-on c.from_residual-in_err-write_text.result _ c.from_residual-in_err-write_text.ensures.1
@@ -133,11 +132,11 @@ returns-in_err-write_text-clause-refused g c =
 
 pub returns-in_err-write_text-clause-only_right : goal.returns-in_err-write_text-clause-only_right
 returns-in_err-write_text-clause-only_right g c =
-    let (moved, size, most, held, long, read, written) = c.chunks.invariant in
+    let (moved, most, held, long, read, written) = c.chunks.invariant in
     let (text, k, right, more) = c.write_text-in-chunks.ensures.partly in
     let buf = c.fill.new.buf in
     let before = header c.in_ok-salt.salt ++ chunks c.args.key.now c.in_ok-salt.salt moved c.chunks.number in
-    let full : length buf ≡ 65553 = omega (arith, c.fill.auto.buf, size, c.requires) in
+    let full : length buf ≡ 65553 = omega (arith, c.fill.auto.buf, c.chunks.auto.buf, c.requires) in
     let a = g.R.Read.remaining c.args.reader.now in
     let b = g.R.Read.remaining c.fill.new.reader in
     right-mid a b c.args.key.now c.in_ok-salt.salt moved
@@ -153,14 +152,14 @@ pub chunks-preserved : goal.chunks-preserved
 chunks-preserved g c =
     let key = c.args.key.now in
     let salt = c.in_ok-salt.salt in
-    let (moved, size, most, held, long, read, written) = c.chunks.invariant in
+    let (moved, most, held, long, read, written) = c.chunks.invariant in
     let (text, some, is, more) = c.in_ok-write_text.ensures.right in
     let n = c.in_ok-n.n in
     let got = c.in_ok-n.ensures in
     let buf = c.fill.new.buf in
     let bytes = take 65552 buf in
     let front = header salt ++ chunks key salt moved c.chunks.number in
-    let full : length buf ≡ 65553 = omega (arith, c.fill.auto.buf, size, c.requires) in
+    let full : length buf ≡ 65553 = omega (arith, c.fill.auto.buf, c.chunks.auto.buf, c.requires) in
     let split = split-full front buf n full (omega (arith, c.if-n.false)) in
     let wide : length bytes ≡ 65552 = length-take-le 65552 buf (omega (arith, full)) in
     let text_size : length text ≡ 65536 =
@@ -171,16 +170,6 @@ chunks-preserved g c =
     let next = first-byte old buf 65552 full in
     let whole = ap (λ xs. front ++ xs) is ∙ chunks-more key salt moved text c.chunks.number long text_size in (
       moved ++ text,
-      omega (
-        arith,
-        length-set (old ++ drop 65552 buf) 0 (get_or buf 65552 0),
-        length-append old (drop 65552 buf),
-        length-drop 65552 buf,
-        c.write_text-in-chunks.auto.bytes,
-        wide,
-        full,
-        c.requires,
-      ),
       omega arith,
       λ less. refl,
       omega (arith, length-append moved text, long, text_size),

@@ -1,4 +1,4 @@
-use Rattle.std.proofs.Common.{◌≡◌, ◌∙◌, ◌++◌, [], length, take, drop, arith, refl, sym, ap, subst, append-nil, append_assoc, take_all, length-take-le, length-set, length-append, length-drop, get_or, le_of_eq}
+use Rattle.std.proofs.Common.{◌≡◌, ◌∙◌, ◌++◌, [], length, take, drop, arith, refl, sym, ap, subst, append-nil, append_assoc, take_all, length-take-le, length-append, length-drop, le_of_eq}
 use Rattle.std.proofs.lemmas.List.{take-append-drop}
 use Rattle.std.proofs.lemmas.Result.{on_ok_weaker}
 use Rattle.std.specs.Io.KnownBytes.{Appends, Consumes, prepend_known}
@@ -12,7 +12,6 @@ pub chunks-init : goal.chunks-init
 chunks-init g c =
     let a = g.R.Read.remaining c.args.reader.now in (
       [],
-      refl,
       omega arith,
       λ less. absurd (omega (arith, less)),
       refl,
@@ -22,26 +21,26 @@ chunks-init g c =
 
 pub slice_bounds-write_chunk-end-in-chunks-2 : goal.slice_bounds-write_chunk-end-in-chunks-2
 slice_bounds-write_chunk-end-in-chunks-2 g c =
-    let (moved, size, most, held, long, read, written) = c.chunks.invariant in
-    let full : length c.fill.new.buf ≡ 65537 = omega (arith, size, c.requires, c.fill.auto.buf) in
+    let (moved, most, held, long, read, written) = c.chunks.invariant in
+    let full : length c.fill.new.buf ≡ 65537 = omega (arith, c.chunks.auto.buf, c.requires, c.fill.auto.buf) in
     omega (arith, length-take-le 65536 c.fill.new.buf (omega (arith, full)))
 
 pub write_chunk-requires-in-chunks-clause-size : goal.write_chunk-requires-in-chunks-clause-size
 write_chunk-requires-in-chunks-clause-size g c =
-    let (moved, size, most, held, long, read, written) = c.chunks.invariant in
-    let full : length c.fill.new.buf ≡ 65537 = omega (arith, size, c.requires, c.fill.auto.buf) in
+    let (moved, most, held, long, read, written) = c.chunks.invariant in
+    let full : length c.fill.new.buf ≡ 65537 = omega (arith, c.chunks.auto.buf, c.requires, c.fill.auto.buf) in
     le_of_eq (length-take-le 65536 c.fill.new.buf (omega (arith, full)))
 
 pub returns-then-n-le-CHUNK : goal.returns-then-n-le-CHUNK
 returns-then-n-le-CHUNK g c =
     let key = c.args.key.now in
     let salt = c.args.salt.now in
-    let (moved, size, most, held, long, read, written) = c.chunks.invariant in
+    let (moved, most, held, long, read, written) = c.chunks.invariant in
     let n = c.in_ok-n.n in
     let got = c.in_ok-n.ensures in
     let buf = c.fill.new.buf in
     let wide : length (take n buf) ≡ n = length-take-le n buf (omega (arith, got.bounds.1, c.fill.auto.buf)) in
-    let end = got.end (omega (arith, c.if-n-le-CHUNK.true, size, c.requires)) in
+    let end = got.end (omega (arith, c.if-n-le-CHUNK.true, c.chunks.auto.buf, c.requires)) in
     let whole = sealed-end key salt moved (take n buf) c.chunks.number long (omega (arith, wide, c.if-n-le-CHUNK.true))
     (λ more. omega (arith, wide, held more, got.bounds.0)) in
     record {
@@ -59,12 +58,12 @@ pub chunks-preserved : goal.chunks-preserved
 chunks-preserved g c =
     let key = c.args.key.now in
     let salt = c.args.salt.now in
-    let (moved, size, most, held, long, read, written) = c.chunks.invariant in
+    let (moved, most, held, long, read, written) = c.chunks.invariant in
     let n = c.in_ok-n.n in
     let got = c.in_ok-n.ensures in
     let buf = c.fill.new.buf in
     let text = take 65536 buf in
-    let full : length buf ≡ 65537 = omega (arith, c.fill.auto.buf, size, c.requires) in
+    let full : length buf ≡ 65537 = omega (arith, c.fill.auto.buf, c.chunks.auto.buf, c.requires) in
     let all : take n buf ≡ buf = take_all n buf (omega (arith, c.if-n-le-CHUNK.false, full)) in
     let split : moved ++ take n buf ≡ (moved ++ text) ++ drop 65536 buf =
     ap (λ xs. moved ++ xs) (all ∙ sym (take-append-drop 65536 buf)) ∙ sym (append_assoc moved text (drop 65536 buf)) in
@@ -74,16 +73,6 @@ chunks-preserved g c =
     let after = g.R.Read.remaining c.fill.new.reader in
     let next = first-byte old buf 65536 full in (
       moved ++ text,
-      omega (
-        arith,
-        length-set (old ++ drop 65536 buf) 0 (get_or buf 65536 0),
-        length-append old (drop 65536 buf),
-        length-drop 65536 buf,
-        c.write_chunk-in-chunks.auto.text,
-        wide,
-        full,
-        c.requires,
-      ),
       omega arith,
       λ less. refl,
       omega (arith, length-append moved text, long, wide),
