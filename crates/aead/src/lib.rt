@@ -24,14 +24,14 @@
 ghost use Rattle.std.specs.Prelude.{◌≡◌, ◌≢◌, ◌<◌, ◌≤◌, ◌+◌, ◌↔◌, ◌++◌, [], ℕ, List, length, IsOk, IfOk, OnOk, OnErr, IsErrOf};
 ghost use Rattle.chacha20.specs.ChaCha.{keystream, chacha_stream, ietf};
 ghost use Rattle.chacha20.specs.Cipher.{limit_of};
-ghost use Rattle.chacha20.specs.XChaCha.{xchacha_stream};
+ghost use Rattle.chacha20.specs.XChaCha.{xchacha_stream, subkey, subnonce};
 ghost use Rattle.aead.specs.Aead.{mac_key, encrypted, mac_text, padding, poly1305_tag};
 
 pub mod sealed;
 pub mod stream;
 
 use chacha20::cipher::{KeyIvInit, StreamCipher, StreamCipherError, StreamCipherSeek};
-use chacha20::{ChaCha20, Key, Nonce, XChaCha20, XNonce};
+use chacha20::{ChaCha20, Key, Nonce, R20, XNonce, hchacha};
 use poly1305::{Poly1305, Tag, is_equal};
 
 /// ChaCha20-Poly1305 (RFC 8439, section 2.8), with a nonce of 12 bytes.
@@ -101,7 +101,8 @@ impl XChaCha20Poly1305 {
             IfOk result (λ tag. tag ≡ poly1305_tag stream aad.now message.new) }
         ensures refused { OnErr result (message.new ≡ message.old) }
     {
-        seal::<XChaCha20, Poly1305>(key, nonce, aad, message)
+        let (key, nonce) = derived(key, nonce);
+        ChaCha20Poly1305::seal(&key, &nonce, aad, message)
     }
 
     /// Checks the tag, and decrypts the message in place. Fails if the message is too long or the tag is wrong, and
@@ -126,8 +127,21 @@ impl XChaCha20Poly1305 {
             → OnOk result (message.new ≡ plaintext) }
         ensures refused { OnErr result (message.new ≡ message.old) }
     {
-        open::<XChaCha20, Poly1305>(key, nonce, aad, message, tag)
+        let (key, nonce) = derived(key, nonce);
+        ChaCha20Poly1305::open(&key, &nonce, aad, message, tag)
     }
+}
+
+// The key and the nonce under which XChaCha20 is ChaCha20 (draft-irtf-cfrg-xchacha, section 2.3).
+fn derived(key: &Key, nonce: &XNonce) -> (Key, Nonce)
+    ensures key { result.0 ≡ subkey 10 key.now nonce.now }
+    ensures nonce { result.1 ≡ subnonce nonce.now }
+{
+    let mut input = [0; 16];
+    input.copy_from_slice(&nonce[..16]);
+    let mut ending = [0; 12];
+    ending[4..].copy_from_slice(&nonce[16..]);
+    (hchacha::<R20>(key, &input), ending)
 }
 
 /// Why `open` refuses.

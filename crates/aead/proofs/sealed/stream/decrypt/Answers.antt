@@ -181,3 +181,8 @@ chunks-preserved g c =
           (subst (Consumes before after) split (Consumes-trans _ _ _ _ _ read got.read)))),
       Appends-trans _ _ _ _ _ written more,
     )
+
+pub returns-in_err-n-clause-refused : goal.returns-in_err-n-clause-refused
+returns-in_err-n-clause-refused g c =
+    passed-on c.from_residual-in_err-n.result _ c.from_residual-in_err-n.ensures.1
+    (λ damage is. absurd (c.in_err-n.ensures.failed damage is))
