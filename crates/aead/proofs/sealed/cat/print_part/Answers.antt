@@ -43,6 +43,15 @@ returns-clause-checked g c =
       subst (Appends _ _) (ap (λ k. take k (drop c.args.start text)) all) written,
     ))
 
+pub returns-clause-text : goal.returns-clause-text
+returns-clause-text g c text long is =
+    let (within, done, others) = c.chunks.invariant in
+    let i = c.chunks.number in
+    let end = c.args.start + c.args.len in
+    let at : i ≡ (end - 1) / 65536 + 1 = omega (arith, c.chunks-test.false, c.chunks.auto.number-end (omega arith)) in
+    let all : min (65536 * i) end - c.args.start ≡ c.args.len = omega (arith, at) in
+    subst (Appends _ _) (ap (λ k. take k (drop c.args.start text)) all) (done text long is).1
+
 pub chunks-init : goal.chunks-init
 chunks-init g c =
     let a = g.R.Read.remaining c.args.reader.now in
