@@ -1,5 +1,5 @@
 -- What a reader had, of which the chunks before chunk i were right.
-use Rattle.std.proofs.Common.{◌≡◌, ◌≢◌, ◌<◌, ◌≤◌, ◌+◌, ◌*◌, ◌∙◌, ℕ, zero, suc, true, false, List, [], ◌++◌, Some, None, Ok, Err, inl, inr, IfSome, IfErr, IsErrAnd, length, take, drop, take_all, arith, refl, sym, ap, subst, append-nil, append_assoc, length-append}
+use Rattle.std.proofs.Common.{◌≡◌, ◌≢◌, ◌<◌, ◌≤◌, ◌+◌, ◌*◌, ◌∙◌, ℕ, zero, suc, true, false, List, [], ◌++◌, Some, None, Ok, Err, inl, inr, IfSome, IfErr, IsErrAnd, OnOk, length, take, drop, take_all, arith, refl, sym, ap, subst, append-nil, append_assoc, length-append}
 use Rattle.std.proofs.lemmas.List.{take-append-drop}
 use Rattle.std.proofs.Math.Seq.{take-append-add, take-length}
 use Rattle.std.specs.declared.option.Option.{Option}
@@ -26,6 +26,11 @@ pub passed-on : {T P : Type 0} (r : Result T SealError) (e : SealError) → IsEr
     → ((damage : Damage) → e ≡ Damaged damage → P) → IfErr r (λ y. (damage : Damage) → y ≡ Damaged damage → P)
 passed-on (Ok x) e err holds = tt
 passed-on (Err y) e err holds = λ damage is. holds damage (sym err ∙ is)
+
+-- nothing is said of a text then
+pub on_ok-passed : {T : Type 0} (r : Result T SealError) (e : SealError) (P : Type 0) → IsErrAnd r (λ y. y ≡ e) → OnOk r P
+on_ok-passed (Ok x) e P err = absurd err
+on_ok-passed (Err y) e P err = tt
 
 -- no header
 pub no-file : (a : Option (List ℕ)) (key : List ℕ)

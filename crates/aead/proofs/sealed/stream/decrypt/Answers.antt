@@ -4,7 +4,7 @@ use Rattle.std.specs.Io.KnownBytes.{Consumes, prepend_known}
 use Rattle.std.proofs.KnownBytes.{Appends-nil, Appends-trans, Consumes-trans, prepend_known-nil}
 use Rattle.aead.specs.Sealed.{header, chunks}
 use Rattle.aead.proofs.sealed.ChunkLemmas.{chunks-more, length-chunk}
-use Rattle.aead.proofs.sealed.OpenLemmas.{refusal-weaker, passed-on, no-file, text-of, opened, refused-last, refused-mid, right-before, right-last, right-mid, split-full}
+use Rattle.aead.proofs.sealed.OpenLemmas.{refusal-weaker, passed-on, on_ok-passed, no-file, text-of, opened, refused-last, refused-mid, right-before, right-last, right-mid, split-full}
 use Rattle.aead.proofs.sealed.ReaderLemmas.{Consumes-held, first-byte}
 use Rattle.aead.proofs.sealed.stream.decrypt.Goals as goal
 
@@ -186,3 +186,19 @@ pub returns-in_err-n-clause-refused : goal.returns-in_err-n-clause-refused
 returns-in_err-n-clause-refused g c =
     passed-on c.from_residual-in_err-n.result _ c.from_residual-in_err-n.ensures.1
     (λ damage is. absurd (c.in_err-n.ensures.failed damage is))
+
+-- answered for speed
+pub returns-in_err-salt-clause-text : goal.returns-in_err-salt-clause-text
+returns-in_err-salt-clause-text g c salt text size is =
+    on_ok-passed c.from_residual.result _ _ c.from_residual.ensures.1
+
+pub returns-in_err-n-clause-text : goal.returns-in_err-n-clause-text
+returns-in_err-n-clause-text g c salt text size is =
+    on_ok-passed c.from_residual-in_err-n.result _ _ c.from_residual-in_err-n.ensures.1
+
+pub returns-in_err-write_text-clause-text : goal.returns-in_err-write_text-clause-text
+returns-in_err-write_text-clause-text g c salt text size is =
+    on_ok-passed c.from_residual-in_err-write_text.result _ _ c.from_residual-in_err-write_text.ensures.1
+
+pub returns-clause-text : goal.returns-clause-text
+returns-clause-text g c salt text size is = tt
