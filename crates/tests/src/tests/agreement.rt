@@ -31,20 +31,26 @@ fn takes_back<A: Listed, B: Listed>(cipher: &mut A, other: &mut B, first: usize)
         && bytes == [0; 703]
 }
 
-/// The first number of blocks, from 1 to 10, after which two new ciphers differ with a last part of 0, 1 or 63 bytes.
-pub fn wrong_beside<N, A: Fresh<N>, B: Fresh<N>>(nonce: &N) -> Verdict {
-    let mut cipher = A::fresh(&COUNTING, nonce);
-    let mut other = B::fresh(&COUNTING, nonce);
+// The first number of blocks, from 1 to 10, after which two ciphers differ with a last part of 0, 1 or 63 bytes.
+fn wrong_count<A: Listed, B: Listed>(cipher: &mut A, other: &mut B) -> Verdict {
     for blocks in 1..11usize {
         let whole = 64 * blocks;
-        if !(takes_back(&mut cipher, &mut other, whole)
-            && takes_back(&mut cipher, &mut other, whole + 1)
-            && takes_back(&mut cipher, &mut other, whole + 63))
+        if !(takes_back(cipher, other, whole)
+            && takes_back(cipher, other, whole + 1)
+            && takes_back(cipher, other, whole + 63))
         {
             return failed_at("a cipher beside another", blocks);
         }
     }
     None
+}
+
+/// Where two new ciphers differ: the number of blocks.
+pub fn wrong_beside<N, A: Fresh<N>, B: Fresh<N>>(nonce: &N) -> Verdict {
+    wrong_count(
+        &mut A::fresh(&COUNTING, nonce),
+        &mut B::fresh(&COUNTING, nonce),
+    )
 }
 
 /// What is wrong with 130 bytes of a cipher with nonces of 24 bytes and so many rounds, compared with the cipher with
