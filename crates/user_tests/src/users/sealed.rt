@@ -1,5 +1,7 @@
 //! Sealed files: one of another implementation, round trips, damage, and readers and writers that fail.
 
+ghost use Rattle.std.specs.Prelude.{◌<◌, ◌^◌};
+
 use super::unsteady::Unsteady;
 use aead::sealed::chunk::{CHUNK, Salt, TAG};
 use aead::sealed::error::{Damage, SealError};
@@ -41,8 +43,11 @@ fn count(text: &mut [u8]) {
 }
 
 // Whether a text's file fills this one.
-fn seals(salt: &Salt, text: &[u8], file: &mut [u8]) -> bool {
-    let (mut reader, mut room) = (text, file);
+fn seals<const N: usize, const F: usize>(salt: &Salt, text: &[u8; N], file: &mut [u8; F]) -> bool
+    requires text { N < 2 ^ 63 }
+    requires file { F < 2 ^ 63 }
+{
+    let (mut reader, mut room) = (text.as_slice(), file.as_mut_slice());
     let done = encrypt(&COUNTING, salt, &mut reader, &mut room, &mut [0; CHUNK + 1]);
     said_by(done) == Said::Done && room.is_empty()
 }
@@ -65,68 +70,56 @@ fn opens_another_implementations_file(rt: HostRuntime) {
     assert!(rt; opened(&FILE_OF_TEXT, &mut text) == (Said::Done, 4) && text == *b"text\0");
 }
 
-// Lengths of texts and of their files.
-static LENGTHS: [(usize, usize); 6] = [
-    (0, 48),
-    (1, 49),
-    (65535, 65583),
-    (65536, 65584),
-    (65537, 65601),
-    (200000, 200096),
-];
-
-fn comes_back(len: usize, file_len: usize) -> bool {
-    let (mut text, mut file, mut back) = ([0; 200000], [0; 200096], [0; 200000]);
-    let (text, file) = (
-        &mut text[..len.min(200000)],
-        &mut file[..file_len.min(200096)],
-    );
-    count(text);
-    seals(&SALT, text, file)
-        && opened(file, &mut back) == (Said::Done, len)
-        && back.starts_with(text)
+// Whether a text of N bytes has a file of F bytes, and comes back.
+fn comes_back<const N: usize, const F: usize>() -> bool
+    requires text { N < 2 ^ 63 }
+    requires file { F < 2 ^ 63 }
+{
+    let (mut text, mut file, mut back) = ([0; N], [0; F], [0; N]);
+    count(&mut text);
+    seals(&SALT, &text, &mut file) && opened(&file, &mut back) == (Said::Done, N) && back == text
 }
 
 #[test]
 fn round_trips(rt: HostRuntime) {
-    for (len, file_len) in &LENGTHS {
-        assert!(rt; comes_back(*len, *file_len), "{len} bytes");
-    }
+    assert!(rt; comes_back::<0, 48>() && comes_back::<1, 49>() && comes_back::<65535, 65583>());
+    assert!(rt; comes_back::<65536, 65584>() && comes_back::<65537, 65601>());
+    assert!(rt; comes_back::<200000, 200096>());
 }
 
-type Part = (usize, usize);
+type Part = (usize, usize, usize);
 
-// The header and the chunks of a file of 200,000 bytes of text, and the second chunk of another such file behind it.
-const H: Part = (0, 32);
+// Of a file of 200,000 bytes of text: the header and the chunks; the second chunk of another such file; and all.
+const H: Part = (0, 0, 32);
 
-const A: Part = (32, 65584);
+const A: Part = (0, 32, 65584);
 
-const B: Part = (65584, 131136);
+const B: Part = (0, 65584, 131136);
 
-const C: Part = (131136, 196688);
+const C: Part = (0, 131136, 196688);
 
-const D: Part = (196688, 200096);
+const D: Part = (0, 196688, 200096);
 
-const X: Part = (200096 + 65584, 200096 + 131136);
+const X: Part = (1, 65584, 131136);
 
-const ALL: Part = (0, 200096);
+const ALL: Part = (0, 0, 200096);
 
 const NONE: usize = usize::MAX;
 
-// Parts of the two files, the byte in which a bit is turned, what is wrong, and how much text is written.
+// Parts of two files, the byte in which a bit is turned, what is wrong, and how much text is written.
 static DAMAGED: [(&[Part], usize, Damage, usize); 26] = [
     (&[], NONE, Damage::NotSealed, 0),
-    (&[(0, 1)], NONE, Damage::NotSealed, 0),
-    (&[(0, 15)], NONE, Damage::CutHeader, 0),
-    (&[(0, 31)], NONE, Damage::CutHeader, 0),
+    (&[(0, 0, 1)], NONE, Damage::NotSealed, 0),
+    (&[(0, 0, 15)], NONE, Damage::CutHeader, 0),
+    (&[(0, 0, 31)], NONE, Damage::CutHeader, 0),
     (&[H], NONE, Damage::WrongEnd(0), 0),
-    (&[(0, 33)], NONE, Damage::WrongEnd(0), 0),
-    (&[(0, 48)], NONE, Damage::WrongEnd(0), 0),
-    (&[(0, 65583)], NONE, Damage::WrongEnd(0), 0),
+    (&[(0, 0, 33)], NONE, Damage::WrongEnd(0), 0),
+    (&[(0, 0, 48)], NONE, Damage::WrongEnd(0), 0),
+    (&[(0, 0, 65583)], NONE, Damage::WrongEnd(0), 0),
     (&[H, A], NONE, Damage::WrongEnd(0), 0),
-    (&[(0, 65585)], NONE, Damage::WrongEnd(1), 65536),
+    (&[(0, 0, 65585)], NONE, Damage::WrongEnd(1), 65536),
     (&[H, A, B, C], NONE, Damage::WrongEnd(2), 131072),
-    (&[(0, 200095)], NONE, Damage::WrongEnd(3), 196608),
+    (&[(0, 0, 200095)], NONE, Damage::WrongEnd(3), 196608),
     (&[ALL], 0, Damage::NotSealed, 0),
     (&[ALL], 15, Damage::OtherVersion, 0),
     (&[ALL], 16, Damage::WrongChunk(0), 0),
@@ -144,42 +137,55 @@ static DAMAGED: [(&[Part], usize, Damage, usize); 26] = [
 ];
 
 // Writes these parts of the files, and returns how many bytes that are.
-fn put_parts(files: &[u8], parts: &[Part], file: &mut [u8; 400192]) -> usize {
-    let mut room = file.as_mut_slice();
-    for (from, to) in parts {
-        let _ = room.write_all(files.get(*from..*to).unwrap_or(&[]));
+fn put_parts(files: [&[u8]; 2], parts: &[Part], bytes: &mut [u8]) -> usize {
+    let most = bytes.len();
+    let mut room = bytes;
+    for (file, from, to) in parts {
+        let _ = room.write_all(files[*file % 2].get(*from..*to).unwrap_or(&[]));
     }
-    400192 - room.len().min(400192)
+    most - room.len().min(most)
 }
 
-fn opened_parts(files: &[u8], parts: &[Part], turned: usize) -> (Said, usize) {
-    let (mut file, mut text) = ([0; 400192], [0; 200000]);
-    let len = put_parts(files, parts, &mut file).min(400192);
+fn opened_parts<const F: usize, const M: usize>(
+    files: [&[u8; F]; 2],
+    parts: &[Part],
+    turned: usize,
+) -> (Said, usize)
+    requires file { F < 2 ^ 63 }
+    requires most { M < 2 ^ 63 }
+{
+    let (mut bytes, mut text) = ([0; M], [0; F]);
+    let len = put_parts([files[0], files[1]], parts, &mut bytes).min(M);
     if turned < len {
-        file[turned] ^= 1;
+        bytes[turned] ^= 1;
     }
-    opened(&file[..len], &mut text)
-}
-
-// Seals two texts of zeros, one behind the other.
-fn put_two(files: &mut [u8; 400192]) -> bool {
-    let (first, second) = files.split_at_mut(200096);
-    seals(&SALT, &[0; 200000], first) && seals(&[7; 16], &[0; 200000], second)
+    opened(&bytes[..len], &mut text)
 }
 
 #[test]
 fn damaged_files_are_refused(rt: HostRuntime) {
-    let mut files = [0; 400192];
-    assert!(rt; put_two(&mut files));
+    let (mut first, mut second) = ([0; 200096], [0; 200096]);
+    assert!(rt; seals(&SALT, &[0; 200000], &mut first));
+    assert!(rt; seals(&[7; 16], &[0; 200000], &mut second));
     for (parts, turned, damage, written) in &DAMAGED {
-        let found = opened_parts(&files, parts, *turned) == (Said::Damaged(*damage), *written);
-        assert!(rt; found, "{parts:?} {turned}");
+        let found = opened_parts::<200096, 400192>([&first, &second], parts, *turned);
+        assert!(rt;
+            found == (Said::Damaged(*damage), *written),
+            "{parts:?} {turned}"
+        );
     }
 }
 
 // Opens a file of a text where reader and writer fail in these calls, or never.
-fn opened_unsteadily(file: &[u8], text: &[u8; 70000], reads: u32, writes: u32) -> (Said, bool) {
-    let mut back = [0; 70000];
+fn opened_unsteadily<const N: usize>(
+    file: &[u8],
+    text: &[u8; N],
+    reads: u32,
+    writes: u32,
+) -> (Said, bool)
+    requires { N < 2 ^ 63 }
+{
+    let mut back = [0; N];
     let mut reader = Unsteady::new(file, 1000, reads);
     let answer = opens(
         &mut reader,
@@ -188,16 +194,29 @@ fn opened_unsteadily(file: &[u8], text: &[u8; 70000], reads: u32, writes: u32) -
     (answer, back == *text)
 }
 
-// Short and interrupted reads and writes change nothing, and a failure at any call is the error that comes out.
+// Whether a failure at a call is the error that comes out.
+fn is_told<const N: usize>(file: &[u8], text: &[u8; N], call: u32) -> bool
+    requires { N < 2 ^ 63 }
+{
+    opened_unsteadily(file, text, call, 0).0 == Said::Read
+        && opened_unsteadily(file, text, 0, call).0 == Said::Write
+}
+
+// Short and interrupted reads and writes change nothing.
+fn is_steady<const N: usize, const F: usize>() -> bool
+    requires text { N < 2 ^ 63 }
+    requires file { F < 2 ^ 63 }
+{
+    let (mut text, mut file) = ([0; N], [0; F]);
+    count(&mut text);
+    seals(&SALT, &text, &mut file)
+        && opened_unsteadily(&file, &text, 0, 0) == (Said::Done, true)
+        && is_told(&file, &text, 1)
+        && is_told(&file, &text, 40)
+        && is_told(&file, &text, 100)
+}
+
 #[test]
 fn unsteady_files(rt: HostRuntime) {
-    let (mut text, mut file) = ([0; 70000], [0; 70064]);
-    count(&mut text);
-    assert!(rt; seals(&SALT, &text, &mut file));
-    assert!(rt; opened_unsteadily(&file, &text, 0, 0) == (Said::Done, true));
-    for call in [1, 40, 100] {
-        let (read, _) = opened_unsteadily(&file, &text, call, 0);
-        let (written, _) = opened_unsteadily(&file, &text, 0, call);
-        assert!(rt; read == Said::Read && written == Said::Write, "{call}");
-    }
+    assert!(rt; is_steady::<70000, 70064>());
 }
