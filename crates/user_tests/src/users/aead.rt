@@ -53,11 +53,12 @@ fn opened(rt: HostRuntime) {
 
 #[test]
 fn xchacha(rt: HostRuntime) {
+    let (key, nonce, aad, tag) = (&FROM_80, &X_NONCE, AAD, X_TAG);
     let mut message = *MESSAGE;
-    let sealed = XChaCha20Poly1305::seal(&FROM_80, &X_NONCE, AAD, &mut message) == Ok(X_TAG);
-    assert!(rt; sealed && message == *X_CIPHERTEXT);
-    let opened = XChaCha20Poly1305::open(&FROM_80, &X_NONCE, AAD, &mut message, &X_TAG).is_ok();
-    assert!(rt; opened && message == *MESSAGE);
+    let sealed = XChaCha20Poly1305::seal(key, nonce, aad, &mut message);
+    assert!(rt; sealed == Ok(tag) && message == *X_CIPHERTEXT);
+    let opened = XChaCha20Poly1305::open(key, nonce, aad, &mut message, &tag);
+    assert!(rt; opened == Ok(()) && message == *MESSAGE);
 }
 
 // Whatever the cipher, the MAC and the message are: what is sealed is opened, and the message is as it was.
