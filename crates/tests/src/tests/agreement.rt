@@ -50,14 +50,17 @@ pub fn wrong_drawn_parts<G: Drawn>(parts: &mut Parts) -> Verdict {
     None
 }
 
+fn applies<C: Listed>(cipher: &mut C, bytes: &mut [u8; 130]) -> bool {
+    gives(cipher, &[], bytes, &[(Apply { at: 0, len: 130 }, Done)])
+}
+
 /// What is wrong with 130 bytes of a cipher with nonces of 24 bytes and so many rounds, compared with the cipher with
 /// nonces of 12 bytes over the same backend.
 pub fn wrong_stream<R: Rounds, X: Fresh<XNonce>, C: Fresh<Nonce>>() -> Verdict {
     let mut bytes = [0; 130];
-    let calls = [(Apply { at: 0, len: 130 }, Done)];
-    let mut derived = C::fresh(&hchacha::<R>(&FROM_80, &X_NONCE_FRONT), &DERIVED_NONCE);
-    let there = gives(&mut derived, &[], &mut bytes, &calls);
-    let back = gives(&mut X::fresh(&FROM_80, &X_NONCE), &[], &mut bytes, &calls);
+    let key = hchacha::<R>(&FROM_80, &X_NONCE_FRONT);
+    let there = applies(&mut C::fresh(&key, &DERIVED_NONCE), &mut bytes);
+    let back = applies(&mut X::fresh(&FROM_80, &X_NONCE), &mut bytes);
     failed(
         "130 zeros encrypted by the derived cipher, and decrypted by XChaCha",
         &[there, back, bytes == [0; 130]],

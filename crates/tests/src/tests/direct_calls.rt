@@ -58,6 +58,34 @@ fn of_seek<C: StreamCipherSeek>(cipher: &mut C, place: u128) -> CipherAnswer {
     }
 }
 
+// Makes a call on bytes whose ranges lie in their slices.
+fn of_bytes<C: StreamCipher>(
+    cipher: &mut C,
+    input: &[u8],
+    data: &mut [u8],
+    call: CipherCall,
+) -> CipherAnswer
+    requires { InSlices (length input.now) (length data.old) call }
+{
+    match call {
+        CipherCall::Apply { at, len } | CipherCall::Write { at, len } => {
+            of_slices(cipher, &[], &mut data[at..at + len], call)
+        }
+        CipherCall::ApplyFrom {
+            from,
+            from_len,
+            at,
+            len,
+        } => of_slices(
+            cipher,
+            &input[from..from + from_len],
+            &mut data[at..at + len],
+            call,
+        ),
+        _ => CipherAnswer::Overflow,
+    }
+}
+
 // As `run_cipher`, but it seeks in 64 bits where they hold the position. Compiled once for each cipher.
 #[inline(never)]
 fn of_call<C: StreamCipherSeek>(
@@ -74,20 +102,7 @@ fn of_call<C: StreamCipherSeek>(
         CipherCall::SeekI32(place) => of_outcome(cipher.try_seek(place)),
         CipherCall::Pos => of_position(cipher),
         CipherCall::PosI32 => of_position_i32(cipher),
-        CipherCall::Apply { at, len } | CipherCall::Write { at, len } => {
-            of_slices(cipher, &[], &mut data[at..at + len], call)
-        }
-        CipherCall::ApplyFrom {
-            from,
-            from_len,
-            at,
-            len,
-        } => of_slices(
-            cipher,
-            &input[from..from + from_len],
-            &mut data[at..at + len],
-            call,
-        ),
+        _ => of_bytes(cipher, input, data, call),
     }
 }
 

@@ -12,7 +12,7 @@ fn word_by_words(rt: HostRuntime) {
     assert!(rt; ChaChaRng::<R20, Scalar>::from_seed([0; 32]).next_u32() == 0xade0_b876);
 }
 
-// The blocks 0 and 1 for a key and a nonce of zeros, the second by the call for a group.
+// The blocks 0 and 1 for a key and a nonce of zeros, the second by the call for a group, after an empty tail.
 fn two_blocks() -> [[u8; 64]; 2] {
     let mut blocks = [[0; 64]; 2];
     let mut state = [
@@ -20,6 +20,7 @@ fn two_blocks() -> [[u8; 64]; 2] {
     ];
     let steps = &mut Steps::new();
     <Scalar as StreamCipherBackend<R20, Ietf>>::gen_ks_block(&mut state, &mut blocks[0], steps);
+    <Scalar as StreamCipherBackend<R20, Ietf>>::gen_tail_blocks(&mut state, &mut [], steps);
     <Scalar as StreamCipherBackend<R20, Ietf>>::gen_par_ks_blocks(
         &mut state,
         &mut blocks[1..],
