@@ -169,6 +169,7 @@ fn wrong_generators<B: RngBackend<R0> + RngBackend<R20>>() -> Verdict {
 }
 
 // The rows, every kind of cipher, and generators, over a backend.
+#[inline(never)]
 fn over<B>(made: &mut Made, parts: &mut InParts) -> Verdict
 where
     B: StreamCipherBackend<R0, Ietf>
