@@ -8,7 +8,7 @@ use crate::published::{COUNTING, FROM_1, HCHACHA_INPUT, LEGACY_NONCE, NONCE, SUB
 use crate::verdicts::{Verdict, failed};
 use chacha20::CipherAnswer::{Done, Position, Refused};
 use chacha20::CipherCall::{Apply, ApplyFrom, CheckRemaining, Pos, Seek, Write};
-use chacha20::cipher::{KeyIvInit, StreamCipherSeek};
+use chacha20::cipher::{StreamCipher, StreamCipherSeek};
 use chacha20::{CipherCall, Key, LegacyNonce, Nonce, R20, hchacha};
 
 /// The key of row 1.
@@ -134,31 +134,27 @@ pub static ROW_5: [CipherList; 2] = [
     },
 ];
 
+// Applies a cipher in pieces of at most so many bytes. What is refused stays as it is.
+fn apply<C: StreamCipher>(cipher: &mut C, data: &mut [u8], most: usize) {
+    for piece in data.chunks_mut(most.max(1)) {
+        if cipher.check_remaining(piece.len()).is_ok() {
+            cipher.apply_keystream(piece);
+        }
+    }
+}
+
 /// Row 1 by the calls without `try_`. Returns the ciphertext too.
-pub fn row_1<C>() -> ([u8; 16], Verdict)
-where
-    C: KeyIvInit<Key = Key, Iv = Nonce> + StreamCipherSeek + Drop,
-    requires { 2 ^ 32 ≤ limit_of C.modulus }
-{
-    let mut cipher = C::new(&KEY_1, &NONCE_1);
+pub fn row_1<C: Fresh<Nonce> + StreamCipherSeek>() -> ([u8; 16], Verdict) {
+    let mut cipher = C::fresh(&KEY_1, &NONCE_1);
     let mut data = *PLAINTEXT;
-    cipher.apply_keystream(&mut data);
+    apply(&mut cipher, &mut data, 16);
     let there = data;
     cipher.seek(0u32);
-    cipher.apply_keystream(&mut data);
-    let back = data;
+    apply(&mut cipher, &mut data, 16);
+    let back = data == *PLAINTEXT;
     cipher.seek(0u32);
-    cipher.apply_keystream(&mut data[..3]);
-    cipher.apply_keystream(&mut data[3..6]);
-    cipher.apply_keystream(&mut data[6..9]);
-    cipher.apply_keystream(&mut data[9..12]);
-    cipher.apply_keystream(&mut data[12..15]);
-    cipher.apply_keystream(&mut data[15..]);
-    let parts = [
-        there == *CIPHERTEXT,
-        back == *PLAINTEXT,
-        data == *CIPHERTEXT,
-    ];
+    apply(&mut cipher, &mut data, 3);
+    let parts = [there == *CIPHERTEXT, back, data == *CIPHERTEXT];
     (
         there,
         failed("there, back, and there in pieces of 3", &parts),

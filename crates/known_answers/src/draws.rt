@@ -93,6 +93,7 @@ fn wrong_answer(calls: &[(RngCall, RngAnswer)], answers: &[RngAnswer]) -> Option
 }
 
 // The place of the first of at most 128 calls whose answer is wrong; their number where they can't be made.
+#[inline(never)]
 fn wrong_read<G: Drawn>(
     rng: &mut G,
     data: &mut [u8],
@@ -126,6 +127,7 @@ fn wrong_place<G: Drawn>(rng: &mut G, list: &RngList) -> Option<usize> {
 }
 
 /// Runs lists one after another on a generator, as `wrong_list` does on a cipher.
+#[inline(never)]
 pub fn wrong_draw<G: Drawn>(rng: &mut G, lists: &[RngList]) -> Verdict {
     for list in lists {
         if let Some(place) = wrong_place(rng, list) {

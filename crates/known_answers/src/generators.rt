@@ -222,20 +222,26 @@ static FIRST_17: [(RngCall, RngAnswer); 3] = [
 
 static SECOND_17: [(RngCall, RngAnswer); 1] = [(NextU32, U32(1325750369))];
 
+// Whether two generators are equal after these calls.
+fn are_equal<G: Drawn>(
+    first: &mut G,
+    second: &mut G,
+    calls: &[(RngCall, RngAnswer)],
+    others: &[(RngCall, RngAnswer)],
+) -> bool {
+    gives(first, &mut [], calls) && gives(second, &mut [], others) && *first == *second
+}
+
 /// Generators are equal where seed, stream and position are, however they came there.
 pub fn row_23<G: Drawn>() -> Verdict {
     let mut first = G::of_seed(FROM_1);
     let mut second = G::of_seed(FROM_1);
-    let read = gives(&mut first, &mut [], &READ_7_AND_BACK);
-    let at_0 = first == second;
-    let moved = gives(&mut first, &mut [], &READ_7_AND_BACK[..1]);
-    let set = gives(&mut second, &mut [], &TO_1);
-    let at_1 = first == second;
-    let other = gives(&mut second, &mut [], &TO_STREAM_1) && first != second;
-    failed(
-        "equal at 0 and at 1, and not in another stream",
-        &[read && at_0, moved && set && at_1, other],
-    )
+    let parts = [
+        are_equal(&mut first, &mut second, &READ_7_AND_BACK, &[]),
+        are_equal(&mut first, &mut second, &READ_7_AND_BACK[..1], &TO_1),
+        gives(&mut second, &mut [], &TO_STREAM_1) && first != second,
+    ];
+    failed("equal at 0 and at 1, and not in another stream", &parts)
 }
 
 static READ_7_AND_BACK: [(RngCall, RngAnswer); 8] = [

@@ -24,6 +24,9 @@
 //! | 23 | generators | equality | by hand |
 #![tactic(auto)]
 
+ghost use Rattle.std.specs.Prelude.{◌≤◌, ◌^◌};
+ghost use Rattle.chacha20.specs.Cipher.{limit_of};
+
 pub mod ciphers;
 pub mod cores;
 pub mod draws;
@@ -33,7 +36,7 @@ pub mod published;
 pub mod report;
 pub mod verdicts;
 
-use chacha20::cipher::{KeyIvInit, StreamCipherSeekCore};
+use chacha20::cipher::{KeyIvInit, StreamCipherSeek, StreamCipherSeekCore};
 use chacha20::rand_core::SeedableRng;
 use chacha20::{Key, LegacyNonce, Nonce, Rounds, Seed, StreamCipherCoreWrapper, XNonce};
 use ciphers::{
@@ -70,40 +73,88 @@ fn of_legacy<C: Fresh<LegacyNonce>>(lists: &[CipherList]) -> Verdict {
     wrong_lists::<LegacyNonce, C>(&FROM_1, &LEGACY_NONCE, lists)
 }
 
-// The rows, or parts of rows, of the cipher of RFC 8439, but for those in `rows`.
-fn ietf_rows<C: Fresh<Nonce>>() -> [Row; 6] {
-    [
-        (1, wrong_lists::<Nonce, C>(&KEY_1, &NONCE_1, &ROW_1)),
-        (4, of_ietf::<C>(&ROW_4)),
-        (11, row_11::<C>()),
-        (16, of_ietf::<C>(&ROW_16)),
-        (18, row_18::<C>()),
-        (22, of_ietf::<C>(&ROW_22)),
-    ]
+// A row, or a part of one, of the cipher of RFC 8439.
+fn ietf_row<C: Fresh<Nonce> + StreamCipherSeek>(number: usize) -> Verdict
+    requires { 2 ^ 32 ≤ limit_of C.modulus }
+{
+    match number {
+        1 => wrong_lists::<Nonce, C>(&KEY_1, &NONCE_1, &ROW_1),
+        4 => of_ietf::<C>(&ROW_4),
+        11 => row_11::<C>(),
+        12 => row_12::<C>(),
+        16 => of_ietf::<C>(&ROW_16),
+        18 => row_18::<C>(),
+        _ => of_ietf::<C>(&ROW_22),
+    }
+}
+
+// The ciphertext of row 1, and the rows of the cipher of RFC 8439.
+fn ietf_rows<C: Fresh<Nonce> + StreamCipherSeek>() -> ([u8; 16], [Row; 8])
+    requires { 2 ^ 32 ≤ limit_of C.modulus }
+{
+    let (ciphertext, verdict) = row_1::<C>();
+    let mut rows = [(1, verdict); 8];
+    let numbers = [1, 4, 11, 12, 16, 18, 22];
+    for i in 0..7usize {
+        rows[i + 1] = (numbers[i], ietf_row::<C>(numbers[i]));
+    }
+    (ciphertext, rows)
 }
 
 // Those of the legacy cipher.
-fn legacy_rows<C: Fresh<LegacyNonce>>() -> [Row; 3] {
+fn legacy_rows<C: Fresh<LegacyNonce> + StreamCipherSeek>() -> [Row; 4]
+    requires { 2 ^ 32 ≤ limit_of C.modulus }
+{
     [
         (6, of_legacy::<C>(&ROW_6)),
+        (6, row_6::<C>()),
         (12, legacy_row_12::<C>()),
         (22, of_legacy::<C>(&LEGACY_ROW_22)),
     ]
 }
 
-// The rows of a generator with 20 rounds.
+// A row of a generator with 20 rounds.
+fn generator_row<G: Drawn>(number: usize) -> Verdict {
+    match number {
+        7 => wrong_draws::<G>(FROM_1, &ROW_7),
+        8 => wrong_draws::<G>(SEED_8, &ROW_8),
+        9 => wrong_draws::<G>(ZEROS, &ROW_9),
+        10 => wrong_draws::<G>(ZEROS, &ROW_10),
+        15 => row_15::<G>(),
+        17 => row_17::<G>(),
+        19 => wrong_draws::<G>(COUNTING, &ROW_19),
+        20 => wrong_draws::<G>(ZEROS, &ROW_20),
+        21 => wrong_draws::<G>(ZEROS, &ROW_21),
+        _ => row_23::<G>(),
+    }
+}
+
 fn generator_rows<G: Drawn>() -> [Row; 10] {
+    let mut rows = [(0, None); 10];
+    let numbers = [7, 8, 9, 10, 15, 17, 19, 20, 21, 23];
+    for i in 0..10usize {
+        rows[i] = (numbers[i], generator_row::<G>(numbers[i]));
+    }
+    rows
+}
+
+// The rows of the other kinds, and row 14 of each generator.
+fn other_rows<X, I0, L0, G8, G12, G20>() -> [Row; 6]
+where
+    X: Fresh<XNonce>,
+    I0: KeyIvInit<Key = Key, Iv = Nonce> + StreamCipherSeekCore<Counter = u32> + Drop,
+    L0: SeedableRng<Seed = Seed> + StreamCipherSeekCore<Counter = u64> + Drop,
+    G8: Drawn,
+    G12: Drawn,
+    G20: Drawn,
+{
     [
-        (7, wrong_draws::<G>(FROM_1, &ROW_7)),
-        (8, wrong_draws::<G>(SEED_8, &ROW_8)),
-        (9, wrong_draws::<G>(ZEROS, &ROW_9)),
-        (10, wrong_draws::<G>(ZEROS, &ROW_10)),
-        (15, row_15::<G>()),
-        (17, row_17::<G>()),
-        (19, wrong_draws::<G>(COUNTING, &ROW_19)),
-        (20, wrong_draws::<G>(ZEROS, &ROW_20)),
-        (21, wrong_draws::<G>(ZEROS, &ROW_21)),
-        (23, row_23::<G>()),
+        (3, row_3()),
+        (5, wrong_lists::<XNonce, X>(&FROM_80, &X_NONCE, &ROW_5)),
+        (13, row_13::<I0, L0>()),
+        (14, wrong_draws::<G8>(FROM_1, &ROW_14)),
+        (14, wrong_draws::<G12>(FROM_1, &ROW_14)),
+        (14, wrong_draws::<G20>(FROM_1, &ROW_14)),
     ]
 }
 
@@ -120,26 +171,12 @@ where
     G12: Drawn,
     G20: Drawn,
 {
-    let (ciphertext, row_1) = row_1::<Cipher<I>>();
-    let others = [
-        (1, row_1),
-        (3, row_3()),
-        (
-            5,
-            wrong_lists::<XNonce, Cipher<X>>(&FROM_80, &X_NONCE, &ROW_5),
-        ),
-        (6, row_6::<Cipher<L>>()),
-        (12, row_12::<Cipher<I>>()),
-        (13, row_13::<I0, L0>()),
-        (14, wrong_draws::<G8>(FROM_1, &ROW_14)),
-        (14, wrong_draws::<G12>(FROM_1, &ROW_14)),
-        (14, wrong_draws::<G20>(FROM_1, &ROW_14)),
-    ];
+    let (ciphertext, ietf) = ietf_rows::<Cipher<I>>();
     let rows = numbered(&[
-        &ietf_rows::<Cipher<I>>(),
+        &ietf,
         &legacy_rows::<Cipher<L>>(),
         &generator_rows::<G20>(),
-        &others,
+        &other_rows::<Cipher<X>, I0, L0, G8, G12, G20>(),
     ]);
     (ciphertext, rows)
 }

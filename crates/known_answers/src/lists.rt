@@ -152,6 +152,7 @@ fn wrong_answer(calls: &[(CipherCall, CipherAnswer)], answers: &[CipherAnswer]) 
 }
 
 // The place of the first of at most 32 calls whose answer is wrong; their number where they can't be made.
+#[inline(never)]
 fn wrong_call<C: Listed>(
     cipher: &mut C,
     input: &[u8],
@@ -194,6 +195,7 @@ fn wrong_place<C: Listed>(cipher: &mut C, list: &CipherList) -> Option<usize> {
 }
 
 /// Runs lists one after another on a cipher. Returns the name of the first wrong one and the place in it, or `None`.
+#[inline(never)]
 pub fn wrong_list<C: Listed>(cipher: &mut C, lists: &[CipherList]) -> Verdict {
     for list in lists {
         if let Some(place) = wrong_place(cipher, list) {

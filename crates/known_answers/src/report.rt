@@ -15,13 +15,16 @@ struct Lines<'a> {
     rows: &'a [Row],
 }
 
+fn write_row<W: fmt::Write>(f: &mut Formatter<W>, row: Row) -> fmt::Result {
+    let word = if row.1.is_none() { "ok" } else { "bad" };
+    writeln!(f, "row {} {word}", row.0)
+}
+
 impl Display for Lines<'_> {
     fn fmt<W: fmt::Write>(&self, f: &mut Formatter<W>) -> fmt::Result {
         writeln!(f, "{:032x}", u128::from_be_bytes(*self.ciphertext))?;
         for i in 0..self.rows.len() {
-            let (number, verdict) = self.rows[i];
-            let word = if verdict.is_none() { "ok" } else { "bad" };
-            writeln!(f, "row {number} {word}")?;
+            write_row(f, self.rows[i])?;
         }
         Ok(())
     }

@@ -1,96 +1,68 @@
-//! Ciphers and generators compared with those over another backend, and XChaCha with the cipher under the derived key
-//! and nonce.
-
-ghost use Rattle.std.specs.Prelude.{◌≤◌};
+//! Streams in parts, to be compared between backends, and XChaCha with the cipher under the derived key and nonce.
 
 use chacha20::CipherAnswer::Done;
 use chacha20::CipherCall::{Apply, Seek};
-use chacha20::rand_core::{Rng, SeedableRng};
-use chacha20::{Nonce, Rounds, Seed, XNonce, hchacha};
+use chacha20::RngCall::Fill;
+use chacha20::{Nonce, RngAnswer, Rounds, XNonce, hchacha};
+use known_answers::draws::{self, Drawn};
 use known_answers::lists::{Fresh, Listed, gives};
 use known_answers::published::{COUNTING, DERIVED_NONCE, FROM_80, X_NONCE, X_NONCE_FRONT};
 use known_answers::verdicts::{Verdict, failed, failed_at};
 
-// Whether one cipher decrypts what the other encrypts: ten blocks and a last part of 63 bytes, by two calls each, the
-// first of so many bytes.
-fn takes_back<A: Listed, B: Listed>(cipher: &mut A, other: &mut B, first: usize) -> bool
-    requires { first ≤ 703 }
-{
-    let mut bytes = [0; 703];
-    let second = Apply {
-        at: first,
-        len: 703 - first,
-    };
-    let calls = [
-        (Seek(0), Done),
-        (Apply { at: 0, len: first }, Done),
-        (second, Done),
-    ];
-    gives(cipher, &[], &mut bytes, &calls)
-        && gives(other, &[], &mut bytes, &calls)
-        && bytes == [0; 703]
+/// The fronts of a stream, of 1 to 10 blocks and a last part of 0, 1 or 63 bytes.
+pub type Parts = [[u8; 711]; 30];
+
+fn len_of(part: usize) -> usize {
+    64 * (part.min(29) / 3 + 1) + [0, 1, 63][part % 3]
 }
 
-/// The first number of blocks, from 1 to 10, after which two new ciphers differ with a last part of 0, 1 or 63 bytes.
-pub fn wrong_beside<N, A: Fresh<N>, B: Fresh<N>>(nonce: &N) -> Verdict {
-    let mut cipher = A::fresh(&COUNTING, nonce);
-    let mut other = B::fresh(&COUNTING, nonce);
-    for blocks in 1..11usize {
-        let whole = 64 * blocks;
-        if !(takes_back(&mut cipher, &mut other, whole)
-            && takes_back(&mut cipher, &mut other, whole + 1)
-            && takes_back(&mut cipher, &mut other, whole + 63))
-        {
-            return failed_at("a cipher beside another", blocks);
+/// Makes the parts by a cipher. Returns the place of the first that is refused.
+pub fn wrong_parts<C: Listed>(cipher: &mut C, parts: &mut Parts) -> Verdict {
+    for i in 0..30usize {
+        let front = Apply {
+            at: 0,
+            len: len_of(i),
+        };
+        if !gives(
+            cipher,
+            &[],
+            &mut parts[i],
+            &[(Seek(0), Done), (front, Done)],
+        ) {
+            return failed_at("the front of a stream", i);
         }
     }
     None
+}
+
+/// Makes the parts by new generators of a seed, with the next eight bytes behind each.
+pub fn wrong_drawn_parts<G: Drawn>(parts: &mut Parts) -> Verdict {
+    for i in 0..30usize {
+        let len = len_of(i);
+        let calls = [
+            (Fill { at: 0, len }, RngAnswer::Done),
+            (Fill { at: len, len: 8 }, RngAnswer::Done),
+        ];
+        if !draws::gives(&mut G::of_seed(COUNTING), &mut parts[i], &calls) {
+            return failed_at("the front of a generator's stream", i);
+        }
+    }
+    None
+}
+
+fn applies<C: Listed>(cipher: &mut C, bytes: &mut [u8; 130]) -> bool {
+    gives(cipher, &[], bytes, &[(Apply { at: 0, len: 130 }, Done)])
 }
 
 /// What is wrong with 130 bytes of a cipher with nonces of 24 bytes and so many rounds, compared with the cipher with
 /// nonces of 12 bytes over the same backend.
 pub fn wrong_stream<R: Rounds, X: Fresh<XNonce>, C: Fresh<Nonce>>() -> Verdict {
     let mut bytes = [0; 130];
-    let calls = [(Apply { at: 0, len: 130 }, Done)];
-    let mut derived = C::fresh(&hchacha::<R>(&FROM_80, &X_NONCE_FRONT), &DERIVED_NONCE);
-    let there = gives(&mut derived, &[], &mut bytes, &calls);
-    let back = gives(&mut X::fresh(&FROM_80, &X_NONCE), &[], &mut bytes, &calls);
+    let key = hchacha::<R>(&FROM_80, &X_NONCE_FRONT);
+    let there = applies(&mut C::fresh(&key, &DERIVED_NONCE), &mut bytes);
+    let back = applies(&mut X::fresh(&FROM_80, &X_NONCE), &mut bytes);
     failed(
         "130 zeros encrypted by the derived cipher, and decrypted by XChaCha",
         &[there, back, bytes == [0; 130]],
     )
-}
-
-// Whether two generators fill so many bytes with the same values, and then give the same words.
-fn same_fill<A, B>(count: usize) -> bool
-where
-    A: SeedableRng<Seed = Seed> + Rng + Drop,
-    B: SeedableRng<Seed = Seed> + Rng + Drop,
-    requires { count ≤ 703 }
-{
-    let mut rng = A::from_seed(COUNTING);
-    let mut other = B::from_seed(COUNTING);
-    let mut bytes = [0; 703];
-    let mut others = [0; 703];
-    rng.fill_bytes(&mut bytes[..count]);
-    other.fill_bytes(&mut others[..count]);
-    bytes == others && rng.next_u64() == other.next_u64()
-}
-
-/// The number of blocks, from 1 to 10, for which two generators differ with 0, 1 or 63 bytes more.
-pub fn wrong_fill<A, B>() -> Verdict
-where
-    A: SeedableRng<Seed = Seed> + Rng + Drop,
-    B: SeedableRng<Seed = Seed> + Rng + Drop,
-{
-    for blocks in 1..11usize {
-        let whole = 64 * blocks;
-        if !(same_fill::<A, B>(whole)
-            && same_fill::<A, B>(whole + 1)
-            && same_fill::<A, B>(whole + 63))
-        {
-            return failed_at("a generator beside another", blocks);
-        }
-    }
-    None
 }

@@ -1,45 +1,45 @@
-//! Wide backends compared with the plain one.
+//! Numbers of blocks, to be compared between backends.
 
 ghost use Rattle.std.specs.Prelude.{◌≤◌};
 
 use super::first_failure;
-use chacha20::backends::Soft;
-use chacha20::cipher::{
-    KeyIvInit, RngBackend, StreamCipherBackend, StreamCipherCounter, StreamCipherSeekCore,
-};
+use chacha20::cipher::{KeyIvInit, StreamCipherSeekCore};
 use chacha20::rand_core::SeedableRng;
-use chacha20::variants::{Ietf, Legacy};
-use chacha20::{ChaChaCore, R20, Rounds};
-use known_answers::R0;
+use chacha20::{Key, LegacyNonce, Nonce, Seed};
 use known_answers::published::COUNTING;
 use known_answers::verdicts::{Verdict, failed_at};
 
-// So many blocks from a counter on, the single block after them, and the counter between.
-fn made<C: StreamCipherSeekCore>(
+/// The blocks from a counter on.
+pub type Blocks = [[u8; 64]; 34];
+
+// Whether a call for so many blocks, and one for the next block, give these.
+fn gives<C: StreamCipherSeekCore>(
     core: &mut C,
     start: C::Counter,
     count: usize,
-) -> ([[u8; 64]; 33], [u8; 64], u64)
+    all: &Blocks,
+) -> bool
     requires { count ≤ 33 }
 {
     let mut blocks = [[0; 64]; 33];
     let mut next = [0; 64];
     core.set_block_pos(start);
     core.write_keystream_blocks(&mut blocks[..count]);
-    let after = core.get_block_pos().to_u64();
     core.write_keystream_block(&mut next);
-    (blocks, next, after)
+    blocks[..count] == all[..count] && next == all[count]
 }
 
-// The first number of blocks, from none to 33, for which two cores differ.
-fn wrong_count<A, B>(core: &mut A, other: &mut B, start: A::Counter) -> Verdict
-where
-    A: StreamCipherSeekCore,
-    B: StreamCipherSeekCore<Counter = A::Counter>,
-{
+// Makes the blocks by one call. Returns the first number of blocks, from none to 33, which other calls make otherwise.
+fn wrong_count<C: StreamCipherSeekCore>(
+    core: &mut C,
+    start: C::Counter,
+    all: &mut Blocks,
+) -> Verdict {
+    core.set_block_pos(start);
+    core.write_keystream_blocks(all);
     for count in 0..34usize {
-        if made(core, start, count) != made(other, start, count) {
-            return failed_at("blocks beside Soft", count);
+        if !gives(core, start, count, all) {
+            return failed_at("so many blocks", count);
         }
     }
     None
@@ -48,30 +48,19 @@ where
 // Five blocks before a counter of 32 bits wraps.
 const START: u32 = 0xffff_fffb;
 
-// Where cores differ from those over the plain backend, in either layout: the number of blocks.
-fn wrong_cores<R: Rounds, B>() -> Verdict
+/// Makes the blocks by cores in either layout, and by such cores without rounds.
+pub fn wrong_blocks<I, L, I0, L0>(blocks: &mut [Blocks; 4]) -> Verdict
 where
-    B: StreamCipherBackend<R, Ietf> + StreamCipherBackend<R, Legacy> + RngBackend<R>,
+    I: KeyIvInit<Key = Key, Iv = Nonce> + StreamCipherSeekCore<Counter = u32> + Drop,
+    L: KeyIvInit<Key = Key, Iv = LegacyNonce> + StreamCipherSeekCore<Counter = u64> + Drop,
+    I0: KeyIvInit<Key = Key, Iv = Nonce> + StreamCipherSeekCore<Counter = u32> + Drop,
+    L0: SeedableRng<Seed = Seed> + StreamCipherSeekCore<Counter = u64> + Drop,
 {
-    let mut plain = ChaChaCore::<R, Ietf, Soft>::new(&COUNTING, &[7; 12]);
-    let mut wide = ChaChaCore::<R, Ietf, B>::new(&COUNTING, &[7; 12]);
-    let mut plain_legacy = ChaChaCore::<R, Legacy, Soft>::from_seed(COUNTING);
-    let mut wide_legacy = ChaChaCore::<R, Legacy, B>::from_seed(COUNTING);
+    let start = u64::from(START);
     first_failure(&[
-        wrong_count(&mut wide, &mut plain, START),
-        wrong_count(&mut wide_legacy, &mut plain_legacy, u64::from(START)),
+        wrong_count(&mut I::new(&COUNTING, &[7; 12]), START, &mut blocks[0]),
+        wrong_count(&mut L::new(&COUNTING, &[7; 8]), start, &mut blocks[1]),
+        wrong_count(&mut I0::new(&COUNTING, &[7; 12]), START, &mut blocks[2]),
+        wrong_count(&mut L0::from_seed(COUNTING), start, &mut blocks[3]),
     ])
-}
-
-/// Where a backend differs from the plain one, with no rounds and with 20.
-pub fn wrong_beside_soft<B>() -> Verdict
-where
-    B: StreamCipherBackend<R0, Ietf>
-        + StreamCipherBackend<R0, Legacy>
-        + RngBackend<R0>
-        + StreamCipherBackend<R20, Ietf>
-        + StreamCipherBackend<R20, Legacy>
-        + RngBackend<R20>,
-{
-    first_failure(&[wrong_cores::<R0, B>(), wrong_cores::<R20, B>()])
 }

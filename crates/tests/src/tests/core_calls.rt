@@ -1,11 +1,8 @@
 //! Calls on a core alone.
 
-use super::first_failure;
-use chacha20::cipher::{
-    KeyIvInit, StreamCipherBackend, StreamCipherCore, StreamCipherCounter, StreamCipherSeekCore,
-};
+use chacha20::cipher::{KeyIvInit, StreamCipherBackend, StreamCipherCore};
 use chacha20::variants::{Ietf, Legacy, Variant};
-use chacha20::{ChaChaCore, Key, Steps};
+use chacha20::{ChaChaCore, Key, Nonce};
 use known_answers::R0;
 use known_answers::published::COUNTING;
 use known_answers::verdicts::{Verdict, failed};
@@ -38,39 +35,24 @@ fn remaining_blocks(rt: HostRuntime) {
     assert!(rt; right);
 }
 
-// Whether the four blocks from a counter on leave zeros where one call writes them and three apply them; whether a call
-// for the fourth writes it again; and whether the core is then at the counter after them.
-fn are_right<C: StreamCipherSeekCore>(core: &mut C, start: C::Counter, end: u64) -> [bool; 3] {
-    let mut blocks = [[1; 64]; 4];
-    core.set_block_pos(start);
+// Whether the first two blocks of a core leave zeros where one call writes them and two apply them.
+fn cancels<C: StreamCipherCore>(core: &mut C, again: &mut C) -> bool {
+    let mut blocks = [[1; 64]; 2];
+    let mut first = [0; 64];
     core.write_keystream_blocks(&mut blocks);
-    let fourth = blocks[3];
-    core.set_block_pos(start);
-    core.apply_keystream_block(&mut blocks[0]);
-    core.apply_keystream_blocks(&mut blocks[1..2]);
-    core.apply_blocks_counted(&mut blocks[2], &mut Steps::new());
-    core.write_block_counted(&mut blocks[3], &mut Steps::new());
-    [
-        blocks[..3] == [[0; 64]; 3],
-        blocks[3] == fourth,
-        core.get_block_pos().to_u64() == end,
-    ]
+    again.apply_keystream_block(&mut first);
+    again.apply_keystream_blocks(&mut blocks[1..]);
+    blocks == [first, [0; 64]]
 }
 
-/// What is wrong with calls of a new core for the four blocks from a counter on, and with the number of blocks that it
-/// says are left: `all` at first, and 1 at the last block.
-pub fn wrong_blocks<N, T, K>(nonce: &N, start: T, end: u64, all: Option<usize>) -> Verdict
+/// What is wrong with calls of new cores for the first two blocks.
+pub fn wrong_blocks<K>() -> Verdict
 where
-    T: StreamCipherCounter,
-    K: KeyIvInit<Key = Key, Iv = N> + StreamCipherSeekCore<Counter = T> + Drop,
+    K: KeyIvInit<Key = Key, Iv = Nonce> + StreamCipherCore + Drop,
 {
-    let mut core = K::new(&COUNTING, nonce);
-    let left = core.remaining_blocks();
-    core.set_block_pos(T::from_u64(T::last()));
-    let left_at_last = core.remaining_blocks();
-    let right = are_right(&mut core, start, end);
-    first_failure(&[
-        failed("blocks left", &[left == all, left_at_last == Some(1)]),
-        failed("blocks applied, written, and the counter", &right),
-    ])
+    let cancels = cancels(
+        &mut K::new(&COUNTING, &[7; 12]),
+        &mut K::new(&COUNTING, &[7; 12]),
+    );
+    failed("blocks written and applied", &[cancels])
 }

@@ -7,7 +7,7 @@ use super::{first_bad_row, first_failure};
 use chacha20::CipherAnswer::{Done, Position, Refused};
 use chacha20::CipherCall::{Apply, Pos, Seek};
 use chacha20::backends::Soft;
-use chacha20::cipher::{KeyIvInit, SeekNum, StreamCipherSeekCore};
+use chacha20::cipher::SeekNum;
 use chacha20::variants::Ietf;
 use chacha20::{
     ChaChaCore, ChaChaRng, CipherAnswer, CipherCall, Key, Nonce, RngAnswer, RngCall,
@@ -17,7 +17,7 @@ use known_answers::R0;
 use known_answers::draws::{NO_DRAW, RngList, wrong_draws};
 use known_answers::lists::{CipherList, EMPTY, Fresh, Listed};
 use known_answers::published::LEGACY_KEYSTREAM;
-use known_answers::verdicts::{failed, failed_at, numbered};
+use known_answers::verdicts::{Failure, Row, Verdict, failed, numbered};
 
 const RIGHT: CipherList = CipherList {
     data: &[0; 4],
@@ -55,13 +55,16 @@ static LISTS: [CipherList; 7] = [
     },
 ];
 
-// Whether lists on a new cipher without rounds are wrong.
-fn are_wrong<K>(lists: &[CipherList]) -> bool
-where
-    K: KeyIvInit<Key = Key, Iv = Nonce> + StreamCipherSeekCore + Drop,
-{
-    wrong_lists::<Nonce, StreamCipherCoreWrapper<K>>(&[0; 32], &[0; 12], lists).is_some()
+// Whether lists on a new cipher without rounds are wrong, and draws on a new generator.
+fn are_wrong(lists: &[CipherList], draws: &[RngList]) -> [bool; 2] {
+    let (key, nonce) = (&[0; 32], &[0; 12]);
+    [
+        wrong_lists::<Nonce, Zero>(key, nonce, lists).is_some(),
+        wrong_draws::<ChaChaRng<R0, Soft>>([0; 32], draws).is_some(),
+    ]
 }
+
+type Zero = StreamCipherCoreWrapper<ChaChaCore<R0, Ietf, Soft>>;
 
 // A cipher that gives one answer to each listed call, and one to each direct call.
 #[derive(Drop)]
@@ -150,12 +153,12 @@ static DRAWS: [RngList; 7] = [
 #[test]
 fn lists(rt: HostRuntime) {
     for at in 0..6usize {
-        let list = are_wrong::<ChaChaCore<R0, Ietf, Soft>>(&LISTS[at..at + 2]);
-        let draw = wrong_draws::<ChaChaRng<R0, Soft>>([0; 32], &DRAWS[at..at + 2]);
-        assert!(rt; list && draw.is_some(), "{at}");
+        assert!(rt;
+            are_wrong(&LISTS[at..at + 2], &DRAWS[at..at + 2]) == [true; 2],
+            "{at}"
+        );
     }
-    let right = wrong_draws::<ChaChaRng<R0, Soft>>([0; 32], &[RIGHT_DRAW]).is_none();
-    assert!(rt; right && !are_wrong::<ChaChaCore<R0, Ietf, Soft>>(&[RIGHT]));
+    assert!(rt; are_wrong(&[RIGHT], &[RIGHT_DRAW]) == [false; 2]);
 }
 
 #[test]
@@ -173,21 +176,58 @@ fn parts(rt: HostRuntime) {
     assert!(rt; found == [Some(0), Some(0)] && wrong_soft_part(LEGACY_KEYSTREAM, 17).is_none());
 }
 
+const WRONG: Verdict = Some(Failure {
+    check: "wrong",
+    number: 0,
+});
+
+const TO_22: [Row; 21] = [
+    (1, None),
+    (3, None),
+    (4, None),
+    (5, None),
+    (6, None),
+    (7, None),
+    (8, None),
+    (9, None),
+    (10, None),
+    (11, None),
+    (12, None),
+    (13, None),
+    (14, None),
+    (15, None),
+    (16, None),
+    (17, None),
+    (18, None),
+    (19, None),
+    (20, None),
+    (21, None),
+    (22, None),
+];
+
+// Parts of rows, and whether a row of them is wrong, or has no part.
+static PARTS: [([&[Row]; 4], bool); 4] = [
+    ([&TO_22, &[], &[(23, None)], &[]], false),
+    ([&TO_22, &[], &[], &[]], true),
+    ([&[(1, WRONG)], &TO_22, &[(23, None)], &[]], true),
+    ([&TO_22, &[(23, None)], &[], &[(23, WRONG)]], true),
+];
+
+#[test]
+fn rows_of_parts(rt: HostRuntime) {
+    for (lists, is_wrong) in &PARTS {
+        assert!(rt; first_bad_row(&numbered(lists)).is_some() == *is_wrong);
+    }
+}
+
 #[test]
 fn verdicts(rt: HostRuntime) {
-    let wrong = failed_at("wrong", 0);
-    let mut parts = [(1, None); 22];
-    for i in 1..22usize {
-        parts[i] = (i + 2, None);
-    }
     let found = [
         failed("right", &[true, true]).is_none(),
-        failed("wrong", &[false, true]).is_some() && failed("wrong", &[true, false]).is_some(),
-        first_failure(&[wrong, None]).is_some() && first_failure(&[None, wrong]).is_some(),
-        first_bad_row(&numbered(&[&parts[..21], &[], &parts[21..], &[]])).is_none(),
-        first_bad_row(&numbered(&[&parts[1..], &[], &[], &[]])).is_some(),
-        first_bad_row(&numbered(&[&[(1, wrong)], &parts, &[], &[]])).is_some(),
-        first_bad_row(&numbered(&[&parts, &[], &[], &[(23, wrong)]])).is_some(),
+        failed("wrong", &[false, true]).is_some(),
+        failed("wrong", &[true, false]).is_some(),
+        first_failure(&[WRONG, None]).is_some(),
+        first_failure(&[None, WRONG]).is_some(),
     ];
-    assert!(rt; found == [true; 7]);
+    assert!(rt; found == [true; 5]);
 }

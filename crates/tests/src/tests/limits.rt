@@ -1,12 +1,9 @@
 //! A run of calls, and ends of streams, for any cipher of a kind.
 
-use super::direct_calls::{Called, wrong_lists};
 use chacha20::CipherAnswer::{Done, Overflow, Position, PositionI32, Refused};
 use chacha20::CipherCall::{Apply, ApplyFrom, CheckRemaining, Pos, PosI32, Seek, SeekI32, Write};
-use chacha20::{CipherCall, Nonce};
 use known_answers::ciphers::THREE_INTO_FOUR;
-use known_answers::lists::{CipherList, EMPTY, Fresh, Listed, gives};
-use known_answers::verdicts::{Verdict, failed, failed_at};
+use known_answers::lists::{CipherList, EMPTY};
 
 /// The limit of a cipher whose counter has 32 bits: 64 bytes for each counter.
 pub const LIMIT: u128 = 274877906944;
@@ -14,15 +11,32 @@ pub const LIMIT: u128 = 274877906944;
 /// The limit of a cipher whose counter has 64 bits.
 pub const LEGACY_LIMIT: u128 = 1180591620717411303424;
 
-/// A run on a cipher without rounds, for a key and a nonce of zeros. What is refused changes nothing.
 const RUN: CipherList = CipherList {
-    name: "the run",
+    name: "a call of the run",
     input: &[1, 2, 3],
-    data: &[0; 4],
-    calls: &[
-        (Apply { at: 0, len: 4 }, Done),
-        (Seek(0), Done),
-        (
+    data: b"\xcb\xf2\xe3\xc2",
+    calls: &[],
+    after: b"\xcb\xf2\xe3\xc2",
+};
+
+/// Of a new cipher without rounds, for a key and a nonce of zeros. First a run: each call with the data before it and
+/// after. Then the rest of the first block, and the front of the second.
+pub static ZERO_RUNS: [CipherList; 16] = [
+    CipherList {
+        data: &[0; 4],
+        calls: &[(Apply { at: 0, len: 4 }, Done)],
+        after: b"\xca\xf0\xe0\xc2",
+        ..RUN
+    },
+    CipherList {
+        data: b"\xca\xf0\xe0\xc2",
+        calls: &[(Seek(0), Done)],
+        after: b"\xca\xf0\xe0\xc2",
+        ..RUN
+    },
+    CipherList {
+        data: b"\xca\xf0\xe0\xc2",
+        calls: &[(
             ApplyFrom {
                 from: 0,
                 from_len: 3,
@@ -30,46 +44,29 @@ const RUN: CipherList = CipherList {
                 len: 3,
             },
             Done,
-        ),
-        (THREE_INTO_FOUR, Refused),
-        (Pos, Position(3)),
-        (SeekI32(-1), Refused),
-        (PosI32, PositionI32(3)),
-        (Write { at: 3, len: 1 }, Done),
-    ],
-    after: b"\xcb\xf2\xe3\xc2",
-};
-
-// The data after each of its calls.
-static RUN_DATA: [[u8; 4]; 8] = [
-    *b"\xca\xf0\xe0\xc2",
-    *b"\xca\xf0\xe0\xc2",
-    *b"\xcb\xf2\xe3\xc2",
-    *b"\xcb\xf2\xe3\xc2",
-    *b"\xcb\xf2\xe3\xc2",
-    *b"\xcb\xf2\xe3\xc2",
-    *b"\xcb\xf2\xe3\xc2",
-    *b"\xcb\xf2\xe3\xc2",
-];
-
-/// The number of calls of the run, from 1 to 8, after which an answer or the data is wrong.
-pub fn wrong_run<C: Fresh<Nonce> + Called>() -> Verdict {
-    for count in 1..9usize {
-        let front = CipherList {
-            calls: &RUN.calls[..count],
-            after: &RUN_DATA[count - 1],
-            ..RUN
-        };
-        if wrong_lists::<Nonce, C>(&[0; 32], &[0; 12], &[front]).is_some() {
-            return failed_at("so many calls of the run", count);
-        }
-    }
-    None
-}
-
-/// The run, then the rest of the first block, and the front of the second.
-pub static RUNS: [CipherList; 2] = [
-    RUN,
+        )],
+        ..RUN
+    },
+    CipherList {
+        calls: &[(THREE_INTO_FOUR, Refused)],
+        ..RUN
+    },
+    CipherList {
+        calls: &[(Pos, Position(3))],
+        ..RUN
+    },
+    CipherList {
+        calls: &[(SeekI32(-1), Refused)],
+        ..RUN
+    },
+    CipherList {
+        calls: &[(PosI32, PositionI32(3))],
+        ..RUN
+    },
+    CipherList {
+        calls: &[(Write { at: 3, len: 1 }, Done)],
+        ..RUN
+    },
     CipherList {
         name: "the rest of the block, and the next one",
         data: &[0; 64],
@@ -82,66 +79,53 @@ pub static RUNS: [CipherList; 2] = [
             \0\0\0\0\0\0\0\0\0\0\0\0\0\0\0\0\0\0\0\0\0\0\0\0\xca\xf0\xe0\xc2",
         ..EMPTY
     },
-];
-
-/// From 16 bytes before the limit on.
-pub const LAST_SIXTEEN: CipherList = CipherList {
-    name: "the last sixteen bytes, and none after them",
-    data: &[0; 17],
-    calls: &[
-        (Apply { at: 0, len: 17 }, Refused),
-        (Pos, Position(274877906928)),
-        (Apply { at: 0, len: 16 }, Done),
-        (Pos, Position(274877906944)),
-        (Apply { at: 16, len: 1 }, Refused),
-        (Apply { at: 17, len: 0 }, Done),
-    ],
-    after: b"\xfe\xff\xff\xff\0\0\0\0\0\0\0\0\0\0\0\0\0",
-    ..EMPTY
-};
-
-/// From the start on.
-pub const FIRST_FOUR: CipherList = CipherList {
-    name: "the first four bytes, after the end",
-    data: &[0; 4],
-    calls: &[(Apply { at: 0, len: 4 }, Done), (Pos, Position(4))],
-    after: b"\xca\xf0\xe0\xc2",
-    ..EMPTY
-};
-
-/// From 80 bytes before the limit on.
-pub const INTO_LAST_BLOCK: CipherList = CipherList {
-    name: "from 16 bytes before the last block into it",
-    data: &[0; 17],
-    calls: &[
-        (Apply { at: 0, len: 17 }, Done),
-        (Pos, Position(274877906881)),
-    ],
-    after: b"\xfc\xff\xff\xff\0\0\0\0\0\0\0\0\0\0\0\0\xca",
-    ..EMPTY
-};
-
-/// At the end of a cipher without rounds whose counter has 32 bits. The limit itself is a position, and the next number
-/// isn't; what is refused changes nothing.
-pub static ZERO_ENDS: [CipherList; 7] = [
+    // At the end. The limit itself is a position, and the next number isn't; what is refused changes nothing.
     CipherList {
         name: "a seek to the last sixteen bytes",
         calls: &[(Seek(274877906928), Done)],
         ..EMPTY
     },
-    LAST_SIXTEEN,
+    CipherList {
+        name: "the last sixteen bytes, and none after them",
+        data: &[0; 17],
+        calls: &[
+            (Apply { at: 0, len: 17 }, Refused),
+            (Pos, Position(274877906928)),
+            (Apply { at: 0, len: 16 }, Done),
+            (Pos, Position(274877906944)),
+            (Apply { at: 16, len: 1 }, Refused),
+            (Apply { at: 17, len: 0 }, Done),
+        ],
+        after: b"\xfe\xff\xff\xff\0\0\0\0\0\0\0\0\0\0\0\0\0",
+        ..EMPTY
+    },
     CipherList {
         name: "a seek to the start",
         calls: &[(Seek(0), Done)],
         ..EMPTY
     },
-    FIRST_FOUR,
+    CipherList {
+        name: "the first four bytes, after the end",
+        data: &[0; 4],
+        calls: &[(Apply { at: 0, len: 4 }, Done), (Pos, Position(4))],
+        after: b"\xca\xf0\xe0\xc2",
+        ..EMPTY
+    },
     CipherList {
         name: "a seek to 16 bytes before the last block",
         calls: &[(Seek(274877906864), Done)],
         ..EMPTY
     },
-    INTO_LAST_BLOCK,
+    CipherList {
+        name: "from 16 bytes before the last block into it",
+        data: &[0; 17],
+        calls: &[
+            (Apply { at: 0, len: 17 }, Done),
+            (Pos, Position(274877906881)),
+        ],
+        after: b"\xfc\xff\xff\xff\0\0\0\0\0\0\0\0\0\0\0\0\xca",
+        ..EMPTY
+    },
     CipherList {
         name: "at the limit",
         input: &[1, 2, 3],
@@ -273,54 +257,6 @@ pub static LEGACY_ENDS: [CipherList; 2] = [
         ..EMPTY
     },
 ];
-
-// The last blocks, ten groups of the widest backend and one block more, of a cipher without rounds, for a key and a
-// nonce of zeros and a counter of 32 bits: the text "expand 32-byte k" and the counter, doubled.
-fn last_blocks() -> [[u8; 64]; 161] {
-    let mut blocks = [[0; 64]; 161];
-    // Twice 2^32 - 161, without a carry.
-    let mut doubled = 0xffff_febe_u32;
-    for block in &mut blocks {
-        block[..16].copy_from_slice(
-            b"\xca\xf0\xe0\xc2\xdc\xc8\x40\x66\x64\x5a\xc4\xf2\xe8\xca\x40\xd6",
-        );
-        block[48..52].copy_from_slice(&doubled.to_le_bytes());
-        doubled = doubled.wrapping_add(2);
-    }
-    blocks
-}
-
-// Whether a call gives these blocks, and the cipher is then at its end.
-fn gives_last<C: Listed>(cipher: &mut C, last: &[[u8; 64]; 161], call: CipherCall) -> bool {
-    let mut blocks = [[0; 64]; 161];
-    let calls = [
-        (Seek(LIMIT - 10304), Done),
-        (CheckRemaining(10305), Refused),
-        (call, Done),
-        (Pos, Position(LIMIT)),
-        (CheckRemaining(1), Refused),
-    ];
-    gives(cipher, &[0; 10304], blocks.as_flattened_mut(), &calls) && blocks == *last
-}
-
-/// What is wrong with the last 161 blocks of a cipher without rounds.
-pub fn wrong_last_blocks<C: Listed>(cipher: &mut C) -> Verdict {
-    let last = last_blocks();
-    let between = ApplyFrom {
-        from: 0,
-        from_len: 10304,
-        at: 0,
-        len: 10304,
-    };
-    failed(
-        "the last blocks applied to, written, and between slices",
-        &[
-            gives_last(cipher, &last, Apply { at: 0, len: 10304 }),
-            gives_last(cipher, &last, Write { at: 0, len: 10304 }),
-            gives_last(cipher, &last, between),
-        ],
-    )
-}
 
 // Last blocks as OpenSSL 3.0.19 makes them: `openssl enc -chacha20` of zeros, under the key 00 to 1f with the iv
 // ffffffff and twelve zero bytes, and under the key 01 to 20 with the iv ffffffffffffffff and the legacy nonce.

@@ -136,13 +136,10 @@ pub static RNG_RUNS: [RngList; 3] = [
 ];
 
 // The first of 131 numbers of words around the wrap after which a position is wrong, or asking for it changes a word.
-fn wrong_position<B: RngBackend<R0>>() -> Verdict {
-    let mut asked = ChaChaRng::<R0, B>::from_seed([0; 32]);
-    let mut unasked = ChaChaRng::<R0, B>::from_seed([0; 32]);
-    asked.set_stream(STREAM);
-    unasked.set_stream(STREAM);
-    asked.set_block_pos(u64::MAX - 1);
-    unasked.set_block_pos(u64::MAX - 1);
+fn wrong_position<B: RngBackend<R0>>(
+    asked: &mut ChaChaRng<R0, B>,
+    unasked: &mut ChaChaRng<R0, B>,
+) -> Verdict {
     for words in 0..131usize {
         let expected = (POSITIONS - 32 + words as u128) % POSITIONS;
         let right = asked.get_word_pos() == expected
@@ -155,14 +152,27 @@ fn wrong_position<B: RngBackend<R0>>() -> Verdict {
     None
 }
 
-// The first value of a state's last byte that isn't taken modulo 16.
+// A generator two blocks before the wrap.
+fn before_the_wrap<B: RngBackend<R0>>() -> ChaChaRng<R0, B> {
+    let mut rng = ChaChaRng::<R0, B>::from_seed([0; 32]);
+    rng.set_stream(STREAM);
+    rng.set_block_pos(u64::MAX - 1);
+    rng
+}
+
+// Whether a state's last byte is taken modulo 16.
+fn is_taken<B: RngBackend<R0>>(last: u8) -> bool {
+    let mut state = [0; 49];
+    state[48] = last;
+    let rng = ChaChaRng::<R0, B>::deserialize_state(&state);
+    state[48] = last % 16;
+    rng.get_word_pos() == u128::from(last % 16) << 64 && rng.serialize_state() == state
+}
+
+// The first value of a state's last byte that isn't.
 fn wrong_last_byte<B: RngBackend<R0>>() -> Verdict {
     for last in 0..=255u8 {
-        let mut state = [0; 49];
-        state[48] = last;
-        let rng = ChaChaRng::<R0, B>::deserialize_state(&state);
-        state[48] = last % 16;
-        if rng.get_word_pos() != u128::from(last % 16) << 64 || rng.serialize_state() != state {
+        if !is_taken::<B>(last) {
             return failed_at("a state's last byte", usize::from(last));
         }
     }
@@ -171,5 +181,8 @@ fn wrong_last_byte<B: RngBackend<R0>>() -> Verdict {
 
 /// What is wrong with positions of generators around the wrap, and with states of any last byte.
 pub fn wrong_generator<B: RngBackend<R0>>() -> Verdict {
-    first_failure(&[wrong_position::<B>(), wrong_last_byte::<B>()])
+    first_failure(&[
+        wrong_position::<B>(&mut before_the_wrap(), &mut before_the_wrap()),
+        wrong_last_byte::<B>(),
+    ])
 }

@@ -3,28 +3,52 @@
 ghost use Rattle.std.specs.Prelude.{◌≡◌, ◌≤◌, ◌+◌, ◌↔◌, length, IsOk, OnOk};
 ghost use Rattle.chacha20.specs.Cipher.{limit_of};
 
-use aead::{AeadError, ChaCha20Poly1305, Mac, XChaCha20Poly1305, one_time_key, open, seal};
+use aead::{AeadError, ChaCha20Poly1305, Mac, XChaCha20Poly1305, open, seal};
 use chacha20::cipher::{KeyIvInit, StreamCipherSeek};
-use chacha20::{ChaCha20, Key, Nonce, XNonce};
+use chacha20::{Key, Nonce, XNonce};
 use known_answers::published::{FROM_80, MESSAGE};
 use poly1305::Tag;
 
-#[test]
-fn sealed(rt: HostRuntime) {
+// The front of the message, sealed, and its tag.
+fn sealed(len: usize, aad: &[u8]) -> ([u8; 114], Tag) {
     let mut message = *MESSAGE;
-    let tag = ChaCha20Poly1305::seal(&FROM_80, &NONCE, AAD, &mut message);
-    assert!(rt; tag == Ok(TAG) && message == CIPHERTEXT);
+    let tag = ChaCha20Poly1305::seal(&FROM_80, &NONCE, aad, &mut message[..len.min(114)]);
+    (message, tag.unwrap_or([0; 16]))
+}
+
+#[test]
+fn example(rt: HostRuntime) {
+    assert!(rt; sealed(114, AAD) == (CIPHERTEXT, TAG));
+}
+
+// For these lengths of the message, the XOR of the tags.
+fn all_tags(aad: &[u8]) -> u128 {
+    let mut all = 0;
+    for len in [0usize, 1, 15, 16, 17, 63, 64, 65] {
+        all ^= u128::from_le_bytes(sealed(len, aad).1);
+    }
+    all
+}
+
+// The data are the front of the ciphertext.
+#[test]
+fn lengths(rt: HostRuntime) {
+    for (len, tags) in &TAGS {
+        assert!(rt; all_tags(&CIPHERTEXT[..*len]) == *tags);
+    }
+}
+
+// Whether the ciphertext of section A.5 with this tag gives this answer, and becomes this text.
+fn gives(tag: &Tag, answer: Result<(), AeadError>, text: &[u8; 265]) -> bool {
+    let mut message = *A5_CIPHERTEXT;
+    ChaCha20Poly1305::open(&A5_KEY, &A5_NONCE, A5_AAD, &mut message, tag) == answer
+        && message == *text
 }
 
 #[test]
 fn opened(rt: HostRuntime) {
-    let mut message = *A5_CIPHERTEXT;
-    let mut tag = A5_TAG;
-    tag[15] ^= 1;
-    let wrong = ChaCha20Poly1305::open(&A5_KEY, &A5_NONCE, A5_AAD, &mut message, &tag);
-    assert!(rt; wrong == Err(AeadError::WrongTag) && message == *A5_CIPHERTEXT);
-    let right = ChaCha20Poly1305::open(&A5_KEY, &A5_NONCE, A5_AAD, &mut message, &A5_TAG);
-    assert!(rt; right == Ok(()) && message == *A5_MESSAGE);
+    assert!(rt; gives(&WRONG_TAG, Err(AeadError::WrongTag), A5_CIPHERTEXT));
+    assert!(rt; gives(&A5_TAG, Ok(()), A5_MESSAGE));
 }
 
 #[test]
@@ -35,22 +59,6 @@ fn xchacha(rt: HostRuntime) {
     assert!(rt; sealed == Ok(tag) && message == *X_CIPHERTEXT);
     let opened = XChaCha20Poly1305::open(key, nonce, aad, &mut message, &tag);
     assert!(rt; opened == Ok(()) && message == *MESSAGE);
-}
-
-// The example's message and ciphertext, cut to these lengths, are message and data.
-#[test]
-fn lengths(rt: HostRuntime) {
-    let lengths = [0usize, 1, 15, 16, 17, 63, 64, 65];
-    for (data, tags) in &TAGS {
-        let mut all = 0;
-        for text in &lengths {
-            let mut message = *MESSAGE;
-            let message = &mut message[..(*text).min(114)];
-            let tag = ChaCha20Poly1305::seal(&FROM_80, &NONCE, &CIPHERTEXT[..*data], message);
-            all ^= u128::from_le_bytes(tag.unwrap_or([0; 16]));
-        }
-        assert!(rt; all == *tags);
-    }
 }
 
 // Whatever the cipher, the MAC and the message are: what is sealed is opened, and the message is as it was.
@@ -67,18 +75,6 @@ fn there_and_back<C: KeyIvInit + StreamCipherSeek + Drop, M: Mac>(
         return Err(AeadError::TooLong);
     };
     open::<C, M>(key, nonce, aad, message, &tag)
-}
-
-// RFC 8439, section 2.6.2.
-#[test]
-fn one_time_keys(rt: HostRuntime) {
-    let nonce = [0, 0, 0, 0, 0, 1, 2, 3, 4, 5, 6, 7];
-    let key = one_time_key::<ChaCha20>(&FROM_80, &nonce);
-    assert!(rt;
-        key == *b"\
-        \x8a\xd5\xa0\x8b\x90\x5f\x81\xcc\x81\x50\x40\x27\x4a\xb2\x94\x71\
-        \xa8\x33\xb6\x37\xe3\xfd\x0d\xa5\x08\xdb\xb8\xe2\xfd\xd1\xa6\x46"
-    );
 }
 
 // RFC 8439, section 2.8.2.
@@ -130,6 +126,9 @@ static A5_CIPHERTEXT: &[u8; 265] = b"\
     \x71\x4d\x6c\x6f\x2c\x29\xa6\xad\x5c\xb4\x02\x2b\x02\x70\x9b";
 
 static A5_TAG: Tag = *b"\xee\xad\x9d\x67\x89\x0c\xbb\x22\x39\x23\x36\xfe\xa1\x85\x1f\x38";
+
+// That tag with a bit turned.
+static WRONG_TAG: Tag = *b"\xee\xad\x9d\x67\x89\x0c\xbb\x22\x39\x23\x36\xfe\xa1\x85\x1f\x39";
 
 static A5_MESSAGE: &[u8; 265] = b"\
     Internet-Drafts are draft documents valid for a maximum of six months and may be updated, replaced, or \

@@ -223,17 +223,3 @@ fn words_lanes8(state: &mut [u32; 16], words: &mut [u32; 64], steps: &mut Steps)
 {
     <Lanes8 as RngBackend<R20>>::gen_ks_blocks(state, words, steps);
 }
-
-#[test]
-fn counted(rt: HostRuntime) {
-    let mut steps = Steps::new();
-    let accepted = [
-        apply_586_bytes_soft(&mut steps),
-        apply_586_bytes_lanes4(&mut steps),
-        apply_586_bytes_lanes8(&mut steps),
-        apply_586_bytes_rows8(&mut steps),
-        apply_586_bytes_lanes16(&mut steps),
-        apply_586_bytes_columns8(&mut steps),
-    ];
-    assert!(rt; accepted == [Ok(()); 6]);
-}

@@ -25,8 +25,8 @@ use chacha20_c::xchacha::{
     xchacha20_keystream, xchacha20_xor_between, xchacha20_xor_in_place,
 };
 use known_answers::published::{
-    CIPHERTEXT, COUNTING, DERIVED_NONCE, HCHACHA_INPUT, MESSAGE, NONCE, OF_8_ROUNDS, OF_12_ROUNDS,
-    OF_20_ROUNDS, SUBKEY, X_NONCE, X_NONCE_FRONT,
+    CIPHERTEXT, COUNTING, DERIVED_NONCE, FROM_80, HCHACHA_INPUT, MESSAGE, NONCE, OF_8_ROUNDS,
+    OF_12_ROUNDS, OF_20_ROUNDS, SUBKEY, X_NONCE, X_NONCE_FRONT,
 };
 
 static ZEROS: Key = [0; 32];
@@ -113,6 +113,21 @@ fn streams() -> bool {
 fn message() -> bool {
     let mut text = *MESSAGE;
     in_place(20, &COUNTING, &NONCE, 64, &mut text) == 0 && text == *CIPHERTEXT
+}
+
+// The key of a MAC for one message (RFC 8439, section 2.6.2), which is the front of block 0.
+fn one_time_key() -> bool {
+    let mut key = [0; 32];
+    in_place(
+        20,
+        &FROM_80,
+        &[0, 0, 0, 0, 0, 1, 2, 3, 4, 5, 6, 7],
+        0,
+        &mut key,
+    ) == 0
+        && key
+            == *b"\x8a\xd5\xa0\x8b\x90\x5f\x81\xcc\x81\x50\x40\x27\x4a\xb2\x94\x71\
+            \xa8\x33\xb6\x37\xe3\xfd\x0d\xa5\x08\xdb\xb8\xe2\xfd\xd1\xa6\x46"
 }
 
 // The last byte of the stream, and the byte before it.
@@ -308,7 +323,7 @@ fn stream_is_stored(state: &SerializedRngState) -> bool {
 
 #[test]
 fn ciphers(rt: HostRuntime) {
-    assert!(rt; streams() && message() && extended() && subkeys());
+    assert!(rt; streams() && message() && one_time_key() && extended() && subkeys());
 }
 
 #[test]

@@ -1,8 +1,6 @@
-//! A published ciphertext that is read in parts, and a part of it that is written.
+//! A published ciphertext that is read in parts. Records are in `pieces.rt`.
 
-use chacha20::ChaCha20;
-use chacha20::cipher::KeyIvInit;
-use examples::file::{encrypt_record, read_at};
+use examples::file::read_at;
 use known_answers::published::{CIPHERTEXT, COUNTING, NONCE};
 
 // Reads a window of the file: 112 zeros, and then bytes 48 to 79 of the message of RFC 8439, section 2.4.2, which
@@ -37,13 +35,4 @@ fn at_the_end(rt: HostRuntime) {
         reads(usize::MAX, &mut window),
     ];
     assert!(rt; refused == [false; 4] && window == [5; 2]);
-}
-
-// Record 2 of 32 bytes is at the front of block 1, where the message begins.
-#[test]
-fn published_record(rt: HostRuntime) {
-    let mut record = *b"Ladies and Gentlemen of the clas";
-    let mut cipher = ChaCha20::new(&COUNTING, &NONCE);
-    let accepted = encrypt_record(&mut cipher, 2, &mut record).is_ok();
-    assert!(rt; accepted && CIPHERTEXT.starts_with(&record));
 }

@@ -1,7 +1,7 @@
-//! A published message as lines of a log, and what a writer refuses.
+//! A published stream as lines of a log, and what a writer refuses.
 
 use examples::log::LogWriter;
-use known_answers::published::{CIPHERTEXT, COUNTING, MESSAGE, NONCE};
+use known_answers::published::{COUNTING, KEYSTREAM, NONCE};
 
 // Whether a writer takes a line, and how many bytes the log then has.
 fn appends(writer: &mut LogWriter, line: &mut [u8], end: u64) -> bool {
@@ -16,17 +16,13 @@ fn is_appended(len: u64, line: &mut [u8], end: u64) -> bool {
     }
 }
 
-// The message in two lines, the second by a writer that goes on.
+// Zeros in two lines, the second by a writer that goes on, become the keystream.
 #[test]
-fn message_in_lines(rt: HostRuntime) {
-    let mut first = [0; 100];
-    let mut second = [0; 78];
-    let message = MESSAGE.as_slice();
-    first[64..].copy_from_slice(&message[..36]);
-    second.copy_from_slice(&message[36..]);
+fn in_lines(rt: HostRuntime) {
+    let (mut first, mut second) = ([0; 100], [0; 78]);
     let new = appends(&mut LogWriter::new(&COUNTING, &NONCE), &mut first, 100);
-    assert!(rt; new && is_appended(100, &mut second, 178));
-    assert!(rt; CIPHERTEXT.starts_with(&first[64..]) && CIPHERTEXT.ends_with(&second));
+    let both = new && is_appended(100, &mut second, 178);
+    assert!(rt; both && KEYSTREAM.starts_with(&first[64..]) && KEYSTREAM.ends_with(&second));
 }
 
 #[test]

@@ -19,24 +19,27 @@ fn twice(
     Ok(receiver.receive(header, copy, true).is_err())
 }
 
+// A packet with this number, of five zeros.
+fn sent(sender: &mut Sender, number: u64, body: &mut [u8; 5]) -> bool {
+    let mut header = [9; 8];
+    send(sender, &mut header, body).is_ok() && header == number.to_le_bytes()
+}
+
+// The second of two packets comes first, forged, and then twice.
 #[test]
 fn any_order(rt: HostRuntime) {
     let mut sender = Sender::new(&[3; 32], &[1, 2, 3, 4]);
     let mut receiver = Receiver::new(&[3; 32], &[1, 2, 3, 4]);
-    let (mut zero, mut one) = ([0; 8], [0; 8]);
-    let (mut first, mut other) = (*b"first", *b"other");
-    let sent = [
-        send(&mut sender, &mut zero, &mut first),
-        send(&mut sender, &mut one, &mut other),
-    ];
-    let mut copy = other;
-    let forged = receiver.receive(&one, &mut other, false);
-    let refused = twice(&mut receiver, &one, &mut other, &mut copy);
-    let late = receiver.receive(&zero, &mut first, true);
-    assert!(rt; sent == [Ok(()); 2] && zero == [0; 8] && one == 1u64.to_le_bytes());
-    assert!(rt; forged == Err(PacketError::Forged) && refused == Ok(true) && late == Ok(()));
-    assert!(rt; first == *b"first" && other == *b"other");
+    let (mut first, mut second) = ([0; 5], [0; 5]);
+    assert!(rt; sent(&mut sender, 0, &mut first) && sent(&mut sender, 1, &mut second));
+    assert!(rt; receiver.receive(&ONE, &mut second, false) == Err(PacketError::Forged));
+    assert!(rt;
+        twice(&mut receiver, &ONE, &mut second, &mut [7; 5]) == Ok(true) && second == [0; 5]
+    );
+    assert!(rt; receiver.receive(&[0; 8], &mut first, true) == Ok(()) && first == [0; 5]);
 }
+
+static ONE: Header = [1, 0, 0, 0, 0, 0, 0, 0];
 
 // After number 164 the receiver takes 101 and not 100, and never 2^64 - 1.
 #[test]

@@ -1,51 +1,73 @@
-//! A published message in pieces and in two buffers, over the backend of `scalar.rt`. Row 1 has pieces over each
-//! backend of the library.
+//! A published stream in pieces, in two buffers and as a record, by any cipher; chunks.
 
-ghost use Rattle.std.specs.Prelude.{◌≤◌, ◌^◌};
+ghost use Rattle.std.specs.Prelude.{◌≡◌, ◌≤◌, ◌+◌, ◌^◌};
 ghost use Rattle.chacha20.specs.Cipher.{limit_of};
 
-use chacha20::cipher::{KeyIvInit, StreamCipher};
+use chacha20::backends::Lanes4;
+use chacha20::cipher::{KeyIvInit, StreamCipher, StreamCipherSeek};
 use chacha20::variants::Ietf;
-use chacha20::{ChaCha20, ChaChaCore, Key, Nonce, R20, StreamCipherCoreWrapper};
+use chacha20::{ChaChaCore, Key, Nonce, R20, StreamCipherCoreWrapper};
+use examples::file::encrypt_record;
+use examples::message::encrypt;
 use examples::pieces::{apply_in_two, encrypt_in_chunks, try_apply_in_pieces};
-use examples::scalar::Scalar;
-use known_answers::published::{BLOCKS, CIPHERTEXT, COUNTING, MESSAGE, NONCE};
+use known_answers::published::{COUNTING, KEYSTREAM, NONCE, OF_20_ROUNDS};
 
-// The message in pieces of one byte, and in two buffers.
-fn encrypts_in_pieces<C: KeyIvInit<Key = Key, Iv = Nonce> + StreamCipher + Drop>() -> [bool; 2]
+// In pieces of one byte.
+fn in_pieces<C: StreamCipher>(cipher: &mut C) -> bool {
+    let mut bytes = [0; 178];
+    try_apply_in_pieces(cipher, &mut bytes, 1).is_ok() && bytes.ends_with(KEYSTREAM)
+}
+
+fn in_two<C: StreamCipher>(cipher: &mut C) -> bool
+    requires { C.position cipher.old + 178 ≤ limit_of C.modulus }
+{
+    let (mut first, mut rest) = ([0; 100], [0; 78]);
+    apply_in_two(cipher, &mut first, &mut rest);
+    KEYSTREAM.starts_with(&first[64..]) && KEYSTREAM.ends_with(&rest)
+}
+
+// Record 2 of 32 bytes is at the front of block 1.
+fn as_record<C: StreamCipherSeek>(cipher: &mut C) -> bool {
+    let mut record = [0; 32];
+    encrypt_record(cipher, 2, &mut record).is_ok() && KEYSTREAM.starts_with(&record)
+}
+
+fn at_block_1<C: StreamCipherSeek>(cipher: &mut C) -> bool
     requires { 2 ^ 32 ≤ limit_of C.modulus }
 {
-    let mut message = [0; 178];
-    message[64..].copy_from_slice(MESSAGE);
-    let applied = try_apply_in_pieces(&mut C::new(&COUNTING, &NONCE), &mut message, 1);
-    let mut first = [0; 100];
-    let mut rest = [0; 78];
-    let plaintext = MESSAGE.as_slice();
-    first[64..].copy_from_slice(&plaintext[..36]);
-    rest.copy_from_slice(&plaintext[36..]);
-    apply_in_two(&mut C::new(&COUNTING, &NONCE), &mut first, &mut rest);
+    cipher.seek(64u32);
+    cipher.current_pos::<u64>() == 64
+}
+
+fn each<C: KeyIvInit<Key = Key, Iv = Nonce> + StreamCipherSeek + Drop>() -> [bool; 4]
+    requires { 2 ^ 32 ≤ limit_of C.modulus }
+{
     [
-        applied.is_ok() && message.ends_with(CIPHERTEXT),
-        CIPHERTEXT.starts_with(&first[64..]) && CIPHERTEXT.ends_with(&rest),
+        in_pieces(&mut C::new(&COUNTING, &NONCE)),
+        in_two(&mut C::new(&COUNTING, &NONCE)),
+        as_record(&mut C::new(&COUNTING, &NONCE)),
+        at_block_1(&mut C::new(&COUNTING, &NONCE)),
     ]
+}
+
+// `ChaCha20` over another backend.
+type ChaCha20Lanes4 = StreamCipherCoreWrapper<ChaChaCore<R20, Ietf, Lanes4>>;
+
+#[test]
+fn by_any_cipher(rt: HostRuntime) {
+    assert!(rt; each::<ChaCha20Lanes4>() == [true; 4]);
 }
 
 // Zeros in two chunks. The first becomes the front of the block of RFC 8439, appendix A.1, number 1; the second is
 // decrypted alone, under the nonce 1.
 #[test]
-fn message_in_chunks(rt: HostRuntime) {
+fn in_chunks(rt: HostRuntime) {
     let mut message = [0; 50];
     encrypt_in_chunks(&[0; 32], &mut message, 32);
-    let first = BLOCKS[0].3[0];
-    assert!(rt; message.starts_with(&first));
-    let second = &mut message[32..];
-    ChaCha20::new(&[0; 32], &[1, 0, 0, 0, 0, 0, 0, 0, 0, 0, 0, 0]).apply_keystream(second);
-    assert!(rt; message.ends_with(&[0; 18]) && message.starts_with(&first));
+    assert!(rt; message.starts_with(&OF_20_ROUNDS) && is_zero_under_1(&mut message[32..]));
 }
 
-type ScalarCipher = StreamCipherCoreWrapper<ChaChaCore<R20, Ietf, Scalar>>;
-
-#[test]
-fn message_in_pieces(rt: HostRuntime) {
-    assert!(rt; encrypts_in_pieces::<ScalarCipher>() == [true; 2]);
+fn is_zero_under_1(chunk: &mut [u8]) -> bool {
+    let nonce = [1, 0, 0, 0, 0, 0, 0, 0, 0, 0, 0, 0];
+    encrypt(&[0; 32], &nonce, chunk).is_ok() && [0; 18].starts_with(chunk)
 }

@@ -1,177 +1,232 @@
 //! Sealed files: one of another implementation, round trips, damage, and readers and writers that fail.
 
+ghost use Rattle.std.specs.Prelude.{◌<◌, ◌^◌};
+
 use super::unsteady::Unsteady;
 use aead::sealed::chunk::{CHUNK, Salt, TAG};
 use aead::sealed::error::{Damage, SealError};
 use aead::sealed::stream::{decrypt, encrypt};
-use chacha20::Key;
-use std::alloc::Global;
-use std::test::Fail;
+use known_answers::published::COUNTING;
+use std::io::{Read, Write};
 
-const KEY: Key = [
-    0, 1, 2, 3, 4, 5, 6, 7, 8, 9, 10, 11, 12, 13, 14, 15, 16, 17, 18, 19, 20, 21, 22, 23, 24, 25,
-    26, 27, 28, 29, 30, 31,
-];
+const SALT: Salt = *b"defghijklmnopqrs";
 
-const SALT: Salt = [
-    100, 101, 102, 103, 104, 105, 106, 107, 108, 109, 110, 111, 112, 113, 114, 115,
-];
+// The file of the text "text" under COUNTING and SALT; the chunk as libsodium seals it (checks/seal).
+static FILE_OF_TEXT: [u8; 52] = *b"chacha20-seal v1defghijklmnopqrs\
+    \xa2\x58\xa9\xdf\x48\x9e\x69\x1f\x7f\x17\xa2\xbb\xbd\x04\x97\x5a\xb1\x18\xa7\xf9";
 
-// The chunk of the text "text" under KEY and SALT, as libsodium seals it (checks/seal).
-const CHUNK_OF_TEXT: [u8; 20] = [
-    0xa2, 0x58, 0xa9, 0xdf, 0x48, 0x9e, 0x69, 0x1f, 0x7f, 0x17, 0xa2, 0xbb, 0xbd, 0x04, 0x97, 0x5a,
-    0xb1, 0x18, 0xa7, 0xf9,
-];
+// What a call says.
+#[derive(Clone, Copy, PartialEq)]
+enum Said {
+    Done,
+    Damaged(Damage),
+    Read,
+    Write,
+    TooLong,
+}
 
-// A text of so many bytes, and its file.
-fn sealed(alloc: Global, len: usize, salt: &Salt) -> Result<(Vec<u8>, Vec<u8>), Fail> {
-    let mut text = vec![in alloc; 0u8; len]?;
+fn said_by(done: Result<(), SealError>) -> Said {
+    match done {
+        Ok(()) => Said::Done,
+        Err(SealError::Damaged(damage)) => Said::Damaged(damage),
+        Err(SealError::Read(_)) => Said::Read,
+        Err(SealError::Write(_)) => Said::Write,
+        Err(SealError::TooLong) => Said::TooLong,
+    }
+}
+
+// The numbers from 0 to 250, again and again.
+fn count(text: &mut [u8]) {
     for i in 0..text.len() {
         text[i] = (i % 251) as u8;
     }
-    let mut file = Vec::new(alloc);
-    let mut reader = text.as_slice();
-    let mut buf = vec![in alloc; 0u8; CHUNK + 1]?;
-    encrypt(&KEY, salt, &mut reader, &mut file, &mut buf).map_err(|_| Fail::new("not encrypted"))?;
-    Ok((text, file))
 }
 
-// What `decrypt` says of a file, and what it wrote.
-fn opened(alloc: Global, file: &[u8]) -> Result<(Option<SealError>, Vec<u8>), Fail> {
-    let mut text = Vec::new(alloc);
-    let mut reader = file;
-    let mut buf = vec![in alloc; 0u8; CHUNK + TAG + 1]?;
-    let done = decrypt(&KEY, &mut reader, &mut text, &mut buf);
-    Ok((done.err(), text))
+// Whether a text's file fills this one.
+fn seals<const N: usize, const F: usize>(salt: &Salt, text: &[u8; N], file: &mut [u8; F]) -> bool
+    requires text { N < 2 ^ 63 }
+    requires file { F < 2 ^ 63 }
+{
+    let (mut reader, mut room) = (text.as_slice(), file.as_mut_slice());
+    let done = encrypt(&COUNTING, salt, &mut reader, &mut room, &mut [0; CHUNK + 1]);
+    said_by(done) == Said::Done && room.is_empty()
 }
 
-#[test]
-fn opens_another_implementations_file(rt: HostRuntime) -> Result<(), Fail> {
-    let mut file = Vec::new(rt.alloc());
-    file.extend_from_slice(b"chacha20-seal v1")?;
-    file.extend_from_slice(&SALT)?;
-    file.extend_from_slice(&CHUNK_OF_TEXT)?;
-    let (error, text) = opened(rt.alloc(), file.as_slice())?;
-    assert!(rt; error.is_none() && text.as_slice() == b"text".as_slice());
-    Ok(())
+fn opens<R: Read, W: Write>(reader: &mut R, writer: &mut W) -> Said {
+    said_by(decrypt(&COUNTING, reader, writer, &mut [0; CHUNK + TAG + 1]))
+}
+
+// What is said of a file, and how much text is written.
+fn opened(file: &[u8], text: &mut [u8]) -> (Said, usize) {
+    let most = text.len();
+    let (mut reader, mut room) = (file, text);
+    let answer = opens(&mut reader, &mut room);
+    (answer, most - room.len().min(most))
 }
 
 #[test]
-fn round_trips(rt: HostRuntime) -> Result<(), Fail> {
-    for len in [0, 1, 65535, 65536, 65537, 200000usize] {
-        let (text, file) = sealed(rt.alloc(), len, &SALT)?;
-        let (error, back) = opened(rt.alloc(), file.as_slice())?;
-        assert!(rt;
-            error.is_none() && back.as_slice() == text.as_slice(),
-            "{len} bytes"
-        );
-        assert!(rt;
-            file.len() == 32 + len + 16 * len.max(1).div_ceil(65536),
-            "{len} bytes"
-        );
-    }
-    Ok(())
+fn opens_another_implementations_file(rt: HostRuntime) {
+    let mut text = [0; 5];
+    assert!(rt; opened(&FILE_OF_TEXT, &mut text) == (Said::Done, 4) && text == *b"text\0");
 }
 
-// These parts of a file, in which a bit of the byte `turned` is turned.
-fn damaged(
-    alloc: Global,
-    bytes: &[u8],
-    parts: &[(usize, usize)],
-    turned: usize,
-) -> Result<Vec<u8>, Fail> {
-    let mut file = Vec::new(alloc);
-    for (from, to) in parts {
-        file.extend_from_slice(bytes.get(*from..*to).unwrap_or(&[]))?;
-    }
-    if turned < file.len() {
-        file[turned] ^= 1;
-    }
-    Ok(file)
+// Whether a text of N bytes has a file of F bytes, and comes back.
+fn comes_back<const N: usize, const F: usize>() -> bool
+    requires text { N < 2 ^ 63 }
+    requires file { F < 2 ^ 63 }
+{
+    let (mut text, mut file, mut back) = ([0; N], [0; F], [0; N]);
+    count(&mut text);
+    seals(&SALT, &text, &mut file) && opened(&file, &mut back) == (Said::Done, N) && back == text
 }
 
-// The header and the chunks of a file of 200,000 bytes of text, and the second chunk of another such file behind it.
-const H: (usize, usize) = (0, 32);
+#[test]
+fn round_trips(rt: HostRuntime) {
+    assert!(rt; comes_back::<0, 48>() && comes_back::<1, 49>() && comes_back::<65535, 65583>());
+    assert!(rt; comes_back::<65536, 65584>() && comes_back::<65537, 65601>());
+    assert!(rt; comes_back::<200000, 200096>());
+}
 
-const A: (usize, usize) = (32, 65584);
+type Part = (usize, usize, usize);
 
-const B: (usize, usize) = (65584, 131136);
+// Of a file of 200,000 bytes of text: the header and the chunks; the second chunk of another such file; and all.
+const H: Part = (0, 0, 32);
 
-const C: (usize, usize) = (131136, 196688);
+const A: Part = (0, 32, 65584);
 
-const D: (usize, usize) = (196688, 200096);
+const B: Part = (0, 65584, 131136);
 
-const X: (usize, usize) = (200096 + 65584, 200096 + 131136);
+const C: Part = (0, 131136, 196688);
 
-const ALL: (usize, usize) = (0, 200096);
+const D: Part = (0, 196688, 200096);
+
+const X: Part = (1, 65584, 131136);
+
+const ALL: Part = (0, 0, 200096);
 
 const NONE: usize = usize::MAX;
 
-// What is wrong with each file, and how much text is written.
-#[test]
-fn damaged_files_are_refused(rt: HostRuntime) -> Result<(), Fail> {
-    let (_, mut both) = sealed(rt.alloc(), 200000, &SALT)?;
-    let (_, other) = sealed(rt.alloc(), 200000, &[7; 16])?;
-    both.extend_from_slice(other.as_slice())?;
-    let cases: [(&[(usize, usize)], usize, Damage, usize); 26] = [
-        (&[], NONE, Damage::NotSealed, 0),
-        (&[(0, 1)], NONE, Damage::NotSealed, 0),
-        (&[(0, 15)], NONE, Damage::CutHeader, 0),
-        (&[(0, 31)], NONE, Damage::CutHeader, 0),
-        (&[H], NONE, Damage::WrongEnd(0), 0),
-        (&[(0, 33)], NONE, Damage::WrongEnd(0), 0),
-        (&[(0, 48)], NONE, Damage::WrongEnd(0), 0),
-        (&[(0, 65583)], NONE, Damage::WrongEnd(0), 0),
-        (&[H, A], NONE, Damage::WrongEnd(0), 0),
-        (&[(0, 65585)], NONE, Damage::WrongEnd(1), 65536),
-        (&[H, A, B, C], NONE, Damage::WrongEnd(2), 131072),
-        (&[(0, 200095)], NONE, Damage::WrongEnd(3), 196608),
-        (&[ALL], 0, Damage::NotSealed, 0),
-        (&[ALL], 15, Damage::OtherVersion, 0),
-        (&[ALL], 16, Damage::WrongChunk(0), 0),
-        (&[ALL], 32, Damage::WrongChunk(0), 0),
-        (&[ALL], 65583, Damage::WrongChunk(0), 0),
-        (&[ALL], 65584, Damage::WrongChunk(1), 65536),
-        (&[ALL], 196688, Damage::WrongEnd(3), 196608),
-        (&[ALL], 200095, Damage::WrongEnd(3), 196608),
-        (&[H, B, A, C, D], NONE, Damage::WrongChunk(0), 0),
-        (&[H, A, C, D], NONE, Damage::WrongChunk(1), 65536),
-        (&[H, A, A, B, C, D], NONE, Damage::WrongChunk(1), 65536),
-        (&[H, A, X, C, D], NONE, Damage::WrongChunk(1), 65536),
-        (&[H, A, B, C, D, D], NONE, Damage::WrongEnd(3), 196608),
-        (&[ALL, ALL], NONE, Damage::WrongChunk(3), 196608),
-    ];
-    for (parts, turned, wanted, written) in cases {
-        let file = damaged(rt.alloc(), both.as_slice(), parts, turned)?;
-        let (error, text) = opened(rt.alloc(), file.as_slice())?;
-        let damage = match error {
-            Some(SealError::Damaged(damage)) => Some(damage),
-            _ => None,
-        };
-        assert!(rt;
-            damage == Some(wanted) && text.len() == written,
-            "{parts:?} {turned}"
-        );
+// Parts of two files, the byte in which a bit is turned, what is wrong, and how much text is written.
+static DAMAGED: [(&[Part], usize, Damage, usize); 26] = [
+    (&[], NONE, Damage::NotSealed, 0),
+    (&[(0, 0, 1)], NONE, Damage::NotSealed, 0),
+    (&[(0, 0, 15)], NONE, Damage::CutHeader, 0),
+    (&[(0, 0, 31)], NONE, Damage::CutHeader, 0),
+    (&[H], NONE, Damage::WrongEnd(0), 0),
+    (&[(0, 0, 33)], NONE, Damage::WrongEnd(0), 0),
+    (&[(0, 0, 48)], NONE, Damage::WrongEnd(0), 0),
+    (&[(0, 0, 65583)], NONE, Damage::WrongEnd(0), 0),
+    (&[H, A], NONE, Damage::WrongEnd(0), 0),
+    (&[(0, 0, 65585)], NONE, Damage::WrongEnd(1), 65536),
+    (&[H, A, B, C], NONE, Damage::WrongEnd(2), 131072),
+    (&[(0, 0, 200095)], NONE, Damage::WrongEnd(3), 196608),
+    (&[ALL], 0, Damage::NotSealed, 0),
+    (&[ALL], 15, Damage::OtherVersion, 0),
+    (&[ALL], 16, Damage::WrongChunk(0), 0),
+    (&[ALL], 32, Damage::WrongChunk(0), 0),
+    (&[ALL], 65583, Damage::WrongChunk(0), 0),
+    (&[ALL], 65584, Damage::WrongChunk(1), 65536),
+    (&[ALL], 196688, Damage::WrongEnd(3), 196608),
+    (&[ALL], 200095, Damage::WrongEnd(3), 196608),
+    (&[H, B, A, C, D], NONE, Damage::WrongChunk(0), 0),
+    (&[H, A, C, D], NONE, Damage::WrongChunk(1), 65536),
+    (&[H, A, A, B, C, D], NONE, Damage::WrongChunk(1), 65536),
+    (&[H, A, X, C, D], NONE, Damage::WrongChunk(1), 65536),
+    (&[H, A, B, C, D, D], NONE, Damage::WrongEnd(3), 196608),
+    (&[ALL, ALL], NONE, Damage::WrongChunk(3), 196608),
+];
+
+// Writes these parts of the files, and returns how many bytes that are.
+fn put_parts(files: [&[u8]; 2], parts: &[Part], bytes: &mut [u8]) -> usize {
+    let most = bytes.len();
+    let mut room = bytes;
+    for (file, from, to) in parts {
+        let _ = room.write_all(files[*file % 2].get(*from..*to).unwrap_or(&[]));
     }
-    Ok(())
+    most - room.len().min(most)
 }
 
-// Short and interrupted reads and writes change nothing, and a failure at any call is the error that comes out.
-#[test]
-fn unsteady_files(rt: HostRuntime) -> Result<(), Fail> {
-    let (text, file) = sealed(rt.alloc(), 70000, &SALT)?;
-    for (reads, writes) in [(0, 0), (1, 0), (40, 0), (100, 0), (0, 1), (0, 40), (0, 100)] {
-        let mut reader = Unsteady::new(file.as_slice(), 1000, reads);
-        let mut writer = Unsteady::new(Vec::new(rt.alloc()), 1000, writes);
-        let mut buf = vec![in rt.alloc(); 0u8; CHUNK + TAG + 1]?;
-        let done = decrypt(&KEY, &mut reader, &mut writer, &mut buf);
-        let right = match done {
-            Ok(()) => reads == 0 && writes == 0 && writer.inner.as_slice() == text.as_slice(),
-            Err(SealError::Read(_)) => reads > 0,
-            Err(SealError::Write(_)) => writes > 0,
-            Err(_) => false,
-        };
-        assert!(rt; right, "{reads} {writes}");
+fn opened_parts<const F: usize, const M: usize>(
+    files: [&[u8; F]; 2],
+    parts: &[Part],
+    turned: usize,
+) -> (Said, usize)
+    requires file { F < 2 ^ 63 }
+    requires most { M < 2 ^ 63 }
+{
+    let (mut bytes, mut text) = ([0; M], [0; F]);
+    let len = put_parts([files[0], files[1]], parts, &mut bytes).min(M);
+    if turned < len {
+        bytes[turned] ^= 1;
     }
-    Ok(())
+    opened(&bytes[..len], &mut text)
+}
+
+// The place of the first damage that isn't found, of files of N zeros, which have F bytes.
+fn not_found<const N: usize, const F: usize, const M: usize>() -> Option<usize>
+    requires text { N < 2 ^ 63 }
+    requires file { F < 2 ^ 63 }
+    requires most { M < 2 ^ 63 }
+{
+    let (mut first, mut second) = ([0; F], [0; F]);
+    let sealed = seals(&SALT, &[0; N], &mut first) && seals(&[7; 16], &[0; N], &mut second);
+    for place in 0..26usize {
+        let (parts, turned, damage, written) = &DAMAGED[place];
+        let found = opened_parts::<F, M>([&first, &second], parts, *turned);
+        if !sealed || found != (Said::Damaged(*damage), *written) {
+            return Some(place);
+        }
+    }
+    None
+}
+
+#[test]
+fn damaged_files_are_refused(rt: HostRuntime) {
+    let place = not_found::<200000, 200096, 400192>();
+    assert!(rt; place.is_none(), "{place:?}");
+}
+
+// Opens a file of a text where reader and writer fail in these calls, or never.
+fn opened_unsteadily<const N: usize>(
+    file: &[u8],
+    text: &[u8; N],
+    reads: u32,
+    writes: u32,
+) -> (Said, bool)
+    requires { N < 2 ^ 63 }
+{
+    let mut back = [0; N];
+    let mut reader = Unsteady::new(file, 1000, reads);
+    let answer = opens(
+        &mut reader,
+        &mut Unsteady::new(back.as_mut_slice(), 1000, writes),
+    );
+    (answer, back == *text)
+}
+
+// Whether a failure at a call is the error that comes out.
+fn is_told<const N: usize>(file: &[u8], text: &[u8; N], call: u32) -> bool
+    requires { N < 2 ^ 63 }
+{
+    opened_unsteadily(file, text, call, 0).0 == Said::Read
+        && opened_unsteadily(file, text, 0, call).0 == Said::Write
+}
+
+// Short and interrupted reads and writes change nothing.
+fn is_steady<const N: usize, const F: usize>() -> bool
+    requires text { N < 2 ^ 63 }
+    requires file { F < 2 ^ 63 }
+{
+    let (mut text, mut file) = ([0; N], [0; F]);
+    count(&mut text);
+    seals(&SALT, &text, &mut file)
+        && opened_unsteadily(&file, &text, 0, 0) == (Said::Done, true)
+        && is_told(&file, &text, 1)
+        && is_told(&file, &text, 40)
+        && is_told(&file, &text, 100)
+}
+
+#[test]
+fn unsteady_files(rt: HostRuntime) {
+    assert!(rt; is_steady::<70000, 70064>());
 }

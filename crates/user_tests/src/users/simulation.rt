@@ -1,9 +1,9 @@
 // The first block of the seed 0 on stream 0 is that of RFC 8439, A.1, number 1, and on stream 2^57 that of number 5.
 // Their words of 64 bits, times a bound, divided by 2^64, give the numbers here.
 
-use chacha20::{ChaCha20Rng, ChaChaRng, R20, Soft};
+use chacha20::ChaCha20Rng;
 use examples::simulation::{
-    below, die_at, fill_below, resume, roll, rolls, rolls_in_two, shuffle, total, worker,
+    below, die_at, fill_below, resume, rolls, rolls_in_two, shuffle, total, worker,
 };
 
 // Eight dice of the published words.
@@ -12,25 +12,9 @@ static DICE: [u8; 8] = [4, 1, 1, 5, 4, 2, 1, 4];
 #[test]
 fn drawn_below(rt: HostRuntime) {
     let mut rng = ChaCha20Rng::from_seed([0; 32]);
-    let drawn = [
-        below(&mut rng, 1000),
-        below(&mut rng, 1000),
-        below(&mut rng, 1),
-        below(&mut rng, u64::MAX),
-    ];
-    assert!(rt; drawn == [563, 159, 0, 0xc70d_778b_ccef_36a7]);
-    let mut numbers = [0; 2];
-    fill_below(&mut ChaCha20Rng::from_seed([0; 32]), 1000, &mut numbers);
-    assert!(rt; numbers == [563, 159]);
-}
-
-#[test]
-fn rolled(rt: HostRuntime) {
-    let mut rng = ChaCha20Rng::from_seed([0; 32]);
-    let mut dice = [0; 7];
-    let first = roll(&mut rng);
-    rolls(&mut rng, &mut dice);
-    assert!(rt; first == DICE[0] && DICE.ends_with(&dice));
+    let mut numbers = [0; 3];
+    fill_below(&mut rng, 1000, &mut numbers);
+    assert!(rt; numbers == [563, 159, 105] && below(&mut rng, u64::MAX) == 0xc70d_778b_ccef_36a7);
 }
 
 #[test]
@@ -46,10 +30,6 @@ fn shuffled(rt: HostRuntime) {
     let mut items = *b"abcdefghi";
     shuffle(&mut rng, &mut items);
     assert!(rt; items == *b"hgafiebdc" && rng.get_word_pos() == 16);
-    let mut one = *b"a";
-    shuffle(&mut rng, &mut one);
-    shuffle(&mut rng, &mut one[..0]);
-    assert!(rt; one == *b"a" && rng.get_word_pos() == 16);
 }
 
 #[test]
@@ -75,13 +55,7 @@ fn resumed(rt: HostRuntime) {
 
 #[test]
 fn rolled_in_two(rt: HostRuntime) {
-    let mut rng = ChaCha20Rng::from_seed([0; 32]);
-    let mut other = ChaChaRng::<R20, Soft>::from_seed([0; 32]);
-    let mut dice = [0; 70];
-    let mut first = [0; 33];
-    let mut rest = [0; 37];
-    rolls(&mut rng, &mut dice);
-    rolls_in_two(&mut other, &mut first, &mut rest);
-    assert!(rt; dice.starts_with(&DICE) && dice.starts_with(&first) && dice.ends_with(&rest));
-    assert!(rt; rng.serialize_state() == other.serialize_state());
+    let (mut first, mut rest) = ([0; 3], [0; 5]);
+    rolls_in_two(&mut ChaCha20Rng::from_seed([0; 32]), &mut first, &mut rest);
+    assert!(rt; DICE.starts_with(&first) && DICE.ends_with(&rest));
 }

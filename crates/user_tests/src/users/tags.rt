@@ -2,20 +2,22 @@
 
 use poly1305::{Poly1305, Tag, authenticate, is_equal};
 
+// Whether a tag is that of the text, whole and in two pieces.
+fn is_right(key: &[u8; 32], text: &[u8], cut: usize, tag: &Tag) -> bool {
+    let (first, rest) = text.split_at(cut.min(text.len()));
+    let mut mac = Poly1305::new(key);
+    mac.update(first);
+    mac.update(rest);
+    is_equal(mac.finish(), tag) && is_equal(authenticate(key, text), tag)
+}
+
 #[test]
 fn tags(rt: HostRuntime) {
-    let mut right = 0u32;
     for (key, text, tag) in &TAGS {
         for cut in 0..text.len() + 1 {
-            let mut mac = Poly1305::new(key);
-            mac.update(&text[..cut]);
-            mac.update(&text[cut..]);
-            if is_equal(mac.finish(), tag) && is_equal(authenticate(key, text), tag) {
-                right = right.wrapping_add(1);
-            }
+            assert!(rt; is_right(key, text, cut, tag));
         }
     }
-    assert!(rt; right == 426);
 }
 
 static TAGS: [(&[u8; 32], &[u8], Tag); 9] = [
