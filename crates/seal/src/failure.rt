@@ -10,22 +10,41 @@ use std::{fmt, io};
 pub enum Failure<'a> {
     /// The words aren't those of a call.
     Usage,
-    /// START or LEN isn't a number below 2^64.
-    NotANumber(&'a str),
     OutOfMemory,
+    Refused(Refusal, &'a str),
     NoRandomBytes(io::Error),
     Read(&'a str, io::Error),
     Write(&'a str, io::Error),
-    /// A key file that doesn't have 32 bytes.
-    NotAKey(&'a str),
-    /// OUT is also IN or KEYFILE.
-    SameFile(&'a str),
-    /// A device or a directory.
-    NotAFile(&'a str),
     Damaged(&'a str, Damage),
-    TooLong(&'a str),
     /// START + LEN is past the end of the text, which has so many bytes.
     EndOfText(&'a str, u64),
+}
+
+/// What is wrong with a word or a file.
+#[derive(Clone, Copy)]
+pub enum Refusal {
+    /// START or LEN isn't a number below 2^64.
+    NotANumber,
+    /// A key file that doesn't have 32 bytes.
+    NotAKey,
+    /// OUT is also IN or KEYFILE.
+    SameFile,
+    /// OUT is a device or a directory.
+    NotAFile,
+    TooLong,
+}
+
+impl Refusal {
+    // The words before and after the name, which make a sentence of it.
+    fn words(self) -> (&'static str, &'static str) {
+        match self {
+            Refusal::NotANumber => ("", " is not a number of bytes"),
+            Refusal::NotAKey => ("the key file ", " doesn't have 32 bytes"),
+            Refusal::SameFile => ("OUT ", " is the same file as IN or KEYFILE"),
+            Refusal::NotAFile => ("", " is there and isn't a file"),
+            Refusal::TooLong => ("", " has more chunks than a sealed file may have"),
+        }
+    }
 }
 
 impl<'a> Failure<'a> {
@@ -35,7 +54,7 @@ impl<'a> Failure<'a> {
             SealError::Read(e) => Failure::Read(from, e),
             SealError::Write(e) => Failure::Write(to, e),
             SealError::Damaged(damage) => Failure::Damaged(from, damage),
-            SealError::TooLong => Failure::TooLong(from),
+            SealError::TooLong => Failure::Refused(Refusal::TooLong, from),
         }
     }
 }
@@ -53,25 +72,19 @@ impl Display for Failure<'_> {
                 "usage: seal encrypt KEYFILE IN OUT | seal decrypt KEYFILE IN OUT | seal cat KEYFILE IN START LEN | \
                  seal key KEYFILE",
             ),
-            Failure::NotANumber(word) => write!(f, "{word} is not a number of bytes"),
             Failure::OutOfMemory => f.write_str("out of memory"),
+            Failure::Refused(refusal, name) => {
+                let (before, after) = refusal.words();
+                write!(f, "{before}{name}{after}")
+            }
             Failure::NoRandomBytes(e) => write!(f, "the system gives no random bytes: {e}"),
             Failure::Read(path, e) => write!(f, "cannot read {path}: {e}"),
             Failure::Write(path, e) => write!(f, "cannot write {path}: {e}"),
-            Failure::NotAKey(path) => write!(f, "the key file {path} doesn't have 32 bytes"),
-            Failure::SameFile(path) => write!(f, "OUT {path} is the same file as IN or KEYFILE"),
-            Failure::NotAFile(path) => write!(f, "{path} is there and isn't a file"),
             Failure::Damaged(path, damage) => write!(f, "{path}: {damage}"),
-            Failure::TooLong(path) => write!(
+            Failure::EndOfText(path, len) => write!(
                 f,
-                "{path} has more chunks than a sealed file may have"
+                "START + LEN is past the end: by its length, {path} has {len} bytes of text"
             ),
-            Failure::EndOfText(path, len) => {
-                write!(
-                    f,
-                    "START + LEN is past the end: by its length, {path} has {len} bytes of text"
-                )
-            }
         }
     }
 }

@@ -1,14 +1,17 @@
 //! Encrypts files so that a change within one is noticed. README.md has the calls and the format.
 #![tactic(auto)]
 
+ghost use Rattle.std.specs.Prelude.{◌≡◌, ◌+◌, ◌≤◌, length};
+
 mod failure;
 mod files;
 mod progress;
 
-use aead::sealed::chunk::{CHUNK, TAG};
+use aead::sealed::chunk::{CHUNK, Salt, TAG};
 use aead::sealed::error::SealError;
 use aead::sealed::{cat, stream};
-use failure::Failure;
+use chacha20::Key;
+use failure::{Failure, Refusal};
 use progress::Progress;
 use std::fs::File;
 use std::io::{Seek, SeekFrom, Write};
@@ -27,39 +30,40 @@ fn main(rt: HostRuntime) -> io::Result<ExitCode> {
 }
 
 fn run<'a>(rt: &HostRuntime, words: &'a [String]) -> Result<(), Failure<'a>> {
+    let [_, call, words @ ..] = words else {
+        return Err(Failure::Usage);
+    };
+    match call.as_str() {
+        "key" => new_key(rt, words),
+        "encrypt" => transform(rt, true, words),
+        "decrypt" => transform(rt, false, words),
+        "cat" => cat(rt, words),
+        _ => Err(Failure::Usage),
+    }
+}
+
+fn new_key<'a>(rt: &HostRuntime, words: &'a [String]) -> Result<(), Failure<'a>> {
     match words {
-        [_, call, key] if call.as_str() == "key" => files::new_key(rt, key.as_str()),
-        [_, call, key, from, to] if call.as_str() == "encrypt" => {
-            transform(rt, true, key.as_str(), from.as_str(), to.as_str())
-        }
-        [_, call, key, from, to] if call.as_str() == "decrypt" => {
-            transform(rt, false, key.as_str(), from.as_str(), to.as_str())
-        }
-        [_, call, key, from, start, len] if call.as_str() == "cat" => {
-            let start = number(start.as_str())?;
-            let len = number(len.as_str())?;
-            print(rt, key.as_str(), from.as_str(), start, len)
-        }
+        [key] => files::new_key(rt, key.as_str()),
         _ => Err(Failure::Usage),
     }
 }
 
 fn number(word: &str) -> Result<u64, Failure<'_>> {
-    word.parse::<u64>().map_err(|_| Failure::NotANumber(word))
+    word.parse::<u64>()
+        .map_err(|_| Failure::Refused(Refusal::NotANumber, word))
 }
 
-// Encrypts or decrypts a file into a new one beside `to`, which takes its place once it is whole.
-fn transform<'a>(
-    rt: &HostRuntime,
-    encrypts: bool,
-    key: &'a str,
-    from: &'a str,
-    to: &'a str,
-) -> Result<(), Failure<'a>> {
+// Encrypts or decrypts a file into a new one beside OUT, which takes its place once it is whole.
+fn transform<'a>(rt: &HostRuntime, encrypts: bool, words: &'a [String]) -> Result<(), Failure<'a>> {
+    let [key, from, to] = words else {
+        return Err(Failure::Usage);
+    };
+    let (key, from, to) = (key.as_str(), from.as_str(), to.as_str());
     files::check_target(rt, to, &[key, from])?;
     let (path, mut file) = files::beside(rt, to)?;
     let done = match write(rt, encrypts, key, from, to, &mut file) {
-        Ok(()) => files::rename(rt, file, path.as_str(), to),
+        Ok(()) => files::rename(rt, &file, path.as_str(), to).map_err(|e| Failure::Write(to, e)),
         Err(failure) => Err(failure),
     };
     if done.is_err() {
@@ -77,12 +81,10 @@ fn write<'a>(
     file: &mut File,
 ) -> Result<(), Failure<'a>> {
     let secret = files::read_key(rt, key)?;
-    let from_file = files::open(rt, from)?;
-    let len = files::len(&from_file, from)?;
+    let (from_file, len) = files::open(rt, from).map_err(|e| Failure::Read(from, e))?;
     let mut reader = Progress::new(rt, from_file, len);
     let done = if encrypts {
-        let mut salt = [0; 16];
-        files::random(rt, &mut salt)?;
+        let salt = files::random(rt)?;
         let mut buf = vec![in rt.alloc(); 0u8; CHUNK + 1]?;
         stream::encrypt(&secret, &salt, &mut reader, file, &mut buf)
     } else {
@@ -93,39 +95,55 @@ fn write<'a>(
 }
 
 // Prints a part of a file's text.
+fn cat<'a>(rt: &HostRuntime, words: &'a [String]) -> Result<(), Failure<'a>> {
+    let [key, from, start, len] = words else {
+        return Err(Failure::Usage);
+    };
+    let start = number(start.as_str())?;
+    let len = number(len.as_str())?;
+    let secret = files::read_key(rt, key.as_str())?;
+    print(rt, &secret, from.as_str(), start, len)
+}
+
 fn print<'a>(
     rt: &HostRuntime,
-    key: &'a str,
+    secret: &Key,
     from: &'a str,
     start: u64,
     len: u64,
 ) -> Result<(), Failure<'a>> {
     let told = |e: SealError| Failure::of_stream(e, from, "standard output");
-    let secret = files::read_key(rt, key)?;
-    let mut file = files::open(rt, from)?;
-    let total = files::len(&file, from)?;
+    let (mut file, total) = files::open(rt, from).map_err(|e| Failure::Read(from, e))?;
     let salt = stream::read_header(&mut file).map_err(told)?;
     let text_len = cat::text_len(total);
     if start > text_len || len > text_len - start {
         return Err(Failure::EndOfText(from, text_len));
     }
-    let place = cat::chunk_place(start);
-    file.seek(SeekFrom::Start(place))
-        .map_err(|e| Failure::Read(from, e))?;
     let mut buf = vec![in rt.alloc(); 0u8; CHUNK + TAG]?;
+    print_part(rt, secret, &salt, text_len, start, len, &mut file, &mut buf).map_err(told)
+}
+
+fn print_part(
+    rt: &HostRuntime,
+    secret: &Key,
+    salt: &Salt,
+    text_len: u64,
+    start: u64,
+    len: u64,
+    file: &mut File,
+    buf: &mut [u8],
+) -> Result<(), SealError>
+    requires buffer { length buf.old ≡ 65552 }
+    requires range { start + len ≤ text_len }
+{
+    let place = cat::chunk_place(start);
+    if let Err(e) = file.seek(SeekFrom::Start(place)) {
+        return Err(SealError::Read(e));
+    }
     let mut writer = io::writer(rt);
-    cat::print_part(
-        &secret,
-        &salt,
-        text_len,
-        start,
-        len,
-        &mut file,
-        &mut writer,
-        &mut buf,
-    )
-    .map_err(told)?;
-    writer
-        .flush()
-        .map_err(|e| Failure::Write("standard output", e))
+    cat::print_part(secret, salt, text_len, start, len, file, &mut writer, buf)?;
+    match writer.flush() {
+        Ok(()) => Ok(()),
+        Err(e) => Err(SealError::Write(e)),
+    }
 }

@@ -12,29 +12,59 @@ pub const LIMIT: u128 = 274877906944;
 pub const LEGACY_LIMIT: u128 = 1180591620717411303424;
 
 const RUN: CipherList = CipherList {
-    name: "a call of the run",
+    name: "the run",
     input: &[1, 2, 3],
     data: b"\xcb\xf2\xe3\xc2",
     calls: &[],
     after: b"\xcb\xf2\xe3\xc2",
 };
 
-/// Of a new cipher without rounds, for a key and a nonce of zeros. First a run: each call with the data before it and
-/// after. Then the rest of the first block, and the front of the second.
-pub static ZERO_RUNS: [CipherList; 16] = [
+/// Of a new cipher without rounds, for a key and a nonce of zeros. First a run, whole and again from the start on, each
+/// call with the data before it and after. Then the rest of the first block, and the front of the second.
+pub static ZERO_RUNS: [CipherList; 18] = [
     CipherList {
+        data: &[0; 4],
+        calls: &[
+            (Apply { at: 0, len: 4 }, Done),
+            (Seek(0), Done),
+            (
+                ApplyFrom {
+                    from: 0,
+                    from_len: 3,
+                    at: 0,
+                    len: 3,
+                },
+                Done,
+            ),
+            (THREE_INTO_FOUR, Refused),
+            (Pos, Position(3)),
+            (SeekI32(-1), Refused),
+            (PosI32, PositionI32(3)),
+            (Write { at: 3, len: 1 }, Done),
+        ],
+        ..RUN
+    },
+    CipherList {
+        name: "a seek to the start, after the run",
+        calls: &[(Seek(0), Done)],
+        ..EMPTY
+    },
+    CipherList {
+        name: "call 1 of the run",
         data: &[0; 4],
         calls: &[(Apply { at: 0, len: 4 }, Done)],
         after: b"\xca\xf0\xe0\xc2",
         ..RUN
     },
     CipherList {
+        name: "call 2 of the run",
         data: b"\xca\xf0\xe0\xc2",
         calls: &[(Seek(0), Done)],
         after: b"\xca\xf0\xe0\xc2",
         ..RUN
     },
     CipherList {
+        name: "call 3 of the run",
         data: b"\xca\xf0\xe0\xc2",
         calls: &[(
             ApplyFrom {
@@ -48,22 +78,27 @@ pub static ZERO_RUNS: [CipherList; 16] = [
         ..RUN
     },
     CipherList {
+        name: "call 4 of the run",
         calls: &[(THREE_INTO_FOUR, Refused)],
         ..RUN
     },
     CipherList {
+        name: "call 5 of the run",
         calls: &[(Pos, Position(3))],
         ..RUN
     },
     CipherList {
+        name: "call 6 of the run",
         calls: &[(SeekI32(-1), Refused)],
         ..RUN
     },
     CipherList {
+        name: "call 7 of the run",
         calls: &[(PosI32, PositionI32(3))],
         ..RUN
     },
     CipherList {
+        name: "call 8 of the run",
         calls: &[(Write { at: 3, len: 1 }, Done)],
         ..RUN
     },
