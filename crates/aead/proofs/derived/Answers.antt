@@ -1,4 +1,3 @@
-use Rattle.std.proofs.Common.{ap}
 use Rattle.chacha20.proofs.StartLemmas.{subnonce_written}
 use Rattle.aead.proofs.derived.Goals as goal
 
