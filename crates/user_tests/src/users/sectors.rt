@@ -12,8 +12,8 @@ fn reads(versions: &[u64], disk: &[u8], number: u32, text: &mut [u8; SECTOR]) ->
     read(&COUNTING, versions, disk, number, text).is_ok()
 }
 
-// RFC 8439, section 2.4.2: the nonce is that of version 0x4a000000 of sector 0, and the stream is known from block 1 on.
-// The nonce of section 2.3.2 has another number.
+// RFC 8439, section 2.4.2: the nonce is that of version 0x4a000000 of sector 0, and the stream is known from block 1
+// on. The nonce of section 2.3.2 has another number.
 #[test]
 fn published(rt: HostRuntime) {
     let (mut versions, mut disk, mut text) = ([0x49ff_ffff], [9; SECTOR], [1; SECTOR]);

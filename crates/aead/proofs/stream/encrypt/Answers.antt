@@ -8,9 +8,9 @@ use Rattle.aead.proofs.stream.encrypt.Goals as goal
 
 pub returns-clause-written : goal.returns-clause-written
 returns-clause-written g c =
-    let contents = g.W.Write.contents in
+    let holds = g.W.Write.contents in
     let made = c.new.ensures in
-    let front : Appends (contents c.args.writer.now) (contents c.write_whole.new.writer) c.args.nonce.now = search rules in
+    let front : Appends (holds c.args.writer.now) (holds c.write_whole.new.writer) c.args.nonce.now = search rules in
     on_ok_weaker c.xor_all.result
     (λ done. IfSome_then (g.R.Read.remaining c.args.reader.now) done
     (λ text rest. Appends-trans _ _ _ _ _ front
