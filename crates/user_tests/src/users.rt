@@ -1,7 +1,7 @@
 //! What the named types are, what a caller proves from public contracts alone, what users write, as the crate
 //! `examples` does, and the exports for C.
 
-mod aead;
+mod authenticated;
 mod contracts;
 mod exports;
 mod file;

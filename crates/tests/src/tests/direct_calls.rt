@@ -65,7 +65,7 @@ fn of_bytes<C: StreamCipher>(
     data: &mut [u8],
     call: CipherCall,
 ) -> CipherAnswer
-    requires { InSlices (length input.now) (length data.old) call }
+    requires { InSlices (length input.now) (length «data».old) call }
 {
     match call {
         CipherCall::Apply { at, len } | CipherCall::Write { at, len } => {
@@ -94,7 +94,7 @@ fn of_call<C: StreamCipherSeek>(
     data: &mut [u8],
     call: CipherCall,
 ) -> CipherAnswer
-    requires { InSlices (length input.now) (length data.old) call }
+    requires { InSlices (length input.now) (length «data».old) call }
 {
     match call {
         CipherCall::CheckRemaining(len) => of_outcome(cipher.check_remaining(len)),
