@@ -4,18 +4,18 @@
 //! ```text
 //! use aead::ChaCha20Poly1305;
 //!
-//! let tag = ChaCha20Poly1305::seal(&key, &nonce, aad, &mut message)?;
-//! ChaCha20Poly1305::open(&key, &nonce, aad, &mut message, &tag)?;
+//! let Ok(tag) = ChaCha20Poly1305::seal(&key, &nonce, aad, &mut message) else { .. };
+//! let opened = ChaCha20Poly1305::open(&key, &nonce, aad, &mut message, &tag).is_ok();
 //! ```
 //!
 //! The message is encrypted from block 1 on. The tag covers the associated data, which isn't encrypted, and the
-//! ciphertext; its key is the first half of block 0. Send or store the tag, and if need be the nonce.
+//! ciphertext; its key is the first half of block 0. Send or store nonce, ciphertext and tag.
 //!
 //! Contracts say what `seal` computes, that `open` accepts exactly the right tag and otherwise leaves the message as it
 //! was, and that `open` of what `seal` made restores the message. They don't say how hard a tag is to forge. Never use
 //! a nonce twice under one key: the two messages reveal the XOR of their texts, and tags can be forged.
 //!
-//! `seal` and `open` at the end take any cipher of the library and any MAC. For another MAC, implement `Mac`.
+//! The functions `seal` and `open` take any cipher of the library and any MAC. A MAC of your own implements `Mac`.
 //!
 //! The module `sealed` does this for files, chunk by chunk. `stream` encrypts from a reader to a writer, without a tag.
 //! All proofs use only the public contracts, definitions and lemmas of `chacha20` and `poly1305`.
@@ -195,7 +195,7 @@ impl Mac for Poly1305 {
     }
 }
 
-/// `ChaCha20Poly1305::seal` over any cipher and any MAC (this crate). Fails if the message is longer than the keystream
+/// `ChaCha20Poly1305::seal` over any cipher and any MAC. Fails if the message is longer than the keystream
 /// from block 1 on, and then leaves it as it was.
 pub fn seal<C: KeyIvInit + StreamCipherSeek + Drop, M: Mac>(
     key: &C::Key,
@@ -215,7 +215,7 @@ pub fn seal<C: KeyIvInit + StreamCipherSeek + Drop, M: Mac>(
     Ok(tag::<M>(&one_time_key::<C>(key, nonce), aad, message))
 }
 
-/// `ChaCha20Poly1305::open` over any cipher and any MAC (this crate).
+/// `ChaCha20Poly1305::open` over any cipher and any MAC.
 pub fn open<C: KeyIvInit + StreamCipherSeek + Drop, M: Mac>(
     key: &C::Key,
     nonce: &C::Iv,

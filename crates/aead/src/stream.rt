@@ -5,9 +5,9 @@
 //! Choose each nonce at random: with 24 bytes, two random nonces are never equal in practice.
 //!
 //! `R.remaining reader` are the bytes that a reader has left, and `W.contents writer` those that a writer holds, where
-//! they are known (`Some`), as for a slice and a `Vec`. `Consumes a b text`: a reader with a left gave the text and has
-//! b left. `Appends a b bytes`: a writer that held a took the bytes and holds b. A reader or a writer may fail at any
-//! time, so no clause says when a call returns `Ok`.
+//! they are known (`Some`), as for a slice that is read and a `Vec` that is written. `Consumes a b text`: a reader with
+//! a left gave the text and has b left. `Appends a b bytes`: a writer that held a took the bytes and holds b. A reader
+//! or a writer may fail at any time, so no clause says when a call returns `Ok`.
 //!
 //! Nothing is authenticated: where a bit of the ciphertext is changed, that bit of the text changes. For a tag, see
 //! `sealed`.

@@ -7,9 +7,7 @@ mod failure;
 mod files;
 mod progress;
 
-use aead::sealed::chunk::{CHUNK, Salt, TAG};
-use aead::sealed::error::SealError;
-use aead::sealed::{cat, stream};
+use aead::sealed::{CHUNK, Salt, SealError, TAG, cat, stream};
 use chacha20::Key;
 use failure::{Failure, Refusal};
 use progress::Progress;

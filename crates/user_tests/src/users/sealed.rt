@@ -3,15 +3,13 @@
 ghost use Rattle.std.specs.Prelude.{◌<◌, ◌^◌};
 
 use super::unsteady::Unsteady;
-use aead::sealed::chunk::{CHUNK, Salt, TAG};
-use aead::sealed::error::{Damage, SealError};
-use aead::sealed::stream::{decrypt, encrypt};
-use known_answers::published::COUNTING;
+use aead::sealed::{CHUNK, Damage, Salt, SealError, TAG, decrypt, encrypt};
+use known_answers::published::COUNTING as KEY;
 use std::io::{Read, Write};
 
 const SALT: Salt = *b"defghijklmnopqrs";
 
-// The file of the text "text" under COUNTING and SALT; the chunk as libsodium seals it (checks/seal).
+// The file of the text "text" under KEY and SALT; the chunk as libsodium seals it (checks/seal).
 static FILE_OF_TEXT: [u8; 52] = *b"chacha20-seal v1defghijklmnopqrs\
     \xa2\x58\xa9\xdf\x48\x9e\x69\x1f\x7f\x17\xa2\xbb\xbd\x04\x97\x5a\xb1\x18\xa7\xf9";
 
@@ -47,13 +45,14 @@ fn seals<const N: usize, const F: usize>(salt: &Salt, text: &[u8; N], file: &mut
     requires text { N < 2 ^ 63 }
     requires file { F < 2 ^ 63 }
 {
-    let (mut reader, mut room) = (text.as_slice(), file.as_mut_slice());
-    let done = encrypt(&COUNTING, salt, &mut reader, &mut room, &mut [0; CHUNK + 1]);
-    said_by(done) == Said::Done && room.is_empty()
+    let (mut reader, mut writer) = (text.as_slice(), file.as_mut_slice());
+    let done = encrypt(&KEY, salt, &mut reader, &mut writer, &mut [0; CHUNK + 1]);
+    said_by(done) == Said::Done && writer.is_empty()
 }
 
 fn opens<R: Read, W: Write>(reader: &mut R, writer: &mut W) -> Said {
-    said_by(decrypt(&COUNTING, reader, writer, &mut [0; CHUNK + TAG + 1]))
+    let done = decrypt(&KEY, reader, writer, &mut [0; CHUNK + TAG + 1]);
+    said_by(done)
 }
 
 // What is said of a file, and how much text is written.
