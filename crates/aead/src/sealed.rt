@@ -2,8 +2,8 @@
 //! any reader to any writer. The program `seal` calls this. `specs/Sealed.antt` has the format. As for messages, no
 //! contract says how hard a tag is to forge.
 //!
-//! A reader or a writer may fail at any time, so no clause says when a call returns `Ok`. The head of `stream.rt`
-//! explains the words of the clauses.
+//! A reader or a writer may fail at any time, so no clause says when a call returns `Ok`. The module `stream` beside
+//! this one explains the words of the clauses.
 
 pub mod cat;
 pub mod chunk;

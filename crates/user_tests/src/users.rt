@@ -1,5 +1,5 @@
-//! What the named types are, what a caller proves from public contracts alone, what users write, as the crate
-//! `examples` does, and the exports for C.
+//! What the named types are, what a caller proves from public contracts alone, what users write, as the crates
+//! `examples` and `aead` do, and the exports for C.
 
 mod authenticated;
 mod contracts;
