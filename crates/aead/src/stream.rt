@@ -1,8 +1,5 @@
 //! Encrypts or decrypts from a reader to a writer through one buffer, so a long text takes no more memory than a short
-//! one.
-//!
-//! `xor_all` is the loop, for any cipher. `encrypt` also writes a nonce of 24 bytes in front, and `decrypt` reads it.
-//! Choose each nonce at random: with 24 bytes, two random nonces are never equal in practice.
+//! one. `xor_all` is the loop, for any cipher.
 //!
 //! `R.remaining reader` are the bytes that a reader has left, and `W.contents writer` those that a writer holds, where
 //! they are known (`Some`), as for a slice that is read and a `Vec` that is written. `Consumes a b text`: a reader with
@@ -12,18 +9,16 @@
 //! Nothing is authenticated: where a bit of the ciphertext is changed, that bit of the text changes. For a tag, see
 //! `sealed`.
 
-ghost use Rattle.std.specs.Prelude.{◌≡◌, ◌≢◌, ◌<◌, ◌≤◌, ◌+◌, ◌++◌, ℕ, List, length, take, Some, IsErr, IsErrOf, IfOk, IfErr, OnOk, OnErr, IfSome};
+ghost use Rattle.std.specs.Prelude.{◌≡◌, ◌≢◌, ◌<◌, ◌≤◌, ◌+◌, ℕ, List, length, take, IsErrOf, IfOk, IfErr, OnOk, OnErr, IfSome};
 ghost use Rattle.std.specs.declared.io.Error.{Error};
 ghost use Rattle.std.specs.IoError.{error_kind};
 ghost use Rattle.std.specs.Io.{ReadsAtMost};
 ghost use Rattle.std.specs.Io.KnownBytes.{Appends, Consumes, IsAtEnd, Keeps};
 ghost use Rattle.chacha20.specs.ChaCha.{keystream, xor_stream};
-ghost use Rattle.chacha20.specs.XChaCha.{xchacha_stream};
 ghost use Rattle.chacha20.specs.Cipher.{limit_of};
 ghost use Rattle.aead.specs.declared.stream.StreamError.TheVariants.{TooLong};
 
-use chacha20::cipher::{KeyIvInit, StreamCipher, StreamCipherError};
-use chacha20::{Key, XChaCha20, XNonce};
+use chacha20::cipher::{StreamCipher, StreamCipherError};
 use std::io;
 use std::io::{ErrorKind, Read, Write};
 
@@ -85,59 +80,6 @@ pub fn xor_all<C: StreamCipher, R: Read, W: Write>(
         }
     }
     Err(StreamError::Read(io::Error::from(ErrorKind::TimedOut)))
-}
-
-/// Writes a nonce, and then the encryption of all bytes that the reader has left (draft-irtf-cfrg-xchacha, section 2.3,
-/// from block 0 on). It fails as `xor_all` does.
-pub fn encrypt<R: Read, W: Write>(
-    key: &Key,
-    nonce: &XNonce,
-    reader: &mut R,
-    writer: &mut W,
-    buf: &mut [u8],
-) -> Result<(), StreamError>
-    requires room { 0 < length buf.old }
-    ensures written { OnOk result (IfSome (R.remaining reader.old) (λ text.
-        Appends (W.contents writer.old) (W.contents writer.new)
-        (nonce.now ++ xor_stream (xchacha_stream 10 key.now nonce.now) 0 text))) }
-    ensures too_long { IsErrOf result TooLong → (text : List ℕ)
-        × Consumes (R.remaining reader.old) (R.remaining reader.new) text
-        × (274877906944 < length text) }
-{
-    write_whole(writer, nonce).map_err(StreamError::Write)?;
-    xor_all(&mut XChaCha20::new(key, nonce), reader, writer, buf)
-}
-
-/// Reads a nonce, and writes the decryption of all that follows it. It fails for less than 24 bytes, and as `xor_all`
-/// does.
-pub fn decrypt<R: Read, W: Write>(
-    key: &Key,
-    reader: &mut R,
-    writer: &mut W,
-    buf: &mut [u8],
-) -> Result<(), StreamError>
-    requires room { 0 < length buf.old }
-    ensures text { (nonce text : List ℕ) → length nonce ≡ 24 → R.remaining reader.old
-        ≡ Some (nonce ++ xor_stream (xchacha_stream 10 key.now nonce) 0 text)
-        → OnOk result (Appends (W.contents writer.old) (W.contents writer.new) text) }
-    ensures short { IfSome (R.remaining reader.old) (λ bytes. length bytes < 24 → IsErr result) }
-    ensures too_long { IsErrOf result TooLong → (bytes : List ℕ)
-        × Consumes (R.remaining reader.old) (R.remaining reader.new) bytes
-        × (24 + 274877906944 < length bytes) }
-{
-    let nonce = read_nonce(reader)?;
-    xor_all(&mut XChaCha20::new(key, &nonce), reader, writer, buf)
-}
-
-fn read_nonce<R: Read>(reader: &mut R) -> Result<XNonce, StreamError>
-    ensures bytes { IfOk result (λ nonce.
-        Consumes (R.remaining reader.old) (R.remaining reader.new) nonce) }
-    ensures size { IfOk result (λ nonce. length nonce ≡ 24) }
-    ensures never_too_long { ¬ IsErrOf result TooLong }
-{
-    let mut nonce = [0; 24];
-    reader.read_exact(&mut nonce).map_err(StreamError::Read)?;
-    Ok(nonce)
 }
 
 // The next piece, from one read. It is empty only at the reader's end.
