@@ -17,7 +17,7 @@
 //!
 //! The functions `seal` and `open` take any cipher of the library and any MAC. A MAC of your own implements `Mac`.
 //!
-//! The module `sealed` does this for files, chunk by chunk. `stream` encrypts from a reader to a writer, without a tag.
+//! The module `sealed` does this for files, chunk by chunk.
 //! All proofs use only the public contracts, definitions and lemmas of `chacha20` and `poly1305`.
 #![tactic(auto)]
 
@@ -28,7 +28,6 @@ ghost use Rattle.chacha20.specs.XChaCha.{xchacha_stream, subkey, subnonce};
 ghost use Rattle.aead.specs.Aead.{mac_key, encrypted, mac_text, padding, poly1305_tag};
 
 pub mod sealed;
-pub mod stream;
 
 use chacha20::cipher::{KeyIvInit, StreamCipher, StreamCipherError, StreamCipherSeek};
 use chacha20::{ChaCha20, Key, Nonce, R20, XNonce, hchacha};

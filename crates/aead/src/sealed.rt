@@ -2,8 +2,10 @@
 //! any reader to any writer. The program `seal` calls this. `specs/Sealed.antt` has the format. As for messages, no
 //! contract says how hard a tag is to forge.
 //!
-//! A reader or a writer may fail at any time, so no clause says when a call returns `Ok`. The module `stream` beside
-//! this one explains the words of the clauses.
+//! `R.remaining reader` are the bytes that a reader has left, and `W.contents writer` those that a writer holds, where
+//! they are known (`Some`), as for a slice that is read and a `Vec` that is written. `Consumes a b text`: a reader with
+//! a left gave the text and has b left. `Appends a b bytes`: a writer that held a took the bytes and holds b. A reader
+//! or a writer may fail at any time, so no clause says when a call returns `Ok`.
 
 pub mod cat;
 pub mod chunk;

@@ -7,9 +7,8 @@ ghost use Rattle.aead.specs.Sealed.{header, chunk_nonce, chunk};
 
 use crate::XChaCha20Poly1305;
 use crate::sealed::error::SealError;
-use crate::stream::write_whole;
 use chacha20::{Key, XNonce};
-use std::io::Write;
+use std::io::{self, ErrorKind, Write};
 
 /// 16 random bytes, which no other file under the key may have.
 pub type Salt = [u8; 16];
@@ -80,6 +79,29 @@ pub fn put<W: Write>(writer: &mut W, bytes: &[u8]) -> Result<(), SealError>
         × Appends (W.contents writer.old) (W.contents writer.new) (take n bytes.now) }
 {
     write_whole(writer, bytes).map_err(SealError::Write)
+}
+
+/// Writes all bytes, and repeats a write that a signal interrupts. The contract of std's `write_all` doesn't say what
+/// was written before an error.
+pub fn write_whole<W: Write>(writer: &mut W, bytes: &[u8]) -> io::Result<()>
+    ensures written { OnOk result
+        (Appends (W.contents writer.old) (W.contents writer.new) bytes.now) }
+    ensures partly { (n : ℕ)
+        × Appends (W.contents writer.old) (W.contents writer.new) (take n bytes.now) }
+{
+    let mut done = 0;
+    'tries: for _ in 0..u64::MAX {
+        if done == bytes.len() {
+            return Ok(());
+        }
+        match writer.write(&bytes[done..]) {
+            Ok(0) => return Err(io::Error::from(ErrorKind::WriteZero)),
+            Ok(n) => done += n,
+            Err(e) if e.kind() == ErrorKind::Interrupted => {}
+            Err(e) => return Err(e),
+        }
+    }
+    Err(io::Error::from(ErrorKind::TimedOut))
 }
 
 /// Checks the tag of a chunk, and decrypts it in place: its text stands before its last 16 bytes. With a wrong tag the

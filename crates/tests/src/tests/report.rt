@@ -64,7 +64,10 @@ fn lines_and_status(rt: HostRuntime) {
     let bad = page_of(rt.alloc(), false, BAD_ROWS);
     let right = page_of(rt.alloc(), false, RIGHT_ROWS);
     let full = page_of(rt.alloc(), true, RIGHT_ROWS);
-    assert!(rt; ends(&rt, &bad, failed_at("a check", 0), ExitCode::FAILURE));
-    assert!(rt; ends(&rt, &right, None, ExitCode::SUCCESS));
-    assert!(rt; ends(&rt, &full, None, ExitCode::FAILURE));
+    let found = [
+        ends(&rt, &bad, failed_at("a check", 0), ExitCode::FAILURE),
+        ends(&rt, &right, None, ExitCode::SUCCESS),
+        ends(&rt, &full, None, ExitCode::FAILURE),
+    ];
+    assert!(rt; found == [true; 3]);
 }

@@ -21,14 +21,21 @@ fn is_appended(len: u64, line: &mut [u8], end: u64) -> bool {
 fn in_lines(rt: HostRuntime) {
     let (mut first, mut second) = ([0; 100], [0; 78]);
     let new = appends(&mut LogWriter::new(&COUNTING, &NONCE), &mut first, 100);
-    let both = new && is_appended(100, &mut second, 178);
-    assert!(rt; both && KEYSTREAM.starts_with(&first[64..]) && KEYSTREAM.ends_with(&second));
+    let resumed = is_appended(100, &mut second, 178);
+    let found = [
+        KEYSTREAM.starts_with(&first[64..]),
+        KEYSTREAM.ends_with(&second),
+    ];
+    assert!(rt; [new, resumed] == [true; 2] && found == [true; 2]);
 }
 
 #[test]
 fn end_of_a_log(rt: HostRuntime) {
-    let mut line = [7; 2];
-    assert!(rt; !is_appended(274877906945, &mut [], 274877906945));
-    assert!(rt; !is_appended(274877906943, &mut line, 274877906945) && line == [7; 2]);
-    assert!(rt; is_appended(274877906943, &mut line[..1], 274877906944));
+    let (mut line, mut last) = ([7; 2], [7]);
+    let taken = [
+        is_appended(274877906945, &mut [], 274877906945),
+        is_appended(274877906943, &mut line, 274877906945),
+        is_appended(274877906943, &mut last, 274877906944),
+    ];
+    assert!(rt; taken == [false, false, true] && line == [7; 2]);
 }

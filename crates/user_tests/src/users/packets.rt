@@ -31,12 +31,14 @@ fn any_order(rt: HostRuntime) {
     let mut sender = Sender::new(&[3; 32], &[1, 2, 3, 4]);
     let mut receiver = Receiver::new(&[3; 32], &[1, 2, 3, 4]);
     let (mut first, mut second) = ([0; 5], [0; 5]);
-    assert!(rt; sent(&mut sender, 0, &mut first) && sent(&mut sender, 1, &mut second));
-    assert!(rt; receiver.receive(&ONE, &mut second, false) == Err(PacketError::Forged));
-    assert!(rt;
-        twice(&mut receiver, &ONE, &mut second, &mut [7; 5]) == Ok(true) && second == [0; 5]
-    );
-    assert!(rt; receiver.receive(&[0; 8], &mut first, true) == Ok(()) && first == [0; 5]);
+    let right = [
+        sent(&mut sender, 0, &mut first),
+        sent(&mut sender, 1, &mut second),
+        receiver.receive(&ONE, &mut second, false) == Err(PacketError::Forged),
+        twice(&mut receiver, &ONE, &mut second, &mut [7; 5]) == Ok(true),
+        receiver.receive(&[0; 8], &mut first, true) == Ok(()),
+    ];
+    assert!(rt; right == [true; 5] && [first, second] == [[0; 5]; 2]);
 }
 
 static ONE: Header = [1, 0, 0, 0, 0, 0, 0, 0];

@@ -26,8 +26,12 @@ fn published(rt: HostRuntime) {
 #[test]
 fn refused(rt: HostRuntime) {
     let (mut versions, mut disk, mut text) = ([u64::MAX, 1], [9; 2 * SECTOR - 1], [6; SECTOR]);
-    let written = writes(&mut versions, &mut disk, 0) || writes(&mut versions, &mut disk, 1);
-    let read = reads(&versions, &disk, 1, &mut text) || reads(&versions, &disk, 2, &mut text);
-    assert!(rt; !written && !read && text == [6; SECTOR]);
+    let taken = [
+        writes(&mut versions, &mut disk, 0),
+        writes(&mut versions, &mut disk, 1),
+        reads(&versions, &disk, 1, &mut text),
+        reads(&versions, &disk, 2, &mut text),
+    ];
+    assert!(rt; taken == [false; 4] && text == [6; SECTOR]);
     assert!(rt; versions == [u64::MAX, 1] && disk == [9; 2 * SECTOR - 1]);
 }

@@ -1,7 +1,7 @@
 use Rattle.std.proofs.Common.{◌≡◌, ◌+◌, List, ℕ, length}
 use Rattle.std.specs.Io.KnownBytes.{Appends, Consumes}
 use Rattle.chacha20.specs.ChaCha.{keystream, xor_stream}
-use Rattle.aead.proofs.stream.xor_all.Given as goal
+use Rattle.examples.proofs.stream.xor_all.Given as goal
 
 abbrev pub invariant-pieces : goal.invariant-pieces
 invariant-pieces g l =

@@ -6,8 +6,8 @@ use Rattle.std.specs.Io.KnownBytes.{Appends}
 use Rattle.std.proofs.KnownBytes.{Appends-trans, Consumes-trans, Consumes-whole}
 use Rattle.chacha20.specs.ChaCha.{keystream, xor_stream}
 use Rattle.chacha20.proofs.KeystreamLemmas.{xor_stream-append}
-use Rattle.aead.specs.declared.stream.StreamError.TheVariants.{TooLong}
-use Rattle.aead.proofs.stream.xor_all.Goals as goal
+use Rattle.examples.specs.declared.stream.StreamError.TheVariants.{TooLong}
+use Rattle.examples.proofs.stream.xor_all.Goals as goal
 
 pub pieces-preserved : goal.pieces-preserved
 pieces-preserved g c =

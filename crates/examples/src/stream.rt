@@ -1,13 +1,9 @@
 //! Encrypts or decrypts from a reader to a writer through one buffer, so a long text takes no more memory than a short
 //! one. `xor_all` is the loop, for any cipher.
 //!
-//! `R.remaining reader` are the bytes that a reader has left, and `W.contents writer` those that a writer holds, where
-//! they are known (`Some`), as for a slice that is read and a `Vec` that is written. `Consumes a b text`: a reader with
-//! a left gave the text and has b left. `Appends a b bytes`: a writer that held a took the bytes and holds b. A reader
-//! or a writer may fail at any time, so no clause says when a call returns `Ok`.
-//!
-//! Nothing is authenticated: where a bit of the ciphertext is changed, that bit of the text changes. For a tag, see
-//! `sealed`.
+//! `aead::sealed` explains the words of the clauses. A reader or a writer may fail at any time, so no clause says when a
+//! call returns `Ok`. Nothing is authenticated: where a bit of the ciphertext is changed, that bit of the text changes.
+//! For a tag, see `aead::sealed`.
 
 ghost use Rattle.std.specs.Prelude.{◌≡◌, ◌≢◌, ◌<◌, ◌≤◌, ◌+◌, ℕ, List, length, take, IsErrOf, IfOk, IfErr, OnOk, OnErr, IfSome};
 ghost use Rattle.std.specs.declared.io.Error.{Error};
@@ -16,8 +12,9 @@ ghost use Rattle.std.specs.Io.{ReadsAtMost};
 ghost use Rattle.std.specs.Io.KnownBytes.{Appends, Consumes, IsAtEnd, Keeps};
 ghost use Rattle.chacha20.specs.ChaCha.{keystream, xor_stream};
 ghost use Rattle.chacha20.specs.Cipher.{limit_of};
-ghost use Rattle.aead.specs.declared.stream.StreamError.TheVariants.{TooLong};
+ghost use Rattle.examples.specs.declared.stream.StreamError.TheVariants.{TooLong};
 
+use aead::sealed::chunk::write_whole;
 use chacha20::cipher::{StreamCipher, StreamCipherError};
 use std::io;
 use std::io::{ErrorKind, Read, Write};
@@ -130,28 +127,6 @@ fn read_some<R: Read>(reader: &mut R, buf: &mut [u8]) -> io::Result<usize>
     'tries: for _ in 0..u64::MAX {
         match reader.read(buf) {
             Ok(n) => return Ok(n),
-            Err(e) if e.kind() == ErrorKind::Interrupted => {}
-            Err(e) => return Err(e),
-        }
-    }
-    Err(io::Error::from(ErrorKind::TimedOut))
-}
-
-// `write_all`, whose contract doesn't say what was written before an error.
-pub(crate) fn write_whole<W: Write>(writer: &mut W, bytes: &[u8]) -> io::Result<()>
-    ensures written { OnOk result
-        (Appends (W.contents writer.old) (W.contents writer.new) bytes.now) }
-    ensures partly { (n : ℕ)
-        × Appends (W.contents writer.old) (W.contents writer.new) (take n bytes.now) }
-{
-    let mut done = 0;
-    'tries: for _ in 0..u64::MAX {
-        if done == bytes.len() {
-            return Ok(());
-        }
-        match writer.write(&bytes[done..]) {
-            Ok(0) => return Err(io::Error::from(ErrorKind::WriteZero)),
-            Ok(n) => done += n,
             Err(e) if e.kind() == ErrorKind::Interrupted => {}
             Err(e) => return Err(e),
         }

@@ -5,7 +5,7 @@ use Rattle.std.specs.Io.KnownBytes.{Appends, Consumes, Keeps}
 use Rattle.std.proofs.KnownBytes.{Appends-nil, Consumes-nil, Consumes-kept}
 use Rattle.std.proofs.Math.Seq.{take-length}
 use Rattle.chacha20.specs.ChaCha.{keystream, xor_stream}
-use Rattle.aead.proofs.stream.xor_piece.Goals as goal
+use Rattle.examples.proofs.stream.xor_piece.Goals as goal
 
 -- a read that fails gave nothing
 pub returns-in_err-n-clause-partly : goal.returns-in_err-n-clause-partly
