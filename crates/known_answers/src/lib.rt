@@ -138,10 +138,32 @@ fn generator_rows<G: Drawn>() -> [Row; 10] {
     rows
 }
 
+// The same over cores, each kind in a function of its own: with all types in one, its proof takes three times as long.
+fn ietf_core_rows<K>() -> ([u8; 16], [Row; 8])
+where
+    K: KeyIvInit<Key = Key, Iv = Nonce> + StreamCipherSeekCore<Counter = u32> + Drop,
+{
+    ietf_rows::<Cipher<K>>()
+}
+
+fn legacy_core_rows<K>() -> [Row; 4]
+where
+    K: KeyIvInit<Key = Key, Iv = LegacyNonce> + StreamCipherSeekCore<Counter = u64> + Drop,
+{
+    legacy_rows::<Cipher<K>>()
+}
+
+fn wrong_row_5<K>() -> Verdict
+where
+    K: KeyIvInit<Key = Key, Iv = XNonce> + StreamCipherSeekCore<Counter = u32> + Drop,
+{
+    wrong_lists::<XNonce, Cipher<K>>(&FROM_80, &X_NONCE, &ROW_5)
+}
+
 // The rows of the other kinds, and row 14 of each generator.
 fn other_rows<X, I0, L0, G8, G12, G20>() -> [Row; 6]
 where
-    X: Fresh<XNonce>,
+    X: KeyIvInit<Key = Key, Iv = XNonce> + StreamCipherSeekCore<Counter = u32> + Drop,
     I0: KeyIvInit<Key = Key, Iv = Nonce> + StreamCipherSeekCore<Counter = u32> + Drop,
     L0: SeedableRng<Seed = Seed> + StreamCipherSeekCore<Counter = u64> + Drop,
     G8: Drawn,
@@ -150,7 +172,7 @@ where
 {
     [
         (3, row_3()),
-        (5, wrong_lists::<XNonce, X>(&FROM_80, &X_NONCE, &ROW_5)),
+        (5, wrong_row_5::<X>()),
         (13, row_13::<I0, L0>()),
         (14, wrong_draws::<G8>(FROM_1, &ROW_14)),
         (14, wrong_draws::<G12>(FROM_1, &ROW_14)),
@@ -171,12 +193,12 @@ where
     G12: Drawn,
     G20: Drawn,
 {
-    let (ciphertext, ietf) = ietf_rows::<Cipher<I>>();
+    let (ciphertext, ietf) = ietf_core_rows::<I>();
     let rows = numbered(&[
         &ietf,
-        &legacy_rows::<Cipher<L>>(),
+        &legacy_core_rows::<L>(),
         &generator_rows::<G20>(),
-        &other_rows::<Cipher<X>, I0, L0, G8, G12, G20>(),
+        &other_rows::<X, I0, L0, G8, G12, G20>(),
     ]);
     (ciphertext, rows)
 }
