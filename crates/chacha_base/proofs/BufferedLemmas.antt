@@ -22,7 +22,7 @@ begins-not_empty p (suc n) is not front fits = record { front = front (omega ari
 
 -- len bytes from position p on in three parts: what is left of a block, whole blocks up to q, and less than a block
 pub record Parts (p len whole last q limit : ℕ) : Type 0 where
-  pub blocks : whole % 64 ≡ 0
+  pub in_blocks : whole % 64 ≡ 0
   pub front : 0 < whole → q % 64 ≡ 0
   pub fits : q + whole ≤ limit
   pub part : last < 64
@@ -30,14 +30,15 @@ pub record Parts (p len whole last q limit : ℕ) : Type 0 where
   pub last_fits : {r : ℕ} → r ≡ q + whole → r + last ≤ limit
   pub end : {r s : ℕ} → r ≡ q + whole → s ≡ r + last → s ≡ p + len
 
-pub parts : {p len begun first rest whole last q limit : ℕ} → begun ≡ min len (left_at p) → first ≡ begun
-    → rest + begun ≡ len → whole ≡ rest / 64 * 64 → last + rest / 64 * 64 ≡ rest → q ≡ p + first → p + len ≤ limit
-    → Parts p len whole last q limit
-parts {p} {len} {rest = rest} {q = q} cut size all blocks last moved fits =
-    let left : rest ≡ len - left_at p = omega arith in
+-- the same of a slice of n bytes that is cut in three, whose first part and last part then became others as long
+pub parts : {p len n begun first rest whole end last q limit : ℕ} → len ≡ n → begun ≡ min len (left_at p)
+    → first ≡ begun → rest + begun ≡ n → whole ≡ rest / 64 * 64 → end + rest / 64 * 64 ≡ rest → last ≡ end
+    → q ≡ p + first → p + len ≤ limit → Parts p len whole last q limit
+parts {p} {n = n} {rest = rest} {q = q} same cut size all blocks behind kept moved fits =
+    let left : rest ≡ n - left_at p = omega arith in
     let front : 0 < rest → q % 64 ≡ 0 = λ some. omega arith in
     record {
-      blocks = omega arith;
+      in_blocks = omega arith;
       front = λ some. front (omega arith);
       fits = omega arith;
       part = omega arith;

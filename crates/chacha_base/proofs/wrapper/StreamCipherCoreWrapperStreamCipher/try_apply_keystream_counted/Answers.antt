@@ -50,15 +50,15 @@ pub apply_whole-requires-clause-whole : goal.apply_whole-requires-clause-whole
 apply_whole-requires-clause-whole g c =
     let front = c.split_at_mut-front.ensures in
     let blocks = c.split_at_mut-blocks.ensures in
-    (parts c.begun-begun.ensures front.front_len front.back_len blocks.front_len blocks.back_len
-    c.apply_begun.ensures.position (c.in_default.ensures.accepted.0 refl)).blocks
+    (parts refl c.begun-begun.ensures front.front_len front.back_len blocks.front_len blocks.back_len refl
+    c.apply_begun.ensures.position (c.in_default.ensures.accepted.0 refl)).in_blocks
 
 -- answered for speed
 pub apply_whole-requires-clause-front : goal.apply_whole-requires-clause-front
 apply_whole-requires-clause-front g c =
     let front = c.split_at_mut-front.ensures in
     let blocks = c.split_at_mut-blocks.ensures in
-    (parts c.begun-begun.ensures front.front_len front.back_len blocks.front_len blocks.back_len
+    (parts refl c.begun-begun.ensures front.front_len front.back_len blocks.front_len blocks.back_len refl
     c.apply_begun.ensures.position (c.in_default.ensures.accepted.0 refl)).front
 
 -- answered for speed
@@ -66,7 +66,7 @@ pub apply_whole-requires-clause-fits : goal.apply_whole-requires-clause-fits
 apply_whole-requires-clause-fits g c =
     let front = c.split_at_mut-front.ensures in
     let blocks = c.split_at_mut-blocks.ensures in
-    (parts c.begun-begun.ensures front.front_len front.back_len blocks.front_len blocks.back_len
+    (parts refl c.begun-begun.ensures front.front_len front.back_len blocks.front_len blocks.back_len refl
     c.apply_begun.ensures.position (c.in_default.ensures.accepted.0 refl)).fits
 
 -- answered for speed
@@ -74,7 +74,7 @@ pub apply_last-requires-clause-part : goal.apply_last-requires-clause-part
 apply_last-requires-clause-part g c =
     let front = c.split_at_mut-front.ensures in
     let blocks = c.split_at_mut-blocks.ensures in
-    (parts c.begun-begun.ensures front.front_len front.back_len blocks.front_len blocks.back_len
+    (parts refl c.begun-begun.ensures front.front_len front.back_len blocks.front_len blocks.back_len refl
     c.apply_begun.ensures.position (c.in_default.ensures.accepted.0 refl)).part
 
 -- answered for speed
@@ -82,7 +82,7 @@ pub apply_last-requires-clause-front : goal.apply_last-requires-clause-front
 apply_last-requires-clause-front g c =
     let front = c.split_at_mut-front.ensures in
     let blocks = c.split_at_mut-blocks.ensures in
-    (parts c.begun-begun.ensures front.front_len front.back_len blocks.front_len blocks.back_len
+    (parts refl c.begun-begun.ensures front.front_len front.back_len blocks.front_len blocks.back_len refl
     c.apply_begun.ensures.position (c.in_default.ensures.accepted.0 refl)).last_front c.apply_whole.ensures.position
 
 -- answered for speed
@@ -90,5 +90,5 @@ pub apply_last-requires-clause-fits : goal.apply_last-requires-clause-fits
 apply_last-requires-clause-fits g c =
     let front = c.split_at_mut-front.ensures in
     let blocks = c.split_at_mut-blocks.ensures in
-    (parts c.begun-begun.ensures front.front_len front.back_len blocks.front_len blocks.back_len
+    (parts refl c.begun-begun.ensures front.front_len front.back_len blocks.front_len blocks.back_len refl
     c.apply_begun.ensures.position (c.in_default.ensures.accepted.0 refl)).last_fits c.apply_whole.ensures.position
