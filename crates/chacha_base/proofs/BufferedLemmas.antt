@@ -1,6 +1,6 @@
 -- A core and the block in its buffer, as a byte stream keeps them: at which position they are, and at which after more
 -- bytes or a seek. The proofs of the byte stream alone cite these. Read `IsBuffered` first.
-use Rattle.std.proofs.Common.{◌≡◌, ◌+◌, ◌-◌, ◌*◌, ◌/◌, ◌%◌, ◌<◌, ◌≤◌, ◌∙◌, ℕ, zero, suc, Bool, false, nat_eq, List, length, take, drop, slice_index, arith, sym, ap, get_or-take, get_or-drop, mod-eq_of_lt}
+use Rattle.std.proofs.Common.{◌≡◌, ◌+◌, ◌-◌, ◌*◌, ◌/◌, ◌%◌, ◌<◌, ◌≤◌, ◌∙◌, ℕ, min, zero, suc, Bool, false, nat_eq, List, length, take, drop, slice_index, arith, sym, ap, get_or-take, get_or-drop, mod-eq_of_lt}
 use Rattle.std.proofs.lemmas.Bool.{false≢true}
 use Rattle.std.proofs.Math.Nat.{mod-add-mod}
 use Rattle.chacha_base.specs.ChaCha.{keystream, xor_stream}
@@ -19,6 +19,33 @@ pub begins-not_empty : {empty : Bool} {limit : ℕ} (p n : ℕ) → empty ≡ na
     → (0 < n → p % 64 ≡ 0) → p + n ≤ limit → Begins p n limit
 begins-not_empty p zero is not front fits = absurd (false≢true (sym not ∙ is))
 begins-not_empty p (suc n) is not front fits = record { front = front (omega arith); some = omega arith; fits = fits }
+
+-- len bytes from position p on in three parts: what is left of a block, whole blocks from q on, less than a block
+pub record Parts (p len whole last q limit : ℕ) : Type 0 where
+  pub in_blocks : whole % 64 ≡ 0
+  pub front : 0 < whole → q % 64 ≡ 0
+  pub fits : q + whole ≤ limit
+  pub part : last < 64
+  pub last_front : {r : ℕ} → r ≡ q + whole → 0 < last → r % 64 ≡ 0
+  pub last_fits : {r : ℕ} → r ≡ q + whole → r + last ≤ limit
+  pub end : {r s : ℕ} → r ≡ q + whole → s ≡ r + last → s ≡ p + len
+
+-- such parts by the cuts of a slice, whose first part and last part may since hold other bytes
+pub parts : {p len n begun first rest whole end last q limit : ℕ} → len ≡ n → begun ≡ min len (left_at p)
+    → first ≡ begun → rest + begun ≡ n → whole ≡ rest / 64 * 64 → end + rest / 64 * 64 ≡ rest → last ≡ end
+    → q ≡ p + first → p + len ≤ limit → Parts p len whole last q limit
+parts {p} {n = n} {rest = rest} {q = q} same cut size all blocks behind kept moved fits =
+    let left : rest ≡ n - left_at p = omega arith in
+    let front : 0 < rest → q % 64 ≡ 0 = λ some. omega arith in
+    record {
+      in_blocks = omega arith;
+      front = λ some. front (omega arith);
+      fits = omega arith;
+      part = omega arith;
+      last_front = λ next some. let at = front (omega arith) in omega arith;
+      last_fits = λ next. omega arith;
+      end = λ next then. omega arith;
+    }
 
 -- a core whose counter was set for a position: at a block's front no block is made, and else one
 pub at-sought_front : {modulus p counter : ℕ} {block : ℕ → List ℕ} {buffer : List ℕ} → p ≤ limit_of modulus

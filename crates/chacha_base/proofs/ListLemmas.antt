@@ -1,6 +1,6 @@
 -- Lists of known length, and elements that are written one after another. All other lemma files and the proofs of
 -- loops cite these.
-use Rattle.std.proofs.Common.{◌≡◌, inl, inr, Bool, ℕ, zero, suc, ◌+◌, ◌-◌, ◌<◌, ◌≤◌, List, [], ◌∷◌, ◌++◌, length, map, take, drop, slice_index, refl, sym, ap, subst, ◌∙◌, length-append, length-drop, length-set, arith, below_more, set, slice_get, Some, nat_lt, if◌then◌else◌, lt-ltb, le-ltb, length-take-le, get_or-take, get_or-set_same, get_or-set_other, append-nil}
+use Rattle.std.proofs.Common.{◌≡◌, inl, inr, Bool, ℕ, zero, suc, ◌+◌, ◌-◌, ◌<◌, ◌≤◌, List, [], ◌∷◌, ◌++◌, length, map, take, drop, slice_index, refl, sym, ap, subst, ◌∙◌, length-append, length-drop, length-set, arith, below_more, set, slice_set, slice_get, Some, nat_lt, if◌then◌else◌, lt-ltb, le-ltb, length-take-le, get_or-take, get_or-set_same, get_or-set_other, append-nil}
 use Rattle.std.specs.List.{range_with_len}
 use Rattle.std.proofs.lemmas.Bool.{cases_lt}
 use Rattle.std.proofs.lemmas.List.{get_or_append_left, get_or-append_right}
@@ -104,3 +104,13 @@ four_joined ea eb ec ed = cc
 pub four_listed : {X : Type 0} {a b c d p q r s : X} → a ≡ p → b ≡ q → c ≡ r → d ≡ s
     → a ∷ b ∷ c ∷ d ∷ [] ≡ p ∷ q ∷ r ∷ s ∷ []
 four_listed ea eb ec ed = cc
+
+-- four elements that are written one after another into a list of four
+pub four_set : {X : Type 0} {a b c d p q r s : X} (xs : List X) → length xs ≡ 4 → a ≡ p → b ≡ q → c ≡ r → d ≡ s
+    → slice_set (slice_set (slice_set (slice_set xs 0 a) 1 b) 2 c) 3 d ≡ p ∷ q ∷ r ∷ s ∷ []
+four_set (w ∷ x ∷ y ∷ z ∷ []) four ea eb ec ed = four_listed ea eb ec ed
+four_set [] four ea eb ec ed = absurd (omega (arith, four))
+four_set (w ∷ []) four ea eb ec ed = absurd (omega (arith, four))
+four_set (w ∷ x ∷ []) four ea eb ec ed = absurd (omega (arith, four))
+four_set (w ∷ x ∷ y ∷ []) four ea eb ec ed = absurd (omega (arith, four))
+four_set (w ∷ x ∷ y ∷ z ∷ more ∷ xs) four ea eb ec ed = absurd (omega (arith, four))

@@ -1,5 +1,6 @@
 use Rattle.std.proofs.Common.{◌+◌, ap, refl, sym, ◌++◌, ◌∙◌}
 use Rattle.chacha_base.specs.ChaCha.{keystream, xor_stream}
+use Rattle.chacha_base.proofs.BufferedLemmas.{parts}
 use Rattle.chacha_base.proofs.KeystreamLemmas.{xor_stream-parts}
 use Rattle.chacha_base.proofs.wrapper.StreamCipherCoreWrapperStreamCipher.try_apply_keystream_b2b.Goals as goal
 
@@ -34,3 +35,76 @@ returns-clause-bytes g c =
     (c.apply_last.ensures.bytes
     ∙ ap (λ f. xor_stream (keystream modulus (block f)) whole.position last)
     (c.apply_whole_between.ensures.fixed ∙ kept)))
+
+-- answered for speed
+pub returns-clause-fixed : goal.returns-clause-fixed
+returns-clause-fixed g c =
+    c.apply_last.ensures.fixed ∙ c.apply_whole_between.ensures.fixed ∙ c.apply_begun.ensures.fixed
+
+-- answered for speed
+pub apply_whole_between-requires-clause-same : goal.apply_whole_between-requires-clause-same
+apply_whole_between-requires-clause-same g c =
+    c.split_at-2.ensures.front_len ∙ sym c.split_at_mut-blocks.ensures.front_len
+
+-- answered for speed
+pub apply_whole_between-requires-clause-whole : goal.apply_whole_between-requires-clause-whole
+apply_whole_between-requires-clause-whole g c =
+    let front = c.split_at_mut-front.ensures in
+    let blocks = c.split_at_mut-blocks.ensures in
+    (parts c.if-input-output.false c.begun-begun.ensures (c.copy_part.auto.output ∙ front.front_len) front.back_len
+    blocks.front_len blocks.back_len c.copy_part-2.auto.output c.apply_begun.ensures.position
+    (c.in_default.ensures.accepted.0 refl)).in_blocks
+
+-- answered for speed
+pub apply_whole_between-requires-clause-front : goal.apply_whole_between-requires-clause-front
+apply_whole_between-requires-clause-front g c =
+    let front = c.split_at_mut-front.ensures in
+    let blocks = c.split_at_mut-blocks.ensures in
+    (parts c.if-input-output.false c.begun-begun.ensures (c.copy_part.auto.output ∙ front.front_len) front.back_len
+    blocks.front_len blocks.back_len c.copy_part-2.auto.output c.apply_begun.ensures.position
+    (c.in_default.ensures.accepted.0 refl)).front
+
+-- answered for speed
+pub apply_whole_between-requires-clause-fits : goal.apply_whole_between-requires-clause-fits
+apply_whole_between-requires-clause-fits g c =
+    let front = c.split_at_mut-front.ensures in
+    let blocks = c.split_at_mut-blocks.ensures in
+    (parts c.if-input-output.false c.begun-begun.ensures (c.copy_part.auto.output ∙ front.front_len) front.back_len
+    blocks.front_len blocks.back_len c.copy_part-2.auto.output c.apply_begun.ensures.position
+    (c.in_default.ensures.accepted.0 refl)).fits
+
+-- answered for speed
+pub apply_last-requires-clause-part : goal.apply_last-requires-clause-part
+apply_last-requires-clause-part g c =
+    let front = c.split_at_mut-front.ensures in
+    let blocks = c.split_at_mut-blocks.ensures in
+    (parts c.if-input-output.false c.begun-begun.ensures (c.copy_part.auto.output ∙ front.front_len) front.back_len
+    blocks.front_len blocks.back_len c.copy_part-2.auto.output c.apply_begun.ensures.position
+    (c.in_default.ensures.accepted.0 refl)).part
+
+-- answered for speed
+pub apply_last-requires-clause-front : goal.apply_last-requires-clause-front
+apply_last-requires-clause-front g c =
+    let front = c.split_at_mut-front.ensures in
+    let blocks = c.split_at_mut-blocks.ensures in
+    (parts c.if-input-output.false c.begun-begun.ensures (c.copy_part.auto.output ∙ front.front_len) front.back_len
+    blocks.front_len blocks.back_len c.copy_part-2.auto.output c.apply_begun.ensures.position
+    (c.in_default.ensures.accepted.0 refl)).last_front c.apply_whole_between.ensures.position
+
+-- answered for speed
+pub apply_last-requires-clause-fits : goal.apply_last-requires-clause-fits
+apply_last-requires-clause-fits g c =
+    let front = c.split_at_mut-front.ensures in
+    let blocks = c.split_at_mut-blocks.ensures in
+    (parts c.if-input-output.false c.begun-begun.ensures (c.copy_part.auto.output ∙ front.front_len) front.back_len
+    blocks.front_len blocks.back_len c.copy_part-2.auto.output c.apply_begun.ensures.position
+    (c.in_default.ensures.accepted.0 refl)).last_fits c.apply_whole_between.ensures.position
+
+-- answered for speed
+pub returns-clause-position : goal.returns-clause-position
+returns-clause-position g c =
+    let front = c.split_at_mut-front.ensures in
+    let blocks = c.split_at_mut-blocks.ensures in
+    (parts c.if-input-output.false c.begun-begun.ensures (c.copy_part.auto.output ∙ front.front_len) front.back_len
+    blocks.front_len blocks.back_len c.copy_part-2.auto.output c.apply_begun.ensures.position
+    (c.in_default.ensures.accepted.0 refl)).end c.apply_whole_between.ensures.position c.apply_last.ensures.position

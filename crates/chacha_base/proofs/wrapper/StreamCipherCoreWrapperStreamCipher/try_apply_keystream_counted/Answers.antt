@@ -1,5 +1,6 @@
 use Rattle.std.proofs.Common.{length, ap, ◌∙◌, refl}
 use Rattle.chacha_base.specs.ChaCha.{keystream, xor_stream}
+use Rattle.chacha_base.proofs.BufferedLemmas.{parts}
 use Rattle.chacha_base.proofs.CountsLemmas.{grows-rest, grows-bytes}
 use Rattle.chacha_base.proofs.KeystreamLemmas.{xor_stream-parts}
 use Rattle.chacha_base.proofs.wrapper.StreamCipherCoreWrapperStreamCipher.try_apply_keystream_counted.Goals as goal
@@ -43,3 +44,51 @@ returns-in-Err-clause-refused g c = (refl, refl, refl)
 -- answered for speed
 pub returns-clause-fixed : goal.returns-clause-fixed
 returns-clause-fixed g c = c.apply_last.ensures.fixed ∙ c.apply_whole.ensures.fixed ∙ c.apply_begun.ensures.fixed
+
+-- answered for speed
+pub apply_whole-requires-clause-whole : goal.apply_whole-requires-clause-whole
+apply_whole-requires-clause-whole g c =
+    let front = c.split_at_mut-front.ensures in
+    let blocks = c.split_at_mut-blocks.ensures in
+    (parts refl c.begun-begun.ensures front.front_len front.back_len blocks.front_len blocks.back_len refl
+    c.apply_begun.ensures.position (c.in_default.ensures.accepted.0 refl)).in_blocks
+
+-- answered for speed
+pub apply_whole-requires-clause-front : goal.apply_whole-requires-clause-front
+apply_whole-requires-clause-front g c =
+    let front = c.split_at_mut-front.ensures in
+    let blocks = c.split_at_mut-blocks.ensures in
+    (parts refl c.begun-begun.ensures front.front_len front.back_len blocks.front_len blocks.back_len refl
+    c.apply_begun.ensures.position (c.in_default.ensures.accepted.0 refl)).front
+
+-- answered for speed
+pub apply_whole-requires-clause-fits : goal.apply_whole-requires-clause-fits
+apply_whole-requires-clause-fits g c =
+    let front = c.split_at_mut-front.ensures in
+    let blocks = c.split_at_mut-blocks.ensures in
+    (parts refl c.begun-begun.ensures front.front_len front.back_len blocks.front_len blocks.back_len refl
+    c.apply_begun.ensures.position (c.in_default.ensures.accepted.0 refl)).fits
+
+-- answered for speed
+pub apply_last-requires-clause-part : goal.apply_last-requires-clause-part
+apply_last-requires-clause-part g c =
+    let front = c.split_at_mut-front.ensures in
+    let blocks = c.split_at_mut-blocks.ensures in
+    (parts refl c.begun-begun.ensures front.front_len front.back_len blocks.front_len blocks.back_len refl
+    c.apply_begun.ensures.position (c.in_default.ensures.accepted.0 refl)).part
+
+-- answered for speed
+pub apply_last-requires-clause-front : goal.apply_last-requires-clause-front
+apply_last-requires-clause-front g c =
+    let front = c.split_at_mut-front.ensures in
+    let blocks = c.split_at_mut-blocks.ensures in
+    (parts refl c.begun-begun.ensures front.front_len front.back_len blocks.front_len blocks.back_len refl
+    c.apply_begun.ensures.position (c.in_default.ensures.accepted.0 refl)).last_front c.apply_whole.ensures.position
+
+-- answered for speed
+pub apply_last-requires-clause-fits : goal.apply_last-requires-clause-fits
+apply_last-requires-clause-fits g c =
+    let front = c.split_at_mut-front.ensures in
+    let blocks = c.split_at_mut-blocks.ensures in
+    (parts refl c.begun-begun.ensures front.front_len front.back_len blocks.front_len blocks.back_len refl
+    c.apply_begun.ensures.position (c.in_default.ensures.accepted.0 refl)).last_fits c.apply_whole.ensures.position
