@@ -2,11 +2,9 @@
 //! so that no call is worked out beforehand.
 
 use chacha20::backends::{Columns8, Lanes4, Lanes8, Lanes16, Rows8, Soft};
-use chacha20::cipher::{
-    KeyIvInit, RngBackend, StreamCipher, StreamCipherBackend, StreamCipherSeek,
-};
+use chacha20::cipher::{KeyIvInit, RngBackend, StreamCipherBackend, StreamCipherSeek};
 use chacha20::variants::Ietf;
-use chacha20::{ChaChaCore, ChaChaRng, Key, R20, StreamCipherCoreWrapper};
+use chacha20::{ChaChaCore, ChaChaRng, Key, R20, StreamCipher, StreamCipherCoreWrapper};
 
 /// A call to be measured, on a slice. `NextU32` takes as many words as the slice holds, `Seek` goes into a block and
 /// then applies in place; all others begin with a new cipher or generator.
@@ -37,31 +35,35 @@ pub static CALLS: [(&str, Call, &[usize]); 6] = [
 /// The names of the backends.
 pub static BACKENDS: [&str; 6] = ["Soft", "Lanes4", "Lanes8", "Rows8", "Lanes16", "Columns8"];
 
-type Cipher<B> = StreamCipherCoreWrapper<ChaChaCore<R20, Ietf, B>>;
+// A backend and the cipher over it, whose bounds are proved once and not in each function.
+trait Backend: RngBackend<R20> {
+    type Cipher: KeyIvInit<Key = Key, Iv = [u8; 12]> + StreamCipherSeek + Drop;
+}
+
+impl<B: StreamCipherBackend<R20, Ietf> + RngBackend<R20>> Backend for B {
+    type Cipher = StreamCipherCoreWrapper<ChaChaCore<R20, Ietf, B>>;
+}
 
 #[inline(never)]
-fn in_place<B: StreamCipherBackend<R20, Ietf>>(key: &Key, data: &mut [u8]) -> bool {
-    let mut cipher = Cipher::<B>::new(key, &[0; 12]);
+fn in_place<B: Backend>(key: &Key, data: &mut [u8]) -> bool {
+    let mut cipher = B::Cipher::new(key, &[0; 12]);
     cipher.try_apply_keystream(data).is_ok()
 }
 
 #[inline(never)]
-fn two_slices<B>(key: &Key, input: &[u8], data: &mut [u8]) -> bool
-where
-    B: StreamCipherBackend<R20, Ietf>,
-{
-    let mut cipher = Cipher::<B>::new(key, &[0; 12]);
+fn two_slices<B: Backend>(key: &Key, input: &[u8], data: &mut [u8]) -> bool {
+    let mut cipher = B::Cipher::new(key, &[0; 12]);
     cipher.try_apply_keystream_b2b(input, data).is_ok()
 }
 
 #[inline(never)]
-fn keystream<B: StreamCipherBackend<R20, Ietf>>(key: &Key, data: &mut [u8]) -> bool {
-    let mut cipher = Cipher::<B>::new(key, &[0; 12]);
+fn keystream<B: Backend>(key: &Key, data: &mut [u8]) -> bool {
+    let mut cipher = B::Cipher::new(key, &[0; 12]);
     cipher.try_write_keystream(data).is_ok()
 }
 
 #[inline(never)]
-fn seek<B: StreamCipherBackend<R20, Ietf>>(cipher: &mut Cipher<B>, data: &mut [u8]) -> bool {
+fn seek<B: Backend>(cipher: &mut B::Cipher, data: &mut [u8]) -> bool {
     cipher.try_seek(1u64).is_ok() && cipher.try_apply_keystream(data).is_ok()
 }
 
@@ -82,12 +84,9 @@ fn next_u32<B: RngBackend<R20>>(key: &Key, data: &mut [u8]) -> bool {
 }
 
 // Makes a call so many times over a backend, and says whether each was accepted.
-fn makes_over<B>(call: Call, times: usize, input: &[u8], data: &mut [u8]) -> bool
-where
-    B: StreamCipherBackend<R20, Ietf> + RngBackend<R20>,
-{
+fn repeats<B: Backend>(call: Call, times: usize, input: &[u8], data: &mut [u8]) -> bool {
     let key = [(times % 256) as u8; 32];
-    let mut cipher = Cipher::<B>::new(&key, &[0; 12]);
+    let mut cipher = B::Cipher::new(&key, &[0; 12]);
     let mut accepted = true;
     for _ in 0..times {
         accepted &= match call {
@@ -100,6 +99,14 @@ where
         };
     }
     accepted
+}
+
+// The same. `Backend` is proved here, over any, and not in `makes` for each.
+fn makes_over<B>(call: Call, times: usize, input: &[u8], data: &mut [u8]) -> bool
+where
+    B: StreamCipherBackend<R20, Ietf> + RngBackend<R20>,
+{
+    repeats::<B>(call, times, input, data)
 }
 
 /// Makes a call so many times over the backend of a name. It returns true if there is one, and each call was accepted.

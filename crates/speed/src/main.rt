@@ -44,37 +44,26 @@ fn refused<T>() -> io::Result<T> {
 
 // Makes each call once over each backend.
 fn each_once(rt: &HostRuntime) -> io::Result<()> {
-    let mut accepted = true;
     for backend in &BACKENDS {
         for (_, call, _) in &CALLS {
-            accepted &= makes(*call, backend, 1, &INPUT[..1500], &mut [0; 1500]);
+            if !makes(*call, backend, 1, &INPUT[..1500], &mut [0; 1500]) {
+                return refused();
+            }
         }
     }
-    if accepted {
-        println!(rt; "each backend makes each call")
-    } else {
-        refused()
-    }
+    println!(rt; "each backend makes each call")
 }
 
 // Makes as many calls as the words say.
 fn count(call: &str, backend: &str, length: &str, times: &str) -> io::Result<()> {
-    let (Some(call), Ok(length), Ok(times)) = (
-        call_of(call),
-        length.parse::<usize>(),
-        times.parse::<usize>(),
-    ) else {
+    let (Some(call), Ok(length), Ok(times)) = (call_of(call), length.parse(), times.parse()) else {
         return refused();
     };
-    if length > MOST {
+    let mut data = [0; MOST];
+    if length > MOST || !makes(call, backend, times, &INPUT[..length], &mut data[..length]) {
         return refused();
     }
-    let mut data = [0; MOST];
-    if makes(call, backend, times, &INPUT[..length], &mut data[..length]) {
-        Ok(())
-    } else {
-        refused()
-    }
+    Ok(())
 }
 
 // Prints the table.
@@ -91,30 +80,38 @@ fn table(rt: &HostRuntime) -> io::Result<()> {
 // Prints the lines of a call and a length. The backends take turns, so that a slower processor slows them all.
 fn lines(rt: &HostRuntime, name: &str, call: Call, length: usize) -> io::Result<()> {
     let mut data = [0; MOST];
-    let length = length.min(MOST);
-    let (input, data) = (&INPUT[..length], &mut data[..length]);
-    let times = MOST / length.max(64);
+    let data = &mut data[..length.min(MOST)];
     let mut taken = [[Duration::ZERO; TURNS]; 6];
     for turn in 0..TURNS {
         for i in 0..BACKENDS.len() {
-            let start = Instant::now(rt)?;
-            if !makes(call, BACKENDS[i], times, input, data) {
-                return refused();
-            }
-            taken[i][turn] = start.elapsed(rt)?;
+            taken[i][turn] = time(rt, call, BACKENDS[i], data)?;
         }
     }
     for i in 0..BACKENDS.len() {
         taken[i].sort_unstable();
-        let least = nanoseconds(taken[i][0], times);
-        let median = nanoseconds(taken[i][TURNS / 2], times);
-        let speed = nearest_usize_to_f64(length) / least;
-        let over = BACKENDS[i];
-        println!(rt; "{name:10} {length:6}  {over:8} {least:10.1} {median:10.1} {speed:7.2}")?;
+        let least_and_median = [taken[i][0], taken[i][TURNS / 2]];
+        line(rt, name, BACKENDS[i], length, least_and_median)?;
     }
     Ok(())
 }
 
-fn nanoseconds(taken: Duration, times: usize) -> f64 {
-    1e9 * taken.as_secs_f64() / nearest_usize_to_f64(times)
+fn time(rt: &HostRuntime, call: Call, over: &str, data: &mut [u8]) -> io::Result<Duration> {
+    let input = &INPUT[..data.len().min(MOST)];
+    let start = Instant::now(rt)?;
+    if !makes(call, over, times(data.len()), input, data) {
+        return refused();
+    }
+    start.elapsed(rt)
+}
+
+// The calls that are timed together, which apply about as many bytes as the greatest length.
+fn times(length: usize) -> usize {
+    MOST / length.max(64)
+}
+
+fn line(rt: &HostRuntime, name: &str, over: &str, len: usize, t: [Duration; 2]) -> io::Result<()> {
+    let each = 1e9 / nearest_usize_to_f64(times(len));
+    let (least, median) = (t[0].as_secs_f64() * each, t[1].as_secs_f64() * each);
+    let speed = nearest_usize_to_f64(len) / least;
+    println!(rt; "{name:10} {len:6}  {over:8} {least:10.1} {median:10.1} {speed:7.2}")
 }
