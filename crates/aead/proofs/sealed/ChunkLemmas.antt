@@ -29,8 +29,8 @@ pub full-chunk : (key salt : List ℕ) (i : ℕ) (last : Bool) (text : List ℕ)
     → length (chunk key salt i last text) ≡ 65552
 full-chunk key salt i last text full = length-chunk key salt i last text ∙ ap (λ k. k + 16) full
 
--- for speed: an answer that takes a fact through here compares numbers and marks alone, so it is refused at once if they
--- differ, and not after a comparison of two whole chunks
+-- for speed: an answer that takes a fact through here compares numbers and marks alone, so it is refused at once if
+-- they differ, and not after a comparison of two whole chunks
 pub as-chunk : (P : List ℕ → Type 0) (key salt text : List ℕ) (i n : ℕ) (last mark : Bool)
     → P (chunk key salt i last text) → i ≡ n → last ≡ mark → P (chunk key salt n mark text)
 as-chunk P key salt text i n last mark holds same same_mark =
