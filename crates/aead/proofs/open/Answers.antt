@@ -1,4 +1,4 @@
-use Rattle.std.proofs.Common.{◌∙◌, refl, ap, sym}
+use Rattle.std.proofs.Common.{◌≡◌, ◌∙◌, IsErrAnd, refl, ap, sym, subst}
 use Rattle.chacha20.specs.ChaCha.{xor_stream}
 use Rattle.chacha20.proofs.KeystreamLemmas.{xor_stream-xor_stream}
 use Rattle.chacha20.proofs.SeekLemmas.{keystream-sought}
@@ -24,3 +24,10 @@ returns-clause-accepted g c =
       ),
       λ right. refl,
     )
+
+-- answered for speed
+pub returns-clause-wrong_tag : goal.returns-clause-wrong_tag
+returns-clause-wrong_tag g c = (
+  λ err. absurd (subst (λ r. IsErrAnd r (λ e. e ≡ e)) (sym err) refl),
+  λ wrong. absurd (wrong.1 ((returns-clause-accepted g c).0 refl).1),
+)

@@ -1,5 +1,5 @@
 -- Chunks of a file: where each stands, and that a file has one text.
-use Rattle.std.proofs.Common.{◌≡◌, ◌<◌, ◌≤◌, ◌+◌, ◌-◌, ◌*◌, ◌/◌, ◌∙◌, ℕ, zero, suc, Bool, true, false, List, [], ◌++◌, length, take, drop, arith, refl, sym, ap, ap₂, subst, append_assoc, append-nil, length-append, length-drop, length-take, length-take-le, take_at, drop_at, take_all, min, inl, inr, eq-or-lt_of_le, add-one}
+use Rattle.std.proofs.Common.{◌≡◌, ◌≢◌, ◌<◌, ◌≤◌, ◌+◌, ◌-◌, ◌*◌, ◌/◌, ◌∙◌, ℕ, zero, suc, Bool, true, false, List, [], ◌++◌, length, take, drop, arith, refl, sym, ap, ap₂, subst, append_assoc, append-nil, length-append, length-drop, length-take, length-take-le, take_at, drop_at, take_all, min, inl, inr, eq-or-lt_of_le, add-one}
 use Rattle.std.proofs.Math.Nat.{min_comm, min-le_left}
 use Rattle.std.proofs.lemmas.List.{take-append-le, drop-append-le}
 use Rattle.chacha20.specs.ChaCha.{xor_stream}
@@ -28,6 +28,19 @@ some-chunk key salt i last text = subst (λ k. 0 < k) (sym (length-chunk key sal
 pub full-chunk : (key salt : List ℕ) (i : ℕ) (last : Bool) (text : List ℕ) → length text ≡ 65536
     → length (chunk key salt i last text) ≡ 65552
 full-chunk key salt i last text full = length-chunk key salt i last text ∙ ap (λ k. k + 16) full
+
+-- for speed: an answer that takes a fact through here compares numbers and marks alone, so it is refused at once if
+-- they differ, and not after a comparison of two whole chunks
+pub as-chunk : (P : List ℕ → Type 0) (key salt text : List ℕ) (i n : ℕ) (last mark : Bool)
+    → P (chunk key salt i last text) → i ≡ n → last ≡ mark → P (chunk key salt n mark text)
+as-chunk P key salt text i n last mark holds same same_mark =
+    subst P (ap₂ (λ k b. chunk key salt k b text) same same_mark) holds
+
+pub no-chunk-as : (key salt bytes : List ℕ) (i n : ℕ) (last : Bool)
+    → ((text : List ℕ) → (0 < i → 0 < length text) → bytes ≢ chunk key salt i last text) → i ≡ n
+    → (text : List ℕ) → (0 < n → 0 < length text) → bytes ≢ chunk key salt n last text
+no-chunk-as key salt bytes i n last wrong same =
+    subst (λ k. (text : List ℕ) → (0 < k → 0 < length text) → bytes ≢ chunk key salt k last text) same wrong
 
 -- a chunk has one text
 pub chunk-same : (key salt : List ℕ) (i : ℕ) (last : Bool) (xs ys : List ℕ)

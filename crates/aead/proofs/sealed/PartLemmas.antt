@@ -184,3 +184,19 @@ module _ (text new : List ℕ) (i : ℕ) (inside : 65536 * i
       ap₂ (λ xs t. xs ++ slice_range t (start - 65536 * i) (min (end - 65536 * i) 65536))
       (before-same text put start end i front-put) (sym piece-put)
       ∙ before-next put start end i first less
+
+-- chunk i holds a part of the text, which ends before `end`; its bytes are in the buffer
+pub in-part : (i end : ℕ) → i < (end - 1) / 65536 + 1 → 65536 * i ≤ end
+in-part i end less = omega (arith, less)
+
+pub in-text : (i end long : ℕ) → i < (end - 1) / 65536 + 1 → end ≤ long → 65536 * i ≤ long
+in-text i end long less within = omega (arith, less, within)
+
+pub in-buffer : (size rest : ℕ) (buf old : List ℕ) → size ≡ min rest 65536 → length buf ≡ length old
+    → length old ≡ 65552 → size + 16 ≤ length buf
+in-buffer size rest buf old is same full = omega (arith, is, same, full)
+
+pub in-read : (span : ℕ) (new old : List ℕ) → length new ≡ length (take span old) → span ≤ length old
+    → span ≤ length (new ++ drop span old)
+in-read span new old read fits =
+    omega (arith, read, length-take-le span old fits, length-append new (drop span old))
