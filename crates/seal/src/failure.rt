@@ -5,8 +5,13 @@ use std::alloc::AllocError;
 use std::fmt::{Display, Formatter};
 use std::{fmt, io};
 
+const USAGE: &str = "usage: seal encrypt KEYFILE IN OUT | seal decrypt KEYFILE IN OUT | \
+                     seal cat KEYFILE IN START LEN | seal key KEYFILE";
+
+const PAST_THE_END: &str = "START + LEN is past the end: by its length, ";
+
 /// Why a call of the program failed. A path is the file's name as it was given.
-#[derive(Drop)]
+#[derive(Clone, Copy)]
 pub enum Failure<'a> {
     /// The words aren't those of a call.
     Usage,
@@ -65,26 +70,34 @@ impl From<AllocError> for Failure<'_> {
     }
 }
 
-impl Display for Failure<'_> {
-    fn fmt<W: fmt::Write>(&self, f: &mut Formatter<W>) -> fmt::Result {
-        match self {
-            Failure::Usage => f.write_str(
-                "usage: seal encrypt KEYFILE IN OUT | seal decrypt KEYFILE IN OUT | seal cat KEYFILE IN START LEN | \
-                 seal key KEYFILE",
-            ),
-            Failure::OutOfMemory => f.write_str("out of memory"),
+impl Failure<'_> {
+    // The words before, of and after the name. A cause or a number may follow.
+    fn words(&self) -> (&str, &str, &str) {
+        match *self {
+            Failure::Usage => (USAGE, "", ""),
+            Failure::OutOfMemory => ("out of memory", "", ""),
             Failure::Refused(refusal, name) => {
                 let (before, after) = refusal.words();
-                write!(f, "{before}{name}{after}")
+                (before, name, after)
             }
-            Failure::NoRandomBytes(e) => write!(f, "the system gives no random bytes: {e}"),
-            Failure::Read(path, e) => write!(f, "cannot read {path}: {e}"),
-            Failure::Write(path, e) => write!(f, "cannot write {path}: {e}"),
-            Failure::Damaged(path, damage) => write!(f, "{path}: {damage}"),
-            Failure::EndOfText(path, len) => write!(
-                f,
-                "START + LEN is past the end: by its length, {path} has {len} bytes of text"
-            ),
+            Failure::NoRandomBytes(_) => ("the system gives no random bytes: ", "", ""),
+            Failure::Read(path, _) => ("cannot read ", path, ": "),
+            Failure::Write(path, _) => ("cannot write ", path, ": "),
+            Failure::Damaged(path, _) => ("", path, ": "),
+            Failure::EndOfText(path, _) => (PAST_THE_END, path, " has "),
+        }
+    }
+}
+
+impl Display for Failure<'_> {
+    fn fmt<W: fmt::Write>(&self, f: &mut Formatter<W>) -> fmt::Result {
+        let (before, name, after) = self.words();
+        write!(f, "{before}{name}{after}")?;
+        match self {
+            Failure::NoRandomBytes(e) | Failure::Read(_, e) | Failure::Write(_, e) => e.fmt(f),
+            Failure::Damaged(_, damage) => damage.fmt(f),
+            Failure::EndOfText(_, len) => write!(f, "{len} bytes of text"),
+            _ => Ok(()),
         }
     }
 }

@@ -65,24 +65,33 @@ pub fn open(rt: &HostRuntime, path: &str) -> io::Result<(File, u64)> {
     Ok((file, metadata.len()))
 }
 
+// The device and the number of a file, and whether it is one.
+fn identity(rt: &HostRuntime, path: &str) -> io::Result<(u64, u64, bool)> {
+    let it = fs::metadata(rt, path)?;
+    Ok((it.dev(), it.ino(), it.is_file()))
+}
+
 /// Fails if `to` is there and is one of the files that are read, or no file.
 pub fn check_target<'a>(
     rt: &HostRuntime,
     to: &'a str,
     read: &[&'a str],
 ) -> Result<(), Failure<'a>> {
-    let there = match fs::metadata(rt, to) {
+    let (dev, ino, is_file) = match identity(rt, to) {
         Ok(there) => there,
         Err(e) if e.kind() == ErrorKind::NotFound => return Ok(()),
         Err(e) => return Err(Failure::Write(to, e)),
     };
     for path in read {
-        let other = fs::metadata(rt, path).map_err(|e| Failure::Read(path, e))?;
-        if other.dev() == there.dev() && other.ino() == there.ino() {
-            return Err(Failure::Refused(Refusal::SameFile, to));
+        match identity(rt, path) {
+            Ok((its_dev, its_ino, _)) if its_dev == dev && its_ino == ino => {
+                return Err(Failure::Refused(Refusal::SameFile, to));
+            }
+            Ok(_) => {}
+            Err(e) => return Err(Failure::Read(path, e)),
         }
     }
-    if there.is_file() {
+    if is_file {
         Ok(())
     } else {
         Err(Failure::Refused(Refusal::NotAFile, to))

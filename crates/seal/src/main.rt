@@ -60,12 +60,25 @@ fn transform<'a>(rt: &HostRuntime, encrypts: bool, words: &'a [String]) -> Resul
     let (key, from, to) = (key.as_str(), from.as_str(), to.as_str());
     files::check_target(rt, to, &[key, from])?;
     let (path, mut file) = files::beside(rt, to)?;
-    let done = match write(rt, encrypts, key, from, to, &mut file) {
-        Ok(()) => files::rename(rt, &file, path.as_str(), to).map_err(|e| Failure::Write(to, e)),
+    fill(rt, encrypts, key, from, to, path.as_str(), &mut file)
+}
+
+// Writes the new file and puts it in the place of OUT, or removes it.
+fn fill<'a>(
+    rt: &HostRuntime,
+    encrypts: bool,
+    key: &'a str,
+    from: &'a str,
+    to: &'a str,
+    path: &str,
+    file: &mut File,
+) -> Result<(), Failure<'a>> {
+    let done = match write(rt, encrypts, key, from, to, file) {
+        Ok(()) => files::rename(rt, file, path, to).map_err(|e| Failure::Write(to, e)),
         Err(failure) => Err(failure),
     };
     if done.is_err() {
-        let _ = fs::remove_file(rt, path.as_str());
+        let _ = fs::remove_file(rt, path);
     }
     done
 }
@@ -79,15 +92,16 @@ fn write<'a>(
     file: &mut File,
 ) -> Result<(), Failure<'a>> {
     let secret = files::read_key(rt, key)?;
+    let salt = if encrypts {
+        Some(files::random(rt)?)
+    } else {
+        None
+    };
     let (from_file, len) = files::open(rt, from).map_err(|e| Failure::Read(from, e))?;
     let mut reader = Progress::new(rt, from_file, len);
-    let done = if encrypts {
-        let salt = files::random(rt)?;
-        let mut buf = vec![in rt.alloc(); 0u8; CHUNK + 1]?;
-        stream::encrypt(&secret, &salt, &mut reader, file, &mut buf)
-    } else {
-        let mut buf = vec![in rt.alloc(); 0u8; CHUNK + TAG + 1]?;
-        stream::decrypt(&secret, &mut reader, file, &mut buf)
+    let done = match salt {
+        Some(salt) => { stream::encrypt(&secret, &salt, &mut reader, file, &mut [0; CHUNK + 1]) }
+        None => stream::decrypt(&secret, &mut reader, file, &mut [0; CHUNK + TAG + 1]),
     };
     done.map_err(|e| Failure::of_stream(e, from, to))
 }

@@ -37,13 +37,21 @@ impl<R: Read> Read for Progress<'_, R> {
         self.read = self.read.saturating_add(n as u64);
         if self.shows && self.read >= self.next {
             self.next = self.next.saturating_add(STEP);
-            let (read, len) = (self.read >> 20, self.len >> 20);
-            // What comes next overwrites it.
-            let _ = eprint!(self.rt; "{read} of {len} MiB\r");
-            if self.next > self.len {
-                let _ = eprintln!(self.rt; "");
-            }
+            show(
+                self.rt,
+                self.read >> 20,
+                self.len >> 20,
+                self.next > self.len,
+            );
         }
         Ok(n)
+    }
+}
+
+fn show(rt: &HostRuntime, read: u64, len: u64, last: bool) {
+    // What comes next overwrites it.
+    let _ = eprint!(rt; "{read} of {len} MiB\r");
+    if last {
+        let _ = eprintln!(rt; "");
     }
 }
