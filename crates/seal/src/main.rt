@@ -100,7 +100,7 @@ fn write<'a>(
     let (from_file, len) = files::open(rt, from).map_err(|e| Failure::Read(from, e))?;
     let mut reader = Progress::new(rt, from_file, len);
     let done = match salt {
-        Some(salt) => { stream::encrypt(&secret, &salt, &mut reader, file, &mut [0; CHUNK + 1]) }
+        Some(salt) => stream::encrypt(&secret, &salt, &mut reader, file, &mut [0; CHUNK + 1]),
         None => stream::decrypt(&secret, &mut reader, file, &mut [0; CHUNK + TAG + 1]),
     };
     done.map_err(|e| Failure::of_stream(e, from, to))
