@@ -2,10 +2,11 @@
 //! any reader to any writer. The program `seal` calls this. `specs/Sealed.antt` has the format. As for messages, no
 //! contract says how hard a tag is to forge.
 //!
-//! `R.remaining reader` are the bytes that a reader has left, and `W.contents writer` those that a writer holds, where
-//! they are known (`Some`), as for a slice that is read and a `Vec` that is written. `Consumes a b text`: a reader with
-//! a left gave the text and has b left. `Appends a b bytes`: a writer that held a took the bytes and holds b. A reader
-//! or a writer may fail at any time, so no clause says when a call returns `Ok`.
+//! `R.remaining reader` is `Some` of the bytes that the reader has left, `W.contents writer` of those that the writer
+//! holds. They are known for a slice and a `Vec`; for a `File` they are `None`. `Consumes a b text`: a reader with `a`
+//! left gave the text and has `b` left. `IsAtEnd a`: none are left. `Appends a b bytes`: a writer that held `a` took the
+//! bytes and holds `b`. Clauses on unknown bytes say nothing. A reader or a writer may fail at any time, so no clause
+//! says when a call returns `Ok`.
 
 pub mod cat;
 pub mod chunk;

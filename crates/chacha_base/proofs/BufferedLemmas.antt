@@ -20,7 +20,7 @@ pub begins-not_empty : {empty : Bool} {limit : ℕ} (p n : ℕ) → empty ≡ na
 begins-not_empty p zero is not front fits = absurd (false≢true (sym not ∙ is))
 begins-not_empty p (suc n) is not front fits = record { front = front (omega arith); some = omega arith; fits = fits }
 
--- len bytes from position p on in three parts: what is left of a block, whole blocks from q on, less than a block
+-- len bytes from p on: the rest of a block, up to q; `whole` bytes of whole blocks; `last` bytes of one more
 pub record Parts (p len whole last q limit : ℕ) : Type 0 where
   pub in_blocks : whole % 64 ≡ 0
   pub front : 0 < whole → q % 64 ≡ 0
@@ -30,7 +30,7 @@ pub record Parts (p len whole last q limit : ℕ) : Type 0 where
   pub last_fits : {r : ℕ} → r ≡ q + whole → r + last ≤ limit
   pub end : {r s : ℕ} → r ≡ q + whole → s ≡ r + last → s ≡ p + len
 
--- such parts by the cuts of a slice, whose first part and last part may since hold other bytes
+-- `Parts` of a slice that was split; `first` and `last` are the lengths of `begun` and `end` after calls changed them
 pub parts : {p len n begun first rest whole end last q limit : ℕ} → len ≡ n → begun ≡ min len (left_at p)
     → first ≡ begun → rest + begun ≡ n → whole ≡ rest / 64 * 64 → end + rest / 64 * 64 ≡ rest → last ≡ end
     → q ≡ p + first → p + len ≤ limit → Parts p len whole last q limit

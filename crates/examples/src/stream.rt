@@ -1,9 +1,5 @@
-//! Encrypts or decrypts from a reader to a writer through one buffer, so a long text takes no more memory than a short
-//! one. `xor_all` is the loop, for any cipher.
-//!
-//! `aead::sealed` explains the words of the clauses. A reader or a writer may fail at any time, so no clause says when a
-//! call returns `Ok`. Nothing is authenticated: where a bit of the ciphertext is changed, that bit of the text changes.
-//! For a tag, see `aead::sealed`.
+//! Encrypts or decrypts from a reader to a writer, with any cipher, through one buffer. It doesn't authenticate: a
+//! changed bit of the ciphertext changes that bit of the text. `aead::sealed` does, and explains the clauses.
 
 ghost use Rattle.std.specs.Prelude.{◌≡◌, ◌≢◌, ◌<◌, ◌≤◌, ◌+◌, ℕ, List, length, take, IsErrOf, IfOk, IfErr, OnOk, OnErr, IfSome};
 ghost use Rattle.std.specs.declared.io.Error.{Error};
@@ -14,7 +10,6 @@ ghost use Rattle.chacha20.specs.ChaCha.{keystream, xor_stream};
 ghost use Rattle.chacha20.specs.Cipher.{limit_of};
 ghost use Rattle.examples.specs.declared.stream.StreamError.TheVariants.{TooLong};
 
-use aead::sealed::chunk::write_whole;
 use chacha20::cipher::{StreamCipher, StreamCipherError};
 use std::io;
 use std::io::{ErrorKind, Read, Write};
@@ -38,9 +33,9 @@ impl From<StreamCipherError> for StreamError {
     }
 }
 
-/// XORs all bytes that the reader has left with the keystream, from the cipher's position on, and writes them, in
-/// pieces of at most the buffer's length. It repeats reads and writes that a signal interrupts. If it
-/// fails, the writer has the first bytes of the encryption of what was read. The last piece stays in the buffer.
+/// Reads to the reader's end, XORs with the keystream from the cipher's position on, and writes. Repeats reads and
+/// writes that a signal interrupts. If it fails, the writer has the first bytes of the result. `buf` keeps the last
+/// piece: wipe it if it is secret.
 pub fn xor_all<C: StreamCipher, R: Read, W: Write>(
     cipher: &mut C,
     reader: &mut R,
@@ -127,6 +122,28 @@ fn read_some<R: Read>(reader: &mut R, buf: &mut [u8]) -> io::Result<usize>
     'tries: for _ in 0..u64::MAX {
         match reader.read(buf) {
             Ok(n) => return Ok(n),
+            Err(e) if e.kind() == ErrorKind::Interrupted => {}
+            Err(e) => return Err(e),
+        }
+    }
+    Err(io::Error::from(ErrorKind::TimedOut))
+}
+
+// `write_all`, with a contract that says what was written before an error.
+fn write_whole<W: Write>(writer: &mut W, bytes: &[u8]) -> io::Result<()>
+    ensures written { OnOk result
+        (Appends (W.contents writer.old) (W.contents writer.new) bytes.now) }
+    ensures partly { (n : ℕ)
+        × Appends (W.contents writer.old) (W.contents writer.new) (take n bytes.now) }
+{
+    let mut done = 0;
+    'tries: for _ in 0..u64::MAX {
+        if done == bytes.len() {
+            return Ok(());
+        }
+        match writer.write(&bytes[done..]) {
+            Ok(0) => return Err(io::Error::from(ErrorKind::WriteZero)),
+            Ok(n) => done += n,
             Err(e) if e.kind() == ErrorKind::Interrupted => {}
             Err(e) => return Err(e),
         }

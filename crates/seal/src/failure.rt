@@ -8,8 +8,6 @@ use std::{fmt, io};
 const USAGE: &str = "usage: seal encrypt KEYFILE IN OUT | seal decrypt KEYFILE IN OUT | \
                      seal cat KEYFILE IN START LEN | seal key KEYFILE";
 
-const PAST_THE_END: &str = "START + LEN is past the end: by its length, ";
-
 /// Why a call of the program failed. A path is the file's name as it was given.
 #[derive(Clone, Copy)]
 pub enum Failure<'a> {
@@ -34,8 +32,9 @@ pub enum Refusal {
     NotAKey,
     /// OUT is also IN or KEYFILE.
     SameFile,
-    /// OUT is a device or a directory.
+    /// OUT isn't a regular file.
     NotAFile,
+    /// IN has more chunks than a sealed file may have.
     TooLong,
 }
 
@@ -46,7 +45,7 @@ impl Refusal {
             Refusal::NotANumber => ("", " is not a number of bytes"),
             Refusal::NotAKey => ("the key file ", " doesn't have 32 bytes"),
             Refusal::SameFile => ("OUT ", " is the same file as IN or KEYFILE"),
-            Refusal::NotAFile => ("", " is there and isn't a file"),
+            Refusal::NotAFile => ("", " exists and isn't a regular file"),
             Refusal::TooLong => ("", " has more chunks than a sealed file may have"),
         }
     }
@@ -71,7 +70,8 @@ impl From<AllocError> for Failure<'_> {
 }
 
 impl Failure<'_> {
-    // The words before, of and after the name. A cause or a number may follow.
+    // The text before the name, the name, and the text after it. `fmt` adds a cause or a number. The prover takes seconds
+    // for each `write!`, so there are few.
     fn words(&self) -> (&str, &str, &str) {
         match *self {
             Failure::Usage => (USAGE, "", ""),
@@ -84,7 +84,11 @@ impl Failure<'_> {
             Failure::Read(path, _) => ("cannot read ", path, ": "),
             Failure::Write(path, _) => ("cannot write ", path, ": "),
             Failure::Damaged(path, _) => ("", path, ": "),
-            Failure::EndOfText(path, _) => (PAST_THE_END, path, " has "),
+            Failure::EndOfText(path, _) => (
+                "START + LEN is past the end: by its length, ",
+                path,
+                " has ",
+            ),
         }
     }
 }
@@ -97,7 +101,7 @@ impl Display for Failure<'_> {
             Failure::NoRandomBytes(e) | Failure::Read(_, e) | Failure::Write(_, e) => e.fmt(f),
             Failure::Damaged(_, damage) => damage.fmt(f),
             Failure::EndOfText(_, len) => write!(f, "{len} bytes of text"),
-            _ => Ok(()),
+            Failure::Usage | Failure::OutOfMemory | Failure::Refused(..) => Ok(()),
         }
     }
 }

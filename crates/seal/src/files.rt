@@ -65,25 +65,25 @@ pub fn open(rt: &HostRuntime, path: &str) -> io::Result<(File, u64)> {
     Ok((file, metadata.len()))
 }
 
-// The device and the number of a file, and whether it is one.
-fn identity(rt: &HostRuntime, path: &str) -> io::Result<(u64, u64, bool)> {
+// The device and inode of a path, and whether it is a regular file.
+fn stat(rt: &HostRuntime, path: &str) -> io::Result<(u64, u64, bool)> {
     let it = fs::metadata(rt, path)?;
     Ok((it.dev(), it.ino(), it.is_file()))
 }
 
-/// Fails if `to` is there and is one of the files that are read, or no file.
+/// Fails if `to` exists and is one of the files in `read`, or not a regular file.
 pub fn check_target<'a>(
     rt: &HostRuntime,
     to: &'a str,
     read: &[&'a str],
 ) -> Result<(), Failure<'a>> {
-    let (dev, ino, is_file) = match identity(rt, to) {
+    let (dev, ino, is_file) = match stat(rt, to) {
         Ok(there) => there,
         Err(e) if e.kind() == ErrorKind::NotFound => return Ok(()),
         Err(e) => return Err(Failure::Write(to, e)),
     };
     for path in read {
-        match identity(rt, path) {
+        match stat(rt, path) {
             Ok((its_dev, its_ino, _)) if its_dev == dev && its_ino == ino => {
                 return Err(Failure::Refused(Refusal::SameFile, to));
             }

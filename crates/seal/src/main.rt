@@ -52,7 +52,7 @@ fn number(word: &str) -> Result<u64, Failure<'_>> {
         .map_err(|_| Failure::Refused(Refusal::NotANumber, word))
 }
 
-// Encrypts or decrypts a file into a new one beside OUT, which takes its place once it is whole.
+// Encrypts or decrypts IN into a new file beside OUT, and then renames it to OUT.
 fn transform<'a>(rt: &HostRuntime, encrypts: bool, words: &'a [String]) -> Result<(), Failure<'a>> {
     let [key, from, to] = words else {
         return Err(Failure::Usage);
@@ -60,11 +60,11 @@ fn transform<'a>(rt: &HostRuntime, encrypts: bool, words: &'a [String]) -> Resul
     let (key, from, to) = (key.as_str(), from.as_str(), to.as_str());
     files::check_target(rt, to, &[key, from])?;
     let (path, mut file) = files::beside(rt, to)?;
-    fill(rt, encrypts, key, from, to, path.as_str(), &mut file)
+    replace(rt, encrypts, key, from, to, path.as_str(), &mut file)
 }
 
-// Writes the new file and puts it in the place of OUT, or removes it.
-fn fill<'a>(
+// Writes the new file and renames it to OUT. After a failure, removes it.
+fn replace<'a>(
     rt: &HostRuntime,
     encrypts: bool,
     key: &'a str,
@@ -92,6 +92,7 @@ fn write<'a>(
     file: &mut File,
 ) -> Result<(), Failure<'a>> {
     let secret = files::read_key(rt, key)?;
+    // Before IN is opened: the prover follows its drop over each later branch.
     let salt = if encrypts {
         Some(files::random(rt)?)
     } else {

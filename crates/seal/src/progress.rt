@@ -5,21 +5,22 @@ use std::io::{IsTerminal, Read};
 
 const STEP: u64 = 1 << 26;
 
-/// Prints a line on standard error, where that is a terminal, after each 64 MiB.
+/// Prints a line on standard error, where that is a terminal and the file has a length, after each 64 MiB.
 #[derive(Drop)]
 pub struct Progress<'a, R> {
     rt: &'a HostRuntime,
     inner: R,
-    // The bytes of the file, those that were read, and those after which the next line comes.
+    // The length of the file, which is 0 for a pipe.
     len: u64,
     read: u64,
+    // The next line is due after so many bytes.
     next: u64,
     shows: bool,
 }
 
 impl<'a, R> Progress<'a, R> {
     pub fn new(rt: &'a HostRuntime, inner: R, len: u64) -> Progress<'a, R> {
-        let shows = rt.stderr().is_terminal();
+        let shows = len > 0 && rt.stderr().is_terminal();
         Progress {
             rt,
             inner,
@@ -48,9 +49,9 @@ impl<R: Read> Read for Progress<'_, R> {
     }
 }
 
-fn show(rt: &HostRuntime, read: u64, len: u64, last: bool) {
-    // What comes next overwrites it.
-    let _ = eprint!(rt; "{read} of {len} MiB\r");
+fn show(rt: &HostRuntime, read_mib: u64, len_mib: u64, last: bool) {
+    // `\r`: the next line overwrites this one.
+    let _ = eprint!(rt; "{read_mib} of {len_mib} MiB\r");
     if last {
         let _ = eprintln!(rt; "");
     }

@@ -35,7 +35,7 @@ pub static CALLS: [(&str, Call, &[usize]); 6] = [
 /// The names of the backends.
 pub static BACKENDS: [&str; 6] = ["Soft", "Lanes4", "Lanes8", "Rows8", "Lanes16", "Columns8"];
 
-// A backend and the cipher over it, whose bounds are proved once and not in each function.
+// A backend with its cipher. The cipher's trait bounds are proved once, in the `impl`.
 trait Backend: RngBackend<R20> {
     type Cipher: KeyIvInit<Key = Key, Iv = [u8; 12]> + StreamCipherSeek + Drop;
 }
@@ -101,7 +101,7 @@ fn repeats<B: Backend>(call: Call, times: usize, input: &[u8], data: &mut [u8]) 
     accepted
 }
 
-// The same. `Backend` is proved here, over any, and not in `makes` for each.
+// `repeats`. Here `B: Backend` is proved once for all `B`; `makes` would prove it for each backend.
 fn makes_over<B>(call: Call, times: usize, input: &[u8], data: &mut [u8]) -> bool
 where
     B: StreamCipherBackend<R20, Ietf> + RngBackend<R20>,

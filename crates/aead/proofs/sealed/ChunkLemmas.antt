@@ -29,13 +29,14 @@ pub full-chunk : (key salt : List ℕ) (i : ℕ) (last : Bool) (text : List ℕ)
     → length (chunk key salt i last text) ≡ 65552
 full-chunk key salt i last text full = length-chunk key salt i last text ∙ ap (λ k. k + 16) full
 
--- for speed: an answer that takes a fact through here compares numbers and marks alone, so it is refused at once if
--- they differ, and not after a comparison of two whole chunks
+-- a fact about a chunk holds for an equal number and mark; for speed: a wrong number or mark fails at once, and no
+-- chunks are compared
 pub as-chunk : (P : List ℕ → Type 0) (key salt text : List ℕ) (i n : ℕ) (last mark : Bool)
     → P (chunk key salt i last text) → i ≡ n → last ≡ mark → P (chunk key salt n mark text)
 as-chunk P key salt text i n last mark holds same same_mark =
     subst P (ap₂ (λ k b. chunk key salt k b text) same same_mark) holds
 
+-- the same of what is no chunk
 pub no-chunk-as : (key salt bytes : List ℕ) (i n : ℕ) (last : Bool)
     → ((text : List ℕ) → (0 < i → 0 < length text) → bytes ≢ chunk key salt i last text) → i ≡ n
     → (text : List ℕ) → (0 < n → 0 < length text) → bytes ≢ chunk key salt n last text

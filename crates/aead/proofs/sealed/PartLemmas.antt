@@ -185,7 +185,7 @@ module _ (text new : List ℕ) (i : ℕ) (inside : 65536 * i
       (before-same text put start end i front-put) (sym piece-put)
       ∙ before-next put start end i first less
 
--- chunk i holds a part of the text, which ends before `end`; its bytes are in the buffer
+-- for `print_part`: chunk i begins at most at `end`, and in the text; the slices are within the buffer
 pub in-part : (i end : ℕ) → i < (end - 1) / 65536 + 1 → 65536 * i ≤ end
 in-part i end less = omega (arith, less)
 

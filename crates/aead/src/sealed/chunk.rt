@@ -70,22 +70,11 @@ pub fn write_chunk<W: Write>(
     put(writer, &tag)
 }
 
-/// Writes bytes.
+/// Writes all bytes, and repeats a write that a signal interrupts.
 pub fn put<W: Write>(writer: &mut W, bytes: &[u8]) -> Result<(), SealError>
     ensures written { OnOk result
         (Appends (W.contents writer.old) (W.contents writer.new) bytes.now) }
     ensures failed { IfErr result (λ e. (damage : Damage) → e ≢ SealError.Damaged damage) }
-    ensures partly { (n : ℕ)
-        × Appends (W.contents writer.old) (W.contents writer.new) (take n bytes.now) }
-{
-    write_whole(writer, bytes).map_err(SealError::Write)
-}
-
-/// Writes all bytes, and repeats a write that a signal interrupts. The contract of std's `write_all` doesn't say what
-/// was written before an error.
-pub fn write_whole<W: Write>(writer: &mut W, bytes: &[u8]) -> io::Result<()>
-    ensures written { OnOk result
-        (Appends (W.contents writer.old) (W.contents writer.new) bytes.now) }
     ensures partly { (n : ℕ)
         × Appends (W.contents writer.old) (W.contents writer.new) (take n bytes.now) }
 {
@@ -95,17 +84,17 @@ pub fn write_whole<W: Write>(writer: &mut W, bytes: &[u8]) -> io::Result<()>
             return Ok(());
         }
         match writer.write(&bytes[done..]) {
-            Ok(0) => return Err(io::Error::from(ErrorKind::WriteZero)),
+            Ok(0) => return Err(SealError::Write(io::Error::from(ErrorKind::WriteZero))),
             Ok(n) => done += n,
             Err(e) if e.kind() == ErrorKind::Interrupted => {}
-            Err(e) => return Err(e),
+            Err(e) => return Err(SealError::Write(e)),
         }
     }
-    Err(io::Error::from(ErrorKind::TimedOut))
+    Err(SealError::Write(io::Error::from(ErrorKind::TimedOut)))
 }
 
-/// Checks the tag of a chunk, and decrypts it in place: its text stands before its last 16 bytes. With a wrong tag the
-/// bytes stay as they were. Of the chunks of a file only the first may have an empty text.
+/// Decrypts a chunk in place and returns true if its tag is right; the text is then all but the last 16 bytes.
+/// Otherwise, and for an empty text after chunk 0, returns false and changes nothing.
 pub fn open_chunk(key: &Key, salt: &Salt, number: u64, last: bool, bytes: &mut [u8]) -> bool
     requires number { number < 2 ^ 56 }
     requires size { length bytes.old ≤ 65552 }

@@ -3,8 +3,8 @@ use Rattle.std.proofs.Math.Seq.{take-add}
 use Rattle.std.proofs.lemmas.List.{take_rest}
 use Rattle.std.specs.Io.KnownBytes.{Appends}
 use Rattle.std.proofs.KnownBytes.{Appends-trans, Appends-kept}
-use Rattle.aead.proofs.sealed.chunk.write_whole.Goals as goal
-use Rattle.aead.proofs.sealed.chunk.write_whole.Goals.{in-Ok, in-Err}
+use Rattle.examples.proofs.stream.write_whole.Goals as goal
+use Rattle.examples.proofs.stream.write_whole.Goals.{in-Ok, in-Err}
 
 pub tries-preserved : goal.tries-preserved
 tries-preserved g c =
