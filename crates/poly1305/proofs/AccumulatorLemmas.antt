@@ -6,9 +6,10 @@ use Rattle.std.specs.List.{slice_range}
 use Rattle.std.specs.Int.{div_ceil}
 use Rattle.std.specs.Simd.{first_chunks}
 use Rattle.poly1305.specs.Poly1305.{prime, number, block, accumulator, r_of, s_of, tag_from, poly1305, after}
+use Rattle.poly1305.specs.Absorbed.{Absorbed}
 
 -- 16 bytes from 16 * i on
-take_16 : (xs : List ℕ) (i : ℕ) → slice_range xs (16 * i) (16 * i + 16) ≡ take 16 (drop (16 * i) xs)
+pub take_16 : (xs : List ℕ) (i : ℕ) → slice_range xs (16 * i) (16 * i + 16) ≡ take 16 (drop (16 * i) xs)
 take_16 xs i = let e : 16 * i + 16 - 16 * i ≡ 16 = omega arith in ap (λ n. take n (drop (16 * i) xs)) e
 
 pub block_behind : (text : List ℕ) (k n : ℕ) → block text (k + n) ≡ block (drop (16 * k) text) n
@@ -68,49 +69,62 @@ after-short key text piece short =
     let count : length (text ++ piece) / 16 ≡ k = omega (arith, length-append text piece) in
     rw (count, accumulator_front (r_of key) 0 text piece k fits, drop-append-le (16 * k) text piece fits) refl
 
--- the state after a piece that fills the block `whole` and has the bytes `rest` behind it
-pub after-blocks : (key text piece whole rest : List ℕ)
+-- a piece that begins a block
+pub absorbed-whole : (key text piece : List ℕ) → length text % 16 ≡ 0
+    → Absorbed key (text ++ piece) (accumulator (r_of key) 0 text (length text / 16)) piece
+absorbed-whole key text piece none =
+    let k = length text / 16 in
+    let long : 16 * k ≡ length text = omega arith in
+    let fits : 16 * k ≤ length text = omega arith in (
+      k,
+      omega (arith, length-append text piece),
+      sym (accumulator_front (r_of key) 0 text piece k fits),
+      sym (ap (λ n. drop n (text ++ piece)) long ∙ drop-append_seam text piece),
+    )
+
+-- a piece that fills the block `whole` and has the bytes `rest` behind it
+pub absorbed-block : (key text piece whole rest : List ℕ)
     → whole ++ rest ≡ drop (16 * (length text / 16)) text ++ piece → length whole ≡ 16
-    → after key (text ++ piece) ≡ record {
-      r = r_of key;
-      s = s_of key;
-      accumulator =
-          let before = accumulator (r_of key) 0 text (length text / 16) in
-          accumulator (r_of key) (r_of key * (before + number (whole ++ 1 ∷ [])) % prime) rest (length rest / 16);
-      rest = drop (16 * (length rest / 16)) rest;
-    }
+    → Absorbed key (text ++ piece)
+    (r_of key * (accumulator (r_of key) 0 text (length text / 16) + number (whole ++ 1 ∷ [])) % prime) rest
 unfolding accumulator
-after-blocks key text piece whole rest same long =
+absorbed-block key text piece whole rest same long =
     let r = r_of key in
     let k = length text / 16 in
-    let m = length rest / 16 in
-    let a = accumulator r 0 text k in
+    let all = text ++ piece in
     let fits : 16 * k ≤ length text = omega arith in
-    let sizes : length whole + length rest ≡ length text - 16 * k + length piece =
-    sym (length-append whole rest) ∙ ap length same ∙ length-append (drop (16 * k) text) piece
-    ∙ ap (λ n. n + length piece) (length-drop (16 * k) text) in
-    let count : length (text ++ piece) / 16 ≡ k + (1 + m) = omega (arith, length-append text piece, sizes) in
-    let behind : drop (16 * k) (text ++ piece) ≡ whole ++ rest =
-    drop-append-le (16 * k) text piece fits ∙ sym same in
-    let one : drop 16 (whole ++ rest) ≡ rest =
-    ap (λ n. drop n (whole ++ rest)) (sym long) ∙ drop-append_seam whole rest in
-    let first : block (whole ++ rest) 0 ≡ number (whole ++ 1 ∷ []) =
-    block_front whole rest 0 (omega arith)
-    ∙ ap (λ bs. number (bs ++ 1 ∷ [])) (take_16 whole 0 ∙ take_all 16 whole (omega arith)) in
-    let rest_is : drop (16 * (k + (1 + m))) (text ++ piece) ≡ drop (16 * m) rest =
-    ap (λ n. drop n (text ++ piece)) (omega arith) ∙ sym (drop-drop (16 * (1 + m)) (16 * k) (text ++ piece))
-    ∙ ap (drop (16 * (1 + m))) behind ∙ ap (λ n. drop n (whole ++ rest)) (omega arith)
-    ∙ sym (drop-drop (16 * m) 16 (whole ++ rest)) ∙ ap (drop (16 * m)) one in
-    rw (
-      count,
-      rest_is,
-      accumulator_behind r 0 (text ++ piece) k (1 + m),
-      accumulator_front r 0 text piece k fits,
-      behind,
-      accumulator_behind r a (whole ++ rest) 1 m,
-      first,
-      one,
-    ) refl
+    let behind : drop (16 * k) all ≡ whole ++ rest = drop-append-le (16 * k) text piece fits ∙ sym same in
+    let sizes : length all - 16 * k ≡ length whole + length rest =
+    sym (length-drop (16 * k) all) ∙ ap length behind ∙ length-append whole rest in
+    let one : block all k ≡ number (whole ++ 1 ∷ []) =
+    ap (λ bs. number (bs ++ 1 ∷ []))
+    (take_16 all k ∙ ap (take 16) behind ∙ take-append-le 16 whole rest (omega arith) ∙ take_all 16 whole (omega arith)) in (
+      suc k,
+      omega (arith, sizes),
+      sym (ap (λ a. r * (a + block all k) % prime) (accumulator_front r 0 text piece k fits)
+          ∙ ap (λ b. r * (accumulator r 0 text k + b) % prime) one),
+      sym (ap (λ n. drop n all) (omega arith) ∙ sym (drop-drop 16 (16 * k) all) ∙ ap (drop 16) behind
+          ∙ ap (λ n. drop n (whole ++ rest)) (sym long) ∙ drop-append_seam whole rest),
+    )
+
+-- the state after a text, from between its blocks on
+pub after-absorbed : (key text : List ℕ) (a : ℕ) (rest : List ℕ) → Absorbed key text a rest
+    → after key text ≡ record {
+      r = r_of key;
+      s = s_of key;
+      accumulator = accumulator (r_of key) a rest (length rest / 16);
+      rest = drop (16 * (length rest / 16)) rest;
+    }
+after-absorbed key text a rest (k, fits, a_is, rest_is) =
+    let r = r_of key in
+    let m = length rest / 16 in
+    let count : length text / 16 ≡ k + m = omega (arith, ap length rest_is, length-drop (16 * k) text) in
+    let behind : drop (16 * (k + m)) text ≡ drop (16 * m) rest =
+    ap (λ n. drop n text) (omega arith) ∙ sym (drop-drop (16 * m) (16 * k) text) ∙ ap (drop (16 * m)) (sym rest_is) in
+    let same : accumulator r 0 text (k + m) ≡ accumulator r a rest m =
+    accumulator_behind r 0 text k m ∙ ap (λ b. accumulator r b (drop (16 * k) text) m) (sym a_is)
+    ∙ ap (λ xs. accumulator r a xs m) (sym rest_is) in
+    rw (count, behind, same) refl
 
 -- the tag of whole blocks
 pub poly1305-whole : (key text : List ℕ) → length text % 16 ≡ 0

@@ -1,10 +1,13 @@
 //! Poly1305 over a text in pieces.
 
-ghost use Rattle.std.specs.Prelude.{◌≡◌, ◌++◌, [], ℕ, List};
-ghost use Rattle.poly1305.specs.Poly1305.{poly1305, after};
+ghost use Rattle.std.specs.Prelude.{◌≡◌, ◌≤◌, ◌+◌, ◌%◌, ◌++◌, [], ℕ, List, length};
+ghost use Rattle.poly1305.specs.Poly1305.{prime, poly1305, after};
+ghost use Rattle.poly1305.specs.Limbs.{value_of};
+ghost use Rattle.poly1305.specs.Absorbed.{Absorbed};
 
-use crate::accumulator::{Accumulator, absorb, absorb_all, absorb_last, tag};
+use crate::accumulator::{Accumulator, absorb, absorb_last, tag};
 use crate::bytes::{clamp, padded, put, read_half};
+use crate::groups::absorb_all;
 use crate::multiplier::Multiplier;
 use crate::tag::Tag;
 use std::marker::Model;
@@ -62,22 +65,36 @@ impl Poly1305 {
         ensures { (key text : List ℕ) → self.old ≡ after key text
             → self.new ≡ after key (text ++ piece.now) }
     {
-        let room = 16 - self.filled;
         let mut buffer = self.buffer;
-        if piece.len() < room {
+        if piece.len() < 16 - self.filled {
             put(&mut buffer, self.filled, piece);
             self.buffer = buffer;
             self.filled += piece.len();
             return;
         }
-        let (front, rest) = piece.split_at(room);
-        put(&mut buffer, self.filled, front);
-        let h = absorb(self.accumulator, self.r, &buffer);
+        let (h, rest) = self.absorb_begun(piece);
         self.accumulator = absorb_all(h, self.r, rest);
         let (_, tail) = rest.split_at(rest.len() / 16 * 16);
         put(&mut buffer, 0, tail);
         self.buffer = buffer;
         self.filled = tail.len();
+    }
+
+    // The accumulator after the block that the buffer has begun, if any, and the rest of the piece.
+    #[inline(always)]
+    fn absorb_begun<'p>(&self, piece: &'p [u8]) -> (Accumulator, &'p [u8])
+        requires { 16 ≤ length self.now.rest + length piece.now }
+        ensures value { (key text : List ℕ) → self.now ≡ after key text
+            → Absorbed key (text ++ piece.now) (value_of result.0 % prime) result.1.now }
+        ensures small { result.0.h2 ≤ 4 }
+    {
+        if self.filled == 0 {
+            return (self.accumulator, piece);
+        }
+        let (front, rest) = piece.split_at(16 - self.filled);
+        let mut block = self.buffer;
+        put(&mut block, self.filled, front);
+        (absorb(self.accumulator, self.r, &block), rest)
     }
 
     /// The tag of the text.

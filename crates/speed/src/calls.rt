@@ -1,13 +1,14 @@
-//! The calls that are measured, each a function over any backend. They aren't inlined, and take the key as an argument,
-//! so that no call is worked out beforehand.
+//! The calls that are measured, each a function over any backend, or a way to a tag. They aren't inlined, and take the
+//! key as an argument, so that no call is worked out beforehand.
 
 use chacha20::backends::{Columns8, Lanes4, Lanes8, Lanes16, Rows8, Soft};
 use chacha20::cipher::{KeyIvInit, RngBackend, StreamCipherBackend, StreamCipherSeek};
 use chacha20::variants::Ietf;
 use chacha20::{ChaChaCore, ChaChaRng, Key, R20, StreamCipher, StreamCipherCoreWrapper};
+use poly1305::Poly1305;
 
 /// A call to be measured, on a slice. `NextU32` takes as many words as the slice holds, `Seek` goes into a block and
-/// then applies in place; all others begin with a new cipher or generator.
+/// then applies in place, `Tag` is Poly1305's; all others begin with a new cipher or generator.
 #[derive(Clone, Copy)]
 pub enum Call {
     InPlace,
@@ -16,24 +17,44 @@ pub enum Call {
     Seek,
     Fill,
     NextU32,
+    Tag,
 }
 
-/// The calls by name, with the lengths in bytes for which a table has them.
-pub static CALLS: [(&str, Call, &[usize]); 6] = [
+/// The calls by name, with their backends or ways, and the lengths in bytes for which a table has them.
+pub static CALLS: [(&str, Call, &[&str], &[usize]); 7] = [
     (
         "in_place",
         Call::InPlace,
+        &BACKENDS,
         &[64, 256, 512, 576, 1024, 1500, 4096, 65536],
     ),
-    ("two_slices", Call::TwoSlices, &[64, 512, 4096, 65536]),
-    ("keystream", Call::Keystream, &[64, 512, 4096, 65536]),
-    ("seek", Call::Seek, &[0, 64]),
-    ("fill", Call::Fill, &[64, 4096]),
-    ("next_u32", Call::NextU32, &[16384]),
+    (
+        "two_slices",
+        Call::TwoSlices,
+        &BACKENDS,
+        &[64, 512, 4096, 65536],
+    ),
+    (
+        "keystream",
+        Call::Keystream,
+        &BACKENDS,
+        &[64, 512, 4096, 65536],
+    ),
+    ("seek", Call::Seek, &BACKENDS, &[0, 64]),
+    ("fill", Call::Fill, &BACKENDS, &[64, 4096]),
+    ("next_u32", Call::NextU32, &BACKENDS, &[16384]),
+    (
+        "tag",
+        Call::Tag,
+        &WAYS,
+        &[64, 256, 512, 1024, 1500, 4096, 65536],
+    ),
 ];
 
-/// The names of the backends.
-pub static BACKENDS: [&str; 6] = ["Soft", "Lanes4", "Lanes8", "Rows8", "Lanes16", "Columns8"];
+const BACKENDS: [&str; 6] = ["Soft", "Lanes4", "Lanes8", "Rows8", "Lanes16", "Columns8"];
+
+// Pieces of a text that are too short for lanes, and the whole text.
+const WAYS: [&str; 2] = ["blocks", "lanes"];
 
 // A backend with its cipher. The cipher's trait bounds are proved once, in the `impl`.
 trait Backend: RngBackend<R20> {
@@ -83,6 +104,23 @@ fn next_u32<B: RngBackend<R20>>(key: &Key, data: &mut [u8]) -> bool {
     sum != 0
 }
 
+#[inline(never)]
+fn tag(key: &Key, text: &[u8], piece: usize) -> bool {
+    let mut mac = Poly1305::new(key);
+    for part in text.chunks(piece.max(1)) {
+        mac.update(part);
+    }
+    mac.finish() != [0; 16]
+}
+
+fn tags(times: usize, text: &[u8], piece: usize) -> bool {
+    let mut made = true;
+    for _ in 0..times {
+        made &= tag(&[(times % 256) as u8; 32], text, piece);
+    }
+    made
+}
+
 // Makes a call so many times over a backend, and says whether each was accepted.
 fn repeats<B: Backend>(call: Call, times: usize, input: &[u8], data: &mut [u8]) -> bool {
     let key = [(times % 256) as u8; 32];
@@ -96,6 +134,7 @@ fn repeats<B: Backend>(call: Call, times: usize, input: &[u8], data: &mut [u8]) 
             Call::Seek => seek::<B>(&mut cipher, data),
             Call::Fill => fill::<B>(&key, data),
             Call::NextU32 => next_u32::<B>(&key, data),
+            Call::Tag => false,
         };
     }
     accepted
@@ -109,9 +148,12 @@ where
     repeats::<B>(call, times, input, data)
 }
 
-/// Makes a call so many times over the backend of a name. It returns true if there is one, and each call was accepted.
-pub fn makes(call: Call, backend: &str, times: usize, input: &[u8], data: &mut [u8]) -> bool {
-    match backend {
+/// Makes a call so many times over the backend or in the way of a name. It returns true if there is one, and each call
+/// was accepted.
+pub fn makes(call: Call, name: &str, times: usize, input: &[u8], data: &mut [u8]) -> bool {
+    match name {
+        "blocks" => tags(times, input, 496),
+        "lanes" => tags(times, input, input.len()),
         "Soft" => makes_over::<Soft>(call, times, input, data),
         "Lanes4" => makes_over::<Lanes4>(call, times, input, data),
         "Lanes8" => makes_over::<Lanes8>(call, times, input, data),
@@ -124,7 +166,7 @@ pub fn makes(call: Call, backend: &str, times: usize, input: &[u8], data: &mut [
 
 /// The call of a name.
 pub fn call_of(name: &str) -> Option<Call> {
-    for (it, call, _) in &CALLS {
+    for (it, call, _, _) in &CALLS {
         if *it == name {
             return Some(*call);
         }

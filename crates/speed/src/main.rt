@@ -1,17 +1,17 @@
-//! Measures the calls of ciphers and generators over each backend.
+//! Measures the calls of ciphers and generators over each backend, and Poly1305 block by block and by lanes.
 //!
 //! ```text
-//! speed                                   makes each call once over each backend
-//! speed time                              prints a table of times
-//! speed count CALL BACKEND LENGTH TIMES   makes so many calls, for a program that counts instructions
+//! speed                                makes each call once over each backend
+//! speed time                           prints a table of times
+//! speed count CALL OVER LENGTH TIMES   makes so many calls, for a program that counts instructions
 //! ```
 //!
-//! Calls and backends have the names of `CALLS` and `BACKENDS`; a length is in bytes.
+//! `CALLS` has the names of calls and of what they go over; a length is in bytes.
 #![tactic(auto)]
 
 mod calls;
 
-use calls::{BACKENDS, CALLS, Call, call_of, makes};
+use calls::{CALLS, Call, call_of, makes};
 use std::num::nearest_usize_to_f64;
 use std::time::{Duration, Instant};
 use std::{env, io};
@@ -31,8 +31,8 @@ fn main(rt: HostRuntime) -> io::Result<()> {
         1 => each_once(&rt),
         2 if words[1].as_str() == "time" => table(&rt),
         6 if words[1].as_str() == "count" => {
-            let (call, backend) = (words[2].as_str(), words[3].as_str());
-            count(call, backend, words[4].as_str(), words[5].as_str())
+            let (call, over) = (words[2].as_str(), words[3].as_str());
+            count(call, over, words[4].as_str(), words[5].as_str())
         }
         _ => refused(),
     }
@@ -44,9 +44,9 @@ fn refused<T>() -> io::Result<T> {
 
 // Makes each call once over each backend.
 fn each_once(rt: &HostRuntime) -> io::Result<()> {
-    for backend in &BACKENDS {
-        for (_, call, _) in &CALLS {
-            if !makes(*call, backend, 1, &INPUT[..1500], &mut [0; 1500]) {
+    for (_, call, names, _) in &CALLS {
+        for over in *names {
+            if !makes(*call, over, 1, &INPUT[..1500], &mut [0; 1500]) {
                 return refused();
             }
         }
@@ -55,12 +55,12 @@ fn each_once(rt: &HostRuntime) -> io::Result<()> {
 }
 
 // Makes as many calls as the words say.
-fn count(call: &str, backend: &str, length: &str, times: &str) -> io::Result<()> {
+fn count(call: &str, over: &str, length: &str, times: &str) -> io::Result<()> {
     let (Some(call), Ok(length), Ok(times)) = (call_of(call), length.parse(), times.parse()) else {
         return refused();
     };
     let mut data = [0; MOST];
-    if length > MOST || !makes(call, backend, times, &INPUT[..length], &mut data[..length]) {
+    if length > MOST || !makes(call, over, times, &INPUT[..length], &mut data[..length]) {
         return refused();
     }
     Ok(())
@@ -68,29 +68,35 @@ fn count(call: &str, backend: &str, length: &str, times: &str) -> io::Result<()>
 
 // Prints the table.
 fn table(rt: &HostRuntime) -> io::Result<()> {
-    println!(rt; "call        bytes  backend   least ns  median ns    GB/s")?;
-    for (name, call, lengths) in &CALLS {
+    println!(rt; "call        bytes  over      least ns  median ns    GB/s")?;
+    for (name, call, names, lengths) in &CALLS {
         for length in *lengths {
-            lines(rt, name, *call, *length)?;
+            lines(rt, name, *call, names, *length)?;
         }
     }
     Ok(())
 }
 
 // Prints the lines of a call and a length. The backends take turns, so that a slower processor slows them all.
-fn lines(rt: &HostRuntime, name: &str, call: Call, length: usize) -> io::Result<()> {
+fn lines(
+    rt: &HostRuntime,
+    name: &str,
+    call: Call,
+    names: &[&str],
+    length: usize,
+) -> io::Result<()> {
     let mut data = [0; MOST];
     let data = &mut data[..length.min(MOST)];
     let mut taken = [[Duration::ZERO; TURNS]; 6];
     for turn in 0..TURNS {
-        for i in 0..BACKENDS.len() {
-            taken[i][turn] = time(rt, call, BACKENDS[i], data)?;
+        for i in 0..names.len().min(6) {
+            taken[i][turn] = time(rt, call, names[i], data)?;
         }
     }
-    for i in 0..BACKENDS.len() {
+    for i in 0..names.len().min(6) {
         taken[i].sort_unstable();
         let least_and_median = [taken[i][0], taken[i][TURNS / 2]];
-        line(rt, name, BACKENDS[i], length, least_and_median)?;
+        line(rt, name, names[i], length, least_and_median)?;
     }
     Ok(())
 }
