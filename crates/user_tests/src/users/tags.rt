@@ -58,8 +58,8 @@ fn long_texts(rt: HostRuntime) {
         for i in 1..700usize {
             text[i] = text[i - 1].wrapping_add(*step);
         }
-        assert!(rt; LENGTHS.map(|len| authenticate(&key, &text[..len.min(700)])) == *tags);
         assert_eq!(rt; differing_length(&key, &text), 701);
+        assert!(rt; LENGTHS.map(|len| authenticate(&key, &text[..len.min(700)])) == *tags);
         assert_eq!(rt; wrong_cut(&key, &text, &tags[6]), 701);
     }
 }
