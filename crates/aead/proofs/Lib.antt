@@ -1,1 +1,3 @@
+pub mod AeadLemmas
 pub mod AeadVectors
+pub mod MessageLemmas

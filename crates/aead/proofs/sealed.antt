@@ -1,6 +1,9 @@
 pub mod ChunkLemmas
 pub mod FileLemmas
+pub mod FormatVectors
+pub mod FrontLemmas
 pub mod NonceLemmas
 pub mod OpenLemmas
-pub mod PartLemmas
 pub mod ReaderLemmas
+pub mod SeekLemmas
+pub mod SliceLemmas

@@ -52,11 +52,14 @@ pub wraps : next_u64 10 (at_word_pos of_zeros (2 ^ 68 - 1)) ≡ (0xade0b8768976b
 unfolding quarter columns diagonals rounds add_states
 wraps = refl
 
--- the bytes of a state, and the state of bytes whose last one says more than it may
-pub stored : state_bytes (record { seed = seed; stream = 0xf0f1f2f3f4f5f6f7; word_pos = 100 })
-    ≡ seed ++ (0xf7 ∷ 0xf6 ∷ 0xf5 ∷ 0xf4 ∷ 0xf3 ∷ 0xf2 ∷ 0xf1 ∷ 0xf0 ∷ 0x64 ∷ replicate 8 0)
+-- the bytes of a state whose numbers have different bytes, and the state of such bytes, whose last one says more than
+-- it may
+pub stored : state_bytes (record { seed = seed; stream = 0xf0f1f2f3f4f5f6f7; word_pos = 0x9a8a7a6a5a4a3a2a1 })
+    ≡ seed ++ (0xf7 ∷ 0xf6 ∷ 0xf5 ∷ 0xf4 ∷ 0xf3 ∷ 0xf2 ∷ 0xf1 ∷ 0xf0
+    ∷ 0xa1 ∷ 0xa2 ∷ 0xa3 ∷ 0xa4 ∷ 0xa5 ∷ 0xa6 ∷ 0xa7 ∷ 0xa8 ∷ 0x09 ∷ [])
 stored = refl
 
-pub restored : of_state_bytes (replicate 49 255)
-    ≡ record { seed = replicate 32 255; stream = 2 ^ 64 - 1; word_pos = 2 ^ 68 - 1 }
+pub restored : of_state_bytes (seed ++ (0xf7 ∷ 0xf6 ∷ 0xf5 ∷ 0xf4 ∷ 0xf3 ∷ 0xf2 ∷ 0xf1 ∷ 0xf0
+    ∷ 0xa1 ∷ 0xa2 ∷ 0xa3 ∷ 0xa4 ∷ 0xa5 ∷ 0xa6 ∷ 0xa7 ∷ 0xa8 ∷ 0xf9 ∷ []))
+    ≡ record { seed = seed; stream = 0xf0f1f2f3f4f5f6f7; word_pos = 0x9a8a7a6a5a4a3a2a1 }
 restored = refl

@@ -2,7 +2,6 @@
 pub mod PartLemmas
 pub mod RepeatedLemmas
 pub mod ResultLemmas
-pub mod ChunkLemmas
 pub mod SeekLemmas
 pub mod ReaderLemmas
 pub mod VecLemmas

@@ -1,5 +1,4 @@
 pub mod Frames
 pub mod Log
 pub mod Packets
-pub mod Pieces
 pub mod Sectors

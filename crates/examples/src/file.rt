@@ -1,12 +1,13 @@
-//! Reads any part of an encrypted file, and encrypts any record of one, without the rest.
+//! Reads any part of an encrypted file, and encrypts any record of one, without the rest, by a bare cipher. It doesn't
+//! authenticate: whoever changes a bit of the file changes that bit of the plaintext, and no read notices it. For files
+//! that others can write take `aead::sealed`, whose `SealedSlice` also reads any part.
 //!
 //! ChaCha20 XORs (exclusive or) byte i of a file with byte i of a keystream. So a part is decrypted by a seek to its
 //! place, and no byte before it is computed. The contract of `read_at` says: if the file is the encryption of a
 //! plaintext, the call reads the bytes at that place of the plaintext.
 //!
 //! Take a nonce of its own for each file, and write each place once: the XOR of two ciphertexts of one place is the XOR
-//! of their texts. For parts that are overwritten see `sectors.rt`. Nothing is authenticated: where a bit of the file
-//! is changed, that bit of the plaintext changes, and no read notices it.
+//! of their texts. For parts that are overwritten see `sectors.rt`.
 
 ghost use Rattle.std.specs.Prelude.{◌≡◌, ◌↔◌, ◌≤◌, ◌+◌, ◌*◌, ℕ, List, length, IsOk, OnOk, OnErr};
 ghost use Rattle.std.specs.List.{slice_range};

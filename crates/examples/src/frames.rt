@@ -1,41 +1,42 @@
 //! Frames under one key: a sender encrypts messages in order, and a receiver decrypts them in the same order.
 //!
-//! The nonce of a frame is its channel, four bytes, and then its number, eight little-endian bytes. Both
-//! sides count from 0, so no number is sent, and a frame is as long as its message. No two frames have the same nonce
-//! if you keep two rules. Give each direction its own channel: two senders on one channel would use the same nonces.
-//! And let a sender that was stopped go on where it was: after `encrypt` store what `next` returns, then send the
-//! frame, and later call `resume`.
+//! A frame is the ciphertext of a message and its tag of 16 bytes, by ChaCha20-Poly1305 (crate `aead`). Its nonce is
+//! its channel, four bytes, and its number, eight little-endian bytes. Both sides count from 0, so no number is sent.
+//! The receiver accepts only the next frame: it refuses one that was changed or comes again, and each one after a frame
+//! that was lost. The contracts say which bytes are the next frame, not how hard these are to forge. For frames in any
+//! order see `packets.rt`.
 //!
-//! Nothing here authenticates. Whoever can change a frame can change its message, and once a frame is lost or comes
-//! twice, the receiver's number is wrong. So send a MAC with each frame. Make it from the channel, the number and the
-//! encrypted bytes, under a key of its own. The receiver checks it with the number of its own `next`, and calls
-//! `decrypt` only if it is right.
+//! No two frames have the same nonce if you keep two rules. Give each direction its own channel: two senders on one
+//! channel would use the same nonces. And let a sender that was stopped go on where it was: after `encrypt` store what
+//! `next` returns, then send the frame, and later call `resume`.
 //!
 //! `specs/Frames.antt` defines the words of the contracts.
 
-ghost use Rattle.std.specs.Prelude.{◌≡◌, ◌<◌, ◌≤◌, ◌↔◌, ◌+◌, ◌^◌, ℕ, List, length, IsOk, IsErrOf, OnOk, OnErr};
-ghost use Rattle.examples.specs.Frames.{Endpoint, nonce_of, encrypted, after};
+ghost use Rattle.std.specs.Prelude.{◌≡◌, ◌≢◌, ◌<◌, ◌≤◌, ◌↔◌, ◌+◌, ◌^◌, ℕ, List, length, IsOk, IsErrOf, OnOk, OnErr};
+ghost use Rattle.examples.specs.Frames.{Endpoint, nonce_of, frame_of, IsFrame, after};
 
-use chacha20::cipher::{KeyIvInit, StreamCipher};
-use chacha20::{ChaCha20, Key, Nonce};
+use aead::{AeadError, ChaCha20Poly1305};
+use chacha20::{Key, Nonce};
 use std::marker::Model;
 
 /// What names a direction, so that the frames of two directions differ in their nonces.
 pub type Channel = [u8; 4];
 
-/// Why a call refused a frame. It has changed nothing.
+/// Why a call refused a message or a frame. It has changed nothing.
 #[derive(Clone, Copy, Debug, PartialEq, Eq)]
 pub enum FrameError {
     /// All numbers below 2^64 - 1 are used: take another key.
     NumbersUsedUp,
-    /// The frame has more than 274877906944 bytes (256 GiB), the most for one nonce: cut it into several.
-    FrameTooLong,
+    /// The message has more than 274877906880 bytes, the most for one nonce: cut it into several.
+    TooLong,
+    /// The bytes are not the next frame of any message.
+    Forged,
 }
 
 /// Encrypts messages, each as the frame with the next number.
 #[derive(Drop)]
 pub struct Sender {
-    key: Key,
+    cipher: ChaCha20Poly1305,
     channel: Channel,
     next: u64,
 }
@@ -45,7 +46,7 @@ impl Model for Sender {
 
     ghost Value = { Endpoint };
 
-    ghost view = { λ s. record { key = s.key; channel = s.channel; next = s.next } };
+    ghost view = { λ s. record { key = s.cipher; channel = s.channel; next = s.next } };
 }
 
 impl Sender {
@@ -61,7 +62,7 @@ impl Sender {
         ensures { result ≡ record { key = key.now; channel = channel.now; next = next } }
     {
         Sender {
-            key: *key,
+            cipher: ChaCha20Poly1305::new(key),
             channel: *channel,
             next,
         }
@@ -74,25 +75,47 @@ impl Sender {
         self.next
     }
 
-    /// Encrypts a message in place (RFC 8439, section 2.4, from block 0 on): it becomes the next frame. `Err` exactly
-    /// where the numbers are used up or the message is longer than 274877906944 bytes; then nothing changes.
-    pub fn encrypt(&mut self, message: &mut [u8]) -> Result<(), FrameError>
+    /// Encrypts a message: writes its frame, which has 16 bytes more. The tag also covers `aad`, which isn't written
+    /// and may be empty. `Err` exactly where the numbers are used up or the message is longer than 274877906880 bytes;
+    /// then nothing changes.
+    pub fn encrypt(
+        &mut self,
+        aad: &[u8],
+        message: &[u8],
+        frame: &mut [u8],
+    ) -> Result<(), FrameError>
+        requires { length frame.old ≡ length message.now + 16 }
         ensures accepted { IsOk result
-            ↔ ((self.old.next + 1 < 2 ^ 64) × (length message.old ≤ 274877906944)) }
+            ↔ ((self.old.next + 1 < 2 ^ 64) × (length message.now ≤ 274877906880)) }
         ensures used_up { IsErrOf result FrameError.NumbersUsedUp
             ↔ (self.old.next + 1 ≡ 2 ^ 64) }
-        ensures frame { OnOk result (message.new ≡ encrypted self.old message.old) }
+        ensures too_long { IsErrOf result FrameError.TooLong
+            ↔ ((self.old.next + 1 < 2 ^ 64) × (274877906880 < length message.now)) }
+        ensures frame { OnOk result (frame.new ≡ frame_of self.old aad.now message.now) }
         ensures next { OnOk result (self.new ≡ after self.old) }
-        ensures refused { OnErr result ((message.new ≡ message.old) × (self.new ≡ self.old)) }
+        // No frame before had this nonce.
+        ensures fresh { OnOk result ((n : ℕ) → n < self.old.next
+            → nonce_of self.old.channel n ≢ nonce_of self.old.channel self.old.next) }
+        ensures refused { OnErr result ((frame.new ≡ frame.old) × (self.new ≡ self.old)) }
     {
-        apply(&self.key, &self.channel, &mut self.next, message)
+        let Some(after) = self.next.checked_add(1) else {
+            return Err(FrameError::NumbersUsedUp);
+        };
+        let nonce = nonce_of(&self.channel, self.next);
+        match self.cipher.encrypt(&nonce, aad, message, frame) {
+            Ok(()) => {
+                self.next = after;
+                Ok(())
+            }
+            Err(_) => Err(FrameError::TooLong),
+        }
     }
 }
 
 /// Decrypts the frames of a sender, in their order.
 #[derive(Drop)]
 pub struct Receiver {
-    key: Key,
+    cipher: ChaCha20Poly1305,
     channel: Channel,
     // The number of the frame that it expects.
     expected: u64,
@@ -103,7 +126,7 @@ impl Model for Receiver {
 
     ghost Value = { Endpoint };
 
-    ghost view = { λ r. record { key = r.key; channel = r.channel; next = r.expected } };
+    ghost view = { λ r. record { key = r.cipher; channel = r.channel; next = r.expected } };
 }
 
 impl Receiver {
@@ -119,7 +142,7 @@ impl Receiver {
         ensures { result ≡ record { key = key.now; channel = channel.now; next = next } }
     {
         Receiver {
-            key: *key,
+            cipher: ChaCha20Poly1305::new(key),
             channel: *channel,
             expected: next,
         }
@@ -132,20 +155,43 @@ impl Receiver {
         self.expected
     }
 
-    /// Decrypts the next frame in place: it becomes the message from which a sender with this key, channel and number
-    /// made it. `Err` exactly where the numbers are used up or the frame is longer than 274877906944 bytes; then
-    /// nothing changes.
-    pub fn decrypt(&mut self, frame: &mut [u8]) -> Result<(), FrameError>
+    /// Decrypts the next frame: writes the message from which a sender with this key, channel and number made it. `Err`
+    /// exactly where the numbers are used up or the bytes are not such a frame; then nothing changes.
+    pub fn decrypt(
+        &mut self,
+        aad: &[u8],
+        frame: &[u8],
+        message: &mut [u8],
+    ) -> Result<(), FrameError>
+        requires { length frame.now ≡ length message.old + 16 }
         ensures accepted { IsOk result
-            ↔ ((self.old.next + 1 < 2 ^ 64) × (length frame.old ≤ 274877906944)) }
+            ↔ ((self.old.next + 1 < 2 ^ 64) × IsFrame self.old aad.now frame.now) }
         ensures used_up { IsErrOf result FrameError.NumbersUsedUp
             ↔ (self.old.next + 1 ≡ 2 ^ 64) }
-        ensures message { (message : List ℕ) → frame.old ≡ encrypted self.old message
-            → OnOk result (frame.new ≡ message) }
+        ensures forged { IsErrOf result FrameError.Forged
+            ↔ ((self.old.next + 1 < 2 ^ 64) × ¬ IsFrame self.old aad.now frame.now) }
+        ensures message { (text : List ℕ) → frame.now ≡ frame_of self.old aad.now text
+            → OnOk result (message.new ≡ text) }
         ensures next { OnOk result (self.new ≡ after self.old) }
-        ensures refused { OnErr result ((frame.new ≡ frame.old) × (self.new ≡ self.old)) }
+        ensures refused { OnErr result ((message.new ≡ message.old) × (self.new ≡ self.old)) }
     {
-        apply(&self.key, &self.channel, &mut self.expected, frame)
+        let Some(after) = self.expected.checked_add(1) else {
+            return Err(FrameError::NumbersUsedUp);
+        };
+        match decrypt_frame(
+            &self.cipher,
+            &self.channel,
+            self.expected,
+            aad,
+            frame,
+            message,
+        ) {
+            Ok(()) => {
+                self.expected = after;
+                Ok(())
+            }
+            Err(_) => Err(FrameError::Forged),
+        }
     }
 }
 
@@ -161,25 +207,25 @@ pub fn nonce_of(channel: &Channel, number: u64) -> Nonce
     nonce
 }
 
-// XORs bytes with the keystream of the next number, and adds one to the number.
-fn apply(key: &Key, channel: &Channel, next: &mut u64, bytes: &mut [u8]) -> Result<(), FrameError>
-    ensures accepted { IsOk result
-        ↔ ((next.old + 1 < 2 ^ 64) × (length bytes.old ≤ 274877906944)) }
-    ensures used_up { IsErrOf result FrameError.NumbersUsedUp ↔ (next.old + 1 ≡ 2 ^ 64) }
-    ensures bytes { OnOk result (bytes.new ≡ encrypted
-        (record { key = key.now; channel = channel.now; next = next.old }) bytes.old) }
-    ensures next { OnOk result (next.new ≡ next.old + 1) }
-    ensures refused { OnErr result ((bytes.new ≡ bytes.old) × (next.new ≡ next.old)) }
+/// Decrypts the frame with this number. `Err` exactly where the bytes are not that frame of any message; then nothing
+/// changes.
+pub fn decrypt_frame(
+    cipher: &ChaCha20Poly1305,
+    channel: &Channel,
+    number: u64,
+    aad: &[u8],
+    frame: &[u8],
+    message: &mut [u8],
+) -> Result<(), AeadError>
+    requires { length frame.now ≡ length message.old + 16 }
+    ensures accepted { let sender : Endpoint =
+        record { key = cipher.now; channel = channel.now; next = number } in
+        IsOk result ↔ IsFrame sender aad.now frame.now }
+    ensures message { let sender : Endpoint =
+        record { key = cipher.now; channel = channel.now; next = number } in
+        (text : List ℕ) → frame.now ≡ frame_of sender aad.now text
+        → OnOk result (message.new ≡ text) }
+    ensures refused { OnErr result (message.new ≡ message.old) }
 {
-    let Some(after) = next.checked_add(1) else {
-        return Err(FrameError::NumbersUsedUp);
-    };
-    let nonce = nonce_of(channel, *next);
-    match ChaCha20::new(key, &nonce).try_apply_keystream(bytes) {
-        Ok(()) => {
-            *next = after;
-            Ok(())
-        }
-        Err(_) => Err(FrameError::FrameTooLong),
-    }
+    cipher.decrypt(&nonce_of(channel, number), aad, frame, message)
 }

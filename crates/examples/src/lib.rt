@@ -6,7 +6,8 @@
 //! equal, and `OnOk result (..)` says what holds if the call returns `Ok`. `specs` has the definitions of the examples.
 //! `proofs` has the answers that the prover needs, or that make its check quicker: often a line or two for a function.
 //!
-//! The proofs use only public contracts, definitions and lemmas: of `chacha20`, and in `scalar` also of `chacha_base`.
+//! The proofs use only public contracts, definitions and lemmas: of `chacha20`, in `frames`, `packets` and `sectors`
+//! also of `aead`, and in `scalar` also of `chacha_base`.
 #![tactic(auto)]
 
 pub mod file;

@@ -1,4 +1,6 @@
-//! A log that is encrypted line by line: a struct that holds a cipher.
+//! A log that is encrypted line by line: a struct that holds a bare cipher. It doesn't authenticate: whoever changes a
+//! bit of the log changes that bit of its text, and no reader notices it. For lines that others can change take
+//! `frames.rt`, each line as a frame.
 //!
 //! Each line is XORed (exclusive or) with the keystream's bytes after those of the lines before it. So the log's bytes
 //! are those of one call for all of its lines, and `read_at` of `file.rt` reads any part of it.
@@ -9,7 +11,7 @@
 //!
 //! Take a new nonce for each log. A writer that was stopped goes on by `resume`, with the number of bytes that the log
 //! has: with fewer, two lines would have the same bytes of the keystream, and the XOR of their ciphertexts would be the
-//! XOR of their texts. Nothing is authenticated: where a bit of the log is changed, that bit of its text changes.
+//! XOR of their texts.
 
 ghost use Rattle.std.specs.Prelude.{◌≡◌, ◌≤◌, ◌↔◌, ◌+◌, length, IsOk, IfOk, OnOk, OnErr};
 ghost use Rattle.chacha20.specs.ChaCha.{chacha_stream, xor_stream, ietf};

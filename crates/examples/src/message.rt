@@ -1,5 +1,6 @@
 //! A message under a key and a nonce, in one call: by ChaCha20, by any other cipher, or with a number of rounds of your
-//! own.
+//! own. These are bare ciphers, which don't authenticate: whoever changes a bit of the ciphertext changes that bit of
+//! the text, and decryption doesn't notice. For messages that are sent or stored take the crate `aead`.
 //!
 //! The contract of `encrypt` says:
 //!
@@ -8,8 +9,7 @@
 //!   keystream of the key and the nonce.
 //! - `refused`: on `Err` the message is as it was.
 //!
-//! Decryption is the same call. Never use a nonce twice under one key. Nothing here authenticates a message: see
-//! the crate `aead`.
+//! Decryption is the same call. Never use a nonce twice under one key.
 
 ghost use Rattle.std.specs.Prelude.{◌≡◌, ◌≤◌, ◌+◌, ◌↔◌, length, IsOk, OnOk, OnErr};
 ghost use Rattle.chacha20.specs.ChaCha.{chacha_stream, keystream, xor_stream, ietf, legacy};

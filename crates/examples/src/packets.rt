@@ -1,65 +1,58 @@
 //! Packets under one key over a channel that loses, doubles and reorders them, as IPsec, DTLS and WireGuard have it.
 //!
-//! A packet is a header, its number in eight little-endian bytes, and a body, the frame of this number (`frames.rt`,
-//! whose rules hold here too). The receiver takes packets in any order and none twice. It has 64 slots, one for each
-//! remainder modulo 64, and takes a number only if it is greater than the last one in its slot. So it takes each packet
-//! that is less than 64 behind the newest, once.
-//!
-//! A packet must be authenticated before it moves this window: a forged packet with a large number would block the real
-//! ones. So `receive` asks whether the packet is authentic, and changes nothing if it isn't. Send with each packet a
-//! MAC of the channel, the header and the body, under a key of its own, and compare it before the call.
+//! A packet is a header, its number in eight little-endian bytes, and the frame of this number, whose tag also covers
+//! the header (`frames.rt`, whose rules hold here too). The receiver accepts packets in any order and none twice. It
+//! has 64 slots, one for each remainder modulo 64, and a number is open if it is greater than the last one in its slot.
+//! So each packet that is less than 64 behind the newest is accepted, once. A forged packet doesn't move this window.
 //!
 //! `specs/Frames.antt` and `specs/Packets.antt` define the words of the contracts.
 
-ghost use Rattle.std.specs.Prelude.{◌≡◌, ◌≢◌, ◌<◌, ◌≤◌, ◌+◌, ◌↔◌, ◌^◌, ℕ, List, length, replicate, IsOk, IsErrOf, IsTrue, OnOk, OnErr};
-ghost use Rattle.std.specs.Int.{w64, to_le_bytes, from_le_bytes};
-ghost use Rattle.examples.specs.Frames.{Endpoint, nonce_of, encrypted, after};
-ghost use Rattle.examples.specs.Packets.{Takes, taken};
+ghost use Rattle.std.specs.Prelude.{◌≡◌, ◌≢◌, ◌<◌, ◌≤◌, ◌+◌, ◌↔◌, ◌^◌, ℕ, List, length, take, replicate, IsOk, IsErrOf, OnOk, OnErr};
+ghost use Rattle.std.specs.Int.{w64, to_le_bytes};
+ghost use Rattle.examples.specs.Frames.{Endpoint, nonce_of, after};
+ghost use Rattle.examples.specs.Packets.{packet_of, number_of, IsPacket, IsOpen, taken};
 
-use crate::frames;
-use crate::frames::{Channel, FrameError, Sender};
+use crate::frames::{Channel, FrameError, Sender, decrypt_frame};
+use aead::ChaCha20Poly1305;
 use chacha20::Key;
 use std::marker::Model;
-
-/// The number of a packet, little-endian.
-pub type Header = [u8; 8];
 
 /// Why a packet was refused. Nothing has changed.
 #[derive(Clone, Copy, Debug, PartialEq, Eq)]
 pub enum PacketError {
-    /// It isn't authentic.
+    /// It isn't the packet of any message with its number.
     Forged,
     /// Its number was taken before, is too old to tell, or is 2^64 - 1, which no sender uses.
     Replayed,
-    /// The body has more than 274877906944 bytes (256 GiB), the most for one nonce.
-    TooLong,
 }
 
-/// Encrypts a body in place, as the sender's next packet, and writes its header. `Err` exactly where the
-/// numbers are used up or the body is longer than 274877906944 bytes; then nothing changes.
-pub fn send(sender: &mut Sender, header: &mut Header, body: &mut [u8]) -> Result<(), FrameError>
+/// Encrypts a message as the sender's next packet, which has 24 bytes more. `Err` exactly where the numbers are used up
+/// or the message is longer than 274877906880 bytes; then nothing changes.
+pub fn send(sender: &mut Sender, message: &[u8], packet: &mut [u8]) -> Result<(), FrameError>
+    requires { length packet.old ≡ length message.now + 24 }
     ensures accepted { IsOk result
-        ↔ ((sender.old.next + 1 < 2 ^ 64) × (length body.old ≤ 274877906944)) }
+        ↔ ((sender.old.next + 1 < 2 ^ 64) × (length message.now ≤ 274877906880)) }
     ensures used_up { IsErrOf result FrameError.NumbersUsedUp ↔ (sender.old.next + 1 ≡ 2 ^ 64) }
-    ensures header { OnOk result (header.new ≡ to_le_bytes w64 sender.old.next) }
-    ensures body { OnOk result (body.new ≡ encrypted sender.old body.old) }
+    ensures too_long { IsErrOf result FrameError.TooLong
+        ↔ ((sender.old.next + 1 < 2 ^ 64) × (274877906880 < length message.now)) }
+    ensures packet { OnOk result (packet.new ≡ packet_of sender.old message.now) }
     ensures next { OnOk result (sender.new ≡ after sender.old) }
     // No packet before had this nonce.
     ensures fresh { OnOk result ((n : ℕ) → n < sender.old.next
         → nonce_of sender.old.channel n ≢ nonce_of sender.old.channel sender.old.next) }
-    ensures refused { OnErr result ((sender.new ≡ sender.old)
-        × (header.new ≡ header.old) × (body.new ≡ body.old)) }
+    ensures refused { OnErr result ((sender.new ≡ sender.old) × (packet.new ≡ packet.old)) }
 {
-    let number = sender.next();
-    sender.encrypt(body)?;
-    *header = number.to_le_bytes();
+    let header = sender.next().to_le_bytes();
+    let (front, frame) = packet.split_at_mut(8);
+    sender.encrypt(&header, message, frame)?;
+    front.copy_from_slice(&header);
     Ok(())
 }
 
 /// Decrypts the packets of a sender, in any order and each once.
 #[derive(Drop)]
 pub struct Receiver {
-    key: Key,
+    cipher: ChaCha20Poly1305,
     channel: Channel,
     // The greatest number that each slot has taken plus 1, or 0.
     slots: [u64; 64],
@@ -70,7 +63,7 @@ impl Model for Receiver {
 
     ghost Value = { Inbox };
 
-    ghost view = { λ r. record { key = r.key; channel = r.channel; slots = r.slots } };
+    ghost view = { λ r. record { key = r.cipher; channel = r.channel; slots = r.slots } };
 }
 
 impl Receiver {
@@ -79,56 +72,58 @@ impl Receiver {
         ensures { result ≡ record { key = key.now; channel = channel.now; slots = replicate 64 0 } }
     {
         Receiver {
-            key: *key,
+            cipher: ChaCha20Poly1305::new(key),
             channel: *channel,
             slots: [0; 64],
         }
     }
 
-    /// Decrypts the body of a packet in place, if the packet is authentic and its number is new. Otherwise nothing
-    /// changes.
-    pub fn receive(
-        &mut self,
-        header: &Header,
-        body: &mut [u8],
-        is_authentic: bool,
-    ) -> Result<(), PacketError>
-        ensures accepted { IsOk result ↔ (IsTrue is_authentic
-            × Takes self.old (from_le_bytes w64 header.now) × (length body.old ≤ 274877906944)) }
-        ensures forged { IsErrOf result PacketError.Forged ↔ (¬ IsTrue is_authentic) }
-        ensures replayed { IsErrOf result PacketError.Replayed ↔ (IsTrue is_authentic
-            × ¬ Takes self.old (from_le_bytes w64 header.now)) }
-        ensures too_long { IsErrOf result PacketError.TooLong ↔ (IsTrue is_authentic
-            × Takes self.old (from_le_bytes w64 header.now) × (274877906944 < length body.old)) }
-        // What a sender with this key and channel made of a message gives the message.
-        ensures message { (sender : Endpoint) (message : List ℕ) → sender.key ≡ self.old.key
-            → sender.channel ≡ self.old.channel → sender.next < 2 ^ 64
-            → header.now ≡ to_le_bytes w64 sender.next → body.old ≡ encrypted sender message
-            → OnOk result (body.new ≡ message) }
-        // This number is refused from now on, and so is each that was refused before.
-        ensures replay { OnOk result (¬ Takes self.new (from_le_bytes w64 header.now)) }
-        ensures stays { OnOk result ((n : ℕ) → Takes self.new n → Takes self.old n) }
-        // Any other number that is less than 64 behind this one is taken as before.
-        ensures window { OnOk result ((n : ℕ) → n ≢ from_le_bytes w64 header.now
-            → from_le_bytes w64 header.now < n + 64 → Takes self.old n → Takes self.new n) }
-        ensures taken { OnOk result
-            (self.new ≡ taken self.old (from_le_bytes w64 header.now)) }
-        ensures refused { OnErr result ((self.new ≡ self.old) × (body.new ≡ body.old)) }
+    /// Decrypts a packet whose number is open: writes its message, which has 24 bytes less. `Err` exactly where the
+    /// number isn't open or the bytes are not the packet of any message; then nothing changes.
+    pub fn receive(&mut self, packet: &[u8], message: &mut [u8]) -> Result<(), PacketError>
+        requires { length packet.now ≡ length message.old + 24 }
+        ensures accepted { let n = number_of packet.now in
+            IsOk result ↔ (IsOpen self.old n × IsPacket self.old n packet.now) }
+        ensures replayed { IsErrOf result PacketError.Replayed
+            ↔ (¬ IsOpen self.old (number_of packet.now)) }
+        ensures forged { let n = number_of packet.now in IsErrOf result PacketError.Forged
+            ↔ (IsOpen self.old n × ¬ IsPacket self.old n packet.now) }
+        // What a sender with this key and channel made of a text gives the text.
+        ensures message { (sender : Endpoint) (text : List ℕ) → sender.key ≡ self.old.key
+            → sender.channel ≡ self.old.channel → packet.now ≡ packet_of sender text
+            → OnOk result (message.new ≡ text) }
+        // This number is closed from now on, and so is each that was closed before.
+        ensures replay { OnOk result (¬ IsOpen self.new (number_of packet.now)) }
+        ensures stays { OnOk result ((n : ℕ) → IsOpen self.new n → IsOpen self.old n) }
+        // Any other number that is less than 64 behind this one is as open as before.
+        ensures window { OnOk result ((n : ℕ) → n ≢ number_of packet.now
+            → number_of packet.now < n + 64 → IsOpen self.old n → IsOpen self.new n) }
+        ensures taken { OnOk result (self.new ≡ taken self.old (number_of packet.now)) }
+        ensures refused { OnErr result ((self.new ≡ self.old) × (message.new ≡ message.old)) }
     {
-        let number = u64::from_le_bytes(*header);
+        let (header, frame) = packet.split_at(8);
+        let number = number_of(packet);
         let slot = (number % 64) as usize;
-        if !is_authentic {
-            return Err(PacketError::Forged);
-        }
         if number == u64::MAX || number < self.slots[slot] {
             return Err(PacketError::Replayed);
         }
-        match frames::Receiver::resume(&self.key, &self.channel, number).decrypt(body) {
+        match decrypt_frame(&self.cipher, &self.channel, number, header, frame, message) {
             Ok(()) => {
                 self.slots[slot] = number + 1;
                 Ok(())
             }
-            Err(_) => Err(PacketError::TooLong),
+            Err(_) => Err(PacketError::Forged),
         }
     }
+}
+
+/// The number in the header of a packet.
+pub fn number_of(packet: &[u8]) -> u64
+    requires { 8 ≤ length packet.now }
+    ensures value { result ≡ number_of packet.now }
+    ensures header { to_le_bytes w64 result ≡ take 8 packet.now }
+{
+    let mut header = [0; 8];
+    header.copy_from_slice(&packet[..8]);
+    u64::from_le_bytes(header)
 }

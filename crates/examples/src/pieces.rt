@@ -1,6 +1,6 @@
 //! A message that is encrypted piece by piece: in pieces of one length, or in two buffers. Wherever the message is cut,
-//! its bytes become what one call for all of them would make. And a message in chunks, each under a nonce of its own,
-//! for one longer than a nonce allows.
+//! its bytes become what one call for all of them would make. A bare cipher doesn't authenticate, and a nonce serves
+//! 274877906944 bytes (256 GiB): for long or authenticated messages take `aead::sealed`, chunk by chunk.
 //!
 //! `apply_keystream` returns no `Result`, so it requires that the bytes end within the limit, the end of the keystream.
 //! A function that calls it requires the same (`fits`), or asks the cipher first, as `try_apply_in_pieces` does.
@@ -10,13 +10,11 @@
 //! In `proofs/pieces`, `Invariants.antt` says what holds before each turn of the loop, and `Answers.antt` why it still
 //! holds after it.
 
-ghost use Rattle.std.specs.Prelude.{◌≡◌, ◌≤◌, ◌<◌, ◌+◌, ◌^◌, ◌↔◌, ◌++◌, ℕ, length, IsOk, OnOk, OnErr};
+ghost use Rattle.std.specs.Prelude.{◌≡◌, ◌≤◌, ◌<◌, ◌+◌, ◌↔◌, ◌++◌, length, IsOk, OnOk, OnErr};
 ghost use Rattle.chacha20.specs.ChaCha.{keystream, xor_stream};
 ghost use Rattle.chacha20.specs.Cipher.{limit_of};
-ghost use Rattle.examples.specs.Pieces.{chunk_nonce, chunk_stream};
 
-use chacha20::cipher::{KeyIvInit, StreamCipher, StreamCipherError};
-use chacha20::{ChaCha20, Key, Nonce};
+use chacha20::cipher::{StreamCipher, StreamCipherError};
 
 /// XORs bytes with the keystream in pieces of `size` bytes, of which the last may be shorter. The bytes
 /// and the cipher become those of one call for all bytes. The caller proves that these end within the limit.
@@ -73,32 +71,4 @@ pub fn apply_in_two<C: StreamCipher>(cipher: &mut C, first: &mut [u8], rest: &mu
 {
     cipher.apply_keystream(first);
     cipher.apply_keystream(rest);
-}
-
-/// Encrypts a message in chunks of `size` bytes, of which the last may be shorter, each under its number as nonce (this
-/// crate). So a message may be longer than the 274877906944 bytes (256 GiB) of one nonce, and a chunk is decrypted
-/// without the others. Take a new key for each message.
-pub fn encrypt_in_chunks(key: &Key, message: &mut [u8], size: usize)
-    requires some { 0 < size }
-    requires fits { size ≤ 274877906944 }
-    ensures { message.new ≡ xor_stream (chunk_stream key.now size) 0 message.old }
-{
-    let mut number = 0u64;
-    let mut done = 0;
-    'chunks: while done < message.len() {
-        let end = done + size.min(message.len() - done);
-        ChaCha20::new(key, &chunk_nonce(number)).apply_keystream(&mut message[done..end]);
-        number += 1;
-        done = end;
-    }
-}
-
-/// The nonce of a chunk. No other number below 2^64 has it.
-pub fn chunk_nonce(number: u64) -> Nonce
-    ensures value { result ≡ chunk_nonce number }
-    ensures distinct { (other : ℕ) → other < 2 ^ 64 → chunk_nonce other ≡ result → other ≡ number }
-{
-    let mut nonce = [0; 12];
-    nonce[..8].copy_from_slice(&number.to_le_bytes());
-    nonce
 }

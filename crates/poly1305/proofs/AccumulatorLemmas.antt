@@ -98,7 +98,10 @@ absorbed-block key text piece whole rest same long =
     sym (length-drop (16 * k) all) ∙ ap length behind ∙ length-append whole rest in
     let one : block all k ≡ number (whole ++ 1 ∷ []) =
     ap (λ bs. number (bs ++ 1 ∷ []))
-    (take_16 all k ∙ ap (take 16) behind ∙ take-append-le 16 whole rest (omega arith) ∙ take_all 16 whole (omega arith)) in (
+    (
+    take_16 all k ∙ ap (take 16) behind ∙ take-append-le 16 whole rest (omega arith)
+    ∙ take_all 16 whole (omega arith)
+    ) in (
       suc k,
       omega (arith, sizes),
       sym (ap (λ a. r * (a + block all k) % prime) (accumulator_front r 0 text piece k fits)

@@ -67,7 +67,8 @@ horner r a b c d e =
     let second : r * (x % prime + c) % prime ≡ y % prime = sym (summand_reduced r x c) in
     let third : r * (r * (x % prime + c) % prime + d) % prime ≡ z % prime =
     ap (λ n. r * (n + d) % prime) second ∙ sym (summand_reduced r y d) in
-    ap (λ n. r * (n + e) % prime) third ∙ sym (summand_reduced r z e) ∙ ap (λ n. n % prime) (horner_expanded r a b c d e)
+    ap (λ n. r * (n + e) % prime) third ∙ sym (summand_reduced r z e)
+    ∙ ap (λ n. n % prime) (horner_expanded r a b c d e)
 
 -- the blocks of a group in lanes
 abbrev pub group : List ℕ → ℕ → ℕ
@@ -82,7 +83,8 @@ weighted-group r a text = sym (horner r a (block text 0) (block text 1) (block t
 pub weighted_more : (r a : ℕ) (v : ℕ → ℕ) (text : List ℕ) → weighted r v % prime ≡ r ^ 4 * a % prime
     → (weighted r v + weighted r (group text)) % prime ≡ accumulator r a text 4
 weighted_more r a v text holds =
-    mod_sum (weighted r v) (weighted r (group text)) (r ^ 4 * a) (weighted r (group text)) holds refl ∙ weighted-group r a text
+    mod_sum (weighted r v) (weighted r (group text)) (r ^ 4 * a) (weighted r (group text)) holds refl
+    ∙ weighted-group r a text
 
 distributed : (q a b c d v w x y k l m n : ℕ)
     → a * ((v + k) * q) + b * ((w + l) * q) + c * ((x + m) * q) + d * ((y + n) * q)

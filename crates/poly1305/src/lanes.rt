@@ -1,5 +1,5 @@
-//! Four accumulators side by side, in limbs of 26 bits, so that a sum of products fits 64 bits. A vector has one limb of
-//! each lane:
+//! Four accumulators side by side, in limbs of 26 bits, so that a sum of products fits 64 bits. A vector has one limb
+//! of each lane:
 //!
 //! ```text
 //!             lane 0   lane 1   lane 2   lane 3     unit
@@ -67,7 +67,8 @@ pub fn sum(x: Lanes, y: Lanes) -> Lanes
     requires x { (k : ℕ) → k < 4 → AreBelow (2 ^ 61) x k }
     requires y { (k : ℕ) → k < 4 → AreBelow (2 ^ 61) y k }
     ensures value { (k : ℕ) → k < 4 → lane result k ≡ lane x k + lane y k }
-    ensures small { (b c k : ℕ) → k < 4 → AreBelow b x k → AreBelow c y k → AreBelow (b + c) result k }
+    ensures small { (b c k : ℕ) → k < 4
+        → AreBelow b x k → AreBelow c y k → AreBelow (b + c) result k }
 {
     Lanes {
         h0: plus(x.h0, y.h0),

@@ -19,8 +19,8 @@
 //! Contracts say that a tag is exactly that of the RFC's definition, for each key and text, and however the text is cut
 //! into pieces. No call fails or has a `requires`.
 //!
-//! Texts of at least 512 bytes go by four blocks at a time through SIMD lanes. A shorter piece takes 6 products, sums and
-//! shifts a block.
+//! Pieces of at least 512 bytes go through SIMD lanes, four blocks at a time. A block of a shorter piece takes 6
+//! products, sums and shifts.
 //!
 //! What is only read: no branch and no index depends on the key, the text's bytes or a tag. In the source all depend on
 //! lengths alone, and so do those of `new`, `update`, `finish` and `is_equal` in the machine code for x86-64, x86-64-v2

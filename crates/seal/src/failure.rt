@@ -70,8 +70,8 @@ impl From<AllocError> for Failure<'_> {
 }
 
 impl Failure<'_> {
-    // The text before the name, the name, and the text after it. `fmt` adds a cause or a number. The prover takes seconds
-    // for each `write!`, so there are few.
+    // The text before the name, the name, and the text after it. `fmt` adds a cause or a number. The prover takes
+    // seconds for each `write!`, so there are few.
     fn words(&self) -> (&str, &str, &str) {
         match *self {
             Failure::Usage => (USAGE, "", ""),

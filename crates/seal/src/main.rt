@@ -1,18 +1,18 @@
 //! Encrypts files so that a change within one is noticed. README.md has the calls and the format.
 #![tactic(auto)]
 
-ghost use Rattle.std.specs.Prelude.{◌≡◌, ◌+◌, ◌≤◌, length};
+ghost use Rattle.std.specs.Prelude.{◌≤◌, IfOk};
 
 mod failure;
 mod files;
 mod progress;
 
-use aead::sealed::{CHUNK, Salt, SealError, TAG, cat, stream};
+use aead::sealed::{CHUNK, SealError, SealedReader, TAG, chunk, stream};
 use chacha20::Key;
 use failure::{Failure, Refusal};
 use progress::Progress;
 use std::fs::File;
-use std::io::{Seek, SeekFrom, Write};
+use std::io::{ErrorKind, Seek, SeekFrom, Write};
 use std::process::ExitCode;
 use std::{env, fs, io};
 
@@ -126,37 +126,50 @@ fn print<'a>(
     len: u64,
 ) -> Result<(), Failure<'a>> {
     let told = |e: SealError| Failure::of_stream(e, from, "standard output");
-    let (mut file, total) = files::open(rt, from).map_err(|e| Failure::Read(from, e))?;
-    let salt = stream::read_header(&mut file).map_err(told)?;
-    let text_len = cat::text_len(total);
+    let mut buf = vec![in rt.alloc(); 0u8; CHUNK + TAG]?;
+    let (file, _) = files::open(rt, from).map_err(|e| Failure::Read(from, e))?;
+    let mut reader = SealedReader::new(secret, file, &mut buf).map_err(told)?;
+    let text_len = reader.text_len();
     if start > text_len || len > text_len - start {
         return Err(Failure::EndOfText(from, text_len));
     }
-    let mut buf = vec![in rt.alloc(); 0u8; CHUNK + TAG]?;
-    print_part(rt, secret, &salt, text_len, start, len, &mut file, &mut buf).map_err(told)
+    print_part(rt, &mut reader, start, len).map_err(told)
 }
 
 fn print_part(
     rt: &HostRuntime,
-    secret: &Key,
-    salt: &Salt,
-    text_len: u64,
+    reader: &mut SealedReader<'_, File>,
     start: u64,
     len: u64,
-    file: &mut File,
-    buf: &mut [u8],
-) -> Result<(), SealError>
-    requires buffer { length buf.old ≡ 65552 }
-    requires range { start + len ≤ text_len }
-{
-    let place = cat::chunk_place(start);
-    if let Err(e) = file.seek(SeekFrom::Start(place)) {
-        return Err(SealError::Read(e));
-    }
+) -> Result<(), SealError> {
+    reader
+        .seek(SeekFrom::Start(start))
+        .map_err(SealError::Read)?;
     let mut writer = io::writer(rt);
-    cat::print_part(secret, salt, text_len, start, len, file, &mut writer, buf)?;
-    match writer.flush() {
-        Ok(()) => Ok(()),
-        Err(e) => Err(SealError::Write(e)),
+    let mut left = len;
+    for _ in 0..len {
+        if left == 0 {
+            break;
+        }
+        left -= print_piece(reader, left, &mut writer)?;
     }
+    writer.flush().map_err(SealError::Write)
+}
+
+// Prints at most so many bytes of what the reader has next, and returns how many.
+fn print_piece<W: Write>(
+    reader: &mut SealedReader<'_, File>,
+    most: u64,
+    writer: &mut W,
+) -> Result<u64, SealError>
+    ensures { IfOk result (λ n. n ≤ most) }
+{
+    let mut piece = [0; 8192];
+    let size = most.min(8192) as usize;
+    let n = reader.read_text(&mut piece[..size])?;
+    if n == 0 {
+        return Err(SealError::Read(io::Error::from(ErrorKind::UnexpectedEof)));
+    }
+    chunk::put(writer, &piece[..n])?;
+    Ok(n as u64)
 }

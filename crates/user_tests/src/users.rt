@@ -15,6 +15,7 @@ mod pieces;
 mod readme;
 mod scalar;
 mod sealed;
+mod sealed_parts;
 mod sectors;
 mod simulation;
 mod stream;

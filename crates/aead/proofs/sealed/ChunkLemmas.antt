@@ -5,22 +5,15 @@ use Rattle.std.proofs.lemmas.List.{take-append-le, drop-append-le}
 use Rattle.chacha20.specs.ChaCha.{xor_stream}
 use Rattle.chacha20.specs.XChaCha.{xchacha_stream}
 use Rattle.chacha20.proofs.KeystreamLemmas.{length-xor_stream, xor_stream-xor_stream}
-use Rattle.poly1305.specs.Poly1305.{tag_from}
 use Rattle.aead.specs.Aead.{encrypted, poly1305_tag}
+use Rattle.aead.proofs.AeadLemmas.{length-sealed_message}
 use Rattle.aead.specs.Sealed.{xchacha20_poly1305, header, chunk_nonce, chunk, chunks, piece, last_number, sealed}
-
-length-tag : (stream : ℕ → ℕ) (aad ciphertext : List ℕ) → length (poly1305_tag stream aad ciphertext) ≡ 16
-unfolding tag_from
-length-tag stream aad ciphertext = refl
 
 pub length-chunk : (key salt : List ℕ) (i : ℕ) (last : Bool) (text : List ℕ)
     → length (chunk key salt i last text) ≡ length text + 16
 unfolding chunk
 length-chunk key salt i last text =
-    let stream = xchacha_stream 10 key (chunk_nonce salt i last) in
-    let ciphertext = encrypted stream text in
-    length-append ciphertext (poly1305_tag stream (header salt) ciphertext)
-    ∙ ap₂ ◌+◌ (length-xor_stream stream 64 text) (length-tag stream (header salt) ciphertext)
+    length-sealed_message (xchacha_stream 10 key (chunk_nonce salt i last)) (header salt) text
 
 pub some-chunk : (key salt : List ℕ) (i : ℕ) (last : Bool) (text : List ℕ) → 0 < length (chunk key salt i last text)
 some-chunk key salt i last text = subst (λ k. 0 < k) (sym (length-chunk key salt i last text)) (omega arith)
@@ -138,7 +131,8 @@ module _ (key salt : List ℕ) where
   body text = let n = last_number text in chunks key salt text n ++ chunk key salt n true (piece text n)
 
   -- chunks are those of the text's front
-  chunks-front : (m rest : List ℕ) (n : ℕ) → 65536 * n ≤ length m → chunks key salt (m ++ rest) n ≡ chunks key salt m n
+  pub chunks-front : (m rest : List ℕ) (n : ℕ) → 65536 * n ≤ length m
+      → chunks key salt (m ++ rest) n ≡ chunks key salt m n
   chunks-front m rest zero fits = refl
   chunks-front m rest (suc i) fits =
       ap₂ (λ cs p. cs ++ chunk key salt i false p) (chunks-front m rest i (omega (arith, fits)))

@@ -61,11 +61,17 @@ pub fn write_chunk<W: Write>(
 ) -> Result<(), SealError>
     requires number { number < 2 ^ 56 }
     requires size { length text.old ≤ 65536 }
-    ensures { OnOk result (Appends (W.contents writer.old) (W.contents writer.new)
+    ensures written { OnOk result (Appends (W.contents writer.old) (W.contents writer.new)
         (chunk key.now salt.now number last text.old)) }
+    ensures partly { (n : ℕ) × Appends (W.contents writer.old) (W.contents writer.new)
+        (take n (chunk key.now salt.now number last text.old)) }
+    ensures not_long { IfErr result (λ e. e ≢ SealError.TooLong) }
 {
     let nonce = chunk_nonce(salt, number, last);
-    let tag = XChaCha20Poly1305::seal(key, &nonce, &header(salt), text).unwrap();
+    let cipher = XChaCha20Poly1305::new(key);
+    let tag = cipher
+        .encrypt_in_place_detached(&nonce, &header(salt), text)
+        .unwrap();
     put(writer, text)?;
     put(writer, &tag)
 }
@@ -75,6 +81,7 @@ pub fn put<W: Write>(writer: &mut W, bytes: &[u8]) -> Result<(), SealError>
     ensures written { OnOk result
         (Appends (W.contents writer.old) (W.contents writer.new) bytes.now) }
     ensures failed { IfErr result (λ e. (damage : Damage) → e ≢ SealError.Damaged damage) }
+    ensures not_long { IfErr result (λ e. e ≢ SealError.TooLong) }
     ensures partly { (n : ℕ)
         × Appends (W.contents writer.old) (W.contents writer.new) (take n bytes.now) }
 {
@@ -113,5 +120,8 @@ pub fn open_chunk(key: &Key, salt: &Salt, number: u64, last: bool, bytes: &mut [
     let mut tag = [0; 16];
     tag.copy_from_slice(&bytes[end..]);
     let nonce = chunk_nonce(salt, number, last);
-    XChaCha20Poly1305::open(key, &nonce, &header(salt), &mut bytes[..end], &tag).is_ok()
+    let cipher = XChaCha20Poly1305::new(key);
+    cipher
+        .decrypt_in_place_detached(&nonce, &header(salt), &mut bytes[..end], &tag)
+        .is_ok()
 }

@@ -1,10 +1,13 @@
-//! The AEAD: published examples, and tags of libsodium. A caller's proof that what is sealed is opened.
+//! The AEAD: published examples, and tags of libsodium. A caller's proof that what is encrypted is decrypted.
 
 ghost use Rattle.std.specs.Prelude.{◌≡◌, ◌≤◌, ◌+◌, ◌↔◌, length, IsOk, OnOk};
 ghost use Rattle.chacha20.specs.Cipher.{limit_of};
 
-use aead::{AeadError, ChaCha20Poly1305, Mac, XChaCha20Poly1305, open, seal};
-use chacha20::cipher::{KeyIvInit, StreamCipherSeek};
+use aead::{
+    AeadError, ChaCha8Poly1305, ChaCha12Poly1305, ChaCha20Poly1305, ChaChaPoly1305,
+    XChaCha8Poly1305, XChaCha12Poly1305, XChaCha20Poly1305,
+};
+use chacha20::cipher::{KeyIvInit, StreamCipher};
 use chacha20::{Key, Nonce, XNonce};
 use known_answers::published::{FROM_80, MESSAGE};
 use poly1305::Tag;
@@ -12,7 +15,8 @@ use poly1305::Tag;
 // The front of the message, sealed, and its tag.
 fn sealed(len: usize, aad: &[u8]) -> ([u8; 114], Tag) {
     let mut message = *MESSAGE;
-    let tag = ChaCha20Poly1305::seal(&FROM_80, &NONCE, aad, &mut message[..len.min(114)]);
+    let cipher = ChaCha20Poly1305::new(&FROM_80);
+    let tag = cipher.encrypt_in_place_detached(&NONCE, aad, &mut message[..len.min(114)]);
     (message, tag.unwrap_or([0; 16]))
 }
 
@@ -41,8 +45,9 @@ fn lengths(rt: HostRuntime) {
 // Whether the ciphertext of section A.5 with this tag gives this answer, and becomes this text.
 fn gives(tag: &Tag, answer: Result<(), AeadError>, text: &[u8; 265]) -> bool {
     let mut message = *A5_CIPHERTEXT;
-    ChaCha20Poly1305::open(&A5_KEY, &A5_NONCE, A5_AAD, &mut message, tag) == answer
-        && message == *text
+    let cipher = ChaCha20Poly1305::new(&A5_KEY);
+    let given = cipher.decrypt_in_place_detached(&A5_NONCE, A5_AAD, &mut message, tag);
+    given == answer && message == *text
 }
 
 #[test]
@@ -51,19 +56,47 @@ fn opened(rt: HostRuntime) {
     assert!(rt; gives(&A5_TAG, Ok(()), A5_MESSAGE));
 }
 
-#[test]
-fn xchacha(rt: HostRuntime) {
-    let (key, nonce, aad) = (&FROM_80, &X_NONCE, AAD);
-    let mut message = *MESSAGE;
-    let tag = XChaCha20Poly1305::seal(key, nonce, aad, &mut message).unwrap();
-    assert!(rt; tag == X_TAG && message == *X_CIPHERTEXT);
-    let opened = XChaCha20Poly1305::open(key, nonce, aad, &mut message, &tag);
-    assert!(rt; opened == Ok(()) && message == *MESSAGE);
+// The same from one slice into another, where a wrong tag changes nothing.
+fn gives_apart(tag: &Tag, answer: Result<(), AeadError>, text: &[u8; 265]) -> bool {
+    let mut sealed = [0; 281];
+    sealed[..265].copy_from_slice(A5_CIPHERTEXT);
+    sealed[265..].copy_from_slice(tag);
+    let mut output = *A5_CIPHERTEXT;
+    let given = ChaCha20Poly1305::new(&A5_KEY).decrypt(&A5_NONCE, A5_AAD, &sealed, &mut output);
+    given == answer && output == *text
 }
 
-// Whatever the cipher, the MAC and the message are: what is sealed is opened, and the message is as it was.
-fn there_and_back<C: KeyIvInit + StreamCipherSeek + Drop, M: Mac>(
-    key: &C::Key,
+#[test]
+fn opened_apart(rt: HostRuntime) {
+    assert!(rt; gives_apart(&WRONG_TAG, Err(AeadError::WrongTag), A5_CIPHERTEXT));
+    assert!(rt; gives_apart(&A5_TAG, Ok(()), A5_MESSAGE));
+}
+
+#[test]
+fn sealed_apart(rt: HostRuntime) {
+    let mut output = [0; 281];
+    let made = ChaCha20Poly1305::new(&A5_KEY).encrypt(&A5_NONCE, A5_AAD, A5_MESSAGE, &mut output);
+    assert!(rt; made == Ok(()) && output.starts_with(A5_CIPHERTEXT) && output.ends_with(&A5_TAG));
+}
+
+// The draft's example, there and back.
+fn draft_example(key: &Key, nonce: &XNonce, aad: &[u8]) -> Result<bool, AeadError> {
+    let mut message = *MESSAGE;
+    let cipher = XChaCha20Poly1305::new(key);
+    let tag = cipher.encrypt_in_place_detached(nonce, aad, &mut message)?;
+    let right = tag == X_TAG && message == *X_CIPHERTEXT;
+    cipher.decrypt_in_place_detached(nonce, aad, &mut message, &tag)?;
+    Ok(right && message == *MESSAGE)
+}
+
+#[test]
+fn xchacha(rt: HostRuntime) {
+    assert!(rt; draft_example(&FROM_80, &X_NONCE, AAD) == Ok(true));
+}
+
+// Whatever the cipher and the message are: what is encrypted is decrypted, and the message is as it was.
+fn there_and_back<C: KeyIvInit<Key = Key> + StreamCipher + Drop>(
+    key: &Key,
     nonce: &C::Iv,
     aad: &[u8],
     message: &mut [u8],
@@ -71,25 +104,58 @@ fn there_and_back<C: KeyIvInit + StreamCipherSeek + Drop, M: Mac>(
     ensures accepted { IsOk result ↔ (64 + length message.old ≤ limit_of C.modulus) }
     ensures message { message.new ≡ message.old }
 {
-    let Ok(tag) = seal::<C, M>(key, nonce, aad, message) else {
-        return Err(AeadError::TooLong);
-    };
-    open::<C, M>(key, nonce, aad, message, &tag)
+    let cipher = ChaChaPoly1305::<C>::new(key);
+    let tag = cipher.encrypt_in_place_detached(nonce, aad, message)?;
+    cipher.decrypt_in_place_detached(nonce, aad, message, &tag)
+}
+
+// Whether a text of `len` bytes has one ciphertext and tag in place and from slice to slice, and comes back both ways.
+fn both_ways<C: KeyIvInit<Key = Key> + StreamCipher + Drop>(
+    cipher: &ChaChaPoly1305<C>,
+    nonce: &C::Iv,
+    len: usize,
+) -> Result<bool, AeadError> {
+    let (mut message, mut sealed, mut output) = ([7; 1200], [0; 1216], [0; 1200]);
+    let len = len.min(1200);
+    let (text, place) = (&mut message[..len], &mut sealed[..len + 16]);
+    cipher.encrypt(nonce, AAD, text, place)?;
+    cipher.decrypt(nonce, AAD, place, &mut output[..len])?;
+    let tag = cipher.encrypt_in_place_detached(nonce, AAD, text)?;
+    let same = place.starts_with(text) && place.ends_with(&tag);
+    cipher.decrypt_in_place_detached(nonce, AAD, text, &tag)?;
+    Ok(same && output.starts_with(text) && message == [7; 1200])
+}
+
+// All lengths of a front, and those around its bounds.
+#[test]
+fn all_lengths(rt: HostRuntime) {
+    let cipher = ChaCha20Poly1305::new(&FROM_80);
+    for len in 0..1200 {
+        assert!(rt; both_ways(&cipher, &NONCE, len) == Ok(true));
+    }
+}
+
+#[test]
+fn other_rounds(rt: HostRuntime) {
+    assert!(rt; both_ways(&ChaCha8Poly1305::new(&FROM_80), &NONCE, 1000) == Ok(true));
+    assert!(rt; both_ways(&ChaCha12Poly1305::new(&FROM_80), &NONCE, 1000) == Ok(true));
+    assert!(rt; both_ways(&XChaCha8Poly1305::new(&FROM_80), &X_NONCE, 1000) == Ok(true));
+    assert!(rt; both_ways(&XChaCha12Poly1305::new(&FROM_80), &X_NONCE, 1000) == Ok(true));
 }
 
 // RFC 8439, section 2.8.2.
 static NONCE: Nonce = *b"\x07\x00\x00\x00@ABCDEFG";
 
-static AAD: &[u8] = b"PQRS\xc0\xc1\xc2\xc3\xc4\xc5\xc6\xc7";
+pub static AAD: &[u8] = b"PQRS\xc0\xc1\xc2\xc3\xc4\xc5\xc6\xc7";
 
-static CIPHERTEXT: [u8; 114] = *b"\
+pub static CIPHERTEXT: [u8; 114] = *b"\
     \xd3\x1a\x8d\x34\x64\x8e\x60\xdb\x7b\x86\xaf\xbc\x53\xef\x7e\xc2\xa4\xad\xed\x51\x29\x6e\x08\xfe\
     \xa9\xe2\xb5\xa7\x36\xee\x62\xd6\x3d\xbe\xa4\x5e\x8c\xa9\x67\x12\x82\xfa\xfb\x69\xda\x92\x72\x8b\
     \x1a\x71\xde\x0a\x9e\x06\x0b\x29\x05\xd6\xa5\xb6\x7e\xcd\x3b\x36\x92\xdd\xbd\x7f\x2d\x77\x8b\x8c\
     \x98\x03\xae\xe3\x28\x09\x1b\x58\xfa\xb3\x24\xe4\xfa\xd6\x75\x94\x55\x85\x80\x8b\x48\x31\xd7\xbc\
     \x3f\xf4\xde\xf0\x8e\x4b\x7a\x9d\xe5\x76\xd2\x65\x86\xce\xc6\x4b\x61\x16";
 
-static TAG: Tag = *b"\x1a\xe1\x0b\x59\x4f\x09\xe2\x6a\x7e\x90\x2e\xcb\xd0\x60\x06\x91";
+pub static TAG: Tag = *b"\x1a\xe1\x0b\x59\x4f\x09\xe2\x6a\x7e\x90\x2e\xcb\xd0\x60\x06\x91";
 
 // draft-irtf-cfrg-xchacha, section A.3.1, with the same key, data and message.
 static X_NONCE: XNonce = *b"@ABCDEFGHIJKLMNOPQRSTUVW";

@@ -1,53 +1,22 @@
-//! Frames: published values, a list of messages through both sides, and the end of the numbers.
+//! Frames: a published value, a list of messages through both sides, what is refused, and the end of the numbers.
 
 ghost use Rattle.std.specs.Prelude.{◌≡◌, ◌<◌, ◌+◌, ◌^◌, length, IsOk, OnOk};
 
-use chacha20::Key;
+use crate::users::authenticated::{AAD, CIPHERTEXT, TAG};
 use examples::frames::{Channel, FrameError, Receiver, Sender};
-use known_answers::published::KEYSTREAM;
+use known_answers::published::{FROM_80, MESSAGE};
 
-// Whether the frame of so many zeros with a number has these last bytes.
-fn ends(key: &Key, channel: &Channel, number: u64, len: usize, end: &[u8]) -> bool {
-    let mut frame = [0; 178];
-    let frame = &mut frame[..len.min(178)];
-    Sender::resume(key, channel, number).encrypt(frame).is_ok() && frame.ends_with(end)
-}
-
-// The key 00 to 1f.
-const COUNTED: Key = [
-    0, 1, 2, 3, 4, 5, 6, 7, 8, 9, 10, 11, 12, 13, 14, 15, 16, 17, 18, 19, 20, 21, 22, 23, 24, 25,
-    26, 27, 28, 29, 30, 31,
-];
-
-// RFC 8439: the fronts of a block (section 2.3.2) and of a stream (2.4.2), both from block 1 on, and of block 0 under a
-// nonce that ends in 2 (A.1).
-static FRAMES: [(Key, Channel, u64, usize, &[u8]); 3] = [
-    (
-        COUNTED,
-        [0, 0, 0, 9],
-        0x4a00_0000,
-        80,
-        b"\x10\xf1\xe7\xe4\xd1\x3b\x59\x15\x50\x0f\xdd\x1f\xa3\x20\x71\xc4",
-    ),
-    (COUNTED, [0; 4], 0x4a00_0000, 178, KEYSTREAM),
-    (
-        [0; 32],
-        [0; 4],
-        2 << 56,
-        16,
-        b"\xc2\xc6\x4d\x37\x8c\xd5\x36\x37\x4a\xe2\x04\xb9\xef\x93\x3f\xcd",
-    ),
-];
-
+// RFC 8439, section 2.8.2: the first four bytes of the nonce are the channel, the others the number.
 #[test]
 fn published(rt: HostRuntime) {
-    for (key, channel, number, len, end) in &FRAMES {
-        assert!(rt; ends(key, channel, *number, *len, end));
-    }
+    let mut sender = Sender::resume(&FROM_80, b"\x07\0\0\0", u64::from_le_bytes(*b"@ABCDEFG"));
+    let mut frame = [0; 130];
+    let sent = sender.encrypt(AAD, MESSAGE, &mut frame);
+    assert!(rt; sent == Ok(()) && frame.starts_with(&CIPHERTEXT) && frame.ends_with(&TAG));
 }
 
-// Encrypts each message and decrypts it again. Whatever the messages are, they come out as they went in, and both sides
-// have the same number, which has counted them. `Err` only where the numbers are used up.
+// Sends each message as a frame and receives it again. Whatever the messages are, they come out as they went in, and
+// both sides have the same number, which has counted them. `Err` only where the numbers are used up.
 fn pass(
     sender: &mut Sender,
     receiver: &mut Receiver,
@@ -60,10 +29,10 @@ fn pass(
     ensures counted { OnOk result (sender.new.next
         ≡ sender.old.next + length messages.old) }
 {
+    let mut frame = [0; 116];
     'each: for i in 0..messages.len() {
-        let message = &mut messages[i];
-        sender.encrypt(message)?;
-        receiver.decrypt(message)?;
+        sender.encrypt(b"", &messages[i], &mut frame)?;
+        receiver.decrypt(b"", &frame, &mut messages[i])?;
     }
     Ok(())
 }
@@ -85,6 +54,41 @@ fn in_order(rt: HostRuntime) {
     sender = Sender::resume(&[1; 32], &[2; 4], u64::MAX - 3);
     receiver = Receiver::resume(&[1; 32], &[2; 4], u64::MAX - 3);
     let last = three_pass(&mut sender, &mut receiver, u64::MAX);
-    let refused = [sender.encrypt(&mut [7; 5]), receiver.decrypt(&mut [7; 5])];
+    let refused = [
+        sender.encrypt(b"", &[7; 5], &mut [0; 21]),
+        receiver.decrypt(b"", &[7; 21], &mut [0; 5]),
+    ];
     assert!(rt; first && last && refused == [Err(FrameError::NumbersUsedUp); 2]);
+}
+
+// What comes to a receiver: the channel, the number, a byte in which a bit is turned, and whether it is accepted.
+static COMING: [(Channel, u64, usize, bool); 7] = [
+    ([2; 4], 1, NONE, false), // the frame before was lost
+    ([2; 4], 0, 4, false), // the ciphertext was changed
+    ([2; 4], 0, 20, false), // the tag was changed
+    ([3; 4], 0, NONE, false), // from the other direction
+    ([2; 4], 0, NONE, true),
+    ([2; 4], 0, NONE, false), // it comes again
+    ([2; 4], 1, NONE, true),
+];
+
+const NONE: usize = 21;
+
+// Whether a frame of five bytes is accepted.
+fn accepts(receiver: &mut Receiver, channel: &Channel, number: u64, turned: usize) -> bool {
+    let mut frame = [0; 21];
+    let sent = Sender::resume(&[1; 32], channel, number).encrypt(b"aad", b"hello", &mut frame);
+    if turned < NONE {
+        frame[turned] ^= 1;
+    }
+    let mut message = [0; 5];
+    sent.is_ok() && receiver.decrypt(b"aad", &frame, &mut message).is_ok() && message == *b"hello"
+}
+
+#[test]
+fn coming(rt: HostRuntime) {
+    let mut receiver = Receiver::new(&[1; 32], &[2; 4]);
+    for (channel, number, turned, right) in &COMING {
+        assert!(rt; accepts(&mut receiver, channel, *number, *turned) == *right);
+    }
 }

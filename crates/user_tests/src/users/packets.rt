@@ -1,57 +1,88 @@
-//! Packets: in another order, twice, forged, and at the window's edge.
+//! Packets: a known value, in another order, twice, changed, and at the window's edges.
 
-ghost use Rattle.std.specs.Prelude.{◌≡◌, OnOk, IfOk, IsTrue};
+ghost use Rattle.std.specs.Prelude.{◌≡◌, ◌+◌, length, OnOk, IfOk, IsTrue};
 
-use examples::frames::Sender;
-use examples::packets::{Header, PacketError, Receiver, send};
+use examples::frames::{Channel, Sender};
+use examples::packets::{PacketError, Receiver, send};
+use known_answers::published::FROM_80;
 
-// A packet that comes twice: where the first is taken, the second is refused and stays as it came.
+// Made by OpenSSL 4.0, with the header as associated data.
+#[test]
+fn known(rt: HostRuntime) {
+    let mut sender = Sender::resume(&FROM_80, b"\x07\0\0\0", u64::from_le_bytes(*b"@ABCDEFG"));
+    let mut packet = [0; 29];
+    assert!(rt;
+        send(&mut sender, b"hello", &mut packet) == Ok(())
+            && packet
+                == *b"@ABCDEFG\
+        \xf7\x1e\x85\x31\x6e\x61\xd0\x16\x29\xf2\x1c\x64\x52\x3c\x30\x7d\xcc\x0c\x69\xe8\xb9"
+    );
+}
+
+// A packet that comes twice: where the first is taken, the second is refused and writes nothing.
 fn twice(
     receiver: &mut Receiver,
-    header: &Header,
-    body: &mut [u8],
+    packet: &[u8],
+    message: &mut [u8],
     copy: &mut [u8],
 ) -> Result<bool, PacketError>
+    requires message { length packet.now ≡ length message.old + 24 }
+    requires copy { length packet.now ≡ length copy.old + 24 }
     ensures refused { IfOk result (λ refused. IsTrue refused) }
     ensures copy { OnOk result (copy.new ≡ copy.old) }
 {
-    receiver.receive(header, body, true)?;
-    Ok(receiver.receive(header, copy, true).is_err())
+    receiver.receive(packet, message)?;
+    Ok(receiver.receive(packet, copy).is_err())
 }
 
-// A packet with this number, of five zeros.
-fn sent(sender: &mut Sender, number: u64, body: &mut [u8; 5]) -> bool {
-    let mut header = [9; 8];
-    send(sender, &mut header, body).is_ok() && header == number.to_le_bytes()
-}
+// What comes to a receiver, and its answer: the channel, the number, and a byte in which a bit is turned.
+static COMING: [(Channel, u64, usize, Result<(), PacketError>); 12] = [
+    (HERE, 1, NONE, Ok(())),
+    (HERE, 0, NONE, Ok(())),
+    (HERE, 1, NONE, Err(PacketError::Replayed)),
+    (HERE, 164, 7, Err(PacketError::Forged)), // the header
+    (HERE, 164, 12, Err(PacketError::Forged)), // the ciphertext
+    (HERE, 164, 28, Err(PacketError::Forged)), // the tag
+    ([3; 4], 164, NONE, Err(PacketError::Forged)),
+    // None of these has moved the window.
+    (HERE, 100, NONE, Ok(())),
+    (HERE, 164, NONE, Ok(())),
+    (HERE, 36, NONE, Err(PacketError::Replayed)),
+    (HERE, 101, NONE, Ok(())),
+    (HERE, 101, 28, Err(PacketError::Replayed)),
+];
 
-// The second of two packets comes first, forged, and then twice.
-#[test]
-fn any_order(rt: HostRuntime) {
-    let mut sender = Sender::new(&[3; 32], &[1, 2, 3, 4]);
-    let mut receiver = Receiver::new(&[3; 32], &[1, 2, 3, 4]);
-    let (mut first, mut second) = ([0; 5], [0; 5]);
-    let right = [
-        sent(&mut sender, 0, &mut first),
-        sent(&mut sender, 1, &mut second),
-        receiver.receive(&ONE, &mut second, false) == Err(PacketError::Forged),
-        twice(&mut receiver, &ONE, &mut second, &mut [7; 5]) == Ok(true),
-        receiver.receive(&[0; 8], &mut first, true) == Ok(()),
-    ];
-    assert!(rt; right == [true; 5] && [first, second] == [[0; 5]; 2]);
-}
+const HERE: Channel = [2; 4];
 
-static ONE: Header = [1, 0, 0, 0, 0, 0, 0, 0];
+const NONE: usize = 29;
 
-// After number 164 the receiver takes 101 and not 100, and never 2^64 - 1.
-#[test]
-fn edges(rt: HostRuntime) {
-    let mut receiver = Receiver::new(&[3; 32], &[0; 4]);
-    let mut said = [Ok(()); 4];
-    let numbers = [164, 100, 101, u64::MAX];
-    'each: for i in 0..4usize {
-        said[i] = receiver.receive(&numbers[i].to_le_bytes(), &mut [0; 5], true);
+// What it makes of a packet of five bytes.
+fn receive(
+    receiver: &mut Receiver,
+    channel: &Channel,
+    number: u64,
+    turned: usize,
+) -> Result<(), PacketError> {
+    let mut sender = Sender::resume(&[1; 32], channel, number);
+    let mut packet = [0; 29];
+    let sent = send(&mut sender, b"hello", &mut packet);
+    if turned < NONE {
+        packet[turned] ^= 1;
     }
-    let replayed = Err(PacketError::Replayed);
-    assert!(rt; said == [Ok(()), replayed, Ok(()), replayed]);
+    let mut message = [0; 5];
+    receiver.receive(&packet, &mut message)?;
+    if sent.is_ok() && message == *b"hello" {
+        Ok(())
+    } else {
+        Err(PacketError::Forged)
+    }
+}
+
+#[test]
+fn coming(rt: HostRuntime) {
+    let mut receiver = Receiver::new(&[1; 32], &HERE);
+    for (channel, number, turned, answer) in &COMING {
+        assert!(rt; receive(&mut receiver, channel, *number, *turned) == *answer);
+    }
+    assert!(rt; receiver.receive(&[0xff; 29], &mut [0; 5]) == Err(PacketError::Replayed));
 }

@@ -1,4 +1,4 @@
-//! A published stream in pieces, in two buffers and as a record, by any cipher; chunks.
+//! A published stream in pieces, in two buffers and as a record, by any cipher.
 
 ghost use Rattle.std.specs.Prelude.{◌≡◌, ◌≤◌, ◌+◌, ◌^◌};
 ghost use Rattle.chacha20.specs.Cipher.{limit_of};
@@ -8,9 +8,8 @@ use chacha20::cipher::{KeyIvInit, StreamCipher, StreamCipherSeek};
 use chacha20::variants::Ietf;
 use chacha20::{ChaChaCore, Key, Nonce, R20, StreamCipherCoreWrapper};
 use examples::file::encrypt_record;
-use examples::message::encrypt;
-use examples::pieces::{apply_in_two, encrypt_in_chunks, try_apply_in_pieces};
-use known_answers::published::{COUNTING, KEYSTREAM, NONCE, OF_20_ROUNDS};
+use examples::pieces::{apply_in_two, try_apply_in_pieces};
+use known_answers::published::{COUNTING, KEYSTREAM, NONCE};
 
 // In pieces of one byte.
 fn in_pieces<C: StreamCipher>(cipher: &mut C) -> bool {
@@ -56,18 +55,4 @@ type ChaCha20Lanes4 = StreamCipherCoreWrapper<ChaChaCore<R20, Ietf, Lanes4>>;
 #[test]
 fn by_any_cipher(rt: HostRuntime) {
     assert!(rt; each::<ChaCha20Lanes4>() == [true; 4]);
-}
-
-// Zeros in two chunks. The first becomes the front of the block of RFC 8439, appendix A.1, number 1; the second is
-// decrypted alone, under the nonce 1.
-#[test]
-fn in_chunks(rt: HostRuntime) {
-    let mut message = [0; 50];
-    encrypt_in_chunks(&[0; 32], &mut message, 32);
-    assert!(rt; message.starts_with(&OF_20_ROUNDS) && is_zero_under_1(&mut message[32..]));
-}
-
-fn is_zero_under_1(chunk: &mut [u8]) -> bool {
-    let nonce = [1, 0, 0, 0, 0, 0, 0, 0, 0, 0, 0, 0];
-    encrypt(&[0; 32], &nonce, chunk).is_ok() && [0; 18].starts_with(chunk)
 }

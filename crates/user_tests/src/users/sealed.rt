@@ -1,9 +1,12 @@
 //! Sealed files: one of another implementation, round trips, damage, and readers and writers that fail.
 
-ghost use Rattle.std.specs.Prelude.{◌<◌, ◌^◌};
+ghost use Rattle.std.specs.Prelude.{◌≡◌, ◌<◌, ◌^◌, ℕ, List, Some, length, take};
+ghost use Rattle.std.specs.Io.KnownBytes.{Appends};
+ghost use Rattle.aead.specs.Sealed.{sealed};
 
 use super::unsteady::Unsteady;
 use aead::sealed::{CHUNK, Damage, Salt, SealError, TAG, decrypt, encrypt};
+use chacha20::Key;
 use known_answers::published::COUNTING as KEY;
 use std::io::{Read, Write};
 
@@ -50,8 +53,13 @@ fn seals<const N: usize, const F: usize>(salt: &Salt, text: &[u8; N], file: &mut
     said_by(done) == Said::Done && writer.is_empty()
 }
 
-fn opens<R: Read, W: Write>(reader: &mut R, writer: &mut W) -> Said {
-    let done = decrypt(&KEY, reader, writer, &mut [0; CHUNK + TAG + 1]);
+// Of a sealed file, whatever is said, a front of its text is written.
+fn opens<R: Read, W: Write>(key: &Key, reader: &mut R, writer: &mut W) -> Said
+    ensures { (salt text : List ℕ) → length salt ≡ 16
+        → R.remaining reader.old ≡ Some (sealed key.now salt text)
+        → (n : ℕ) × Appends (W.contents writer.old) (W.contents writer.new) (take n text) }
+{
+    let done = decrypt(key, reader, writer, &mut [0; CHUNK + TAG + 1]);
     said_by(done)
 }
 
@@ -59,7 +67,7 @@ fn opens<R: Read, W: Write>(reader: &mut R, writer: &mut W) -> Said {
 fn opened(file: &[u8], text: &mut [u8]) -> (Said, usize) {
     let most = text.len();
     let (mut reader, mut room) = (file, text);
-    let answer = opens(&mut reader, &mut room);
+    let answer = opens(&KEY, &mut reader, &mut room);
     (answer, most - room.len().min(most))
 }
 
@@ -83,56 +91,70 @@ fn comes_back<const N: usize, const F: usize>() -> bool
 fn round_trips(rt: HostRuntime) {
     assert!(rt; comes_back::<0, 48>() && comes_back::<1, 49>() && comes_back::<65535, 65583>());
     assert!(rt; comes_back::<65536, 65584>() && comes_back::<65537, 65601>());
-    assert!(rt; comes_back::<200000, 200096>());
+    assert!(rt; comes_back::<400000, 400144>());
 }
 
 type Part = (usize, usize, usize);
 
-// Of a file of 200,000 bytes of text: the header and the chunks; the second chunk of another such file; and all.
-const H: Part = (0, 0, 32);
+// Of a file of 200,000 bytes of text: the header, its four chunks, the second one of another such file, and all.
+const HEADER: Part = (0, 0, 32);
 
-const A: Part = (0, 32, 65584);
+const FIRST: Part = (0, 32, 65584);
 
-const B: Part = (0, 65584, 131136);
+const SECOND: Part = (0, 65584, 131136);
 
-const C: Part = (0, 131136, 196688);
+const THIRD: Part = (0, 131136, 196688);
 
-const D: Part = (0, 196688, 200096);
+const LAST: Part = (0, 196688, 200096);
 
-const X: Part = (1, 65584, 131136);
+const OTHER_SECOND: Part = (1, 65584, 131136);
 
-const ALL: Part = (0, 0, 200096);
+const WHOLE: Part = (0, 0, 200096);
+
+// The same with a chunk missing, out of order, twice or of the other file.
+const CUT_BEFORE_LAST: &[Part] = &[HEADER, FIRST, SECOND, THIRD];
+
+const EXCHANGED: &[Part] = &[HEADER, SECOND, FIRST, THIRD, LAST];
+
+const LEFT_OUT: &[Part] = &[HEADER, FIRST, THIRD, LAST];
+
+const REPEATED: &[Part] = &[HEADER, FIRST, FIRST, SECOND, THIRD, LAST];
+
+const OF_ANOTHER_FILE: &[Part] = &[HEADER, FIRST, OTHER_SECOND, THIRD, LAST];
+
+const LAST_TWICE: &[Part] = &[HEADER, FIRST, SECOND, THIRD, LAST, LAST];
 
 const NONE: usize = usize::MAX;
 
 // Parts of two files, the byte in which a bit is turned, what is wrong, and how much text is written.
-static DAMAGED: [(&[Part], usize, Damage, usize); 26] = [
+static DAMAGED: [(&[Part], usize, Damage, usize); 27] = [
     (&[], NONE, Damage::NotSealed, 0),
     (&[(0, 0, 1)], NONE, Damage::NotSealed, 0),
     (&[(0, 0, 15)], NONE, Damage::CutHeader, 0),
     (&[(0, 0, 31)], NONE, Damage::CutHeader, 0),
-    (&[H], NONE, Damage::WrongEnd(0), 0),
+    (&[HEADER], NONE, Damage::WrongEnd(0), 0),
     (&[(0, 0, 33)], NONE, Damage::WrongEnd(0), 0),
     (&[(0, 0, 48)], NONE, Damage::WrongEnd(0), 0),
     (&[(0, 0, 65583)], NONE, Damage::WrongEnd(0), 0),
-    (&[H, A], NONE, Damage::WrongEnd(0), 0),
+    (&[HEADER, FIRST], NONE, Damage::WrongEnd(0), 0),
     (&[(0, 0, 65585)], NONE, Damage::WrongEnd(1), 65536),
-    (&[H, A, B, C], NONE, Damage::WrongEnd(2), 131072),
+    (CUT_BEFORE_LAST, NONE, Damage::WrongEnd(2), 131072),
     (&[(0, 0, 200095)], NONE, Damage::WrongEnd(3), 196608),
-    (&[ALL], 0, Damage::NotSealed, 0),
-    (&[ALL], 15, Damage::OtherVersion, 0),
-    (&[ALL], 16, Damage::WrongChunk(0), 0),
-    (&[ALL], 32, Damage::WrongChunk(0), 0),
-    (&[ALL], 65583, Damage::WrongChunk(0), 0),
-    (&[ALL], 65584, Damage::WrongChunk(1), 65536),
-    (&[ALL], 196688, Damage::WrongEnd(3), 196608),
-    (&[ALL], 200095, Damage::WrongEnd(3), 196608),
-    (&[H, B, A, C, D], NONE, Damage::WrongChunk(0), 0),
-    (&[H, A, C, D], NONE, Damage::WrongChunk(1), 65536),
-    (&[H, A, A, B, C, D], NONE, Damage::WrongChunk(1), 65536),
-    (&[H, A, X, C, D], NONE, Damage::WrongChunk(1), 65536),
-    (&[H, A, B, C, D, D], NONE, Damage::WrongEnd(3), 196608),
-    (&[ALL, ALL], NONE, Damage::WrongChunk(3), 196608),
+    (&[WHOLE], 0, Damage::NotSealed, 0),
+    (&[WHOLE], 14, Damage::NotSealed, 0),
+    (&[WHOLE], 15, Damage::OtherVersion, 0),
+    (&[WHOLE], 16, Damage::WrongChunk(0), 0),
+    (&[WHOLE], 32, Damage::WrongChunk(0), 0),
+    (&[WHOLE], 65583, Damage::WrongChunk(0), 0),
+    (&[WHOLE], 65584, Damage::WrongChunk(1), 65536),
+    (&[WHOLE], 196688, Damage::WrongEnd(3), 196608),
+    (&[WHOLE], 200095, Damage::WrongEnd(3), 196608),
+    (EXCHANGED, NONE, Damage::WrongChunk(0), 0),
+    (LEFT_OUT, NONE, Damage::WrongChunk(1), 65536),
+    (REPEATED, NONE, Damage::WrongChunk(1), 65536),
+    (OF_ANOTHER_FILE, NONE, Damage::WrongChunk(1), 65536),
+    (LAST_TWICE, NONE, Damage::WrongEnd(3), 196608),
+    (&[WHOLE, WHOLE], NONE, Damage::WrongChunk(3), 196608),
 ];
 
 // Writes these parts of the files, and returns how many bytes that are.
@@ -169,7 +191,7 @@ fn not_found<const N: usize, const F: usize, const M: usize>() -> Option<usize>
 {
     let (mut first, mut second) = ([0; F], [0; F]);
     let sealed = seals(&SALT, &[0; N], &mut first) && seals(&[7; 16], &[0; N], &mut second);
-    for place in 0..26usize {
+    for place in 0..27usize {
         let (parts, turned, damage, written) = &DAMAGED[place];
         let found = opened_parts::<F, M>([&first, &second], parts, *turned);
         if !sealed || found != (Said::Damaged(*damage), *written) {
@@ -197,6 +219,7 @@ fn opened_unsteadily<const N: usize>(
     let mut back = [0; N];
     let mut reader = Unsteady::new(file, 1000, reads);
     let answer = opens(
+        &KEY,
         &mut reader,
         &mut Unsteady::new(back.as_mut_slice(), 1000, writes),
     );

@@ -1,37 +1,89 @@
-//! Sectors: a published nonce and stream, and what is refused.
+//! Sectors: a published nonce and stream, what is refused, and what is changed.
 
-use examples::sectors::{SECTOR, nonce, read, write};
+use examples::sectors::{SECTOR, Seal, SectorError, nonce, read, write};
 use known_answers::published::{COUNTING, KEYSTREAM};
 
-// Whether zeros are written.
-fn writes(versions: &mut [u64], disk: &mut [u8], number: u32) -> bool {
-    write(&COUNTING, versions, disk, number, &[0; SECTOR]).is_ok()
-}
-
-fn reads(versions: &[u64], disk: &[u8], number: u32, text: &mut [u8; SECTOR]) -> bool {
-    read(&COUNTING, versions, disk, number, text).is_ok()
-}
+const BLANK: Seal = Seal {
+    version: 0,
+    tag: [0; 16],
+};
 
 // RFC 8439, section 2.4.2: the nonce is that of version 0x4a000000 of sector 0, and the stream is known from block 1
-// on. The nonce of section 2.3.2 has another number.
+// on. The nonce of section 2.3.2 has another number. The tag is OpenSSL's.
 #[test]
 fn published(rt: HostRuntime) {
-    let (mut versions, mut disk, mut text) = ([0x49ff_ffff], [9; SECTOR], [1; SECTOR]);
-    let done = writes(&mut versions, &mut disk, 0) && reads(&versions, &disk, 0, &mut text);
-    assert!(rt; done && disk[64..].starts_with(KEYSTREAM) && text == [0; SECTOR]);
+    let mut seals = [Seal {
+        version: 0x49ff_ffff,
+        tag: [0; 16],
+    }];
+    let (mut disk, mut text) = ([9; SECTOR], [1; SECTOR]);
+    let written = write(&COUNTING, &mut seals, &mut disk, 0, &[0; SECTOR]);
+    assert!(rt; written == Ok(()) && disk.starts_with(KEYSTREAM) && seals[0].tag == TAG);
+    assert!(rt; read(&COUNTING, &seals, &disk, 0, &mut text) == Ok(()) && text == [0; SECTOR]);
     assert!(rt; nonce(0x0900_0000, 0x4a00_0000) == [0, 0, 0, 9, 0, 0, 0, 0x4a, 0, 0, 0, 0]);
 }
+
+static TAG: [u8; 16] = *b"\x38\x44\xc0\x8f\x5a\xa7\x84\x16\xa1\xd5\x38\x98\x03\xc4\xde\xba";
 
 // A sector whose versions are used up, one that isn't whole, and one that isn't there.
 #[test]
 fn refused(rt: HostRuntime) {
-    let (mut versions, mut disk, mut text) = ([u64::MAX, 1], [9; 2 * SECTOR - 1], [6; SECTOR]);
-    let taken = [
-        writes(&mut versions, &mut disk, 0),
-        writes(&mut versions, &mut disk, 1),
-        reads(&versions, &disk, 1, &mut text),
-        reads(&versions, &disk, 2, &mut text),
+    let mut seals = [
+        Seal {
+            version: u64::MAX,
+            tag: [0; 16],
+        },
+        Seal {
+            version: 1,
+            tag: [0; 16],
+        },
     ];
-    assert!(rt; taken == [false; 4] && text == [6; SECTOR]);
-    assert!(rt; versions == [u64::MAX, 1] && disk == [9; 2 * SECTOR - 1]);
+    let (mut disk, mut text) = ([9; 2 * SECTOR - 1], [6; SECTOR]);
+    let answers = [
+        write(&COUNTING, &mut seals, &mut disk, 0, &[0; SECTOR]),
+        write(&COUNTING, &mut seals, &mut disk, 1, &[0; SECTOR]),
+        read(&COUNTING, &seals, &disk, 1, &mut text),
+        read(&COUNTING, &seals, &disk, 2, &mut text),
+        read(&COUNTING, &[BLANK], &disk, 0, &mut text),
+    ];
+    let missing = Err(SectorError::Missing);
+    let used_up = Err(SectorError::VersionsUsedUp);
+    assert!(rt; answers == [used_up, missing, missing, missing, missing]);
+    assert!(rt; text == [6; SECTOR] && disk == [9; 2 * SECTOR - 1]);
+}
+
+// What a change makes of the first of two sectors: a bit of its bytes or of its seal is turned, or it is exchanged with
+// the other one.
+fn change(case: usize, seals: &mut [Seal; 2], disk: &mut [u8; 2 * SECTOR]) {
+    match case {
+        0 => disk[511] ^= 1,
+        1 => seals[0].tag[15] ^= 1,
+        2 => seals[0].version ^= 1 << 63,
+        3 => disk.rotate_left(SECTOR),
+        4 => seals.swap(0, 1),
+        _ => {
+            disk.rotate_left(SECTOR);
+            seals.swap(0, 1);
+        }
+    }
+}
+
+// Whether a read finds that a sector was changed, and writes nothing.
+fn finds(case: usize) -> bool {
+    let (mut seals, mut disk) = ([BLANK; 2], [0; 2 * SECTOR]);
+    let written = [
+        write(&COUNTING, &mut seals, &mut disk, 0, &[1; SECTOR]),
+        write(&COUNTING, &mut seals, &mut disk, 1, &[2; SECTOR]),
+    ];
+    change(case, &mut seals, &mut disk);
+    let mut text = [9; SECTOR];
+    let answer = read(&COUNTING, &seals, &disk, 0, &mut text);
+    written == [Ok(()); 2] && answer == Err(SectorError::Forged) && text == [9; SECTOR]
+}
+
+#[test]
+fn changed(rt: HostRuntime) {
+    for case in 0..6 {
+        assert!(rt; finds(case));
+    }
 }

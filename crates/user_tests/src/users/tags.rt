@@ -1,5 +1,5 @@
-//! The tags of RFC 8439, sections 2.5.2 and A.3, and of long texts those of libsodium, of the whole text and of each cut
-//! in two.
+//! The tags of RFC 8439, sections 2.5.2 and A.3, and of long texts those of libsodium: of the whole text, and of each
+//! cut in two.
 
 use poly1305::{Poly1305, Tag, authenticate, is_equal};
 

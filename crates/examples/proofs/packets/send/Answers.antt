@@ -1,11 +1,11 @@
-use Rattle.std.proofs.Common.{arith, refl}
-use Rattle.chacha20.proofs.PartLemmas.{ending-same_64}
+use Rattle.std.proofs.Common.{◌≡◌, ◌++◌, ◌∙◌, ap, ap₂}
+use Rattle.std.specs.Int.{w64, to_le_bytes}
+use Rattle.examples.specs.Frames.{frame_of}
 use Rattle.examples.proofs.packets.send.Goals as goal
 
-pub returns-clause-fresh : goal.returns-clause-fresh
-returns-clause-fresh c n less same =
-    let s = c.args.sender.now in
-    let fits = (c.in_ok-encrypt.ensures.accepted.0 refl).0 in
-    let equal =
-    ending-same_64 s.channel s.channel n s.next refl (omega (arith, less, fits)) (omega (arith, fits)) same in
-    omega (arith, less, equal.1)
+pub returns-clause-packet : goal.returns-clause-packet
+returns-clause-packet c =
+    let header : c.to_le_bytes-header.result ≡ to_le_bytes w64 c.args.sender.now.next =
+    c.to_le_bytes-header.ensures ∙ ap (to_le_bytes w64) c.next.ensures in
+    ap₂ ◌++◌ (c.copy_from_slice.ensures.after ∙ header)
+    (c.in_ok-encrypt.ensures.frame ∙ ap (λ h. frame_of c.args.sender.now h c.args.message.now) header)

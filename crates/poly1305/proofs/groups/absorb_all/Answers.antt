@@ -12,7 +12,8 @@ returns-clause-value c =
     let k = 4 * (length text / 64) in
     let rest : List ℕ = c.split_at.result.1.now in
     let behind : rest ≡ drop (16 * k) text =
-    c.split_at.ensures.back ∙ (let place : length text / 64 * 64 ≡ 16 * k = omega arith in ap (λ n. drop n text) place) in
+    c.split_at.ensures.back
+    ∙ (let place : length text / 64 * 64 ≡ 16 * k = omega arith in ap (λ n. drop n text) place) in
     let count : k + length rest / 16 ≡ length text / 16 =
     omega (arith, ap length behind, length-drop (16 * k) text) in
     c.absorb_blocks-2.ensures.value

@@ -25,7 +25,8 @@ returns-clause-value c r a powers holds =
     weighted_same r (lane c.absorb_group.result) (λ k. (v k + group last k) * r ^ 4)
     (λ k h.
     c.absorb_group.ensures.value k h
-    ∙ mod_product (v k + group last k) (lane c.args.factors.fourth k) (v k + group last k) (r ^ 4) refl (powers.fourth k h))
+    ∙ mod_product (v k + group last k) (lane c.args.factors.fourth k) (v k + group last k) (r ^ 4) refl
+    (powers.fourth k h))
     ∙ weighted_step r (r ^ 4) half v last (c.absorb_pairs-after.ensures.value r a powers holds) in
     subst (Holds r c.absorb_group.result)
     (ap (λ n. accumulator r half (drop n text) 4) place ∙ sym (accumulator_behind r a text (8 * k) 4)

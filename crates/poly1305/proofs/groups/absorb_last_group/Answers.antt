@@ -11,7 +11,8 @@ returns-clause-value c r a powers holds =
     let x = λ (k : ℕ). (v k + group text k) * weight r k in
     let same = λ (k : ℕ) (h : k < 4).
     c.absorb_group.ensures.value k h
-    ∙ mod_product (v k + group text k) (lane c.args.factors.last k) (v k + group text k) (weight r k) refl (powers.last k h) in
+    ∙ mod_product (v k + group text k) (lane c.args.factors.last k) (v k + group text k) (weight r k) refl
+    (powers.last k h) in
     c.sum_of_lanes.ensures.value
     ∙ mod_sum (w 0 + w 1 + w 2) (w 3) (x 0 + x 1 + x 2) (x 3)
     (mod_sum (w 0 + w 1) (w 2) (x 0 + x 1) (x 2)

@@ -57,7 +57,8 @@ returns c =
     let v8 = value_of c.first_lane-eighth.result in
     let same : v ≡ r = omega arith in
     let p =
-    low_powers r v v2 v3 v4 same c.times-second.ensures.value c.times-third.ensures.value c.times-fourth.ensures.value in
+    low_powers r v v2 v3 v4 same c.times-second.ensures.value c.times-third.ensures.value
+    c.times-fourth.ensures.value in
     let fourths = c.side_by_side-fourths.ensures in
     let eighths = c.side_by_side.ensures in
     let last = c.side_by_side-2.ensures in

@@ -1,19 +1,17 @@
-use Rattle.std.proofs.Common.{◌≡◌, ◌∙◌, ℕ, ap}
-use Rattle.std.proofs.lemmas.Result.{on_ok_weaker}
-use Rattle.chacha20.proofs.KeystreamLemmas.{xor_stream-xor_stream}
-use Rattle.examples.specs.Frames.{Endpoint, encrypted, after}
+use Rattle.std.proofs.Common.{◌<◌, ◌+◌, ◌^◌, refl, sym, ap, subst, arith}
+use Rattle.std.proofs.lemmas.Bool.{false≢true}
+use Rattle.examples.specs.Frames.{Endpoint, IsFrame}
 use Rattle.examples.proofs.frames.Receiver.decrypt.Goals as goal
 
-pub returns-clause-message : goal.returns-clause-message
-returns-clause-message c message sent =
-    let receiver = c.args.self.now in
-    let frame = c.args.frame.now in
-    let decrypted : encrypted receiver frame ≡ message =
-    ap (encrypted receiver) sent ∙ xor_stream-xor_stream _ 0 message in
-    on_ok_weaker c.apply.result (λ bytes. bytes ∙ ap (λ r. encrypted r frame) c.self.view_is ∙ decrypted)
-    c.apply.ensures.bytes
+pub returns-in-Err-clause-accepted : goal.returns-in-Err-clause-accepted
+returns-in-Err-clause-accepted c = (
+  λ ok. absurd (false≢true ok),
+  λ framed. c.in-Err.ensures.accepted.1
+      (subst (λ e. IsFrame e c.args.aad.now c.args.frame.now) (sym c.self.view_is) framed.1),
+)
 
-pub returns-clause-next : goal.returns-clause-next
-returns-clause-next c =
-    let at : ℕ → Endpoint = λ i. record { key = c.self.inside.key; channel = c.self.inside.channel; next = i } in
-    on_ok_weaker c.apply.result (λ raised. ap at raised ∙ ap after c.self.view_is) c.apply.ensures.next
+pub returns-in-Err-clause-forged : goal.returns-in-Err-clause-forged
+returns-in-Err-clause-forged c =
+    let fits : c.args.self.now.next + 1 < 2 ^ 64 =
+    omega (arith, c.in-Some.ensures, ap (λ (r : Endpoint). r.next) c.self.view_is) in
+    (λ _. (fits, λ framed. false≢true ((returns-in-Err-clause-accepted c).1 (fits, framed))), λ _. refl)

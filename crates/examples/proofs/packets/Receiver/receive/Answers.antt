@@ -1,23 +1,97 @@
-use Rattle.std.proofs.Common.{◌≡◌, ◌∙◌, ℕ, List, sym, ap, ap₂}
-use Rattle.std.specs.Int.{w64, from_le_bytes}
-use Rattle.std.proofs.lemmas.Nat.{from_le_bytes-to_le_bytes_8}
-use Rattle.examples.specs.Frames.{Endpoint, encrypted}
-use Rattle.examples.specs.Packets.{Inbox, taken}
+use Rattle.std.proofs.Common.{◌≡◌, ◌++◌, ◌∙◌, ◌↔◌, ℕ, List, take, drop, arith, refl, sym, ap, ap₂, subst₂}
+use Rattle.std.proofs.lemmas.Bool.{false≢true}
+use Rattle.std.proofs.lemmas.List.{take-append-drop}
+use Rattle.std.specs.Int.{w64, to_le_bytes}
+use Rattle.chacha20.specs.ChaCha.{chacha_stream, ietf}
+use Rattle.aead.specs.Aead.{sealed_message}
+use Rattle.examples.specs.Frames.{Endpoint, frame_of, IsFrame}
+use Rattle.examples.specs.Packets.{Inbox, packet_of, number_of, IsPacket, IsOpen}
 use Rattle.examples.proofs.packets.Receiver.receive.Goals as goal
 
-pub returns-in-Ok-clause-message : goal.returns-in-Ok-clause-message
-returns-in-Ok-clause-message c sender message key channel fits header body =
-    let inside = c.self.inside in
-    let number : c.from_le_bytes-number.result ≡ sender.next =
-    c.from_le_bytes-number.ensures ∙ ap (from_le_bytes w64) header ∙ from_le_bytes-to_le_bytes_8 sender.next fits in
-    let at : List ℕ → List ℕ → ℕ → Endpoint = λ k d n. record { key = k; channel = d; next = n } in
-    let n = c.from_le_bytes-number.result in
-    let same : c.resume.result ≡ sender =
-    c.resume.ensures
-    ∙ ap (λ k. at k inside.channel n) (ap (λ (r : Inbox). r.key) c.self.view_is ∙ sym key)
-    ∙ ap (λ d. at sender.key d n) (ap (λ (r : Inbox). r.channel) c.self.view_is ∙ sym channel)
-    ∙ ap (at sender.key sender.channel) number in
-    c.in-Ok.ensures.message message (body ∙ ap (λ e. encrypted e message) (sym same))
+-- a packet, taken apart: its header, its frame, and the number in the header; a receiver and what clauses see of it
+record Parts (packet header frame : List ℕ) (n : ℕ) (inside seen : Inbox) : Type 0 where
+  front : header ≡ take 8 packet
+  back : frame ≡ drop 8 packet
+  value : n ≡ number_of packet
+  number : to_le_bytes w64 n ≡ take 8 packet
+  view : inside ≡ seen
 
-pub returns-in-Ok-clause-taken : goal.returns-in-Ok-clause-taken
-returns-in-Ok-clause-taken c = ap₂ taken c.self.view_is c.from_le_bytes-number.ensures
+module _ {packet header frame : List ℕ} {n : ℕ} {inside seen : Inbox}
+    (p : Parts packet header frame n inside seen) where
+  -- the frame in the packet of a text
+  frame-in : (sender : Endpoint) (text : List ℕ) → packet ≡ packet_of sender text
+      → frame ≡ frame_of (record sender { next = n }) header text
+  frame-in sender text sent =
+      let stream = λ (h : List ℕ). chacha_stream 10 ietf sender.key (sender.channel ++ h) in
+      let same : to_le_bytes w64 sender.next ≡ header = sym (p.front ∙ ap (take 8) sent) in
+      p.back ∙ ap (drop 8) sent ∙ ap (λ h. sealed_message (stream h) h text) same
+      ∙ ap (λ h. sealed_message (stream h) header text) (p.front ∙ sym p.number)
+
+  is-packet : IsFrame (record { key = inside.key; channel = inside.channel; next = n }) header frame
+      ↔ IsPacket seen (number_of packet) packet
+  is-packet =
+      let sender : Endpoint = record { key = inside.key; channel = inside.channel; next = n } in (
+        λ f. subst₂ (λ r m. IsPacket r m packet) p.view p.value (
+          f.0,
+          f.1,
+          sym (take-append-drop 8 packet)
+              ∙ ap₂ ◌++◌ (sym p.number)
+              (sym p.back ∙ f.2 ∙ ap (λ h. frame_of sender h f.0) (p.front ∙ sym p.number)),
+        ),
+        λ sent.
+            let f = subst₂ (λ r m. IsPacket r m packet) (sym p.view) (sym p.value) sent in
+            (f.0, f.1, frame-in sender f.0 f.2),
+      )
+
+pub returns-in-Ok-clause-accepted : goal.returns-in-Ok-clause-accepted
+returns-in-Ok-clause-accepted c =
+    let inside : Inbox =
+    record { key = c.self.inside.cipher; channel = c.self.inside.channel; slots = c.self.inside.slots } in
+    let p : Parts c.args.packet.now c.split_at.result.0.now c.split_at.result.1.now c.number_of-number.result inside
+    c.args.self.now = record {
+      front = c.split_at.ensures.front;
+      back = c.split_at.ensures.back;
+      value = c.number_of-number.ensures.value;
+      number = c.number_of-number.ensures.header;
+      view = c.self.view_is;
+    } in
+    let free = subst₂ IsOpen p.view p.value (omega arith, c.if-number-self.false) in
+    (λ _. (free, (is-packet p).0 (c.in-Ok.ensures.accepted.0 refl)), λ _. refl)
+
+pub returns-in-Ok-clause-message : goal.returns-in-Ok-clause-message
+returns-in-Ok-clause-message c sender text key channel sent =
+    let inside : Inbox =
+    record { key = c.self.inside.cipher; channel = c.self.inside.channel; slots = c.self.inside.slots } in
+    let p : Parts c.args.packet.now c.split_at.result.0.now c.split_at.result.1.now c.number_of-number.result inside
+    c.args.self.now = record {
+      front = c.split_at.ensures.front;
+      back = c.split_at.ensures.back;
+      value = c.number_of-number.ensures.value;
+      number = c.number_of-number.ensures.header;
+      view = c.self.view_is;
+    } in
+    let at : List ℕ → List ℕ → Endpoint = λ k d. record { key = k; channel = d; next = c.number_of-number.result } in
+    c.in-Ok.ensures.message text
+    (frame-in p sender text sent
+    ∙ ap₂ (λ k d. frame_of (at k d) c.split_at.result.0.now text)
+    (key ∙ ap (λ (r : Inbox). r.key) (sym p.view)) (channel ∙ ap (λ (r : Inbox). r.channel) (sym p.view)))
+
+pub returns-in-Err-clause-accepted : goal.returns-in-Err-clause-accepted
+returns-in-Err-clause-accepted c =
+    let inside : Inbox =
+    record { key = c.self.inside.cipher; channel = c.self.inside.channel; slots = c.self.inside.slots } in
+    let p : Parts c.args.packet.now c.split_at.result.0.now c.split_at.result.1.now c.number_of-number.result inside
+    c.args.self.now = record {
+      front = c.split_at.ensures.front;
+      back = c.split_at.ensures.back;
+      value = c.number_of-number.ensures.value;
+      number = c.number_of-number.ensures.header;
+      view = c.self.view_is;
+    } in
+    (λ ok. absurd (false≢true ok), λ both. c.in-Err.ensures.accepted.1 ((is-packet p).1 both.1))
+
+pub returns-in-Err-clause-forged : goal.returns-in-Err-clause-forged
+returns-in-Err-clause-forged c =
+    let free : IsOpen c.args.self.now (number_of c.args.packet.now) =
+    subst₂ IsOpen c.self.view_is c.number_of-number.ensures.value (omega arith, c.if-number-self.false) in
+    (λ _. (free, λ sent. false≢true ((returns-in-Err-clause-accepted c).1 (free, sent))), λ _. refl)

@@ -1,0 +1,19 @@
+use Rattle.std.proofs.Common.{◌+◌, ap, arith, ◌∙◌}
+use Rattle.std.specs.List.{slice_range}
+use Rattle.std.specs.declared.result.Result.{Result}
+use Rattle.std.specs.declared.result.Result.TheVariants.{Ok, Err}
+use Rattle.std.specs.Result.{IsOkAnd}
+use Rattle.aead.proofs.sealed.SliceLemmas.{part-within}
+use Rattle.user_tests.proofs.users.sealed_parts.hundred.Goals as goal
+
+weaker : {T E : Type 0} (r : Result T E) (P Q : T → Type 0) → ((x : T) → P x → Q x) → IsOkAnd r P → IsOkAnd r Q
+weaker (Ok x) P Q then holds = then x holds
+weaker (Err e) P Q then none = none
+
+pub returns : goal.returns
+returns c text same long =
+    weaker c.read_at.result _ _
+    (λ n part. part-within text c.args.window.now c.read_at.new.window 1000 n part
+    (omega (arith, c.told-window)) (omega (arith, c.told-window, long)) (omega (arith, c.told-window))
+    ∙ ap (λ m. slice_range text 1000 (1000 + m)) c.told-window)
+    (c.read_at.ensures.text text same)
