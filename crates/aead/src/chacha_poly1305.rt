@@ -119,6 +119,12 @@ impl<C: KeyIvInit<Key = Key> + StreamCipher + Drop> ChaChaPoly1305<C> {
 
     /// Writes the sealed message of a text: the ciphertext, and behind it the tag, 16 bytes. Fails if the text has more
     /// bytes than the keystream from block 1 on, and then leaves the output as it was.
+    ///
+    /// ```rust
+    /// let cipher = ChaCha20Poly1305::new(key);
+    /// let mut sealed = [0; 14 + 16];
+    /// cipher.encrypt(nonce, b"header", b"attack at dawn", &mut sealed)?;
+    /// ```
     pub fn encrypt(
         &self,
         nonce: &C::Iv,
@@ -147,6 +153,11 @@ impl<C: KeyIvInit<Key = Key> + StreamCipher + Drop> ChaChaPoly1305<C> {
 
     /// Checks the tag, the last 16 bytes of a sealed message, and writes its text. Fails if the text is too long or the
     /// tag is wrong, and then leaves the output as it was.
+    ///
+    /// ```rust
+    /// let mut text = [0; 14];
+    /// cipher.decrypt(nonce, b"header", &sealed, &mut text)?;
+    /// ```
     pub fn decrypt(
         &self,
         nonce: &C::Iv,

@@ -92,6 +92,11 @@ impl<R: Rounds, B> Model for ChaChaRng<R, B> {
 
 impl<R: Rounds, B: RngBackend<R>> ChaChaRng<R, B> {
     /// The generator of a seed, at the start of stream 0. It makes no words yet.
+    ///
+    /// ```rust
+    /// let mut rng = ChaCha20Rng::from_seed([0; 32]);
+    /// let die = rng.next_u32() % 6 + 1;
+    /// ```
     pub fn from_seed(seed: Seed) -> Self
         ensures { result ≡ of_seed seed }
     {
@@ -134,6 +139,11 @@ impl<R: Rounds, B: RngBackend<R>> ChaChaRng<R, B> {
 
     /// Fills a slice with the little-endian bytes of the next words. The bytes of the last word that the slice has no
     /// room for are lost; a fill of no bytes takes no word.
+    ///
+    /// ```rust
+    /// let mut bytes = [0; 32];
+    /// rng.fill_bytes(&mut bytes);
+    /// ```
     pub fn fill_bytes(&mut self, dst: &mut [u8])
         ensures value { (dst.new, self.new) ≡ fill R.COUNT self.old (length dst.old) }
         ensures kept { (self.new.seed ≡ self.old.seed) × (self.new.stream ≡ self.old.stream) }

@@ -1,6 +1,6 @@
 //! Backends: empty types whose functions make the blocks of a state, on words or on SIMD vectors.
 //!
-//! | backend | words in a vector | blocks in a parallel call | blocks in a generator's call |
+//! | backend | words in a vector of a parallel call | blocks in a parallel call | blocks in a generator's call |
 //! |---|---|---|---|
 //! | `Soft` | no vectors | 1 | 4, one by one |
 //! | `Lanes4` | 4 | 4 | 4 |

@@ -5,6 +5,7 @@ mod authenticated;
 mod contracts;
 mod exports;
 mod file;
+mod first_calls;
 mod frames;
 mod generators;
 mod log;

@@ -227,7 +227,7 @@ impl Vector for u32x4 {
 }
 
 impl ColumnVector for u32x4 {
-    // By shifts: below x86-64-v3, halves or bytes take 1.04 to 1.12 of the time.
+    // By shifts: below x86-64-v3, halves or bytes take 1.07 to 1.12 of the time.
     #[inline(always)]
     fn xor_rotated_16(self, other: u32x4) -> u32x4 {
         self.xor_rotated(other, 16)

@@ -49,6 +49,13 @@ pub trait StreamCipher: Keystream {
 
     /// XORs bytes with the keystream (RFC 8439, section 2.4). `Err` exactly where the bytes would pass the limit; then
     /// nothing changes. Decryption is the same call.
+    ///
+    /// ```rust
+    /// let mut message = *b"attack at dawn";
+    /// ChaCha20::new(key, nonce).try_apply_keystream(&mut message)?;
+    /// ..
+    /// ChaCha20::new(key, nonce).try_apply_keystream(&mut message)?;
+    /// ```
     final fn try_apply_keystream(&mut self, buf: &mut [u8]) -> Result<(), StreamCipherError>
         ensures accepted { IsOk result
             ↔ (Self.position self.old + length buf.old ≤ limit_of Self.modulus) }
@@ -154,7 +161,12 @@ pub trait StreamCipher: Keystream {
 /// A cipher whose position can be read and set. A position counts bytes from the start of the keystream.
 pub trait StreamCipherSeek: StreamCipher {
     /// Moves to a position. `Err` exactly where the number is negative or past the limit; then nothing changes. The
-    /// limit itself is accepted.
+    /// limit itself is accepted. To begin with block 1, as the RFC's example of section 2.4.2 does:
+    ///
+    /// ```rust
+    /// cipher.try_seek(64u32)?;
+    /// cipher.try_apply_keystream(&mut message)?;
+    /// ```
     fn try_seek<T: SeekNum>(&mut self, pos: T) -> Result<(), StreamCipherError>
         ensures accepted { IsOk result
             ↔ IsSomeAnd (T.position pos) (λ p. p ≤ limit_of Self.modulus) }

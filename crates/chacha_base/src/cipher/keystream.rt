@@ -36,6 +36,10 @@ pub trait KeyIvInit: Keystream {
 
     /// The core or cipher of a key and a nonce. A cipher is at position 0: no byte is taken yet. A core may be at any
     /// block, since a cipher sets the counter of its core to 0. Nothing is refused.
+    ///
+    /// ```rust
+    /// let mut cipher = ChaCha20::new(key, nonce);
+    /// ```
     fn new(key: &Self::Key, iv: &Self::Iv) -> Self
         ensures value { result ≡ init key.now iv.now }
         ensures keystream { Self.block_at (Self.fixed result) ≡ blocks_of key.now iv.now }

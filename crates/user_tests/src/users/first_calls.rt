@@ -1,0 +1,54 @@
+//! The examples in the comments of the calls that users make first.
+
+use aead::{AeadError, ChaCha20Poly1305};
+use chacha20::cipher::{KeyIvInit, StreamCipher, StreamCipherError, StreamCipherSeek};
+use chacha20::{ChaCha20, ChaCha20Rng, Key, Nonce};
+use known_answers::published::{CIPHERTEXT, COUNTING, MESSAGE, NONCE, OF_20_ROUNDS};
+
+fn encrypted_and_decrypted(key: &Key, nonce: &Nonce) -> Result<[u8; 14], StreamCipherError> {
+    let mut message = *b"attack at dawn";
+    ChaCha20::new(key, nonce).try_apply_keystream(&mut message)?;
+
+    ChaCha20::new(key, nonce).try_apply_keystream(&mut message)?;
+    Ok(message)
+}
+
+fn from_block_1(key: &Key, nonce: &Nonce) -> Result<[u8; 114], StreamCipherError> {
+    let mut message = *MESSAGE;
+    let mut cipher = ChaCha20::new(key, nonce);
+    cipher.try_seek(64u32)?;
+    cipher.try_apply_keystream(&mut message)?;
+    Ok(message)
+}
+
+#[test]
+fn ciphers(rt: HostRuntime) {
+    assert!(rt; encrypted_and_decrypted(&COUNTING, &NONCE) == Ok(*b"attack at dawn"));
+    assert!(rt; from_block_1(&COUNTING, &NONCE) == Ok(*CIPHERTEXT));
+}
+
+fn sealed_and_opened(key: &Key, nonce: &Nonce) -> Result<[u8; 14], AeadError> {
+    let cipher = ChaCha20Poly1305::new(key);
+    let mut sealed = [0; 14 + 16];
+    cipher.encrypt(nonce, b"header", b"attack at dawn", &mut sealed)?;
+
+    let mut text = [0; 14];
+    cipher.decrypt(nonce, b"header", &sealed, &mut text)?;
+    Ok(text)
+}
+
+#[test]
+fn messages(rt: HostRuntime) {
+    assert!(rt; sealed_and_opened(&COUNTING, &NONCE) == Ok(*b"attack at dawn"));
+}
+
+// The words of a seed of zeros are those of block 0 of RFC 8439, appendix A.1, number 1.
+#[test]
+fn generators(rt: HostRuntime) {
+    let mut rng = ChaCha20Rng::from_seed([0; 32]);
+    let die = rng.next_u32() % 6 + 1;
+    rng.set_word_pos(0);
+    let mut bytes = [0; 32];
+    rng.fill_bytes(&mut bytes);
+    assert!(rt; die == 0xade0_b876 % 6 + 1 && bytes == OF_20_ROUNDS);
+}
