@@ -22,7 +22,7 @@ pub fn front_len(len: usize) -> usize
     ensures needed { result < 128 + len }
 {
     let blocks = if len == 128 {
-        1
+        0
     } else if len <= 192 {
         len.div_ceil(64)
     } else if len < 512 {

@@ -53,7 +53,6 @@ pub trait StreamCipher: Keystream {
     /// ```rust
     /// let mut message = *b"attack at dawn";
     /// ChaCha20::new(key, nonce).try_apply_keystream(&mut message)?;
-    /// ..
     /// ChaCha20::new(key, nonce).try_apply_keystream(&mut message)?;
     /// ```
     final fn try_apply_keystream(&mut self, buf: &mut [u8]) -> Result<(), StreamCipherError>

@@ -8,7 +8,6 @@ use known_answers::published::{CIPHERTEXT, COUNTING, MESSAGE, NONCE, OF_20_ROUND
 fn encrypted_and_decrypted(key: &Key, nonce: &Nonce) -> Result<[u8; 14], StreamCipherError> {
     let mut message = *b"attack at dawn";
     ChaCha20::new(key, nonce).try_apply_keystream(&mut message)?;
-
     ChaCha20::new(key, nonce).try_apply_keystream(&mut message)?;
     Ok(message)
 }
