@@ -95,7 +95,7 @@ impl<R: Rounds, B: RngBackend<R>> ChaChaRng<R, B> {
     ///
     /// ```rust
     /// let mut rng = ChaCha20Rng::from_seed([0; 32]);
-    /// let die = rng.next_u32() % 6 + 1;
+    /// let word = rng.next_u32();
     /// ```
     pub fn from_seed(seed: Seed) -> Self
         ensures { result ≡ of_seed seed }
