@@ -14,8 +14,8 @@ use poly1305::{Tag, is_equal};
 pub const FRONT: usize = 512;
 
 /// The bytes of a message's front: those of block 0, and of all blocks of a short message. Of a longer one, of so many
-/// that a multiple of four or eight whole blocks is left, since ciphers make four, eight or sixteen at once. Of 128 bytes
-/// it is block 0 alone: three blocks in one call would be slower below x86-64-v3.
+/// that a multiple of four or eight whole blocks is left, since ciphers make four, eight or sixteen at once. Of 128
+/// bytes it is block 0 alone: three blocks in one call would be slower below x86-64-v3.
 pub fn front_len(len: usize) -> usize
     ensures whole { result % 64 ≡ 0 }
     ensures bounds { (64 ≤ result) × (result ≤ 512) }
