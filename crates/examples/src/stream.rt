@@ -130,7 +130,7 @@ fn read_some<R: Read>(reader: &mut R, buf: &mut [u8]) -> io::Result<usize>
     Err(io::Error::from(ErrorKind::TimedOut))
 }
 
-// `write_all`, with a contract that says what was written before an error. `put` of `sealed` has the same loop
+// `write_all`, with a contract that says what was written before an error. That of `sealed` has the same loop
 // with another error: this file is to be copied, and needs no other crate than `chacha20`.
 fn write_whole<W: Write>(writer: &mut W, bytes: &[u8]) -> io::Result<()>
     ensures written { OnOk result

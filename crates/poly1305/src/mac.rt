@@ -6,7 +6,7 @@ ghost use Rattle.poly1305.specs.Limbs.{value_of};
 ghost use Rattle.poly1305.specs.Absorbed.{Absorbed};
 
 use crate::accumulator::{Accumulator, absorb, absorb_last, tag};
-use crate::bytes::{clamp, padded, put, read_half};
+use crate::bytes::{clamp, copy_behind, padded, read_half};
 use crate::groups::absorb_all;
 use crate::multiplier::Multiplier;
 use crate::tag::Tag;
@@ -67,7 +67,7 @@ impl Poly1305 {
     {
         let mut buffer = self.buffer;
         if piece.len() < 16 - self.filled {
-            put(&mut buffer, self.filled, piece);
+            copy_behind(&mut buffer, self.filled, piece);
             self.buffer = buffer;
             self.filled += piece.len();
             return;
@@ -75,7 +75,7 @@ impl Poly1305 {
         let (h, rest) = self.absorb_begun(piece);
         self.accumulator = absorb_all(h, self.r, rest);
         let (_, tail) = rest.split_at(rest.len() / 16 * 16);
-        put(&mut buffer, 0, tail);
+        copy_behind(&mut buffer, 0, tail);
         self.buffer = buffer;
         self.filled = tail.len();
     }
@@ -93,7 +93,7 @@ impl Poly1305 {
         }
         let (front, rest) = piece.split_at(16 - self.filled);
         let mut block = self.buffer;
-        put(&mut block, self.filled, front);
+        copy_behind(&mut block, self.filled, front);
         (absorb(self.accumulator, self.r, &block), rest)
     }
 

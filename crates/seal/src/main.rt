@@ -170,6 +170,6 @@ fn print_piece<W: Write>(
     if n == 0 {
         return Err(SealError::Read(io::Error::from(ErrorKind::UnexpectedEof)));
     }
-    chunk::put(writer, &piece[..n])?;
+    chunk::write_whole(writer, &piece[..n])?;
     Ok(n as u64)
 }

@@ -72,12 +72,12 @@ pub fn write_chunk<W: Write>(
     let tag = cipher
         .encrypt_in_place_detached(&nonce, &header(salt), text)
         .unwrap();
-    put(writer, text)?;
-    put(writer, &tag)
+    write_whole(writer, text)?;
+    write_whole(writer, &tag)
 }
 
 /// Writes all bytes, and repeats a write that a signal interrupts.
-pub fn put<W: Write>(writer: &mut W, bytes: &[u8]) -> Result<(), SealError>
+pub fn write_whole<W: Write>(writer: &mut W, bytes: &[u8]) -> Result<(), SealError>
     ensures written { OnOk result
         (Appends (W.contents writer.old) (W.contents writer.new) bytes.now) }
     ensures failed { IfErr result (λ e. (damage : Damage) → e ≢ SealError.Damaged damage) }

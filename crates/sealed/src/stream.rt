@@ -5,7 +5,7 @@ ghost use Rattle.std.specs.Io.KnownBytes.{Appends, Consumes, IsAtEnd, prepend_kn
 ghost use Rattle.sealed.specs.declared.error.Damage.{Damage};
 ghost use Rattle.sealed.specs.Sealed.{header, chunk, sealed, IsRight};
 
-use crate::chunk::{CHUNK, CHUNKS, MAGIC, Salt, TAG, header, open_chunk, put, write_chunk};
+use crate::chunk::{CHUNK, CHUNKS, MAGIC, Salt, TAG, header, open_chunk, write_chunk, write_whole};
 use crate::error::{Damage, SealError};
 use chacha20::Key;
 use std::io::{self, ErrorKind, Read, Write};
@@ -31,7 +31,7 @@ pub fn encrypt<R: Read, W: Write>(
     ensures too_long { IfErr result (λ e. e ≡ SealError.TooLong
         → IfSome (R.remaining reader.old) (λ text. 2 ^ 72 < length text)) }
 {
-    put(writer, &header(salt))?;
+    write_whole(writer, &header(salt))?;
     let mut held = 0;
     'chunks: for number in 0..CHUNKS {
         let n = fill(reader, buf, held)?;
@@ -146,7 +146,7 @@ fn write_text<W: Write>(
     if !right {
         return Err(SealError::Damaged(Damage::of_chunk(number, last)));
     }
-    put(writer, &bytes[..bytes.len() - TAG])
+    write_whole(writer, &bytes[..bytes.len() - TAG])
 }
 
 /// Reads until the buffer is full or the reader ends, behind the `held` bytes that the buffer has already. Returns how

@@ -9,8 +9,8 @@ use Rattle.sealed.proofs.ChunkLemmas.{chunk-is}
 use Rattle.sealed.proofs.FrontLemmas.{front-more}
 use Rattle.sealed.proofs.chunk.write_chunk.Goals as goal
 
-pub returns-in_err-put-clause-partly : goal.returns-in_err-put-clause-partly
-returns-in_err-put-clause-partly g c =
+pub returns-in_err-write_whole-clause-partly : goal.returns-in_err-write_whole-clause-partly
+returns-in_err-write_whole-clause-partly g c =
     let key = c.args.key.now in
     let text = c.args.text.now in
     let nonce = c.chunk_nonce-nonce.result in
@@ -23,7 +23,7 @@ returns-in_err-put-clause-partly g c =
     rw (c.unwrap-tag.ensures, c.new-cipher.ensures) at c.encrypt_in_place_detached.ensures.tag in
     let whole = chunk-is key c.args.salt.now c.args.number c.args.last text nonce c.header.result ciphertext tag
     c.chunk_nonce-nonce.ensures.value c.header.ensures encrypts tags in
-    let (n, written) = c.put.ensures.partly in
+    let (n, written) = c.write_whole.ensures.partly in
     front-more _ _ _ [] ciphertext tag (chunk key c.args.salt.now c.args.number c.args.last text) n (sym whole)
     (Appends-nil _) written
 
@@ -41,13 +41,13 @@ returns g c =
     rw (c.unwrap-tag.ensures, c.new-cipher.ensures) at c.encrypt_in_place_detached.ensures.tag in
     let whole = chunk-is key c.args.salt.now c.args.number c.args.last text nonce c.header.result ciphertext tag
     c.chunk_nonce-nonce.ensures.value c.header.ensures encrypts tags in
-    let (n, written) = c.put-2.ensures.partly in
+    let (n, written) = c.write_whole-2.ensures.partly in
     record {
-      written = on_ok_weaker c.put-2.result
-          (λ written. subst (Appends _ _) whole (Appends-trans _ _ _ _ _ c.in_ok-put.ensures.written written))
-          c.put-2.ensures.written;
+      written = on_ok_weaker c.write_whole-2.result
+          (λ written. subst (Appends _ _) whole (Appends-trans _ _ _ _ _ c.in_ok-write_whole.ensures.written written))
+          c.write_whole-2.ensures.written;
       partly = front-more _ _ _ ciphertext tag []
           (chunk key c.args.salt.now c.args.number c.args.last text) n (sym whole ∙ sym (append-nil _))
-          c.in_ok-put.ensures.written written;
-      not_long = c.put-2.ensures.not_long;
+          c.in_ok-write_whole.ensures.written written;
+      not_long = c.write_whole-2.ensures.not_long;
     }

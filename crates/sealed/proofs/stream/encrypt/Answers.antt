@@ -16,7 +16,7 @@ chunks-init g c =
       λ less. absurd (omega (arith, less)),
       refl,
       subst (λ b. Consumes a b []) (sym (prepend_known-nil a)) (Consumes-nil a),
-      subst (Appends _ _) (c.header.ensures ∙ sym (append-nil (header c.args.salt.now))) c.in_ok-put.ensures.written,
+      subst (Appends _ _) (c.header.ensures ∙ sym (append-nil (header c.args.salt.now))) c.in_ok-write_whole.ensures.written,
     )
 
 pub slice_bounds-write_chunk-end-in-chunks-2 : goal.slice_bounds-write_chunk-end-in-chunks-2
@@ -66,12 +66,12 @@ returns-then-n-le-CHUNK g c =
       too_long = never-long c.write_chunk.result _ c.write_chunk.ensures.not_long;
     }
 
-pub returns-in_err-put-clause-only_sealed : goal.returns-in_err-put-clause-only_sealed
-returns-in_err-put-clause-only_sealed g c =
+pub returns-in_err-write_whole-clause-only_sealed : goal.returns-in_err-write_whole-clause-only_sealed
+returns-in_err-write_whole-clause-only_sealed g c =
     let a = g.R.Read.remaining c.args.reader.now in
-    let (n, written) = c.put.ensures.partly in
+    let (n, written) = c.write_whole.ensures.partly in
     let w = g.W.Write.contents c.args.writer.now in
-    let v = g.W.Write.contents c.put.new.writer in
+    let v = g.W.Write.contents c.write_whole.new.writer in
     front-header c.args.key.now c.args.salt.now a a w v n
     (subst (λ b. Consumes a b []) (sym (prepend_known-nil a)) (Consumes-nil a))
     (subst (λ head. Appends w v (take n head)) c.header.ensures written)

@@ -9,14 +9,14 @@ returns-clause-right g c =
     let same = c.open_chunk-right.auto.bytes in
     let end = length bytes - 16 in
     let size = length-take-le end bytes (omega arith) in
-    on_ok_weaker c.put.result
+    on_ok_weaker c.write_whole.result
     (λ written. (
       take end bytes,
       (λ later. omega (arith, same, size, (c.open_chunk-right.ensures.long right).1 later)),
       rw (sym same) at c.open_chunk-right.ensures.right right,
       written,
     ))
-    c.put.ensures.written
+    c.write_whole.ensures.written
 
 pub returns-clause-partly : goal.returns-clause-partly
 returns-clause-partly g c =
@@ -25,7 +25,7 @@ returns-clause-partly g c =
     let same = c.open_chunk-right.auto.bytes in
     let end = length bytes - 16 in
     let size = length-take-le end bytes (omega arith) in
-    let (n, written) = c.put.ensures.partly in (
+    let (n, written) = c.write_whole.ensures.partly in (
       take end bytes,
       n,
       λ _. (

@@ -23,11 +23,11 @@ returns-clause-value c key text same =
     let kept : List ℕ = take mac.filled mac.buffer in
     let front : List ℕ = c.split_at.result.0.now in
     let rest : List ℕ = c.split_at.result.1.now in
-    let whole : List ℕ = c.put.new.buffer in
+    let whole : List ℕ = c.copy_behind.new.buffer in
     let before = c.self.view_is ∙ same in
     let room : length front ≡ 16 - mac.filled = c.split_at.ensures.front_len in
-    let few : length whole ≤ mac.filled + length front = omega (arith, c.put.array_long, c.self.invariant) in
-    let filled : whole ≡ kept ++ front = sym (take_all (mac.filled + length front) whole few) ∙ c.put.ensures in
+    let few : length whole ≤ mac.filled + length front = omega (arith, c.copy_behind.array_long, c.self.invariant) in
+    let filled : whole ≡ kept ++ front = sym (take_all (mac.filled + length front) whole few) ∙ c.copy_behind.ensures in
     let cut : front ++ rest ≡ piece =
     ap (λ xs. xs ++ rest) c.split_at.ensures.front
     ∙ ap (λ xs. take (16 - mac.filled) piece ++ xs) c.split_at.ensures.back
@@ -38,4 +38,4 @@ returns-clause-value c key text same =
     subst (λ a. Absorbed key (text ++ piece) a rest)
     (sym (c.absorb.ensures.value
     ∙ ap (λ (m : State). m.r * (m.accumulator + number (whole ++ 1 ∷ [])) % prime) before))
-    (absorbed-block key text piece whole rest joined c.put.array_long)
+    (absorbed-block key text piece whole rest joined c.copy_behind.array_long)

@@ -22,7 +22,7 @@ returns-then-piece-self c key text same =
     omega (arith, length-take mac.filled mac.buffer, ap length kept_is, length-drop (16 * (length text / 16)) text) in
     let view : State =
     record { r = r_value mac.r; s = mac.s; accumulator = value_of mac.accumulator % prime; rest = kept } in
-    ap (λ rest. record view { rest = rest }) c.put.ensures
+    ap (λ rest. record view { rest = rest }) c.copy_behind.ensures
     ∙ ap (λ (m : State). record m { rest = m.rest ++ piece }) before ∙ sym (after-short key text piece short)
 
 pub returns : goal.returns
@@ -30,10 +30,10 @@ returns c key text same =
     let mac = c.self.inside in
     let rest : List ℕ = c.absorb_begun.result.1.now in
     let tail : List ℕ = c.split_at.result.1.now in
-    let last : List ℕ = c.put-2.new.buffer in
+    let last : List ℕ = c.copy_behind-2.new.buffer in
     let h = value_of c.absorb_begun.result.0 % prime in
     let left : take (length tail) last ≡ drop (16 * (length rest / 16)) rest =
-    ap (λ n. take n last) (sym (zero-add (length tail))) ∙ c.put-2.ensures ∙ c.split_at.ensures.back
+    ap (λ n. take n last) (sym (zero-add (length tail))) ∙ c.copy_behind-2.ensures ∙ c.split_at.ensures.back
     ∙ ap (λ n. drop n rest) (omega arith) in
     let view : State = record { r = r_value mac.r; s = mac.s; accumulator = h; rest = rest } in
     ap (λ a. record view { accumulator = a; rest = take (length tail) last }) c.absorb_all-self-inside.ensures.value

@@ -3,8 +3,8 @@ use Rattle.std.proofs.lemmas.List.{take_rest}
 use Rattle.std.specs.Io.KnownBytes.{Appends}
 use Rattle.std.proofs.KnownBytes.{Appends-kept}
 use Rattle.chacha20.proofs.ReaderLemmas.{Appends-more}
-use Rattle.sealed.proofs.chunk.put.Goals as goal
-use Rattle.sealed.proofs.chunk.put.Goals.{in-Ok, in-Err}
+use Rattle.sealed.proofs.chunk.write_whole.Goals as goal
+use Rattle.sealed.proofs.chunk.write_whole.Goals.{in-Ok, in-Err}
 
 pub tries-preserved : goal.tries-preserved
 tries-preserved g c =

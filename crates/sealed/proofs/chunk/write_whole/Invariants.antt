@@ -1,6 +1,6 @@
 use Rattle.std.proofs.Common.{◌≤◌, length, take}
 use Rattle.std.specs.Io.KnownBytes.{Appends}
-use Rattle.sealed.proofs.chunk.put.Given as goal
+use Rattle.sealed.proofs.chunk.write_whole.Given as goal
 
 abbrev pub invariant-tries : goal.invariant-tries
 invariant-tries g l = (l.done ≤ length l.bytes)
