@@ -3,7 +3,8 @@
 ghost use Rattle.std.specs.Prelude.{◌≡◌, ◌<◌, ◌≤◌, ◌^◌, ℕ, List, length};
 ghost use Rattle.sealed.specs.Sealed.{place, last_of, text_of, sealed};
 
-/// The bytes of text in a sealed file of so many bytes, and for a number that no sealed file has, any number up to it.
+/// How many bytes of text a sealed file of `file` bytes has. If no sealed file has this length, the result is
+/// unspecified, and at most `file`.
 pub fn text_len(file: u64) -> u64
     ensures exact { (key salt text : List ℕ) → length salt ≡ 16
         → length (sealed key salt text) ≡ file → result ≡ length text }
