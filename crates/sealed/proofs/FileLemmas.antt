@@ -2,6 +2,7 @@
 use Rattle.std.proofs.Common.{◌≡◌, ◌≢◌, ◌<◌, ◌≤◌, ◌+◌, ◌-◌, ◌*◌, ◌/◌, ◌∙◌, ℕ, zero, suc, true, false, List, [], ◌++◌, length, take, drop, arith, refl, sym, ap, ap₂, subst, append_assoc, append-nil, length-append, take_at, drop_at, take-add, take_all, inl, inr}
 use Rattle.std.proofs.lemmas.List.{take-append-drop}
 use Rattle.std.specs.Int.{div_ceil}
+use Rattle.std.specs.List.{slice_range}
 use Rattle.sealed.specs.Sealed.{header, chunk, chunks, piece, last_number, sealed, IsRight}
 use Rattle.sealed.proofs.ChunkLemmas.{body, sealed-is, length-body, chunk-at, length-chunks, length-chunk, some-chunk, full-chunk, length-piece, length-piece-le, length-last, last-piece, chunk-same}
 
@@ -178,3 +179,8 @@ text-size key salt text file size is =
       size,
       length-body key salt text,
     )
+
+-- the salt of a file
+pub salt-of : (key salt text : List ℕ) → length salt ≡ 16 → slice_range (sealed key salt text) 16 32 ≡ salt
+salt-of key salt text size =
+    ap (λ file. slice_range file 16 32) (sealed-is key salt text) ∙ take_at salt (body key salt text) 16 size
