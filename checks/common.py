@@ -45,11 +45,6 @@ def tracked(*endings):
     return [it for it in said.split("\n") if it.endswith(endings) and os.path.isfile(f"{TOP}/{it}")]
 
 
-def backends():
-    """The names of the backends."""
-    return re.findall(r"(?m)^pub use \w+::(\w+);", text_of("crates/chacha_base/src/backends.rt"))
-
-
 def with_libraries(*crates):
     """These crates and those of the repository that they use, or all crates, each with its line of crates.txt."""
     lines = {it[1]: it for it in re.finditer(r"(?m)^(\w+)[^:#\n]*:([^#\n]*)", text_of("crates.txt"))}
