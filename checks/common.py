@@ -1,4 +1,4 @@
-"""What the scripts of this folder share: reading and changing files of the repository, and checking crates on a copy."""
+"""What the scripts of this folder share: reading and writing files of the repository, and checking crates on a copy."""
 
 import contextlib
 import os
@@ -11,10 +11,10 @@ import tempfile
 if sys.version_info < (3, 9):
     sys.exit(f"{sys.argv[0]} needs Python 3.9 or later")
 TOP = os.path.dirname(os.path.dirname(os.path.abspath(__file__)))
-# The crates that may name backends.
-TESTS = ("vectors", "tests", "user_tests", "speed")
-# The head of a function: its indentation, how public it is, and its name.
-FUNCTION = re.compile(r"(\s*)(pub(?:\(\w+\))? )?(?:final )?(?:const )?(?:extern \"C\" )?fn (\w+)")
+# What the prover says of an answer that shows nothing of its goal: it cites what isn't there, or a proof that was refused, or rewrites
+# by what is no equation.
+LOST = re.compile(r"has no field|is not in scope|has no `|^record `|(?:was|were) not (?:admitted|checked)|homogeneous path|settles argument"
+                  r"|no occurrence of the path")
 
 
 def text_of(path):
@@ -28,33 +28,21 @@ def write(path, text):
         it.write(text)
 
 
-def change(path, made):
-    """Writes made(text) in place of a file's text, and says whether they differ."""
-    old = text_of(path)
-    if (new := made(old)) != old:
-        write(path, new)
-    return new != old
-
-
 def without_comments(text):
     """The text of an .rt or .antt file without its comments."""
     return re.sub(r"(?m)(?:^|(?<=\s))(?:--|//).*", "", text)
 
 
+def printed(*command, **more):
+    """What a command prints, and its status."""
+    ran = subprocess.run(command, stdout=subprocess.PIPE, stderr=subprocess.STDOUT, text=True, **more)
+    return ran.stdout, ran.returncode
+
+
 def tracked(*endings):
     """The files of the repository, without those that git ignores."""
-    said = subprocess.run(["git", "ls-files", "-co", "--exclude-standard"], cwd=TOP, stdout=subprocess.PIPE, text=True, check=True).stdout
+    said, _ = printed("git", "ls-files", "-co", "--exclude-standard", cwd=TOP)
     return [it for it in said.split("\n") if it.endswith(endings) and os.path.isfile(f"{TOP}/{it}")]
-
-
-def backends():
-    """The names of the backends."""
-    return re.findall(r"(?m)^pub use \w+::(\w+);", text_of("crates/chacha_base/src/backends.rt"))
-
-
-def described():
-    """The commit that the repository stands at, with -dirty behind it where files differ from it."""
-    return subprocess.run(["git", "describe", "--always", "--dirty"], cwd=TOP, stdout=subprocess.PIPE, text=True, check=True).stdout.strip()
 
 
 def with_libraries(*crates):
@@ -89,12 +77,6 @@ def written(texts):
     finally:
         for path, text in before.items():
             write(path, text)
-
-
-def checked(crate, *words):
-    """The status of `rt check` in the folder of a crate, and what it said."""
-    ran = subprocess.run(["rt", "check", *words], cwd=crate, stdout=subprocess.PIPE, stderr=subprocess.STDOUT, text=True)
-    return ran.returncode, ran.stdout
 
 
 def messages(said):

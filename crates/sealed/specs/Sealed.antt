@@ -52,7 +52,8 @@ BeginsWith key file text =
 -- a text whose tags are right: that of the file's first chunks, or of the whole file
 abbrev pub IsRight : List ℕ → List ℕ → List ℕ → Type 0
 IsRight key file text =
-    BeginsWith key file text ⊎ ((salt : List ℕ) × (length salt ≡ 16) × (file ≡ sealed key salt text))
+    BeginsWith key file text
+    ⊎ ((salt : List ℕ) × (length salt ≡ 16) × (file ≡ sealed key salt text))
 
 -- where chunk i begins in a file
 abbrev pub place : ℕ → ℕ

@@ -16,7 +16,8 @@ chunks-init g c =
       λ less. absurd (omega (arith, less)),
       refl,
       subst (λ b. Consumes a b []) (sym (prepend_known-nil a)) (Consumes-nil a),
-      subst (Appends _ _) (c.header.ensures ∙ sym (append-nil (header c.args.salt.now))) c.in_ok-write_whole.ensures.written,
+      subst (Appends _ _) (c.header.ensures ∙ sym (append-nil (header c.args.salt.now)))
+          c.in_ok-write_whole.ensures.written,
     )
 
 pub slice_bounds-write_chunk-end-in-chunks-2 : goal.slice_bounds-write_chunk-end-in-chunks-2
