@@ -152,7 +152,7 @@ DECLARE(uint32_t, chacha20_check, uint64_t position, size_t len)
 uint32_t chacha20_check(uint64_t position, size_t len) { return PROVED(chacha20_check, position, len); }
 
 uint64_t chacha20_block_position(uint64_t block) {
-    return block > UINT64_MAX / 64 ? UINT64_MAX : 64 * block;
+    return block > INT64_MAX / 64 ? UINT64_C(1) << 63 : 64 * block;
 }
 
 #define XOR(NAME, NONCE, IN_PLACE, BETWEEN)                                                              \
@@ -293,6 +293,33 @@ uint64_t chacha_rng_get_stream(const uint8_t state[49]) { return PROVED(chacha_r
 DECLARE(void, chacha_rng_set_stream, uint8_t *state, uint64_t stream)
 void chacha_rng_set_stream(uint8_t state[49], uint64_t stream) {
     PROVED(chacha_rng_set_stream, state, stream);
+}
+
+/* Words one by one. On both machines the bytes of a word lie in the order of the fill's. */
+
+void chacha20_words_from_state(chacha20_words *words, const uint8_t state[49]) {
+    memset(words->words, 0, sizeof words->words);
+    memcpy(words->state, state, sizeof words->state);
+    words->used = sizeof words->words;
+}
+
+uint32_t chacha20_words_next(chacha20_words *words) {
+    uint32_t word;
+    if (words->used >= sizeof words->words) {
+        chacha20_rng_fill(words->state, words->words, sizeof words->words);
+        words->used = 0;
+    }
+    memcpy(&word, words->words + words->used, sizeof word);
+    memset(words->words + words->used, 0, sizeof word);
+    words->used += sizeof word;
+    return word;
+}
+
+void chacha20_words_to_state(const chacha20_words *words, uint8_t state[49]) {
+    uint64_t low, high, unused = (sizeof words->words - words->used) / sizeof(uint32_t);
+    chacha_rng_get_word_pos(words->state, &low, &high);
+    memcpy(state, words->state, sizeof words->state);
+    chacha_rng_set_word_pos(state, low - unused, high - (low < unused));
 }
 
 const char *chacha20_version(void) { return CHACHA20_VERSION; }

@@ -185,9 +185,9 @@ uint32_t chacha20_keystream(const uint8_t key[32], const uint8_t nonce[12], uint
    CHACHA20_REFUSED otherwise. It serves every cipher with a nonce of 12 or 24 bytes. */
 uint32_t chacha20_check(uint64_t position, size_t len) CHACHA20_MUST_USE;
 
-/* chacha20_block_position returns the position of the first byte of |block|, 64 * |block|. If that
-   needs more than 64 bits, it returns UINT64_MAX, which every cipher refuses. RFC 8439 encrypts
-   messages from block 1 on. */
+/* chacha20_block_position returns the position of the first byte of |block|, 64 * |block|. If that is
+   greater than 2^63, it returns 2^63: a cipher with a nonce of 12 or 24 bytes refuses it, and also its
+   sum with an offset below 2^63. RFC 8439 encrypts messages from block 1 on. */
 uint64_t chacha20_block_position(uint64_t block);
 
 /* The other ciphers, called in the same way.
@@ -259,11 +259,7 @@ void chacha_rng_from_seed(const uint8_t seed[32], uint8_t state[49]) CHACHA20_NO
 /* chacha20_rng_fill writes the next |len| bytes, each word little-endian. Unused bytes of the last
    word are lost. Length 0 takes no word.
 
-   Each read computes four blocks. To take words one by one, fill an array:
-
-       static uint8_t words[256]; static size_t used = sizeof words;
-       if (used == sizeof words) chacha20_rng_fill(state, words, sizeof words), used = 0;
-       memcpy(&word, words + used, sizeof word), used += sizeof word; */
+   Each read computes four blocks. chacha20_words takes words one by one at a thirtieth of the price. */
 void chacha20_rng_fill(uint8_t state[49], uint8_t *output, size_t len) CHACHA20_FILL;
 void chacha12_rng_fill(uint8_t state[49], uint8_t *output, size_t len) CHACHA20_FILL;
 void chacha8_rng_fill(uint8_t state[49], uint8_t *output, size_t len) CHACHA20_FILL;
