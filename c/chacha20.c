@@ -34,19 +34,18 @@ __attribute__((constructor)) static void choose_level(void) {
      : level == 2 ? NAME##_x86_64_v2(__VA_ARGS__) \
                   : NAME##_x86_64(__VA_ARGS__))
 
-/* The build for x86-64-v3 stores vectors of 32 bytes on the stack, and is slow where they cross a page
-   or a cache line. So if the page boundary below is near, a long call begins 32 - SHIFT bytes below it.
-   Compilers agree on what alloca takes for sizes of 16 n + 8. */
-enum { LONG = 512, NEAR = 3072, PAGE = 4096 };
-#define MOVE_STACK(LEN, SHIFT)                             \
-    if (level == 3 && (LEN) >= LONG) {                     \
-        char *here = __builtin_alloca(8);                  \
-        __asm__ volatile("" : "+r"(here));                 \
-        size_t above = (uintptr_t)here % PAGE;             \
-        if (above < NEAR) {                                \
-            here = __builtin_alloca(above + 24 - (SHIFT)); \
-            __asm__ volatile("" : : "r"(here) : "memory"); \
-        }                                                  \
+/* The build for x86-64-v3 stores vectors of 32 bytes on the stack, and is slow where they cross a cache line
+   or a page. So a long call begins SHIFT bytes above a multiple of 64; one that makes no sixteen blocks at
+   once, whose frames differ by 16, begins 16 - SHIFT bytes above it. Compilers agree on what alloca takes for
+   sizes of 16 n + 8. */
+enum { LONG = 512, SIXTEEN_BLOCKS = 1024 };
+#define MOVE_STACK(LEN, SHIFT)                                          \
+    if (level == 3 && (LEN) >= LONG) {                                  \
+        char *here = __builtin_alloca(8);                               \
+        __asm__ volatile("" : "+r"(here));                              \
+        size_t shift = (LEN) < SIXTEEN_BLOCKS ? 16 - (SHIFT) : (SHIFT); \
+        here = __builtin_alloca((uintptr_t)here % 64 + 56 - shift);     \
+        __asm__ volatile("" : : "r"(here) : "memory");                  \
     }
 #else
 #define DECLARE(RESULT, NAME, ...) RESULT NAME##_generic(__VA_ARGS__);
@@ -60,7 +59,7 @@ enum { LONG = 512, NEAR = 3072, PAGE = 4096 };
 enum {
     CHACHA_IN_PLACE = 0, CHACHA_BETWEEN = 0, CHACHA_KEYSTREAM = 16,
     XCHACHA_IN_PLACE = 16, XCHACHA_BETWEEN = 16, XCHACHA_KEYSTREAM = 16,
-    LEGACY_IN_PLACE = 0, LEGACY_BETWEEN = 16, LEGACY_KEYSTREAM = 16,
+    LEGACY_IN_PLACE = 16, LEGACY_BETWEEN = 0, LEGACY_KEYSTREAM = 0,
     RNG_FILL = 16, AEAD_IN_PLACE = 0, AEAD_BETWEEN = 0
 };
 
