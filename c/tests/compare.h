@@ -5,7 +5,7 @@
 #ifndef COMPARE_H
 #define COMPARE_H
 
-#include "../../include/chacha20.h"
+#include "../../include/chacha20_reduced.h"
 
 enum { LAYOUTS = 3, ROUNDS = 3, MOST_BUILDS = 4, MOST_OTHERS = 2 };
 
