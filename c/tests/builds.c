@@ -1,9 +1,193 @@
-/* SPDX-License-Identifier: Apache-2.0 OR MIT */
+/* SPDX-License-Identifier: Apache-2.0 OR MIT
 
-#include <stdio.h>
-#include <stdlib.h>
+   What is compared: OpenSSL and libsodium, where the machine has them; plain C, written after RFC 8439 and the draft, for what
+   they lack; and below them the library's builds, which are declared nowhere else, so that no reference can call them. */
 
 #include "compare.h"
+
+#include <dlfcn.h>
+#include <stdio.h>
+#include <stdlib.h>
+#include <string.h>
+
+/* The first of these libraries that the machine has. */
+static void *open_first(const char *const *names) {
+    for (; *names; names++) {
+        void *handle = dlopen(*names, RTLD_NOW | RTLD_LOCAL);
+        if (handle) return handle;
+    }
+    return NULL;
+}
+
+/* ISO C has no cast from an object's pointer to a function's. */
+static int look_up(void *handle, const char *name, void *function) {
+    void *found = dlsym(handle, name);
+    memcpy(function, &found, sizeof found);
+    return found != NULL;
+}
+
+#define XOR_PARAMETERS \
+    int rounds, const uint8_t *key, const uint8_t *nonce, uint64_t block, uint8_t *output, const uint8_t *input, size_t len
+
+static void store_le(uint8_t *bytes, uint64_t number, int count) {
+    for (int i = 0; i < count; i++) bytes[i] = (uint8_t)(number >> (8 * i));
+}
+
+/* OpenSSL: the counter is in front of the nonce, in 16 bytes together, and the carry goes on past 32 bits. */
+
+static void *(*evp_new)(void);
+static void *(*evp_chacha20)(void);
+static int (*evp_init)(void *, void *, void *, const uint8_t *, const uint8_t *);
+static int (*evp_update)(void *, uint8_t *, int *, const uint8_t *, int);
+static void *evp_context;
+
+/* The context keeps the cipher that it has, so that OpenSSL fetches it once. */
+static void openssl_xor(int counter_bytes, XOR_PARAMETERS) {
+    uint8_t iv[16];
+    (void)rounds;
+    store_le(iv, block, counter_bytes), memcpy(iv + counter_bytes, nonce, (size_t)(16 - counter_bytes));
+    int done = evp_init(evp_context, NULL, NULL, key, iv);
+    while (done && len > 0) {
+        int part = len < 1 << 30 ? (int)len : 1 << 30, out = 0;
+        done = evp_update(evp_context, output, &out, input, part) && out == part;
+        output += part, input += part, len -= (size_t)part;
+    }
+    if (!done) puts("OpenSSL refused a call"), exit(2);
+}
+
+static void openssl_ietf(XOR_PARAMETERS) { openssl_xor(4, rounds, key, nonce, block, output, input, len); }
+static void openssl_legacy(XOR_PARAMETERS) { openssl_xor(8, rounds, key, nonce, block, output, input, len); }
+
+static int find_openssl(struct other *found) {
+    static const char *const names[] = {"libcrypto.so.3", "libcrypto.so.1.1", "libcrypto.so", NULL};
+    const char *(*version)(int) = NULL;
+    void *handle = open_first(names);
+    if (!handle || !look_up(handle, "EVP_CIPHER_CTX_new", &evp_new) || !look_up(handle, "EVP_chacha20", &evp_chacha20) ||
+        !look_up(handle, "EVP_EncryptInit_ex", &evp_init) || !look_up(handle, "EVP_EncryptUpdate", &evp_update) ||
+        !look_up(handle, "OpenSSL_version", &version) || !(evp_context = evp_new()) ||
+        !evp_init(evp_context, evp_chacha20(), NULL, NULL, NULL)) {
+        puts("not found: OpenSSL (libcrypto.so) with ChaCha20");
+        return 0;
+    }
+    printf("found: %s\n", version(0));
+    *found = (struct other){.name = "OpenSSL", .xor_from_block = {[IETF] = openssl_ietf, [LEGACY] = openssl_legacy}};
+    return 1;
+}
+
+/* libsodium */
+
+static int (*sodium_ietf_ic)(uint8_t *, const uint8_t *, unsigned long long, const uint8_t *, uint32_t, const uint8_t *);
+static int (*sodium_legacy_ic)(uint8_t *, const uint8_t *, unsigned long long, const uint8_t *, uint64_t, const uint8_t *);
+static int (*sodium_xchacha_ic)(uint8_t *, const uint8_t *, unsigned long long, const uint8_t *, uint64_t, const uint8_t *);
+static int (*sodium_hchacha)(uint8_t *, const uint8_t *, const uint8_t *, const uint8_t *);
+
+static void sodium_ietf(XOR_PARAMETERS) { (void)rounds, sodium_ietf_ic(output, input, len, nonce, (uint32_t)block, key); }
+static void sodium_xchacha(XOR_PARAMETERS) { (void)rounds, sodium_xchacha_ic(output, input, len, nonce, block, key); }
+static void sodium_legacy(XOR_PARAMETERS) { (void)rounds, sodium_legacy_ic(output, input, len, nonce, block, key); }
+
+static void sodium_hchacha20(int rounds, const uint8_t *key, const uint8_t *input, uint8_t *subkey) {
+    (void)rounds, sodium_hchacha(subkey, input, key, NULL);
+}
+
+static int find_sodium(struct other *found) {
+    static const char *const names[] = {"libsodium.so.23", "libsodium.so.26", "libsodium.so", NULL};
+    int (*init)(void) = NULL;
+    const char *(*version)(void) = NULL;
+    void *handle = open_first(names);
+    if (!handle || !look_up(handle, "sodium_init", &init) || !look_up(handle, "sodium_version_string", &version) ||
+        !look_up(handle, "crypto_stream_chacha20_ietf_xor_ic", &sodium_ietf_ic) ||
+        !look_up(handle, "crypto_stream_chacha20_xor_ic", &sodium_legacy_ic) ||
+        !look_up(handle, "crypto_stream_xchacha20_xor_ic", &sodium_xchacha_ic) ||
+        !look_up(handle, "crypto_core_hchacha20", &sodium_hchacha) || init() < 0) {
+        puts("not found: libsodium");
+        return 0;
+    }
+    printf("found: libsodium %s\n", version());
+    *found = (struct other){
+        .name = "libsodium",
+        .xor_from_block = {[IETF] = sodium_ietf, [XCHACHA] = sodium_xchacha, [LEGACY] = sodium_legacy},
+        .hchacha = sodium_hchacha20};
+    return 1;
+}
+
+/* Plain C */
+
+static uint32_t load_32(const uint8_t *b) {
+    return (uint32_t)b[0] | (uint32_t)b[1] << 8 | (uint32_t)b[2] << 16 | (uint32_t)b[3] << 24;
+}
+
+static uint32_t rotated(uint32_t x, int by) { return x << by | x >> (32 - by); }
+
+static void quarter_round(uint32_t *x, int a, int b, int c, int d) {
+    x[a] += x[b], x[d] = rotated(x[d] ^ x[a], 16);
+    x[c] += x[d], x[b] = rotated(x[b] ^ x[c], 12);
+    x[a] += x[b], x[d] = rotated(x[d] ^ x[a], 8);
+    x[c] += x[d], x[b] = rotated(x[b] ^ x[c], 7);
+}
+
+static void all_rounds(uint32_t *x, int rounds) {
+    for (int i = 0; i < rounds; i += 2) {
+        for (int j = 0; j < 4; j++) quarter_round(x, j, 4 + j, 8 + j, 12 + j);
+        for (int j = 0; j < 4; j++) quarter_round(x, j, 4 + (j + 1) % 4, 8 + (j + 2) % 4, 12 + (j + 3) % 4);
+    }
+}
+
+/* Constants, a key, and 16 bytes more. */
+static void start(uint32_t *x, const uint8_t *key, const uint8_t *last) {
+    static const char constants[] = "expand 32-byte k";
+    for (int i = 0; i < 4; i++) x[i] = load_32((const uint8_t *)constants + 4 * i);
+    for (int i = 0; i < 8; i++) x[4 + i] = load_32(key + 4 * i);
+    for (int i = 0; i < 4; i++) x[12 + i] = load_32(last + 4 * i);
+}
+
+static void plain_hchacha(int rounds, const uint8_t *key, const uint8_t *input, uint8_t *subkey) {
+    uint32_t x[16];
+    start(x, key, input);
+    all_rounds(x, rounds);
+    for (int i = 0; i < 4; i++) store_le(subkey + 4 * i, x[i], 4), store_le(subkey + 16 + 4 * i, x[12 + i], 4);
+}
+
+static void plain_xor(int counter_bytes, XOR_PARAMETERS) {
+    uint8_t last[16], made[64];
+    uint32_t first[16], x[16];
+    memcpy(last + counter_bytes, nonce, (size_t)(16 - counter_bytes));
+    for (size_t at = 0; at < len; at += 64, block++) {
+        store_le(last, block, counter_bytes);
+        start(first, key, last);
+        memcpy(x, first, sizeof x);
+        all_rounds(x, rounds);
+        for (int i = 0; i < 16; i++) store_le(made + 4 * i, x[i] + first[i], 4);
+        for (size_t i = 0; i < 64 && at + i < len; i++) output[at + i] = input[at + i] ^ made[i];
+    }
+}
+
+static void plain_ietf(XOR_PARAMETERS) { plain_xor(4, rounds, key, nonce, block, output, input, len); }
+static void plain_legacy(XOR_PARAMETERS) { plain_xor(8, rounds, key, nonce, block, output, input, len); }
+
+static void plain_xchacha(XOR_PARAMETERS) {
+    uint8_t subkey[32], subnonce[12] = {0};
+    plain_hchacha(rounds, key, nonce, subkey);
+    memcpy(subnonce + 4, nonce + 16, 8);
+    plain_xor(4, rounds, subkey, subnonce, block, output, input, len);
+}
+
+const struct other plain_c = {
+    .name = "plain C",
+    .xor_from_block = {[IETF] = plain_ietf, [XCHACHA] = plain_xchacha, [LEGACY] = plain_legacy},
+    .hchacha = plain_hchacha};
+
+int find_others(struct other found[MOST_OTHERS]) {
+    int count = find_openssl(found);
+    count += find_sodium(found + count);
+    puts("8 and 12 rounds: beside plain C of this folder");
+    return count;
+}
+
+/* The library: the builds for the levels of x86-64, where they are built, and libchacha20.a, which chooses one. */
+extern const struct library library_1 __attribute__((weak));
+extern const struct library library_2 __attribute__((weak));
+extern const struct library library_3 __attribute__((weak));
+extern const struct library library_chosen __attribute__((weak));
 
 /* By the compiler's own means, to compare with ../processor.h; 0 where there is no choice. */
 static int level_here(void) {

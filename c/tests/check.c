@@ -2,7 +2,13 @@
 
    The library beside other implementations: random messages, cut at random places, whose parts are combined in random
    order, in place or between buffers, by builds for different levels; words of generators; refusals; buffers at the ends
-   of mapped pages. The random numbers of a turn are those of its seed, so that each turn can be repeated. */
+   of mapped pages. The random numbers of a turn are those of its seed, so that each turn can be repeated.
+
+   compare check [BYTES [SEED]]   compares the library with what is found on the machine; the last line says how many bytes,
+                                  and how many of them differ. The first turn is that of SEED
+   compare plain [BYTES [SEED]]   the same with the plain C of builds.c alone
+   compare call WORDS             repeats one call: build, layout, rounds, way, block, offset, length, places of output and
+                                  input in their pages, seed of key and nonce. A difference prints these words */
 
 #define _DEFAULT_SOURCE
 
@@ -12,6 +18,7 @@
 #include <string.h>
 #include <sys/mman.h>
 
+#include "../../include/chacha20.h"
 #include "compare.h"
 
 enum { OFTEN_LONGEST = 1 << 18, LONGEST = 1 << 22, MOST_CUTS = 40, PAGE = 4096 };
@@ -440,7 +447,8 @@ static int index_of(const char *name, const char *const *names, int count) {
     exit(2);
 }
 
-int repeat_call(const struct machine *machine, char **words) {
+/* Returns the exit status. */
+static int repeat_call(const struct machine *machine, char **words) {
     static const char *const rounds[] = {"8", "12", "20"};
     static uint8_t from[LONGEST + PAGE] __attribute__((aligned(PAGE))), to[LONGEST + PAGE] __attribute__((aligned(PAGE)));
     uint8_t key[32], nonce[24], state[CHACHA_RNG_STATE_BYTES];
@@ -473,7 +481,7 @@ int repeat_call(const struct machine *machine, char **words) {
     return run.differences != 0;
 }
 
-int check(const struct machine *machine, uint64_t seed, uint64_t bytes) {
+static int check(const struct machine *machine, uint64_t seed, uint64_t bytes) {
     struct run run = {.machine = machine, .random = 1};
     const uint64_t *done = machine->other_count > 0 ? &run.bytes_beside_found : &run.bytes_beside_plain;
     uint64_t calls = 0, few = 0;
@@ -488,11 +496,26 @@ int check(const struct machine *machine, uint64_t seed, uint64_t bytes) {
     for (int i = 0; i < KINDS; i++) few += run.cases[i] < LEAST_CASES;
     if (few > 0) puts("wrong: too few cases of a kind, or too few calls of a build");
     if (machine->other_count > 0) printf("8 and 12 rounds, beside plain C: %" PRIu64 " bytes\n", run.bytes_beside_plain);
-    int controls_lost = run.differences == 0 ? control(machine) : 0;
+    int is_judge = controls_found(machine) == CONTROLS;
     printf("check, seed %" PRIu64 ":", seed);
     for (int i = 0; i < machine->build_count; i++) printf(" %s", machine->builds[i]->level);
     printf(" in %" PRIu64 " calls; %" PRIu64 " bytes beside", calls, *done);
     for (int i = 0; i < machine->other_count; i++) printf("%s %s", i ? " and" : "", machine->others[i].name);
     printf("%s, %" PRIu64 " differences\n", machine->other_count ? "" : " plain C", run.differences);
-    return controls_lost > 0 || few > 0 || run.differences > 0;
+    return !is_judge || few > 0 || run.differences > 0;
+}
+
+int main(int argc, char **argv) {
+    struct machine machine = {.build_count = 0};
+    const char *use = argc > 1 ? argv[1] : "";
+    int is_plain = strcmp(use, "plain") == 0;
+    machine.build_count = find_builds(machine.builds);
+    if (!is_plain) machine.other_count = find_others(machine.others);
+    if (is_plain || strcmp(use, "check") == 0) {
+        return check(&machine, argc > 3 ? strtoull(argv[3], NULL, 10) : 20260101,
+                     argc > 2 ? strtoull(argv[2], NULL, 10) : 1000000000);
+    }
+    if (argc == 12 && strcmp(use, "call") == 0) return repeat_call(&machine, argv + 2);
+    fputs("compare check|plain|call: see check.c\n", stderr);
+    return 2;
 }

@@ -5,7 +5,8 @@
 #ifndef COMPARE_H
 #define COMPARE_H
 
-#include "../../include/chacha20.h"
+#include <stddef.h>
+#include <stdint.h>
 
 enum { LAYOUTS = 3, ROUNDS = 3, MOST_BUILDS = 4, MOST_OTHERS = 2 };
 
@@ -39,12 +40,6 @@ struct library {
     void (*set_stream)(uint8_t *state, uint64_t stream);
 };
 
-/* The builds for the levels of x86-64, where they are built, and libchacha20.a, which chooses one. */
-extern const struct library library_1 __attribute__((weak));
-extern const struct library library_2 __attribute__((weak));
-extern const struct library library_3 __attribute__((weak));
-extern const struct library library_chosen;
-
 /* Finds the builds that this processor can run, library_chosen last, and returns their number. It prints a line for each
    other build, and ends the program if the library has chosen another level than the highest. */
 int find_builds(const struct library *found[MOST_BUILDS]);
@@ -72,24 +67,16 @@ struct machine {
     int other_count;
 };
 
-/* Compares until so many bytes were compared with what was found; returns the exit status. */
-int check(const struct machine *machine, uint64_t seed, uint64_t bytes);
-
-/* Repeats a call that a difference has printed; returns the exit status. */
-int repeat_call(const struct machine *machine, char **words);
-
 /* Whether one of so many turns finds a difference. */
 int turns_find(const struct machine *machine, int turns);
 
-/* Spoils each function of a build; returns how many of these faults no turn finds. */
-int control(const struct machine *machine);
+/* Spoils a build in CONTROLS ways, and returns how many of them the turns find; 0 if they find one where there is none. */
+enum { CONTROLS = 21 };
+int controls_found(const struct machine *machine);
 
 /* Distances, lengths and positions that need more than 32 bits, without so much memory; calls over 4 GiB. They return the
    number of differences. */
 uint64_t far_apart(const struct machine *machine);
 uint64_t over_4_gib(const struct machine *machine);
-
-/* Prints tables of times; returns the exit status. */
-int time_all(const struct machine *machine, int passes);
 
 #endif

@@ -4,14 +4,17 @@
 
 #include <stdio.h>
 
+#include "../../include/chacha20.h"
 #include "compare.h"
 
 static const struct library *good;
 
 static enum {
     XOR_BYTE, XOR_NEXT, XOR_TAKES, XOR_WRITES, XOR_REFUSES, KEYSTREAM_BIT, KEYSTREAM_32, CHECK_TAKES, CHECK_REFUSES, SUBKEY_BIT,
-    WORD, TWO_WORDS, FILL_BIT, FILL_LOSES, SEED_BIT, WORD_POS, SET_WORD_POS, BLOCK_POS, SET_BLOCK_POS, STREAM, SET_STREAM, CONTROLS
+    WORD, TWO_WORDS, FILL_BIT, FILL_LOSES, SEED_BIT, WORD_POS, SET_WORD_POS, BLOCK_POS, SET_BLOCK_POS, STREAM, SET_STREAM, NO_FAULT
 } spoilt;
+
+_Static_assert((int)NO_FAULT == (int)CONTROLS, "the number of controls");
 
 #define POSITION const uint8_t *key, const uint8_t *nonce, uint64_t block, uint64_t offset
 
@@ -71,9 +74,9 @@ static void set_stream(uint8_t *state, uint64_t stream) {
     if (spoilt == SET_STREAM) good->set_word_pos(state, low, high);
 }
 
-int control(const struct machine *machine) {
+int controls_found(const struct machine *machine) {
     struct machine only = *machine;
-    int lost = 0;
+    int found = 0;
     good = machine->builds[machine->build_count - 1];
     struct library one = *good;
     only.builds[0] = &one, only.build_count = 1;
@@ -82,11 +85,11 @@ int control(const struct machine *machine) {
     one.from_seed = from_seed, one.get_word_pos = get_word_pos, one.set_word_pos = set_word_pos;
     one.get_block_pos = get_block_pos, one.set_block_pos = set_block_pos;
     one.get_stream = get_stream, one.set_stream = set_stream;
-    for (spoilt = 0; spoilt <= CONTROLS; spoilt++) {
-        if (turns_find(&only, 800) == (spoilt < CONTROLS)) continue;
-        printf("wrong: negative control %d, of which the last has no fault\n", (int)spoilt);
-        lost++;
+    for (spoilt = 0; spoilt < NO_FAULT; spoilt++) {
+        if (turns_find(&only, 800)) found++;
+        else printf("wrong: negative control %d isn't found\n", (int)spoilt);
     }
-    printf("negative controls: %d, %d not found\n", CONTROLS, lost);
-    return lost;
+    if (turns_find(&only, 800)) puts("wrong: a fault is found where there is none"), found = 0;
+    printf("negative controls: %d of %d found\n", found, CONTROLS);
+    return found;
 }

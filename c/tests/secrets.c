@@ -1,8 +1,8 @@
 /* SPDX-License-Identifier: Apache-2.0 OR MIT
 
    Run under valgrind's memcheck, with keys, nonces, seeds, stream numbers and data marked as undefined: memcheck then
-   reports each branch and each address that depends on one of them. A branch and an address that are planted show that
-   it would. Lengths, positions, and so the places of words in a generator, aren't secret.
+   reports each branch and each address that depends on one of them. A branch that is planted for each of them, and an address,
+   show that it would. Lengths, positions, and so the places of words in a generator, aren't secret.
 
    Without memcheck, key, nonce and data are read from stdin, for ./trace, and a branch is planted where there is an argument. */
 
@@ -11,6 +11,7 @@
 #include <unistd.h>
 #include <valgrind/memcheck.h>
 
+#include "../../include/chacha20.h"
 #include "compare.h"
 
 enum { LONGEST = (1 << 16) + 1000 };
@@ -93,15 +94,20 @@ int main(int argc, char **argv) {
     }
     for (int i = 0; i < build_count; i++) by_library(builds[i], LONGEST);
     unsigned reports = VALGRIND_COUNT_ERRORS;
+    /* The last generator's seed and stream are in its state. */
+    const uint8_t *const marked[] = {key, nonce, input, output, state, state + 32};
+    enum { MARKED = sizeof marked / sizeof marked[0] };
     all_secret();
-    if (key[3] & 1) seen = 1;
-    unsigned of_branch = VALGRIND_COUNT_ERRORS - reports;
+    for (int i = 0; i < MARKED; i++) {
+        if (marked[i][3] & 1) seen = 1;
+    }
+    unsigned of_branches = VALGRIND_COUNT_ERRORS - reports;
     seen = table[key[5]];
     (void)seen;
-    unsigned of_address = VALGRIND_COUNT_ERRORS - reports - of_branch;
+    unsigned of_address = VALGRIND_COUNT_ERRORS - reports - of_branches;
     printf("secrets,");
     for (int i = 0; i < build_count; i++) printf(" %s", builds[i]->level);
-    printf(": %u calls, %u refused, %u reports; of a planted branch %u, of a planted address %u\n", calls, wrong_answers,
-           reports, of_branch, of_address);
-    return reports != 0 || of_branch != 1 || of_address != 1 || wrong_answers != 0 || calls < 3000 * (unsigned)build_count;
+    printf(": %u calls, %u refused, %u reports; of planted branches %u, of a planted address %u\n", calls, wrong_answers,
+           reports, of_branches, of_address);
+    return reports != 0 || of_branches != MARKED || of_address != 1 || wrong_answers != 0 || calls < 3000 * (unsigned)build_count;
 }

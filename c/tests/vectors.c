@@ -1,22 +1,31 @@
 /* SPDX-License-Identifier: Apache-2.0 OR MIT
 
-   Published vectors, for a processor without another implementation; and how much of the stack calls take. */
+   Published vectors, for a processor without another implementation; how much of the stack calls take; and calls before the
+   library has chosen a level, in threads, after fork, and in a signal handler with the stack that the header names. */
 
-#define _DEFAULT_SOURCE
+#define _GNU_SOURCE
 
+#include <pthread.h>
+#include <signal.h>
 #include <stdio.h>
+#include <stdlib.h>
 #include <string.h>
+#include <sys/wait.h>
 #include <ucontext.h>
+#include <unistd.h>
 
 #include "../../include/chacha20.h"
+#include "compare.h"
 
 /* How many vectors there are, and their bytes together. */
 enum { MOST = 128, VECTORS = 15, VECTOR_BYTES = 648 };
 
-static int vectors, vector_bytes, wrong;
+static int vectors, vector_bytes, wrong, is_planted;
 
 static void is(const char *name, int fact) {
-    if (!fact) printf("wrong: %s\n", name), wrong++;
+    if (fact) return;
+    __atomic_add_fetch(&wrong, 1, __ATOMIC_RELAXED);
+    if (!is_planted) printf("wrong: %s\n", name);
 }
 
 static void from_hex(const char *hex, uint8_t *bytes, size_t len) {
@@ -186,15 +195,93 @@ static size_t deepest(void) {
     return most;
 }
 
+/* Calls at any time, each beside plain C. The bytes of the last key are spoilt, so that its calls must be found wrong. */
+enum { THREADS = 8, SPOILT = THREADS, TURNS = 2000, LEN = 5000, LEAST_CALLS = 4 + THREADS * TURNS };
+
+static int calls;
+static uint8_t zeros[LEN], right[THREADS + 1][LEN];
+
+/* Whether a key's bytes are right, by a cipher and by a generator. */
+static int is_right(uint8_t which) {
+    uint8_t key[32] = {which}, nonce[12] = {0}, state[CHACHA_RNG_STATE_BYTES], made[LEN], words[LEN];
+    uint32_t answer = chacha20_xor(key, nonce, 0, made, zeros, LEN);
+    chacha_rng_from_seed(key, state);
+    chacha20_rng_fill(state, words, LEN);
+    __atomic_add_fetch(&calls, 1, __ATOMIC_RELAXED);
+    return answer == CHACHA20_OK && memcmp(made, right[which], LEN) == 0 && memcmp(words, right[which], LEN) == 0;
+}
+
+/* The loader calls it before any constructor. */
+static void before_constructors(int argc, char **argv, char **environment) {
+    uint8_t nonce[12] = {0};
+    (void)argc, (void)argv, (void)environment;
+    for (int i = 0; i <= SPOILT; i++) {
+        uint8_t key[32] = {(uint8_t)i};
+        plain_c.xor_from_block[IETF](20, key, nonce, 0, right[i], zeros, LEN);
+    }
+    right[SPOILT][LEN - 1] ^= 1;
+    for (uint8_t i = 0; i < 4; i++) is("a call before the constructors", is_right(i));
+}
+__attribute__((section(".preinit_array"), used)) static void (*const first)(int, char **, char **) = before_constructors;
+
+static void *thread(void *which) {
+    for (int i = 0; i < TURNS; i++) is("a call in a thread", is_right(*(uint8_t *)which));
+    return NULL;
+}
+
+static uint8_t handled[100];
+/* An emulator (qemu 7.2) begins it on a stack that isn't aligned. */
+#if defined(__x86_64__)
+__attribute__((force_align_arg_pointer))
+#endif
+static void handler(int signal) {
+    static const uint8_t key[32] = {1}, nonce[12] = {0};
+    if (signal != SIGUSR1 || chacha20_xor(key, nonce, 0, handled, zeros, sizeof handled) != CHACHA20_OK) handled[0] ^= 1;
+}
+
+static void at_any_time(void) {
+    pthread_t threads[THREADS];
+    uint8_t which[THREADS];
+    int status = 1;
+    for (uint8_t i = 0; i < THREADS; i++) {
+        which[i] = i;
+        if (pthread_create(&threads[i], NULL, thread, &which[i]) != 0) puts("no thread"), exit(2);
+    }
+    /* While the threads run. */
+    fflush(stdout);
+    pid_t child = fork();
+    if (child == 0) _exit(!is_right(1));
+    is("a call after fork", child > 0 && waitpid(child, &status, 0) == child && status == 0);
+    for (int i = 0; i < THREADS; i++) pthread_join(threads[i], NULL);
+    size_t size = CHACHA20_DEEPEST + (size_t)sysconf(_SC_MINSIGSTKSZ);
+    stack_t own = {.ss_sp = malloc(size), .ss_size = size};
+    struct sigaction action = {.sa_handler = handler, .sa_flags = SA_ONSTACK};
+    is("a call in a signal handler", sigaltstack(&own, NULL) == 0 && sigaction(SIGUSR1, &action, NULL) == 0 &&
+                                         raise(SIGUSR1) == 0 && memcmp(handled, right[1], sizeof handled) == 0);
+    is("the number of calls", calls >= LEAST_CALLS);
+}
+
+/* A judge that finds no fault in wrong bytes is itself wrong. */
+static void judges_find_faults(void) {
+    int before = wrong;
+    is_planted = 1;
+    are("a planted byte", zeros, "01", 1);
+    is("a planted byte behind a call", is_right(SPOILT));
+    is_planted = 0;
+    int found = wrong - before;
+    wrong = before, vectors--, vector_bytes--;
+    is("a judge", found == 2);
+}
+
 int main(void) {
     size_t depth = deepest();
     char version[32];
     snprintf(version, sizeof version, "%d.%d.%d", CHACHA20_VERSION_MAJOR, CHACHA20_VERSION_MINOR, CHACHA20_VERSION_PATCH);
     is("the version", strcmp(version, CHACHA20_VERSION) == 0 && strcmp(version, chacha20_version()) == 0);
-    positions(), ietf(), xchacha(), legacy_and_generators();
+    positions(), ietf(), xchacha(), legacy_and_generators(), at_any_time(), judges_find_faults();
     is("the number of vectors or of their bytes", vectors == VECTORS && vector_bytes == VECTOR_BYTES);
     is("the stack that a call takes", depth > 500 && depth <= CHACHA20_DEEPEST);
-    printf("vectors: %d published, %d wrong; %zu bytes of the stack of at most %d; version %s\n", vectors, wrong, depth,
-           CHACHA20_DEEPEST, chacha20_version());
+    printf("vectors: %d published, %d calls at any time, %d wrong; %zu bytes of the stack of at most %d; version %s\n", vectors,
+           calls, wrong, depth, CHACHA20_DEEPEST, chacha20_version());
     return wrong != 0;
 }
