@@ -5,6 +5,8 @@
 
 #include "../include/chacha20.h"
 
+#include <string.h>
+
 /* DECLARE declares a proved function in each build; the Makefile adds the level to its names. PROVED
    calls it in the build for the processor. */
 #if defined(__x86_64__)
@@ -59,12 +61,89 @@ enum {
     CHACHA_IN_PLACE = 0, CHACHA_BETWEEN = 0, CHACHA_KEYSTREAM = 16,
     XCHACHA_IN_PLACE = 16, XCHACHA_BETWEEN = 16, XCHACHA_KEYSTREAM = 16,
     LEGACY_IN_PLACE = 0, LEGACY_BETWEEN = 16, LEGACY_KEYSTREAM = 16,
-    RNG_FILL = 16
+    RNG_FILL = 16, AEAD_IN_PLACE = 0, AEAD_BETWEEN = 0
 };
 
 static int overlap(uint8_t *output, const uint8_t *input, size_t len) {
     uintptr_t to = (uintptr_t)output, from = (uintptr_t)input;
     return (to < from ? from - to : to - from) < len;
+}
+
+/* Authenticated encryption. Lengths that a slice can't have, wrapped ones too, are refused before they are added to
+   an address. */
+
+static int apart(const void *one, size_t one_len, const void *other, size_t other_len) {
+    uintptr_t at = (uintptr_t)one, other_at = (uintptr_t)other;
+    return (one_len == 0) | (other_len == 0) | (at + one_len <= other_at) | (other_at + other_len <= at);
+}
+
+#define AEAD(NAME, NONCE, IN_PLACE, BETWEEN)                                                                          \
+    DECLARE(uint32_t, NAME##_encrypt_in_place, const uint8_t *key, const uint8_t *nonce, const uint8_t *aad,         \
+            size_t aad_len, uint8_t *data, size_t len, uint8_t *tag)                                                 \
+    DECLARE(uint32_t, NAME##_encrypt_between, const uint8_t *key, const uint8_t *nonce, const uint8_t *aad,          \
+            size_t aad_len, uint8_t *output, size_t len, const uint8_t *input, size_t input_len, uint8_t *tag)       \
+    DECLARE(uint32_t, NAME##_decrypt_in_place, const uint8_t *key, const uint8_t *nonce, const uint8_t *aad,         \
+            size_t aad_len, uint8_t *data, size_t len, const uint8_t *tag)                                           \
+    DECLARE(uint32_t, NAME##_decrypt_between, const uint8_t *key, const uint8_t *nonce, const uint8_t *aad,          \
+            size_t aad_len, uint8_t *output, size_t len, const uint8_t *input, size_t input_len, const uint8_t *tag) \
+    uint32_t NAME##_encrypt(const uint8_t key[32], const uint8_t nonce[NONCE], const uint8_t *aad, size_t aad_len,   \
+                            uint8_t *output, const uint8_t *input, size_t len, uint8_t tag[16]) {                    \
+        uint8_t none;                                                                                                \
+        if (len > CHACHA20_AEAD_LONGEST || aad_len > PTRDIFF_MAX) return CHACHA20_REFUSED;                           \
+        if (!(output_apart(output, input, len, key, nonce, NONCE, aad, aad_len, tag) &                               \
+              apart(tag, 16, input, len) & apart(tag, 16, aad, aad_len) & apart(tag, 16, key, 32) &                  \
+              apart(tag, 16, nonce, NONCE)))                                                                         \
+            return CHACHA20_REFUSED;                                                                                 \
+        if (aad_len == 0) aad = key;                                                                                 \
+        if (len == 0) input = output = &none;                                                                        \
+        if (output == input) {                                                                                       \
+            MOVE_STACK(len, IN_PLACE)                                                                                \
+            return PROVED(NAME##_encrypt_in_place, key, nonce, aad, aad_len, output, len, tag);                      \
+        }                                                                                                            \
+        MOVE_STACK(len, BETWEEN)                                                                                     \
+        return PROVED(NAME##_encrypt_between, key, nonce, aad, aad_len, output, len, input, len, tag);               \
+    }                                                                                                                \
+    uint32_t NAME##_decrypt(const uint8_t key[32], const uint8_t nonce[NONCE], const uint8_t *aad, size_t aad_len,   \
+                            uint8_t *output, const uint8_t *input, size_t len, const uint8_t tag[16]) {              \
+        uint8_t none;                                                                                                \
+        if (len > CHACHA20_AEAD_LONGEST || aad_len > PTRDIFF_MAX) return CHACHA20_REFUSED;                           \
+        if (!output_apart(output, input, len, key, nonce, NONCE, aad, aad_len, tag)) return CHACHA20_REFUSED;        \
+        if (aad_len == 0) aad = key;                                                                                 \
+        if (len == 0) input = output = &none;                                                                        \
+        if (output == input) {                                                                                       \
+            MOVE_STACK(len, IN_PLACE)                                                                                \
+            return PROVED(NAME##_decrypt_in_place, key, nonce, aad, aad_len, output, len, tag);                      \
+        }                                                                                                            \
+        MOVE_STACK(len, BETWEEN)                                                                                     \
+        return PROVED(NAME##_decrypt_between, key, nonce, aad, aad_len, output, len, input, len, tag);               \
+    }
+
+/* Whether |output| overlaps nothing that it may not. */
+static int output_apart(const uint8_t *output, const uint8_t *input, size_t len, const uint8_t *key,
+                        const uint8_t *nonce, size_t nonce_len, const uint8_t *aad, size_t aad_len,
+                        const uint8_t *tag) {
+    return ((output == input) | apart(output, len, input, len)) & apart(output, len, key, 32) &
+           apart(output, len, nonce, nonce_len) & apart(output, len, aad, aad_len) & apart(output, len, tag, 16);
+}
+
+AEAD(chacha20_aead, 12, AEAD_IN_PLACE, AEAD_BETWEEN)
+AEAD(xchacha20_aead, 24, AEAD_IN_PLACE, AEAD_BETWEEN)
+
+DECLARE(void, chacha_poly1305, const uint8_t *key, const uint8_t *input, size_t len, uint8_t *tag)
+void chacha_poly1305(const uint8_t key[32], const uint8_t *input, size_t len, uint8_t tag[16]) {
+    PROVED(chacha_poly1305, key, len == 0 ? key : input, len, tag);
+}
+
+DECLARE(uint32_t, chacha_equal, const uint8_t *one, size_t len, const uint8_t *other, size_t other_len)
+uint32_t chacha_equal(const uint8_t *one, const uint8_t *other, size_t len) {
+    return len == 0 ? 1 : PROVED(chacha_equal, one, len, other, len);
+}
+
+/* The stack grows downwards. The compiler must neither inline this, nor leave out what it takes for unread. */
+__attribute__((noinline)) void chacha_wipe_stack(void) {
+    uint8_t below[CHACHA20_DEEPEST];
+    memset(below, 0, sizeof below);
+    __asm__ volatile("" : : "r"(below) : "memory");
 }
 
 /* Ciphers. Where |len| is 0, the pointers may be null, and the check alone is called. */
@@ -73,7 +152,7 @@ DECLARE(uint32_t, chacha20_check, uint64_t position, size_t len)
 uint32_t chacha20_check(uint64_t position, size_t len) { return PROVED(chacha20_check, position, len); }
 
 uint64_t chacha20_block_position(uint64_t block) {
-    return block > UINT64_MAX / 64 ? UINT64_MAX : 64 * block;
+    return block > INT64_MAX / 64 ? UINT64_C(1) << 63 : 64 * block;
 }
 
 #define XOR(NAME, NONCE, IN_PLACE, BETWEEN)                                                              \
@@ -214,6 +293,33 @@ uint64_t chacha_rng_get_stream(const uint8_t state[49]) { return PROVED(chacha_r
 DECLARE(void, chacha_rng_set_stream, uint8_t *state, uint64_t stream)
 void chacha_rng_set_stream(uint8_t state[49], uint64_t stream) {
     PROVED(chacha_rng_set_stream, state, stream);
+}
+
+/* Words one by one. On both machines the bytes of a word lie in the order of the fill's. */
+
+void chacha20_words_from_state(chacha20_words *words, const uint8_t state[49]) {
+    memset(words->words, 0, sizeof words->words);
+    memcpy(words->state, state, sizeof words->state);
+    words->used = sizeof words->words;
+}
+
+uint32_t chacha20_words_next(chacha20_words *words) {
+    uint32_t word;
+    if (words->used >= sizeof words->words) {
+        chacha20_rng_fill(words->state, words->words, sizeof words->words);
+        words->used = 0;
+    }
+    memcpy(&word, words->words + words->used, sizeof word);
+    memset(words->words + words->used, 0, sizeof word);
+    words->used += sizeof word;
+    return word;
+}
+
+void chacha20_words_to_state(const chacha20_words *words, uint8_t state[49]) {
+    uint64_t low, high, unused = (sizeof words->words - words->used) / sizeof(uint32_t);
+    chacha_rng_get_word_pos(words->state, &low, &high);
+    memcpy(state, words->state, sizeof words->state);
+    chacha_rng_set_word_pos(state, low - unused, high - (low < unused));
 }
 
 const char *chacha20_version(void) { return CHACHA20_VERSION; }

@@ -56,10 +56,14 @@ extern "C" {
 #define HCHACHA20_SUBKEY_BYTES 32
 #define CHACHA_RNG_SEED_BYTES 32
 #define CHACHA_RNG_STATE_BYTES 49
+#define CHACHA20_TAG_BYTES 16
 
 /* The length of the keystream of a key and a nonce of 12 or 24 bytes: 2^32 blocks. A legacy
    keystream has 2^64 blocks. */
 #define CHACHA20_STREAM_BYTES (UINT64_C(1) << 38)
+
+/* The longest message that can be authenticated: block 0 makes the MAC's key. */
+#define CHACHA20_AEAD_LONGEST (CHACHA20_STREAM_BYTES - 64)
 
 /* An upper bound on the bytes of the stack that a call takes, measured by a test. A third of them is
    for the dynamic linker, which may bind memcpy, memmove and memset in a program's first calls. */
@@ -80,11 +84,15 @@ typedef char chacha20_size_t_has_64_bits[sizeof(size_t) == 8 ? 1 : -1];
 #define CHACHA20_NONNULL __attribute__((__nonnull__))
 #define CHACHA20_NONNULL_1 __attribute__((__nonnull__(1)))
 #define CHACHA20_CIPHER __attribute__((__warn_unused_result__, __nonnull__(1, 2)))
+#define CHACHA20_AEAD __attribute__((__warn_unused_result__, __nonnull__(1, 2, 8)))
+#define CHACHA20_MAC __attribute__((__nonnull__(1, 4)))
 #else
 #define CHACHA20_MUST_USE
 #define CHACHA20_NONNULL
 #define CHACHA20_NONNULL_1
 #define CHACHA20_CIPHER
+#define CHACHA20_AEAD
+#define CHACHA20_MAC
 #endif
 /* The parameter at TO is an output and that at FROM an input, both of the length at LEN. */
 #if defined(__GNUC__) && !defined(__clang__) && __GNUC__ >= 10
@@ -99,6 +107,57 @@ typedef char chacha20_size_t_has_64_bits[sizeof(size_t) == 8 ? 1 : -1];
 #define CHACHA20_LEGACY_XOR CHACHA20_CIPHER CHACHA20_WRITES(5, 7) CHACHA20_READS(6, 7)
 #define CHACHA20_LEGACY_KEYSTREAM CHACHA20_CIPHER CHACHA20_WRITES(5, 6)
 #define CHACHA20_FILL CHACHA20_NONNULL_1 CHACHA20_WRITES(2, 3)
+#define CHACHA20_SEAL CHACHA20_AEAD CHACHA20_READS(3, 4) CHACHA20_WRITES(5, 7) CHACHA20_READS(6, 7)
+#define CHACHA20_TAG CHACHA20_MAC CHACHA20_READS(2, 3)
+#define CHACHA20_EQUAL CHACHA20_MUST_USE CHACHA20_READS(1, 3) CHACHA20_READS(2, 3)
+
+/* Authenticated encryption */
+
+/* chacha20_aead_encrypt encrypts |len| bytes of |input| to |output| by ChaCha20-Poly1305 (RFC 8439,
+   section 2.8), and writes the tag of the associated data |aad|, which isn't encrypted, and of the
+   ciphertext. Send or store nonce, ciphertext and tag.
+
+   |output| and |input| are the same pointer or don't overlap. |output| and |tag| overlap nothing
+   else. With |output| + |len| as |tag|, ciphertext and tag are one buffer.
+
+   It returns CHACHA20_OK, or CHACHA20_REFUSED if |len| is greater than CHACHA20_AEAD_LONGEST, if
+   |aad_len| is greater than PTRDIFF_MAX, or if |output| or |tag| overlaps what it may not.
+
+   Never use a nonce twice under one key: the XOR of the two messages would show, and tags could be
+   forged. A tag doesn't commit to its key: one ciphertext and tag can be right under two keys. */
+uint32_t chacha20_aead_encrypt(const uint8_t key[32], const uint8_t nonce[12], const uint8_t *aad,
+                               size_t aad_len, uint8_t *output, const uint8_t *input, size_t len,
+                               uint8_t tag[16]) CHACHA20_SEAL;
+
+/* chacha20_aead_decrypt checks that |tag| is that of |aad| and of the ciphertext |input|, and only
+   then decrypts |len| bytes to |output|.
+
+   It returns CHACHA20_OK, or CHACHA20_REFUSED if the tag is wrong, and where chacha20_aead_encrypt
+   does, except that |tag| is an input, which may overlap all but |output|. */
+uint32_t chacha20_aead_decrypt(const uint8_t key[32], const uint8_t nonce[12], const uint8_t *aad,
+                               size_t aad_len, uint8_t *output, const uint8_t *input, size_t len,
+                               const uint8_t tag[16]) CHACHA20_SEAL;
+
+/* XChaCha20-Poly1305 (draft-irtf-cfrg-xchacha): a nonce of 24 bytes, which may be random. */
+uint32_t xchacha20_aead_encrypt(const uint8_t key[32], const uint8_t nonce[24], const uint8_t *aad,
+                                size_t aad_len, uint8_t *output, const uint8_t *input, size_t len,
+                                uint8_t tag[16]) CHACHA20_SEAL;
+uint32_t xchacha20_aead_decrypt(const uint8_t key[32], const uint8_t nonce[24], const uint8_t *aad,
+                                size_t aad_len, uint8_t *output, const uint8_t *input, size_t len,
+                                const uint8_t tag[16]) CHACHA20_SEAL;
+
+/* chacha_poly1305 writes the tag of |input| under a key that serves one message alone (RFC 8439,
+   section 2.5). Whoever sees the tags of two messages under one key can forge others. */
+void chacha_poly1305(const uint8_t key[32], const uint8_t *input, size_t len,
+                     uint8_t tag[16]) CHACHA20_TAG;
+
+/* chacha_equal returns 1 if |len| bytes are the same, and else 0. It reads all of them, wherever they
+   differ: compare tags by it, not by memcmp. */
+uint32_t chacha_equal(const uint8_t *one, const uint8_t *other, size_t len) CHACHA20_EQUAL;
+
+/* chacha_wipe_stack overwrites the CHACHA20_DEEPEST bytes of the stack below its caller, where calls
+   from the same function left copies of keys and keystream. */
+void chacha_wipe_stack(void);
 
 /* Ciphers */
 
@@ -126,9 +185,9 @@ uint32_t chacha20_keystream(const uint8_t key[32], const uint8_t nonce[12], uint
    CHACHA20_REFUSED otherwise. It serves every cipher with a nonce of 12 or 24 bytes. */
 uint32_t chacha20_check(uint64_t position, size_t len) CHACHA20_MUST_USE;
 
-/* chacha20_block_position returns the position of the first byte of |block|, 64 * |block|. If that
-   needs more than 64 bits, it returns UINT64_MAX, which every cipher refuses. RFC 8439 encrypts
-   messages from block 1 on. */
+/* chacha20_block_position returns the position of the first byte of |block|, 64 * |block|. If that is
+   greater than 2^63, it returns 2^63: a cipher with a nonce of 12 or 24 bytes refuses it, and also its
+   sum with an offset below 2^63. RFC 8439 encrypts messages from block 1 on. */
 uint64_t chacha20_block_position(uint64_t block);
 
 /* The other ciphers, called in the same way.
@@ -200,11 +259,7 @@ void chacha_rng_from_seed(const uint8_t seed[32], uint8_t state[49]) CHACHA20_NO
 /* chacha20_rng_fill writes the next |len| bytes, each word little-endian. Unused bytes of the last
    word are lost. Length 0 takes no word.
 
-   Each read computes four blocks. To take words one by one, fill an array:
-
-       static uint8_t words[256]; static size_t used = sizeof words;
-       if (used == sizeof words) chacha20_rng_fill(state, words, sizeof words), used = 0;
-       memcpy(&word, words + used, sizeof word), used += sizeof word; */
+   Each read computes four blocks. chacha20_words takes words one by one at a thirtieth of the price. */
 void chacha20_rng_fill(uint8_t state[49], uint8_t *output, size_t len) CHACHA20_FILL;
 void chacha12_rng_fill(uint8_t state[49], uint8_t *output, size_t len) CHACHA20_FILL;
 void chacha8_rng_fill(uint8_t state[49], uint8_t *output, size_t len) CHACHA20_FILL;
@@ -217,6 +272,21 @@ uint32_t chacha8_rng_next_u32(uint8_t state[49]) CHACHA20_NONNULL;
 uint64_t chacha20_rng_next_u64(uint8_t state[49]) CHACHA20_NONNULL;
 uint64_t chacha12_rng_next_u64(uint8_t state[49]) CHACHA20_NONNULL;
 uint64_t chacha8_rng_next_u64(uint8_t state[49]) CHACHA20_NONNULL;
+
+/* Words of chacha20 one by one, without making four blocks for each. The caller owns the object, and
+   reads no member of it. It is as secret as the state. */
+typedef struct {
+    uint8_t words[256]; /* those that aren't taken yet begin at |used|; the others are zeros */
+    uint8_t state[49];  /* the state behind |words| */
+    size_t used;
+} chacha20_words;
+
+/* chacha20_words_from_state begins at the next word of |state|. chacha20_words_next returns the next
+   word, and zeroes it in |words|. chacha20_words_to_state writes the state whose next word is that of
+   |words|. */
+void chacha20_words_from_state(chacha20_words *words, const uint8_t state[49]) CHACHA20_NONNULL;
+uint32_t chacha20_words_next(chacha20_words *words) CHACHA20_NONNULL;
+void chacha20_words_to_state(const chacha20_words *words, uint8_t state[49]) CHACHA20_NONNULL;
 
 /* The word position, |*low| + 2^64 * |*high| with |*high| below 16. Setting takes any two numbers,
    modulo 2^68. |low| and |high| are different objects. */
@@ -246,6 +316,11 @@ const char *chacha20_version(void);
 #undef CHACHA20_LEGACY_XOR
 #undef CHACHA20_LEGACY_KEYSTREAM
 #undef CHACHA20_FILL
+#undef CHACHA20_AEAD
+#undef CHACHA20_MAC
+#undef CHACHA20_SEAL
+#undef CHACHA20_TAG
+#undef CHACHA20_EQUAL
 
 #ifdef __cplusplus
 }

@@ -41,13 +41,13 @@ static void are(const char *name, const uint8_t *found, const char *hex, size_t 
     is(name, memcmp(found, bytes, len) == 0);
 }
 
-/* Each counter of the RFC has a position; where 64 times a block doesn't fit, the position is refused. The greatest length
+/* Each counter of the RFC has a position; where 64 times a block passes 2^63, the position is 2^63, so that sums don't wrap. The greatest length
    ends past the RFC's stream, and within a legacy one. */
 static void positions(void) {
     static const uint64_t all[][2] = {
         {0, 0}, {1, 64}, {0x7fffffff, 0x1fffffffc0}, {0xffffffff, 0x3fffffffc0}, {0x100000000, 0x4000000000},
-        {0x123456789abcdef, 0x48d159e26af37bc0}, {0x3ffffffffffffff, 0xffffffffffffffc0}, {0x400000000000000, UINT64_MAX},
-        {0x400000000000001, UINT64_MAX}, {0x8000000000000000, UINT64_MAX}, {UINT64_MAX, UINT64_MAX}};
+        {0x123456789abcdef, 0x48d159e26af37bc0}, {0x1ffffffffffffff, 0x7fffffffffffffc0}, {0x200000000000000, UINT64_C(1) << 63},
+        {0x200000000000001, UINT64_C(1) << 63}, {0x8000000000000000, UINT64_C(1) << 63}, {UINT64_MAX, UINT64_C(1) << 63}};
     for (size_t i = 0; i < sizeof all / sizeof all[0]; i++) is("a position", chacha20_block_position(all[i][0]) == all[i][1]);
     is("a check", chacha20_check(CHACHA20_STREAM_BYTES, 0) == CHACHA20_OK && chacha20_check(UINT64_MAX, 0) == CHACHA20_REFUSED &&
                       chacha20_check(CHACHA20_STREAM_BYTES, 1) == CHACHA20_REFUSED && chacha20_check(0, SIZE_MAX) == CHACHA20_REFUSED);

@@ -7,7 +7,7 @@ ghost use Rattle.aead.specs.Aead.{encrypted, poly1305_tag, sealed_message};
 
 use crate::error::AeadError;
 use crate::mac::tag_of;
-use crate::message::{FRONT, apply, begin, begin_verified, front_len, mac_key};
+use crate::message::{FRONT, apply, apply_between, begin, begin_verified, front_len, mac_key};
 use chacha20::Key;
 use chacha20::cipher::{KeyIvInit, StreamCipher};
 use poly1305::Tag;
@@ -117,6 +117,63 @@ impl<C: KeyIvInit<Key = Key> + StreamCipher + Drop> ChaChaPoly1305<C> {
         Ok(())
     }
 
+    /// `encrypt_in_place_detached` from a text into an output as long.
+    pub fn encrypt_detached(
+        &self,
+        nonce: &C::Iv,
+        aad: &[u8],
+        text: &[u8],
+        output: &mut [u8],
+    ) -> Result<Tag, AeadError>
+        requires { length output.old ≡ length text.now }
+        ensures accepted { IsOk result ↔ (64 + length text.now ≤ limit_of C.modulus) }
+        ensures too_long { IsErrOf result AeadError.TooLong
+            ↔ (limit_of C.modulus < 64 + length text.now) }
+        ensures ciphertext { let stream = ⟦<Self as AeadCore>⟧.stream self.now nonce.now in
+            OnOk result (output.new ≡ encrypted stream text.now) }
+        ensures tag { let stream = ⟦<Self as AeadCore>⟧.stream self.now nonce.now in
+            IfOk result (λ tag. tag ≡ poly1305_tag stream aad.now output.new) }
+        ensures refused { OnErr result (output.new ≡ output.old) }
+    {
+        let mut space = [0; FRONT];
+        let front = &mut space[..front_len(text.len())];
+        let mut cipher = C::new(&self.key, nonce);
+        begin(&mut cipher, text, front)?;
+        apply_between(&mut cipher, front, text, output);
+        Ok(tag_of(&mac_key(front), aad, output))
+    }
+
+    /// `decrypt_in_place_detached` from a ciphertext into an output as long.
+    pub fn decrypt_detached(
+        &self,
+        nonce: &C::Iv,
+        aad: &[u8],
+        ciphertext: &[u8],
+        output: &mut [u8],
+        tag: &Tag,
+    ) -> Result<(), AeadError>
+        requires { length output.old ≡ length ciphertext.now }
+        ensures accepted { let stream = ⟦<Self as AeadCore>⟧.stream self.now nonce.now in
+            IsOk result ↔ ((64 + length ciphertext.now ≤ limit_of C.modulus)
+            × (tag.now ≡ poly1305_tag stream aad.now ciphertext.now)) }
+        ensures too_long { IsErrOf result AeadError.TooLong
+            ↔ (limit_of C.modulus < 64 + length ciphertext.now) }
+        ensures wrong_tag { let stream = ⟦<Self as AeadCore>⟧.stream self.now nonce.now in
+            IsErrOf result AeadError.WrongTag ↔ ((64 + length ciphertext.now ≤ limit_of C.modulus)
+            × (tag.now ≢ poly1305_tag stream aad.now ciphertext.now)) }
+        ensures decrypted { let stream = ⟦<Self as AeadCore>⟧.stream self.now nonce.now in
+            (plaintext : List ℕ) → ciphertext.now ≡ encrypted stream plaintext
+            → OnOk result (output.new ≡ plaintext) }
+        ensures refused { OnErr result (output.new ≡ output.old) }
+    {
+        let mut space = [0; FRONT];
+        let front = &mut space[..front_len(ciphertext.len())];
+        let mut cipher = C::new(&self.key, nonce);
+        begin_verified(&mut cipher, aad, ciphertext, tag, front)?;
+        apply_between(&mut cipher, front, ciphertext, output);
+        Ok(())
+    }
+
     /// Writes the sealed message of a text: the ciphertext, and behind it the tag, 16 bytes. Fails if the text has more
     /// bytes than the keystream from block 1 on, and then leaves the output as it was.
     pub fn encrypt(
@@ -134,14 +191,9 @@ impl<C: KeyIvInit<Key = Key> + StreamCipher + Drop> ChaChaPoly1305<C> {
             OnOk result (output.new ≡ sealed_message stream aad.now text.now) }
         ensures refused { OnErr result (output.new ≡ output.old) }
     {
-        let mut space = [0; FRONT];
-        let front = &mut space[..front_len(text.len())];
-        let mut cipher = C::new(&self.key, nonce);
-        begin(&mut cipher, text, front)?;
         let (ciphertext, place) = output.split_at_mut(text.len());
-        ciphertext.copy_from_slice(text);
-        apply(&mut cipher, front, ciphertext);
-        place.copy_from_slice(&tag_of(&mac_key(front), aad, ciphertext));
+        let tag = self.encrypt_detached(nonce, aad, text, ciphertext)?;
+        place.copy_from_slice(&tag);
         Ok(())
     }
 
@@ -173,12 +225,6 @@ impl<C: KeyIvInit<Key = Key> + StreamCipher + Drop> ChaChaPoly1305<C> {
         let (ciphertext, end) = input.split_at(output.len());
         let mut tag = [0; 16];
         tag.copy_from_slice(end);
-        let mut space = [0; FRONT];
-        let front = &mut space[..front_len(ciphertext.len())];
-        let mut cipher = C::new(&self.key, nonce);
-        begin_verified(&mut cipher, aad, ciphertext, &tag, front)?;
-        output.copy_from_slice(ciphertext);
-        apply(&mut cipher, front, output);
-        Ok(())
+        self.decrypt_detached(nonce, aad, ciphertext, output, &tag)
     }
 }

@@ -124,3 +124,28 @@ pub fn apply<C: StreamCipher>(cipher: &mut C, front: &[u8], message: &mut [u8])
         cipher.apply_keystream(rest);
     }
 }
+
+/// `apply` from an input into an output as long.
+pub fn apply_between<C: StreamCipher>(
+    cipher: &mut C,
+    front: &[u8],
+    input: &[u8],
+    output: &mut [u8],
+)
+    requires same { length input.now ≡ length output.old }
+    requires fits { 64 + length input.now ≤ limit_of C.modulus }
+    requires some { 64 ≤ length front.now }
+    requires front { HasFront
+        (keystream C.modulus (C.block_at (C.fixed cipher.old))) input.now front.now }
+    requires position { C.position cipher.old ≡ length front.now }
+    ensures { output.new
+        ≡ encrypted (keystream C.modulus (C.block_at (C.fixed cipher.old))) input.now }
+{
+    let (_, made) = front.split_at(64);
+    let (first, rest) = input.split_at(input.len().min(made.len()));
+    let (place, behind) = output.split_at_mut(first.len());
+    place.copy_from_slice(&made[..first.len()]);
+    if !rest.is_empty() {
+        cipher.apply_keystream_b2b(rest, behind);
+    }
+}

@@ -11,6 +11,7 @@
 //! on. The state of a generator is 49 bytes of the caller's, for any number of rounds: each read names its own.
 #![tactic(auto)]
 
+pub mod authenticated;
 mod backend;
 pub mod chacha;
 mod chosen;

@@ -3,7 +3,14 @@
 //! The proof of a call grows with the callee's contract, and that of a function with the square of its length. So
 //! exports are called in functions without a contract, and the tests are short functions and tables.
 
+use crate::users::authenticated::{self, AAD};
 use chacha20::{Key, Nonce, R8, R12, R20, SerializedRngState, hchacha};
+use chacha20_c::authenticated::{
+    chacha_equal, chacha_poly1305, chacha20_aead_decrypt_between, chacha20_aead_decrypt_in_place,
+    chacha20_aead_encrypt_between, chacha20_aead_encrypt_in_place, xchacha20_aead_decrypt_between,
+    xchacha20_aead_decrypt_in_place, xchacha20_aead_encrypt_between,
+    xchacha20_aead_encrypt_in_place,
+};
 use chacha20_c::chacha::{
     chacha8_keystream, chacha8_xor_between, chacha8_xor_in_place, chacha12_keystream,
     chacha12_xor_between, chacha12_xor_in_place, chacha20_check, chacha20_keystream,
@@ -28,6 +35,7 @@ use known_answers::published::{
     CIPHERTEXT, COUNTING, DERIVED_NONCE, FROM_80, HCHACHA_INPUT, MESSAGE, NONCE, OF_8_ROUNDS,
     OF_12_ROUNDS, OF_20_ROUNDS, SUBKEY, X_NONCE, X_NONCE_FRONT,
 };
+use poly1305::Tag;
 
 static ZEROS: Key = [0; 32];
 
@@ -319,6 +327,101 @@ fn positions() -> bool {
 fn stream_is_stored(state: &SerializedRngState) -> bool {
     chacha_rng_get_stream(state) == 0x0807_0605_0403_0201
         && state[32..41].starts_with(b"\x01\x02\x03\x04\x05\x06\x07\x08\x05")
+}
+
+// The exports that authenticate, with a nonce of 24 bytes or of 12.
+
+fn encrypt_in_place(extended: bool, data: &mut [u8], tag: &mut Tag) -> u32 {
+    if extended {
+        xchacha20_aead_encrypt_in_place(&FROM_80, &authenticated::X_NONCE, AAD, data, tag)
+    } else {
+        chacha20_aead_encrypt_in_place(&FROM_80, &authenticated::NONCE, AAD, data, tag)
+    }
+}
+
+fn encrypt_between(extended: bool, output: &mut [u8], input: &[u8], tag: &mut Tag) -> u32 {
+    if extended {
+        xchacha20_aead_encrypt_between(&FROM_80, &authenticated::X_NONCE, AAD, output, input, tag)
+    } else {
+        chacha20_aead_encrypt_between(&FROM_80, &authenticated::NONCE, AAD, output, input, tag)
+    }
+}
+
+fn decrypt_in_place(extended: bool, data: &mut [u8], tag: &Tag) -> u32 {
+    if extended {
+        xchacha20_aead_decrypt_in_place(&FROM_80, &authenticated::X_NONCE, AAD, data, tag)
+    } else {
+        chacha20_aead_decrypt_in_place(&FROM_80, &authenticated::NONCE, AAD, data, tag)
+    }
+}
+
+fn decrypt_between(extended: bool, output: &mut [u8], input: &[u8], tag: &Tag) -> u32 {
+    if extended {
+        xchacha20_aead_decrypt_between(&FROM_80, &authenticated::X_NONCE, AAD, output, input, tag)
+    } else {
+        chacha20_aead_decrypt_between(&FROM_80, &authenticated::NONCE, AAD, output, input, tag)
+    }
+}
+
+fn encrypts(extended: bool, ciphertext: &[u8; 114], tag: &Tag) -> bool {
+    let (mut data, mut output, mut of_data, mut of_output) = (*MESSAGE, [0; 114], [0; 16], [0; 16]);
+    encrypt_in_place(extended, &mut data, &mut of_data) == 0
+        && encrypt_between(extended, &mut output, MESSAGE, &mut of_output) == 0
+        && data == *ciphertext
+        && output == *ciphertext
+        && of_data == *tag
+        && of_output == *tag
+}
+
+fn decrypts(extended: bool, ciphertext: &[u8; 114], tag: &Tag) -> bool {
+    let (mut data, mut output) = (*ciphertext, [0; 114]);
+    decrypt_in_place(extended, &mut data, tag) == 0
+        && decrypt_between(extended, &mut output, ciphertext, tag) == 0
+        && data == *MESSAGE
+        && output == *MESSAGE
+}
+
+// A tag whose last bit is turned, and an output that is too short. Nothing changes.
+fn refuses_forgery(extended: bool, ciphertext: &[u8; 114], tag: &Tag) -> bool {
+    let (mut data, mut output, mut short) = (*ciphertext, [7; 114], [7; 113]);
+    let mut wrong = *tag;
+    wrong[15] ^= 128;
+    let kept = wrong;
+    decrypt_in_place(extended, &mut data, &wrong) == 1
+        && decrypt_between(extended, &mut output, ciphertext, &wrong) == 1
+        && decrypt_between(extended, &mut short, ciphertext, tag) == 1
+        && encrypt_between(extended, &mut short, MESSAGE, &mut wrong) == 1
+        && data == *ciphertext
+        && output == [7; 114]
+        && short == [7; 113]
+        && wrong == kept
+}
+
+// RFC 8439, section 2.5.2.
+fn mac() -> bool {
+    let mut tag = [0; 16];
+    let key = *b"\x85\xd6\xbe\x78\x57\x55\x6d\x33\x7f\x44\x52\xfe\x42\xd5\x06\xa8\
+        \x01\x03\x80\x8a\xfb\x0d\xb2\xfd\x4a\xbf\xf6\xaf\x41\x49\xf5\x1b";
+    chacha_poly1305(&key, b"Cryptographic Forum Research Group", &mut tag);
+    tag == *b"\xa8\x06\x1d\xc1\x30\x51\x36\xc6\xc2\x2b\x8b\xaf\x0c\x01\x27\xa9"
+}
+
+fn compares() -> bool {
+    chacha_equal(b"abc", b"abc") == 1
+        && chacha_equal(b"abc", b"abd") == 0
+        && chacha_equal(b"abc", b"bbc") == 0
+        && chacha_equal(b"ab", b"abc") == 0
+        && chacha_equal(b"", b"") == 1
+}
+
+#[test]
+fn authenticate(rt: HostRuntime) {
+    let (short, long) = (&authenticated::CIPHERTEXT, authenticated::X_CIPHERTEXT);
+    let (tag, long_tag) = (&authenticated::TAG, &authenticated::X_TAG);
+    assert!(rt; encrypts(false, short, tag) && encrypts(true, long, long_tag));
+    assert!(rt; decrypts(false, short, tag) && decrypts(true, long, long_tag));
+    assert!(rt; refuses_forgery(false, short, tag) && refuses_forgery(true, long, long_tag));
+    assert!(rt; mac() && compares());
 }
 
 #[test]

@@ -2,12 +2,12 @@
 
 ghost use Rattle.std.specs.Prelude.{◌≡◌, ◌<◌, ◌^◌, ℕ, List, Some, length, take};
 ghost use Rattle.std.specs.Io.KnownBytes.{Appends};
-ghost use Rattle.aead.specs.Sealed.{sealed};
+ghost use Rattle.sealed.specs.Sealed.{sealed};
 
 use super::unsteady::Unsteady;
-use aead::sealed::{CHUNK, Damage, Salt, SealError, TAG, decrypt, encrypt};
 use chacha20::Key;
 use known_answers::published::COUNTING as KEY;
+use sealed::{CHUNK, Damage, Salt, SealError, TAG, decrypt, encrypt};
 use std::io::{Read, Write};
 
 const SALT: Salt = *b"defghijklmnopqrs";

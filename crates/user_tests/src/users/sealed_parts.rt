@@ -3,10 +3,10 @@
 ghost use Rattle.std.specs.Prelude.{◌≡◌, ◌≤◌, ℕ, List, length};
 ghost use Rattle.std.specs.List.{slice_range};
 ghost use Rattle.std.specs.Result.{IsOkAnd};
-ghost use Rattle.aead.specs.Sealed.{sealed};
+ghost use Rattle.sealed.specs.Sealed.{sealed};
 
-use aead::sealed::{CHUNK, Damage, Salt, SealError, SealedReader, SealedSlice, TAG, encrypt};
 use known_answers::published::COUNTING as KEY;
+use sealed::{CHUNK, Damage, Salt, SealError, SealedReader, SealedSlice, TAG, encrypt};
 use std::fs::{File, OpenOptions, remove_file};
 use std::io;
 use std::io::{Cursor, ErrorKind, Read, Seek, SeekFrom, Write};

@@ -1,4 +1,4 @@
-use Rattle.aead.proofs.sealed.OpenLemmas.{only-front}
+use Rattle.sealed.proofs.OpenLemmas.{only-front}
 use Rattle.user_tests.proofs.users.sealed.opens.Goals as goal
 
 pub returns : goal.returns
