@@ -58,19 +58,35 @@ static void openssl_xor(int counter_bytes, XOR_PARAMETERS) {
 static void openssl_ietf(XOR_PARAMETERS) { openssl_xor(4, rounds, key, nonce, block, output, input, len); }
 static void openssl_legacy(XOR_PARAMETERS) { openssl_xor(8, rounds, key, nonce, block, output, input, len); }
 
+static void *(*evp_chacha20_poly1305)(void);
+static int (*evp_final)(void *, uint8_t *, int *);
+static int (*evp_ctrl)(void *, int, int, void *);
+static void *aead_context;
+
+static void openssl_encrypt(AEAD_PARAMETERS, uint8_t *tag) {
+    enum { GET_TAG = 0x10 };
+    int done = evp_init(aead_context, NULL, NULL, key, nonce), out = 0;
+    done = done && (aad_len == 0 || evp_update(aead_context, NULL, &out, aad, (int)aad_len));
+    done = done && (len == 0 || evp_update(aead_context, output, &out, input, (int)len));
+    if (!done || !evp_final(aead_context, output, &out) || !evp_ctrl(aead_context, GET_TAG, 16, tag)) puts("OpenSSL refused a message"), exit(2);
+}
+
 static int find_openssl(struct other *found) {
     static const char *const names[] = {"libcrypto.so.3", "libcrypto.so.1.1", "libcrypto.so", NULL};
     const char *(*version)(int) = NULL;
     void *handle = open_first(names);
     if (!handle || !look_up(handle, "EVP_CIPHER_CTX_new", &evp_new) || !look_up(handle, "EVP_chacha20", &evp_chacha20) ||
         !look_up(handle, "EVP_EncryptInit_ex", &evp_init) || !look_up(handle, "EVP_EncryptUpdate", &evp_update) ||
-        !look_up(handle, "OpenSSL_version", &version) || !(evp_context = evp_new()) ||
-        !evp_init(evp_context, evp_chacha20(), NULL, NULL, NULL)) {
+        !look_up(handle, "EVP_chacha20_poly1305", &evp_chacha20_poly1305) || !look_up(handle, "EVP_EncryptFinal_ex", &evp_final) ||
+        !look_up(handle, "EVP_CIPHER_CTX_ctrl", &evp_ctrl) || !look_up(handle, "OpenSSL_version", &version) ||
+        !(evp_context = evp_new()) || !evp_init(evp_context, evp_chacha20(), NULL, NULL, NULL) ||
+        !(aead_context = evp_new()) || !evp_init(aead_context, evp_chacha20_poly1305(), NULL, NULL, NULL)) {
         puts("not found: OpenSSL (libcrypto.so) with ChaCha20");
         return 0;
     }
     printf("found: %s\n", version(0));
-    *found = (struct other){.name = "OpenSSL", .xor_from_block = {[IETF] = openssl_ietf, [LEGACY] = openssl_legacy}};
+    *found = (struct other){
+        .name = "OpenSSL", .xor_from_block = {[IETF] = openssl_ietf, [LEGACY] = openssl_legacy}, .encrypt = {[IETF] = openssl_encrypt}};
     return 1;
 }
 
@@ -89,6 +105,19 @@ static void sodium_hchacha20(int rounds, const uint8_t *key, const uint8_t *inpu
     (void)rounds, sodium_hchacha(subkey, input, key, NULL);
 }
 
+typedef int sodium_aead(uint8_t *, uint8_t *, unsigned long long *, const uint8_t *, unsigned long long, const uint8_t *,
+                        unsigned long long, const uint8_t *, const uint8_t *, const uint8_t *);
+static sodium_aead *sodium_aeads[AEADS];
+static int (*sodium_mac)(uint8_t *, const uint8_t *, unsigned long long, const uint8_t *);
+
+static void sodium_ietf_encrypt(AEAD_PARAMETERS, uint8_t *tag) {
+    sodium_aeads[IETF](output, tag, NULL, input, len, aad, aad_len, NULL, nonce, key);
+}
+static void sodium_xchacha_encrypt(AEAD_PARAMETERS, uint8_t *tag) {
+    sodium_aeads[XCHACHA](output, tag, NULL, input, len, aad, aad_len, NULL, nonce, key);
+}
+static void sodium_poly1305(const uint8_t *key, const uint8_t *input, size_t len, uint8_t *tag) { sodium_mac(tag, input, len, key); }
+
 static int find_sodium(struct other *found) {
     static const char *const names[] = {"libsodium.so.23", "libsodium.so.26", "libsodium.so", NULL};
     int (*init)(void) = NULL;
@@ -98,7 +127,10 @@ static int find_sodium(struct other *found) {
         !look_up(handle, "crypto_stream_chacha20_ietf_xor_ic", &sodium_ietf_ic) ||
         !look_up(handle, "crypto_stream_chacha20_xor_ic", &sodium_legacy_ic) ||
         !look_up(handle, "crypto_stream_xchacha20_xor_ic", &sodium_xchacha_ic) ||
-        !look_up(handle, "crypto_core_hchacha20", &sodium_hchacha) || init() < 0) {
+        !look_up(handle, "crypto_core_hchacha20", &sodium_hchacha) ||
+        !look_up(handle, "crypto_aead_chacha20poly1305_ietf_encrypt_detached", &sodium_aeads[IETF]) ||
+        !look_up(handle, "crypto_aead_xchacha20poly1305_ietf_encrypt_detached", &sodium_aeads[XCHACHA]) ||
+        !look_up(handle, "crypto_onetimeauth_poly1305", &sodium_mac) || init() < 0) {
         puts("not found: libsodium");
         return 0;
     }
@@ -106,7 +138,9 @@ static int find_sodium(struct other *found) {
     *found = (struct other){
         .name = "libsodium",
         .xor_from_block = {[IETF] = sodium_ietf, [XCHACHA] = sodium_xchacha, [LEGACY] = sodium_legacy},
-        .hchacha = sodium_hchacha20};
+        .hchacha = sodium_hchacha20,
+        .encrypt = {sodium_ietf_encrypt, sodium_xchacha_encrypt},
+        .poly1305 = sodium_poly1305};
     return 1;
 }
 
@@ -171,10 +205,71 @@ static void plain_xchacha(XOR_PARAMETERS) {
     plain_xor(4, rounds, subkey, subnonce, block, output, input, len);
 }
 
+/* The bytes of a sum modulo 2^136, as digits below 256; 2^136 is 64 * 5 modulo 2^130 - 5. */
+static void carry(uint32_t *h) {
+    for (int i = 0; i < 16; i++) h[i + 1] += h[i] >> 8, h[i] &= 255;
+    h[0] += 5 * (h[16] >> 2), h[16] &= 3;
+    for (int i = 0; i < 16; i++) h[i + 1] += h[i] >> 8, h[i] &= 255;
+}
+
+static void times(uint32_t *h, const uint32_t *r) {
+    uint32_t product[17];
+    for (int i = 0; i < 17; i++) {
+        product[i] = 0;
+        for (int j = 0; j < 17; j++) product[i] += j <= i ? h[j] * r[i - j] : 320 * h[j] * r[i + 17 - j];
+    }
+    memcpy(h, product, sizeof product);
+    carry(h);
+}
+
+void plain_poly1305_but(int is_clamped, int is_reduced, const uint8_t *key, const uint8_t *input, size_t len, uint8_t *tag) {
+    uint32_t r[17] = {0}, h[17] = {0}, less[17];
+    for (int i = 0; i < 16; i++) r[i] = key[i] & (!is_clamped ? 255 : i % 4 == 3 ? 15 : i > 0 && i % 4 == 0 ? 252 : 255);
+    for (size_t at = 0; at < len; at += 16) {
+        size_t part = len - at < 16 ? len - at : 16;
+        for (size_t i = 0; i < part; i++) h[i] += input[at + i];
+        h[part]++;
+        carry(h), times(h, r);
+    }
+    /* 2^130 - 5 is taken away where 5 more reach 2^130. */
+    memcpy(less, h, sizeof less);
+    less[0] += 5;
+    for (int i = 0; i < 16; i++) less[i + 1] += less[i] >> 8, less[i] &= 255;
+    if (less[16] >= 4 && is_reduced) memcpy(h, less, sizeof less);
+    for (int i = 0; i < 16; i++) h[i] += key[16 + i], h[i + 1] += h[i] >> 8, tag[i] = (uint8_t)h[i];
+}
+
+static void plain_poly1305(const uint8_t *key, const uint8_t *input, size_t len, uint8_t *tag) {
+    plain_poly1305_but(1, 1, key, input, len, tag);
+}
+
+static void plain_encrypt(enum layout layout, AEAD_PARAMETERS, uint8_t *tag) {
+    uint8_t one_time[32] = {0}, *room = calloc(1, aad_len + len + 48), *at = room;
+    if (!room) puts("no memory"), exit(2);
+    plain_c.xor_from_block[layout](20, key, nonce, 0, one_time, one_time, 32);
+    plain_c.xor_from_block[layout](20, key, nonce, 1, output, input, len);
+    if (aad_len > 0) memcpy(at, aad, aad_len);
+    at += (aad_len + 15) / 16 * 16;
+    if (len > 0) memcpy(at, output, len);
+    at += (len + 15) / 16 * 16;
+    store_le(at, aad_len, 8), store_le(at + 8, len, 8);
+    plain_poly1305(one_time, room, (size_t)(at + 16 - room), tag);
+    free(room);
+}
+
+static void plain_ietf_encrypt(AEAD_PARAMETERS, uint8_t *tag) {
+    plain_encrypt(IETF, key, nonce, aad, aad_len, output, input, len, tag);
+}
+static void plain_xchacha_encrypt(AEAD_PARAMETERS, uint8_t *tag) {
+    plain_encrypt(XCHACHA, key, nonce, aad, aad_len, output, input, len, tag);
+}
+
 const struct other plain_c = {
     .name = "plain C",
     .xor_from_block = {[IETF] = plain_ietf, [XCHACHA] = plain_xchacha, [LEGACY] = plain_legacy},
-    .hchacha = plain_hchacha};
+    .hchacha = plain_hchacha,
+    .encrypt = {plain_ietf_encrypt, plain_xchacha_encrypt},
+    .poly1305 = plain_poly1305};
 
 int find_others(struct other found[MOST_OTHERS]) {
     int count = find_openssl(found);
@@ -189,8 +284,7 @@ extern const struct library library_2 __attribute__((weak));
 extern const struct library library_3 __attribute__((weak));
 extern const struct library library_chosen __attribute__((weak));
 
-/* By the compiler's own means, to compare with ../processor.h; 0 where there is no choice. */
-static int level_here(void) {
+int level_here(void) {
 #if defined(__x86_64__)
     __builtin_cpu_init();
     if (!__builtin_cpu_supports("sse4.2") || !__builtin_cpu_supports("popcnt")) return 1;

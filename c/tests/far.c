@@ -12,10 +12,9 @@
 #include <sys/mman.h>
 #include <unistd.h>
 
-#include "../../include/chacha20.h"
-#include "compare.h"
+#include "check.h"
 
-enum { PAGE = 4096, LARGE = (3 << 20) + 5 };
+enum { LARGE = (3 << 20) + 5 };
 
 #define GIB ((size_t)1 << 30)
 
@@ -25,14 +24,14 @@ static const uint8_t key[32] = {1, 2, 3}, nonce[24] = {4, 5, 6};
 static uint64_t calls, wrong;
 static int is_planted;
 
-static void holds(int fact, const char *what, const char *level, size_t len, size_t apart) {
+static void right_answer(int fact, const char *what, const char *level, size_t len, size_t apart) {
     calls++;
     if (fact) return;
     wrong++;
     if (!is_planted) printf("difference: %s, build %s, length %zu, %zu bytes apart\n", what, level, len, apart);
 }
 
-static uint8_t *reserve(size_t size) {
+uint8_t *reserve(size_t size) {
     uint8_t *room = mmap(NULL, size, PROT_NONE, MAP_PRIVATE | MAP_ANONYMOUS | MAP_NORESERVE, -1, 0);
     if (room == MAP_FAILED) puts("no room for addresses"), exit(2);
     return room;
@@ -48,11 +47,11 @@ static void refused(const struct library *library, enum layout layout, const str
         for (size_t j = 0; j < sizeof all / sizeof all[0]; j++) {
             uint8_t *other = room + all[j];
             if (all[j] == 0 || all[j] >= len) continue;
-            holds(it->xor(key, nonce, 0, 0, room, other, len) == CHACHA20_REFUSED &&
+            right_answer(it->xor(key, nonce, 0, 0, room, other, len) == CHACHA20_REFUSED &&
                       it->xor(key, nonce, 0, 0, other, room, len) == CHACHA20_REFUSED,
                   "an overlap was taken", library->level, len, all[j]);
         }
-        holds(it->xor(key, nonce, block, offset, room, room, len) == CHACHA20_REFUSED &&
+        right_answer(it->xor(key, nonce, block, offset, room, room, len) == CHACHA20_REFUSED &&
                   it->xor(key, nonce, block, offset, room, room + len, len) == CHACHA20_REFUSED &&
                   it->keystream(key, nonce, block, offset, room, len) == CHACHA20_REFUSED &&
                   library->check[layout](block, offset, len) == CHACHA20_REFUSED &&
@@ -78,7 +77,7 @@ static void taken(const struct library *library, enum layout layout, int at_roun
                    it->xor(key, nonce, 0, 0, other, other, len) == CHACHA20_OK && memcmp(other, room, len) == 0 &&
                    it->keystream(key, nonce, 0, 0, other, len) == CHACHA20_OK && memcmp(other, right, len) == 0 &&
                    it->xor(key, nonce, 0, 0, room, other, len) == CHACHA20_OK && memcmp(room, room + 1, len - 1) == 0;
-        holds(good && room[0] == 0, "buffers that don't overlap", library->level, len, distances[i]);
+        right_answer(good && room[0] == 0, "buffers that don't overlap", library->level, len, distances[i]);
     }
     mprotect(room, 11 * GIB, PROT_NONE);
 }
@@ -89,10 +88,14 @@ static void touched(int number) {
     _exit(1);
 }
 
+void end_where_touched(int is_wanted) {
+    fflush(stdout);
+    signal(SIGSEGV, is_wanted ? touched : SIG_DFL);
+}
+
 uint64_t far_apart(const struct machine *machine) {
     uint8_t *room = reserve(11 * GIB);
-    fflush(stdout);
-    signal(SIGSEGV, touched);
+    end_where_touched(1);
     for (int i = 0; i < machine->build_count; i++) {
         for (int layout = 0; layout < LAYOUTS; layout++) {
             for (int j = 0; j < ROUNDS; j++) {
@@ -103,11 +106,11 @@ uint64_t far_apart(const struct machine *machine) {
             }
         }
     }
-    signal(SIGSEGV, SIG_DFL);
+    end_where_touched(0);
     munmap(room, 11 * GIB);
     printf("far apart: %" PRIu64 " answers, %" PRIu64 " differences\n", calls, wrong);
     uint64_t before = wrong, is_lost;
-    is_planted = 1, holds(0, "a planted answer", "", 0, 0), is_planted = 0;
+    is_planted = 1, right_answer(0, "a planted answer", "", 0, 0), is_planted = 0;
     is_lost = wrong != before + 1;
     if (is_lost) puts("wrong: a planted answer doesn't count");
     wrong = before;
@@ -160,21 +163,21 @@ uint64_t over_4_gib(const struct machine *machine) {
     const struct other *other = machine->other_count > 0 ? &machine->others[machine->other_count - 1] : &plain_c;
     uint8_t *room = windows(), *from = windows(), state[CHACHA_RNG_STATE_BYTES];
     uint64_t before = wrong, before_calls = calls, low, high;
-    holds(library->ciphers[IETF][2].xor(key, nonce, 0, 0, room, room, len_over) == CHACHA20_OK && are_of_all_passes(room, other),
+    right_answer(library->ciphers[IETF][2].xor(key, nonce, 0, 0, room, room, len_over) == CHACHA20_OK && are_of_all_passes(room, other),
           "XOR in place", "chosen", len_over, 0);
     memset(from, BASE, WINDOW);
     for (int i = 0; i < LAYOUTS; i++) {
         const struct cipher *it = &library->ciphers[i][2];
-        holds(it->xor(key, nonce, 0, 0, room, from, len_over) == CHACHA20_OK &&
+        right_answer(it->xor(key, nonce, 0, 0, room, from, len_over) == CHACHA20_OK &&
                   are_last(room, BASE, (enum layout)i, 20, other, nonce), "XOR between buffers", "chosen", len_over, 0);
-        holds(it->keystream(key, nonce, 0, 0, room, len_over) == CHACHA20_OK &&
+        right_answer(it->keystream(key, nonce, 0, 0, room, len_over) == CHACHA20_OK &&
                   are_last(room, 0, (enum layout)i, 20, other, nonce), "a keystream", "chosen", len_over, 0);
     }
     for (int i = 0; i < ROUNDS; i++) {
         library->from_seed(key, state);
         library->fill[i](state, room, len_over);
         library->get_word_pos(state, &low, &high);
-        holds(low == (len_over + 3) / 4 && high == 0 &&
+        right_answer(low == (len_over + 3) / 4 && high == 0 &&
                   are_last(room, 0, LEGACY, i == 2 ? 20 : 8 + 4 * i, i == 2 ? other : &plain_c, stream_0), "a fill", "chosen", len_over, 0);
     }
     munmap(room, all_windows), munmap(from, all_windows);
