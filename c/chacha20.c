@@ -3,7 +3,7 @@
    The functions of chacha20.h. Each handles null and overlapping buffers, chooses the build for the
    processor, and makes one call of a proved function. This file is trusted: it is tested, not proved. */
 
-#include "../include/chacha20.h"
+#include "../include/chacha20_reduced.h"
 
 #include <string.h>
 

@@ -1,32 +1,39 @@
 /* SPDX-License-Identifier: Apache-2.0 OR MIT
 
-   ChaCha stream ciphers, HChaCha and seekable generators of random words, for Linux on x86-64 and
-   aarch64.
+   Authenticated encryption by ChaCha20-Poly1305 and XChaCha20-Poly1305, the bare ciphers, HChaCha20,
+   Poly1305 and seekable generators of random words, for Linux on x86-64 and aarch64.
 
-       uint8_t key[CHACHA20_KEY_BYTES], nonce[CHACHA20_NONCE_BYTES];
+       uint8_t key[CHACHA20_KEY_BYTES], nonce[XCHACHA20_NONCE_BYTES], tag[CHACHA20_TAG_BYTES];
        ...
-       if (chacha20_xor(key, nonce, 0, output, input, len) != CHACHA20_OK) return -1;
+       if (xchacha20_aead_encrypt(key, nonce, aad, aad_len, output, input, len, tag) != CHACHA20_OK)
+           return -1;
+       ...
+       if (xchacha20_aead_decrypt(key, nonce, aad, aad_len, output, input, len, tag) != CHACHA20_OK)
+           return -1;
 
-   Each function handles null and overlapping buffers and makes one call of a function that is proved
-   to meet its contract (crates/chacha20_c). The rest (c/chacha20.c) is tested, not proved.
+   Bytes, tags and words are computed by functions that are proved to meet their contracts
+   (crates/chacha20_c). The plain C before them (c/chacha20.c) is tested, not proved: it handles null and
+   overlapping buffers, and takes words from a buffer.
 
    For every function:
 
-   - Arguments come in one order: key, nonce, position, output, input, length.
+   - Arguments come in one order: key, nonce, associated data, position, output, input, length, tag.
    - Positions and lengths count bytes. Those of generators count words of 32 bits or blocks of 64
      bytes where their names say so.
    - Data of length 0 may be null. No other pointer may be null.
-   - An output may not overlap another argument, except that the output of NAME_xor may be its
-     input. Other arguments may overlap: a key and a nonce may be parts of one buffer.
+   - An output may not overlap another argument, except that |output| may be |input|. Other arguments
+     may overlap: a key and a nonce may be parts of one buffer.
    - Bytes need no alignment.
    - No function allocates, takes a lock, throws or keeps anything between calls. Threads and signal
      handlers may call any function at any time if none writes memory that another uses.
    - A call takes at most CHACHA20_DEEPEST bytes of the stack. A signal handler with a stack of its
      own needs these and sysconf(_SC_MINSIGSTKSZ) bytes; SIGSTKSZ is too small.
-   - Copies of keys and keystream stay in that part of the stack and in registers. To overwrite them
-     is up to the caller.
+   - Copies of keys and keystream stay in that part of the stack and in registers;
+     chacha_wipe_stack overwrites the stack.
    - The proved code has no unwind tables. A thread that is cancelled asynchronously during a call
-     may skip its cleanup handlers, and a backtrace from within a call can show keystream. */
+     may skip its cleanup handlers, and a backtrace from within a call can show keystream.
+
+   chacha20_reduced.h has the same with 12 and 8 rounds. */
 
 #ifndef CHACHA20_H
 #define CHACHA20_H
@@ -46,7 +53,7 @@ extern "C" {
 #define CHACHA20_VERSION_MINOR 7
 #define CHACHA20_VERSION_PATCH 0
 
-/* Sizes, the same for 8, 12 and 20 rounds. */
+/* Sizes, the same for each number of rounds. */
 #define CHACHA20_KEY_BYTES 32
 #define CHACHA20_NONCE_BYTES 12
 #define XCHACHA20_NONCE_BYTES 24
@@ -69,8 +76,8 @@ extern "C" {
    for the dynamic linker, which may bind memcpy, memmove and memset in a program's first calls. */
 #define CHACHA20_DEEPEST 8704
 
-/* What a cipher returns. After CHACHA20_REFUSED no byte has changed: the data are NOT encrypted and
-   must not be sent. */
+/* What a function that can refuse returns. After CHACHA20_REFUSED no byte has changed: the data are NOT
+   encrypted and must not be sent, or NOT decrypted. */
 #define CHACHA20_OK 0
 #define CHACHA20_REFUSED 1
 
@@ -172,8 +179,9 @@ void chacha_wipe_stack(void);
    It returns CHACHA20_OK, or CHACHA20_REFUSED if |position| + |len|, a sum that doesn't wrap, is
    greater than CHACHA20_STREAM_BYTES, or if |output| and |input| overlap in part.
 
-   Never use a nonce twice under one key: the XOR of the two messages would show. Nothing here
-   authenticates a message: whoever can change it can flip any bit, so add a MAC. */
+   A bare cipher doesn't authenticate: whoever can change the output can flip any bit of the message.
+   For messages use chacha20_aead_encrypt. Never use a nonce twice under one key: the XOR of the two
+   messages would show. */
 uint32_t chacha20_xor(const uint8_t key[32], const uint8_t nonce[12], uint64_t position,
                       uint8_t *output, const uint8_t *input, size_t len) CHACHA20_XOR;
 
@@ -192,32 +200,14 @@ uint64_t chacha20_block_position(uint64_t block);
 
 /* The other ciphers, called in the same way.
 
-   xchacha20           XChaCha20 (draft-irtf-cfrg-xchacha): a nonce of 24 bytes, which may be random
-   chacha12, chacha8   ChaCha20 with 12 and 8 rounds, which the RFC doesn't have
-   xchacha12, xchacha8 XChaCha20 with 12 and 8 rounds, which the draft doesn't have
-   chacha20_legacy     ChaCha20 from before the RFC: a nonce of 8 bytes and a counter of 64 bits.
-                       Its keystream has 2^70 bytes, so a position is two numbers: byte 64 * |block|
-                       + |offset|, a sum that doesn't wrap. |offset| may be 64 or more. */
+   xchacha20        XChaCha20 (draft-irtf-cfrg-xchacha): a nonce of 24 bytes, which may be random
+   chacha20_legacy  ChaCha20 from before the RFC: a nonce of 8 bytes and a counter of 64 bits. Its
+                    keystream has 2^70 bytes, so a position is two numbers: byte 64 * |block| +
+                    |offset|, a sum that doesn't wrap. |offset| may be 64 or more. */
 uint32_t xchacha20_xor(const uint8_t key[32], const uint8_t nonce[24], uint64_t position,
                        uint8_t *output, const uint8_t *input, size_t len) CHACHA20_XOR;
 uint32_t xchacha20_keystream(const uint8_t key[32], const uint8_t nonce[24], uint64_t position,
                              uint8_t *output, size_t len) CHACHA20_KEYSTREAM;
-uint32_t chacha12_xor(const uint8_t key[32], const uint8_t nonce[12], uint64_t position,
-                      uint8_t *output, const uint8_t *input, size_t len) CHACHA20_XOR;
-uint32_t chacha12_keystream(const uint8_t key[32], const uint8_t nonce[12], uint64_t position,
-                            uint8_t *output, size_t len) CHACHA20_KEYSTREAM;
-uint32_t chacha8_xor(const uint8_t key[32], const uint8_t nonce[12], uint64_t position,
-                     uint8_t *output, const uint8_t *input, size_t len) CHACHA20_XOR;
-uint32_t chacha8_keystream(const uint8_t key[32], const uint8_t nonce[12], uint64_t position,
-                           uint8_t *output, size_t len) CHACHA20_KEYSTREAM;
-uint32_t xchacha12_xor(const uint8_t key[32], const uint8_t nonce[24], uint64_t position,
-                       uint8_t *output, const uint8_t *input, size_t len) CHACHA20_XOR;
-uint32_t xchacha12_keystream(const uint8_t key[32], const uint8_t nonce[24], uint64_t position,
-                             uint8_t *output, size_t len) CHACHA20_KEYSTREAM;
-uint32_t xchacha8_xor(const uint8_t key[32], const uint8_t nonce[24], uint64_t position,
-                      uint8_t *output, const uint8_t *input, size_t len) CHACHA20_XOR;
-uint32_t xchacha8_keystream(const uint8_t key[32], const uint8_t nonce[24], uint64_t position,
-                            uint8_t *output, size_t len) CHACHA20_KEYSTREAM;
 uint32_t chacha20_legacy_xor(const uint8_t key[32], const uint8_t nonce[8], uint64_t block,
                              uint64_t offset, uint8_t *output, const uint8_t *input,
                              size_t len) CHACHA20_LEGACY_XOR;
@@ -229,15 +219,10 @@ uint32_t chacha20_legacy_check(uint64_t block, uint64_t offset, size_t len) CHAC
 /* HChaCha */
 
 /* hchacha20 derives a subkey from |key| and |input| (draft-irtf-cfrg-xchacha, section 2.2).
-   hchacha12 and hchacha8 have 12 and 8 rounds, which the draft doesn't have.
 
    xchacha20_xor derives the subkey of the first 16 bytes of its nonce in each call. To derive it
    once, call chacha20_xor with the subkey, and as nonce four zero bytes and the last 8 bytes. */
 void hchacha20(
-    const uint8_t key[32], const uint8_t input[16], uint8_t subkey[32]) CHACHA20_NONNULL;
-void hchacha12(
-    const uint8_t key[32], const uint8_t input[16], uint8_t subkey[32]) CHACHA20_NONNULL;
-void hchacha8(
     const uint8_t key[32], const uint8_t input[16], uint8_t subkey[32]) CHACHA20_NONNULL;
 
 /* Generators
@@ -259,31 +244,25 @@ void chacha_rng_from_seed(const uint8_t seed[32], uint8_t state[49]) CHACHA20_NO
 /* chacha20_rng_fill writes the next |len| bytes, each word little-endian. Unused bytes of the last
    word are lost. Length 0 takes no word.
 
-   Each read computes four blocks. chacha20_words takes words one by one at a thirtieth of the price. */
+   Each read computes four blocks; chacha20_words_next takes words one by one at a lower price. */
 void chacha20_rng_fill(uint8_t state[49], uint8_t *output, size_t len) CHACHA20_FILL;
-void chacha12_rng_fill(uint8_t state[49], uint8_t *output, size_t len) CHACHA20_FILL;
-void chacha8_rng_fill(uint8_t state[49], uint8_t *output, size_t len) CHACHA20_FILL;
 
 /* chacha20_rng_next_u32 returns the next word, and chacha20_rng_next_u64 the next two, the first as
    the low half. */
 uint32_t chacha20_rng_next_u32(uint8_t state[49]) CHACHA20_NONNULL;
-uint32_t chacha12_rng_next_u32(uint8_t state[49]) CHACHA20_NONNULL;
-uint32_t chacha8_rng_next_u32(uint8_t state[49]) CHACHA20_NONNULL;
 uint64_t chacha20_rng_next_u64(uint8_t state[49]) CHACHA20_NONNULL;
-uint64_t chacha12_rng_next_u64(uint8_t state[49]) CHACHA20_NONNULL;
-uint64_t chacha8_rng_next_u64(uint8_t state[49]) CHACHA20_NONNULL;
 
-/* Words of chacha20 one by one, without making four blocks for each. The caller owns the object, and
-   reads no member of it. It is as secret as the state. */
+/* Words one by one, from an object that the caller owns: a fill makes 64 at once. No caller reads or
+   writes its members. It is as secret as a state, and so is what a copy repeats. */
 typedef struct {
-    uint8_t words[256]; /* those that aren't taken yet begin at |used|; the others are zeros */
-    uint8_t state[49];  /* the state behind |words| */
+    uint8_t words[256]; /* from |used| on those that aren't taken, before it zeros */
+    uint8_t state[49];  /* behind these words */
     size_t used;
 } chacha20_words;
 
 /* chacha20_words_from_state begins at the next word of |state|. chacha20_words_next returns the next
-   word, and zeroes it in |words|. chacha20_words_to_state writes the state whose next word is that of
-   |words|. */
+   word of chacha20_rng_next_u32, and zeroes it in |words|. chacha20_words_to_state writes the state
+   whose next word is that of |words|. */
 void chacha20_words_from_state(chacha20_words *words, const uint8_t state[49]) CHACHA20_NONNULL;
 uint32_t chacha20_words_next(chacha20_words *words) CHACHA20_NONNULL;
 void chacha20_words_to_state(const chacha20_words *words, uint8_t state[49]) CHACHA20_NONNULL;

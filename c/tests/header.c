@@ -1,8 +1,8 @@
 /* SPDX-License-Identifier: Apache-2.0 OR MIT
 
-   The header's functions in right use, or misused, for the compilers' reports; ./headers writes the calls. */
+   The headers' functions in right use, or misused, for the compilers' reports; ./headers writes the calls. */
 
-#include "chacha20.h"
+#include "chacha20_reduced.h"
 
 #if defined(MISUSES)
 #define BYTES(N) extern uint8_t b##N[N]; extern const uint8_t c##N[N];
@@ -15,6 +15,7 @@ BYTES(31) BYTES(32) BYTES(48) BYTES(49) BYTES(63) BYTES(64)
 void calls(void);
 void calls(void) {
     uint64_t low = 0, high = 0;
+    chacha20_words words;
     uint32_t used = 0;
 #if defined(MISUSES)
 #include "out/misuses"

@@ -3,7 +3,7 @@
    The table of one build. The Makefile compiles it for each build under another name, and links it with the build into one
    object that shows the table alone. */
 
-#include "../../include/chacha20.h"
+#include "../../include/chacha20_reduced.h"
 #include "compare.h"
 
 #define CIPHER(NAME, POSITION)                                                                                    \
