@@ -1,6 +1,6 @@
 /* SPDX-License-Identifier: Apache-2.0 OR MIT
 
-   Times, all contestants by turns, the making of the cipher included. A call's time also depends on where its stack and its
+   time [PASSES]: times, all contestants by turns, the making of the cipher included. A call's time also depends on where its stack and its
    buffers lie modulo 4096, so each turn has another place. The time at a place is the least of its turns, in processor time,
    so that what else runs on the machine disturbs it least. Tables have the median and the most of the places. */
 
@@ -11,7 +11,8 @@
 #include <string.h>
 #include <time.h>
 
-#include "compare.h"
+#include "../../include/chacha20.h"
+#include "../tests/compare.h"
 
 /* Every multiple of 16 bytes in a page is a place. Long tasks have fewer places. */
 enum { MOST_CONTESTANTS = MOST_BUILDS + MOST_OTHERS, PAGE = 4096, PLACES = PAGE / 16, FEW_PLACES = 16 };
@@ -161,9 +162,13 @@ static void time_words(const struct contestant *all, int count, int turns) {
     }
 }
 
-int time_all(const struct machine *machine, int passes) {
+int main(int argc, char **argv) {
+    struct machine machine = {.build_count = 0};
     struct contestant all[MOST_CONTESTANTS];
-    int count = gather(machine, all);
+    int passes = argc > 1 ? atoi(argv[1]) : 32;
+    machine.build_count = find_builds(machine.builds);
+    machine.other_count = find_others(machine.others);
+    int count = gather(&machine, all);
     output_room = aligned_alloc(PAGE, OUTPUT_ROOM), input_room = aligned_alloc(PAGE, INPUT_ROOM);
     if (passes < 1 || !output_room || !input_room) return 2;
     memset(output_room, 0, OUTPUT_ROOM), memset(input_room, 0, INPUT_ROOM);
@@ -176,7 +181,7 @@ int time_all(const struct machine *machine, int passes) {
     printf("\nChaCha20, in place but where two buffers are named: %d turns at each of %d places; from 1 MiB on %d places\n", passes,
            PLACES, FEW_PLACES);
     print_times(all, count);
-    time_words(all, machine->build_count, 256 * passes);
+    time_words(all, machine.build_count, 256 * passes);
     free(output_room), free(input_room);
     return 0;
 }
