@@ -35,7 +35,8 @@ four-in (x ∷ ws) (suc j) =
 -- byte k of the word at position w
 place : (n : ℕ) (g : GeneratorState) (w k : ℕ) → k < 4
     → stream_of n g (4 * w + k)
-    ≡ slice_index (bytes (mix n (start legacy g.seed (to_le_bytes w64 g.stream) (w % positions / 16)))) (4 * (w % 16) + k)
+    ≡ slice_index (bytes (mix n (start legacy g.seed (to_le_bytes w64 g.stream) (w % positions / 16))))
+    (4 * (w % 16) + k)
 place n g w k less =
     let counter : (4 * w + k) / 64 % 2 ^ 64 % 2 ^ 64 ≡ w % positions / 16 = omega (arith, less) in
     let inside : (4 * w + k) % 64 ≡ 4 * (w % 16) + k = omega (arith, less) in

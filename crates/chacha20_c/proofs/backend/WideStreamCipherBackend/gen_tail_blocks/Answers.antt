@@ -16,7 +16,8 @@ returns g c =
     } in
     let held : AreMade n layout s c.if-blocks-ge8.done c.if-blocks-ge8.state c.if-blocks-ge8.blocks =
     elim c.if-blocks-ge8.branch [
-      | then-blocks-ge8 w ↦ rw (w.state-is, w.blocks-is, w.done-is) (made-more 8 8 _ c.told-state none refl (omega arith)
+      | then-blocks-ge8 w ↦ rw (w.state-is, w.blocks-is, w.done-is)
+          (made-more 8 8 _ c.told-state none refl (omega arith)
           w.gen_par_ks_blocks.auto.blocks w.gen_par_ks_blocks.ensures.blocks w.gen_par_ks_blocks.ensures.state)
       | else-blocks-ge8 w ↦ rw (w.state-is, w.blocks-is, w.done-is) none
     ] in
