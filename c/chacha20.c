@@ -1,7 +1,7 @@
 /* SPDX-License-Identifier: Apache-2.0 OR MIT
 
-   The functions of chacha20.h. Each handles null and overlapping buffers, chooses the build for the
-   processor, and makes one call of a proved function. This file is trusted: it is tested, not proved. */
+   The functions of chacha20.h and chacha20_reduced.h. They handle null and overlapping buffers, choose the
+   build for the processor, and call proved functions. This file is trusted: it is tested, not proved. */
 
 #include "../include/chacha20_reduced.h"
 
@@ -34,19 +34,18 @@ __attribute__((constructor)) static void choose_level(void) {
      : level == 2 ? NAME##_x86_64_v2(__VA_ARGS__) \
                   : NAME##_x86_64(__VA_ARGS__))
 
-/* The build for x86-64-v3 stores vectors of 32 bytes on the stack, and is slow where they cross a page
-   or a cache line. So if the page boundary below is near, a long call begins 32 - SHIFT bytes below it.
-   Compilers agree on what alloca takes for sizes of 16 n + 8. */
-enum { LONG = 512, NEAR = 3072, PAGE = 4096 };
-#define MOVE_STACK(LEN, SHIFT)                             \
-    if (level == 3 && (LEN) >= LONG) {                     \
-        char *here = __builtin_alloca(8);                  \
-        __asm__ volatile("" : "+r"(here));                 \
-        size_t above = (uintptr_t)here % PAGE;             \
-        if (above < NEAR) {                                \
-            here = __builtin_alloca(above + 24 - (SHIFT)); \
-            __asm__ volatile("" : : "r"(here) : "memory"); \
-        }                                                  \
+/* The build for x86-64-v3 stores vectors of 32 bytes on the stack, and is slow where they cross a cache line
+   or a page. So a long call begins SHIFT bytes above a multiple of 64; one that makes no sixteen blocks at
+   once, whose frames differ by 16, begins 16 - SHIFT bytes above it. Compilers agree on what alloca takes for
+   sizes of 16 n + 8. */
+enum { LONG = 512, SIXTEEN_BLOCKS = 1024 };
+#define MOVE_STACK(LEN, SHIFT)                                          \
+    if (level == 3 && (LEN) >= LONG) {                                  \
+        char *here = __builtin_alloca(8);                               \
+        __asm__ volatile("" : "+r"(here));                              \
+        size_t shift = (LEN) < SIXTEEN_BLOCKS ? 16 - (SHIFT) : (SHIFT); \
+        here = __builtin_alloca((uintptr_t)here % 64 + 56 - shift);     \
+        __asm__ volatile("" : : "r"(here) : "memory");                  \
     }
 #else
 #define DECLARE(RESULT, NAME, ...) RESULT NAME##_generic(__VA_ARGS__);
@@ -60,8 +59,8 @@ enum { LONG = 512, NEAR = 3072, PAGE = 4096 };
 enum {
     CHACHA_IN_PLACE = 0, CHACHA_BETWEEN = 0, CHACHA_KEYSTREAM = 16,
     XCHACHA_IN_PLACE = 16, XCHACHA_BETWEEN = 16, XCHACHA_KEYSTREAM = 16,
-    LEGACY_IN_PLACE = 0, LEGACY_BETWEEN = 16, LEGACY_KEYSTREAM = 16,
-    RNG_FILL = 16, AEAD_IN_PLACE = 0, AEAD_BETWEEN = 0
+    LEGACY_IN_PLACE = 16, LEGACY_BETWEEN = 0, LEGACY_KEYSTREAM = 0,
+    AEAD = 0, XAEAD = 16, RNG_FILL = 16
 };
 
 static int overlap(uint8_t *output, const uint8_t *input, size_t len) {
@@ -69,65 +68,47 @@ static int overlap(uint8_t *output, const uint8_t *input, size_t len) {
     return (to < from ? from - to : to - from) < len;
 }
 
-/* Authenticated encryption. Lengths that a slice can't have, wrapped ones too, are refused before they are added to
-   an address. */
+/* Authenticated encryption */
 
-static int apart(const void *one, size_t one_len, const void *other, size_t other_len) {
+static int apart(const uint8_t *one, size_t one_len, const uint8_t *other, size_t other_len) {
     uintptr_t at = (uintptr_t)one, other_at = (uintptr_t)other;
     return (one_len == 0) | (other_len == 0) | (at + one_len <= other_at) | (other_at + other_len <= at);
 }
 
-#define AEAD(NAME, NONCE, IN_PLACE, BETWEEN)                                                                          \
-    DECLARE(uint32_t, NAME##_encrypt_in_place, const uint8_t *key, const uint8_t *nonce, const uint8_t *aad,         \
-            size_t aad_len, uint8_t *data, size_t len, uint8_t *tag)                                                 \
-    DECLARE(uint32_t, NAME##_encrypt_between, const uint8_t *key, const uint8_t *nonce, const uint8_t *aad,          \
-            size_t aad_len, uint8_t *output, size_t len, const uint8_t *input, size_t input_len, uint8_t *tag)       \
-    DECLARE(uint32_t, NAME##_decrypt_in_place, const uint8_t *key, const uint8_t *nonce, const uint8_t *aad,         \
-            size_t aad_len, uint8_t *data, size_t len, const uint8_t *tag)                                           \
-    DECLARE(uint32_t, NAME##_decrypt_between, const uint8_t *key, const uint8_t *nonce, const uint8_t *aad,          \
-            size_t aad_len, uint8_t *output, size_t len, const uint8_t *input, size_t input_len, const uint8_t *tag) \
-    uint32_t NAME##_encrypt(const uint8_t key[32], const uint8_t nonce[NONCE], const uint8_t *aad, size_t aad_len,   \
-                            uint8_t *output, const uint8_t *input, size_t len, uint8_t tag[16]) {                    \
-        uint8_t none;                                                                                                \
-        if (len > CHACHA20_AEAD_LONGEST || aad_len > PTRDIFF_MAX) return CHACHA20_REFUSED;                           \
-        if (!(output_apart(output, input, len, key, nonce, NONCE, aad, aad_len, tag) &                               \
-              apart(tag, 16, input, len) & apart(tag, 16, aad, aad_len) & apart(tag, 16, key, 32) &                  \
-              apart(tag, 16, nonce, NONCE)))                                                                         \
-            return CHACHA20_REFUSED;                                                                                 \
-        if (aad_len == 0) aad = key;                                                                                 \
-        if (len == 0) input = output = &none;                                                                        \
-        if (output == input) {                                                                                       \
-            MOVE_STACK(len, IN_PLACE)                                                                                \
-            return PROVED(NAME##_encrypt_in_place, key, nonce, aad, aad_len, output, len, tag);                      \
-        }                                                                                                            \
-        MOVE_STACK(len, BETWEEN)                                                                                     \
-        return PROVED(NAME##_encrypt_between, key, nonce, aad, aad_len, output, len, input, len, tag);               \
-    }                                                                                                                \
-    uint32_t NAME##_decrypt(const uint8_t key[32], const uint8_t nonce[NONCE], const uint8_t *aad, size_t aad_len,   \
-                            uint8_t *output, const uint8_t *input, size_t len, const uint8_t tag[16]) {              \
-        uint8_t none;                                                                                                \
-        if (len > CHACHA20_AEAD_LONGEST || aad_len > PTRDIFF_MAX) return CHACHA20_REFUSED;                           \
-        if (!output_apart(output, input, len, key, nonce, NONCE, aad, aad_len, tag)) return CHACHA20_REFUSED;        \
-        if (aad_len == 0) aad = key;                                                                                 \
-        if (len == 0) input = output = &none;                                                                        \
-        if (output == input) {                                                                                       \
-            MOVE_STACK(len, IN_PLACE)                                                                                \
-            return PROVED(NAME##_decrypt_in_place, key, nonce, aad, aad_len, output, len, tag);                      \
-        }                                                                                                            \
-        MOVE_STACK(len, BETWEEN)                                                                                     \
-        return PROVED(NAME##_decrypt_between, key, nonce, aad, aad_len, output, len, input, len, tag);               \
-    }
-
-/* Whether |output| overlaps nothing that it may not. */
-static int output_apart(const uint8_t *output, const uint8_t *input, size_t len, const uint8_t *key,
-                        const uint8_t *nonce, size_t nonce_len, const uint8_t *aad, size_t aad_len,
-                        const uint8_t *tag) {
-    return ((output == input) | apart(output, len, input, len)) & apart(output, len, key, 32) &
-           apart(output, len, nonce, nonce_len) & apart(output, len, aad, aad_len) & apart(output, len, tag, 16);
+/* Whether the arguments are what the header demands. Lengths that no buffer has, wrapped ones too, are
+   refused before they are added to an address. */
+static int fit(const uint8_t *key, const uint8_t *nonce, size_t nonce_len, const uint8_t *aad, size_t aad_len,
+               const uint8_t *output, const uint8_t *input, size_t len, const uint8_t *tag, int writes_tag) {
+    if (len > CHACHA20_AEAD_LONGEST || aad_len > PTRDIFF_MAX) return 0;
+    int output_fits = ((output == input) | apart(output, len, input, len)) & apart(output, len, key, 32) &
+                      apart(output, len, nonce, nonce_len) & apart(output, len, aad, aad_len) &
+                      apart(output, len, tag, 16);
+    int tag_fits = apart(tag, 16, key, 32) & apart(tag, 16, nonce, nonce_len) & apart(tag, 16, aad, aad_len) &
+                   apart(tag, 16, input, len);
+    return output_fits & (tag_fits | !writes_tag);
 }
 
-AEAD(chacha20_aead, 12, AEAD_IN_PLACE, AEAD_BETWEEN)
-AEAD(xchacha20_aead, 24, AEAD_IN_PLACE, AEAD_BETWEEN)
+#define AUTHENTICATED(NAME, NONCE, SHIFT, TAG, WRITES_TAG)                                                    \
+    DECLARE(uint32_t, NAME##_in_place, const uint8_t *key, const uint8_t *nonce, const uint8_t *aad,          \
+            size_t aad_len, uint8_t *data, size_t len, TAG *tag)                                              \
+    DECLARE(uint32_t, NAME##_between, const uint8_t *key, const uint8_t *nonce, const uint8_t *aad,           \
+            size_t aad_len, uint8_t *output, size_t len, const uint8_t *input, size_t input_len, TAG *tag)    \
+    uint32_t NAME(const uint8_t key[32], const uint8_t nonce[NONCE], const uint8_t *aad, size_t aad_len,      \
+                  uint8_t *output, const uint8_t *input, size_t len, TAG tag[16]) {                           \
+        uint8_t none;                                                                                         \
+        if (!fit(key, nonce, NONCE, aad, aad_len, output, input, len, tag, WRITES_TAG)) return CHACHA20_REFUSED; \
+        if (aad_len == 0) aad = key;                                                                          \
+        if (len == 0) input = output = &none;                                                                 \
+        MOVE_STACK(len, SHIFT)                                                                                \
+        return output == input                                                                                \
+                   ? PROVED(NAME##_in_place, key, nonce, aad, aad_len, output, len, tag)                      \
+                   : PROVED(NAME##_between, key, nonce, aad, aad_len, output, len, input, len, tag);          \
+    }
+
+AUTHENTICATED(chacha20_aead_encrypt, 12, AEAD, uint8_t, 1)
+AUTHENTICATED(chacha20_aead_decrypt, 12, AEAD, const uint8_t, 0)
+AUTHENTICATED(xchacha20_aead_encrypt, 24, XAEAD, uint8_t, 1)
+AUTHENTICATED(xchacha20_aead_decrypt, 24, XAEAD, const uint8_t, 0)
 
 DECLARE(void, chacha_poly1305, const uint8_t *key, const uint8_t *input, size_t len, uint8_t *tag)
 void chacha_poly1305(const uint8_t key[32], const uint8_t *input, size_t len, uint8_t tag[16]) {
@@ -139,7 +120,7 @@ uint32_t chacha_equal(const uint8_t *one, const uint8_t *other, size_t len) {
     return len == 0 ? 1 : PROVED(chacha_equal, one, len, other, len);
 }
 
-/* The stack grows downwards. The compiler must neither inline this, nor leave out what it takes for unread. */
+/* The assembly reads what nothing else does. */
 __attribute__((noinline)) void chacha_wipe_stack(void) {
     uint8_t below[CHACHA20_DEEPEST];
     memset(below, 0, sizeof below);

@@ -126,12 +126,7 @@ pub fn apply<C: StreamCipher>(cipher: &mut C, front: &[u8], message: &mut [u8])
 }
 
 /// `apply` from an input into an output as long.
-pub fn apply_between<C: StreamCipher>(
-    cipher: &mut C,
-    front: &[u8],
-    input: &[u8],
-    output: &mut [u8],
-)
+pub fn apply_between<C: StreamCipher>(cipher: &mut C, front: &[u8], input: &[u8], output: &mut [u8])
     requires same { length input.now ≡ length output.old }
     requires fits { 64 + length input.now ≤ limit_of C.modulus }
     requires some { 64 ≤ length front.now }

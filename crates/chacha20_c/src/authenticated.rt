@@ -10,9 +10,7 @@ ghost use Rattle.chacha20_c.specs.Results.{Decrypted, DecryptedInto, Encrypted, 
 use crate::chosen::Chosen;
 use aead::{AeadError, ChaChaPoly1305};
 use chacha20::cipher::{KeyIvInit, StreamCipher};
-use chacha20::{
-    ChaChaCore, Ietf, Key, Nonce, R20, StreamCipherCoreWrapper, XChaChaCore, XNonce,
-};
+use chacha20::{ChaChaCore, Ietf, Key, Nonce, R20, StreamCipherCoreWrapper, XChaChaCore, XNonce};
 use poly1305::{Tag, authenticate};
 
 type Short = StreamCipherCoreWrapper<ChaChaCore<R20, Ietf, Chosen>>;

@@ -9,6 +9,8 @@ ghost use Rattle.std.specs.Prelude.{◌≡◌, ◌<◌, ◌+◌, ◌*◌, ◌/�
 ghost use Rattle.std.specs.Int.{w64, from_le_bytes};
 ghost use Rattle.chacha20.specs.Generator.{of_seed, at_word_pos, next_u32, next_u64, fill, state_bytes, of_state_bytes};
 
+use crate::legacy::Core;
+use crate::stateless;
 use chacha20::cipher::RngBackend;
 use chacha20::{ChaCha8Rng, ChaCha12Rng, ChaCha20Rng, ChaChaRng, Rounds, Seed, SerializedRngState};
 
@@ -188,7 +190,15 @@ pub extern "C" fn chacha20_rng_fill(state: &mut SerializedRngState, output: &mut
         ≡ (fill 10 (of_state_bytes state.old) (length output.old)).1 }
     ensures stored { state.new ≡ state_bytes (of_state_bytes state.new) }
 {
-    fill_bytes(ChaCha20Rng::deserialize_state(state), state, output);
+    // The bytes of words are a keystream, and the engine of ciphers makes many blocks at once. The generator itself
+    // makes words past the last position.
+    let (seed, stream, position) = (seed_in(state), stream_in(state), word_pos_in(state));
+    let nonce = stream.to_le_bytes();
+    if stateless::write_keystream::<Core>(&seed, &nonce, 4 * position, output) == 0 {
+        *state = stored(&seed, stream, position + output.len().div_ceil(4) as u128);
+    } else {
+        fill_bytes(ChaCha20Rng::deserialize_state(state), state, output);
+    }
 }
 
 // The reads of a generator, which is then stored.
@@ -271,6 +281,14 @@ fn stream_in(state: &SerializedRngState) -> u64
     ensures { result ≡ (of_state_bytes state.now).stream }
 {
     read_u64(&state[STREAM_AT..POSITION_AT])
+}
+
+// The word position of a state.
+fn word_pos_in(state: &SerializedRngState) -> u128
+    ensures { result ≡ (of_state_bytes state.now).word_pos }
+{
+    let low = read_u64(&state[POSITION_AT..TOP_AT]);
+    joined(low, u64::from(state[TOP_AT] % 16))
 }
 
 // The number of 8 bytes, little-endian.

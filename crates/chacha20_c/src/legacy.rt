@@ -11,7 +11,7 @@ use crate::stateless;
 use chacha20::{ChaChaCore, Key, Legacy, LegacyNonce, R20};
 
 // The core of `ChaCha20Legacy`.
-type Core = ChaChaCore<R20, Legacy, Chosen>;
+pub(crate) type Core = ChaChaCore<R20, Legacy, Chosen>;
 
 // Where the stream of 2^64 blocks ends.
 const LIMIT: u128 = 64 << 64;

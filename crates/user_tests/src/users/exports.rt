@@ -324,6 +324,16 @@ fn positions() -> bool {
     first && last && word_pos_is(&state, 5, 10) && stream_is_stored(&state)
 }
 
+// A fill of the last word of a stream of zeros and of the first.
+fn wraps() -> bool {
+    let (mut state, mut bytes) = (seeded(), [0; 8]);
+    chacha_rng_set_word_pos(&mut state, u64::MAX, 15);
+    let mut one_by_one = state;
+    fill(20, &mut state, &mut bytes);
+    let last = word(20, &mut one_by_one).to_le_bytes();
+    bytes.starts_with(&last) && bytes.ends_with(&OF_20_ROUNDS[..4]) && word_pos_is(&state, 1, 0)
+}
+
 fn stream_is_stored(state: &SerializedRngState) -> bool {
     chacha_rng_get_stream(state) == 0x0807_0605_0403_0201
         && state[32..41].starts_with(b"\x01\x02\x03\x04\x05\x06\x07\x08\x05")
@@ -436,5 +446,5 @@ fn ends(rt: HostRuntime) {
 
 #[test]
 fn generators(rt: HostRuntime) {
-    assert!(rt; reads() && positions());
+    assert!(rt; reads() && positions() && wraps());
 }
