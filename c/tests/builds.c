@@ -20,7 +20,7 @@ static void *open_first(const char *const *names) {
 }
 
 /* ISO C has no cast from an object's pointer to a function's. */
-static int look_up(void *handle, const char *name, void *function) {
+int look_up(void *handle, const char *name, void *function) {
     void *found = dlsym(handle, name);
     memcpy(function, &found, sizeof found);
     return found != NULL;

@@ -73,6 +73,9 @@ struct other {
     void (*poly1305)(const uint8_t *key, const uint8_t *input, size_t len, uint8_t *tag);
 };
 
+/* Writes the address of a library's function to a pointer; 0 if there is none. */
+int look_up(void *handle, const char *name, void *function);
+
 /* What was found on the machine, and how many; it prints a line for each that was or wasn't. */
 int find_others(struct other found[MOST_OTHERS]);
 

@@ -156,6 +156,38 @@ static int are_of_all_passes(const uint8_t *room, const struct other *other) {
     return memcmp(room, right, WINDOW) == 0;
 }
 
+/* Whether there is memory for a ciphertext, and as much again for others. */
+static int has_memory(void) {
+    return (size_t)sysconf(_SC_AVPHYS_PAGES) * (size_t)sysconf(_SC_PAGESIZE) >= 2 * len_over;
+}
+
+/* Associated data and a text of windows, beside libsodium. A tag depends on the whole ciphertext, so tags stand for it. */
+static void messages_over_4_gib(const struct library *library, const struct other *other, uint8_t *room, const uint8_t *from) {
+    const struct aead *aead = &library->aeads[IETF];
+    uint8_t tag[CHACHA20_TAG_BYTES], right[CHACHA20_TAG_BYTES], *ciphertext;
+    if (!other->encrypt[IETF]) return;
+    other->encrypt[IETF](key, nonce, from, len_over, room, from, 100, right);
+    right_answer(aead->encrypt(key, nonce, from, len_over, room, from, 100, tag) == CHACHA20_OK && memcmp(tag, right, sizeof tag) == 0 &&
+                     aead->decrypt(key, nonce, from, len_over, room, room, 100, tag) == CHACHA20_OK && memcmp(room, from, 100) == 0,
+                 "associated data", "chosen", len_over, 0);
+    if (!has_memory()) {
+        puts("skipped, 8 GiB of memory aren't free: a message of more than 4 GiB");
+        return;
+    }
+    ciphertext = reserve(len_over);
+    if (mprotect(ciphertext, len_over, PROT_READ | PROT_WRITE) != 0) puts("no memory for a ciphertext"), exit(2);
+    other->encrypt[IETF](key, nonce, key, 32, ciphertext, from, len_over, right);
+    right_answer(aead->encrypt(key, nonce, key, 32, ciphertext, from, len_over, tag) == CHACHA20_OK && memcmp(tag, right, sizeof tag) == 0,
+                 "a message", "chosen", len_over, 0);
+    memset(room, 0, WINDOW);
+    right_answer(aead->decrypt(key, nonce, key, 32, room, ciphertext, len_over, right) == CHACHA20_OK && memcmp(room, from, WINDOW) == 0,
+                 "a message between buffers", "chosen", len_over, 0);
+    right_answer(aead->encrypt(key, nonce, key, 32, ciphertext, ciphertext, len_over, tag) == CHACHA20_OK &&
+                     aead->decrypt(key, nonce, key, 32, ciphertext, ciphertext, len_over, tag) == CHACHA20_OK,
+                 "a message in place", "chosen", len_over, 0);
+    munmap(ciphertext, len_over);
+}
+
 uint64_t over_4_gib(const struct machine *machine) {
     static const uint8_t stream_0[8] = {0};
     const struct library *library = machine->builds[machine->build_count - 1];
@@ -180,6 +212,7 @@ uint64_t over_4_gib(const struct machine *machine) {
         right_answer(low == (len_over + 3) / 4 && high == 0 &&
                   are_last(room, 0, LEGACY, i == 2 ? 20 : 8 + 4 * i, i == 2 ? other : &plain_c, stream_0), "a fill", "chosen", len_over, 0);
     }
+    messages_over_4_gib(library, other, room, from);
     munmap(room, all_windows), munmap(from, all_windows);
     printf("over 4 GiB: %" PRIu64 " calls of %zu bytes, %" PRIu64 " differences\n", calls - before_calls, len_over, wrong - before);
     return wrong - before;
