@@ -4,7 +4,8 @@ use Rattle.std.proofs.lemmas.Bool.{eqb-true, eq-eqb, true≢false}
 use Rattle.std.proofs.lemmas.List.{nil_from_length}
 use Rattle.chacha20.specs.ChaCha.{xor_stream}
 use Rattle.chacha20.proofs.KeystreamLemmas.{length-xor_stream, take-xor_stream, window-xor_stream, xor_stream-parts, xor_stream-zeros}
-use Rattle.aead.specs.Aead.{mac_key, HasFront}
+use Rattle.aead.specs.Aead.{mac_key}
+use Rattle.aead.specs.Front.{HasFront}
 
 -- zeros and a text, which one call combines with the stream from byte 0 on
 module _ (stream : ℕ → ℕ) (made : List ℕ) {front zeros : List ℕ} {position : ℕ}

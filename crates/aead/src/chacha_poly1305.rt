@@ -104,6 +104,8 @@ impl<C: KeyIvInit<Key = Key> + StreamCipher + Drop> ChaChaPoly1305<C> {
         ensures wrong_tag { let stream = ⟦<Self as AeadCore>⟧.stream self.now nonce.now in
             IsErrOf result AeadError.WrongTag ↔ ((64 + length message.old ≤ limit_of C.modulus)
             × (tag.now ≢ poly1305_tag stream aad.now message.old)) }
+        ensures text { let stream = ⟦<Self as AeadCore>⟧.stream self.now nonce.now in
+            OnOk result (message.new ≡ encrypted stream message.old) }
         ensures decrypted { let stream = ⟦<Self as AeadCore>⟧.stream self.now nonce.now in
             (plaintext : List ℕ) → message.old ≡ encrypted stream plaintext
             → OnOk result (message.new ≡ plaintext) }
@@ -161,6 +163,8 @@ impl<C: KeyIvInit<Key = Key> + StreamCipher + Drop> ChaChaPoly1305<C> {
         ensures wrong_tag { let stream = ⟦<Self as AeadCore>⟧.stream self.now nonce.now in
             IsErrOf result AeadError.WrongTag ↔ ((64 + length ciphertext.now ≤ limit_of C.modulus)
             × (tag.now ≢ poly1305_tag stream aad.now ciphertext.now)) }
+        ensures text { let stream = ⟦<Self as AeadCore>⟧.stream self.now nonce.now in
+            OnOk result (output.new ≡ encrypted stream ciphertext.now) }
         ensures decrypted { let stream = ⟦<Self as AeadCore>⟧.stream self.now nonce.now in
             (plaintext : List ℕ) → ciphertext.now ≡ encrypted stream plaintext
             → OnOk result (output.new ≡ plaintext) }
@@ -228,6 +232,8 @@ impl<C: KeyIvInit<Key = Key> + StreamCipher + Drop> ChaChaPoly1305<C> {
             let n = length output.old in
             IsErrOf result AeadError.WrongTag ↔ ((64 + n ≤ limit_of C.modulus)
             × (drop n input.now ≢ poly1305_tag stream aad.now (take n input.now))) }
+        ensures text { let stream = ⟦<Self as AeadCore>⟧.stream self.now nonce.now in
+            OnOk result (output.new ≡ encrypted stream (take (length output.old) input.now)) }
         ensures decrypted { let stream = ⟦<Self as AeadCore>⟧.stream self.now nonce.now in
             (text : List ℕ) → input.now ≡ sealed_message stream aad.now text
             → OnOk result (output.new ≡ text) }

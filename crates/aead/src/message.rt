@@ -3,7 +3,8 @@
 ghost use Rattle.std.specs.Prelude.{◌≡◌, ◌≢◌, ◌↔◌, ◌≤◌, ◌<◌, ◌+◌, ◌%◌, length, take, IsOk, OnOk, IfErr, IsErrOf};
 ghost use Rattle.chacha20.specs.ChaCha.{keystream};
 ghost use Rattle.chacha20.specs.Cipher.{limit_of};
-ghost use Rattle.aead.specs.Aead.{mac_key, encrypted, poly1305_tag, HasFront};
+ghost use Rattle.aead.specs.Aead.{mac_key, encrypted, poly1305_tag};
+ghost use Rattle.aead.specs.Front.{HasFront};
 
 use crate::error::AeadError;
 use crate::mac::tag_of;

@@ -5,6 +5,7 @@ ghost use Rattle.std.specs.Prelude.{◌≡◌, ◌*◌, ℕ, List, length, take,
 ghost use Rattle.rand_core.specs.Steps.{stream_of};
 ghost use Rattle.rand_core.specs.Pcg32Seed.{pcg32_seed};
 ghost use Rattle.chacha_base.specs.ChaCha.{keystream, chacha_stream, start, ietf, legacy};
+ghost use Rattle.chacha_base.specs.Cipher.{limit_of};
 ghost use Rattle.chacha_base.specs.Counts.{for_bytes};
 ghost use Rattle.chacha20.specs.Generator.{of_seed, reads};
 ghost use Rattle.chacha20.specs.XChaCha.{hchacha, subnonce, xchacha_stream};
@@ -24,8 +25,8 @@ use chacha_base::wrapper::StreamCipherCoreWrapper;
 use rand_core::{Rng, SeedableRng};
 use std::fmt;
 
-// The keystream that a key and a nonce define. Published bytes are of XChaCha20 alone, so the subkeys of the other two
-// are spelled out.
+// The keystream that a key and a nonce define. No source has bytes of XChaCha8 and XChaCha12, so their clauses show that
+// the subkey has the stream's number of rounds.
 fn ciphers()
     ensures chacha8 { (λ key nonce. keystream ⟦<ChaCha8 as Keystream>⟧.modulus
         (⟦<ChaCha8 as KeyIvInit>⟧.blocks_of key nonce)) ≡ chacha_stream 4 ietf }
@@ -45,6 +46,24 @@ fn ciphers()
         (λ key nonce. chacha_stream 6 ietf (hchacha 6 key (take 16 nonce)) (subnonce nonce)) }
     ensures xchacha20 { (λ key nonce. keystream ⟦<XChaCha20 as Keystream>⟧.modulus
         (⟦<XChaCha20 as KeyIvInit>⟧.blocks_of key nonce)) ≡ xchacha_stream 10 }
+{}
+
+// The length of each keystream in bytes, where calls are refused, and the sizes of nonces.
+fn limits()
+    ensures chacha8 { limit_of ⟦<ChaCha8 as Keystream>⟧.modulus ≡ 274877906944 }
+    ensures chacha12 { limit_of ⟦<ChaCha12 as Keystream>⟧.modulus ≡ 274877906944 }
+    ensures chacha20 { limit_of ⟦<ChaCha20 as Keystream>⟧.modulus ≡ 274877906944 }
+    ensures chacha20_legacy { limit_of ⟦<ChaCha20Legacy as Keystream>⟧.modulus ≡ 1180591620717411303424 }
+    ensures xchacha8 { limit_of ⟦<XChaCha8 as Keystream>⟧.modulus ≡ 274877906944 }
+    ensures xchacha12 { limit_of ⟦<XChaCha12 as Keystream>⟧.modulus ≡ 274877906944 }
+    ensures xchacha20 { limit_of ⟦<XChaCha20 as Keystream>⟧.modulus ≡ 274877906944 }
+    ensures chacha8_nonce { ⟦<ChaCha8 as IvSizeUser>⟧.IV_SIZE ≡ 12 }
+    ensures chacha12_nonce { ⟦<ChaCha12 as IvSizeUser>⟧.IV_SIZE ≡ 12 }
+    ensures chacha20_nonce { ⟦<ChaCha20 as IvSizeUser>⟧.IV_SIZE ≡ 12 }
+    ensures chacha20_legacy_nonce { ⟦<ChaCha20Legacy as IvSizeUser>⟧.IV_SIZE ≡ 8 }
+    ensures xchacha8_nonce { ⟦<XChaCha8 as IvSizeUser>⟧.IV_SIZE ≡ 24 }
+    ensures xchacha12_nonce { ⟦<XChaCha12 as IvSizeUser>⟧.IV_SIZE ≡ 24 }
+    ensures xchacha20_nonce { ⟦<XChaCha20 as IvSizeUser>⟧.IV_SIZE ≡ 24 }
 {}
 
 // The words that a seed, a stream and a word position define, as all reads take them, and the texts of `Debug`, the

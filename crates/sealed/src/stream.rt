@@ -1,6 +1,6 @@
 //! From a reader to a writer.
 
-ghost use Rattle.std.specs.Prelude.{◌≡◌, ◌≢◌, ◌<◌, ◌≤◌, ◌+◌, ◌^◌, ◌++◌, ℕ, List, length, take, Some, IfOk, OnOk, IfErr, IfSome};
+ghost use Rattle.std.specs.Prelude.{◌≡◌, ◌≢◌, ◌<◌, ◌≤◌, ◌+◌, ◌*◌, ◌^◌, ◌++◌, ℕ, List, length, take, Some, IfOk, OnOk, IfErr, IfSome};
 ghost use Rattle.std.specs.Io.KnownBytes.{Appends, Consumes, IsAtEnd, prepend_known};
 ghost use Rattle.sealed.specs.declared.error.Damage.{Damage};
 ghost use Rattle.sealed.specs.Sealed.{header, chunk, sealed, IsRight};
@@ -11,8 +11,9 @@ use chacha20::Key;
 use std::io::{self, ErrorKind, Read, Write};
 
 /// Writes the sealed file of all that the reader has left. The salt must be 16 new random bytes for each file: a salt
-/// that is used twice under a key gives away both texts, and lets others forge. If it fails, the writer has a front of
-/// that file. `buf` is scratch space of `CHUNK + 1` bytes.
+/// that is used twice under a key reveals the XOR of both texts, and lets others forge. Fails for a text of more than
+/// 2^72 bytes, and where the reader or the writer fails; then the writer has a front of that file. `buf` is scratch
+/// space of `CHUNK + 1` bytes.
 pub fn encrypt<R: Read, W: Write>(
     key: &Key,
     salt: &Salt,
@@ -23,6 +24,7 @@ pub fn encrypt<R: Read, W: Write>(
     requires { length buf.old ≡ 65537 }
     ensures written { OnOk result (IfSome (R.remaining reader.old) (λ text.
         Appends (W.contents writer.old) (W.contents writer.new) (sealed key.now salt.now text))) }
+    ensures short { OnOk result (IfSome (R.remaining reader.old) (λ text. length text ≤ 2 ^ 72)) }
     // Also after an error.
     ensures only_sealed { (text : List ℕ) × (n : ℕ)
         × IfSome (R.remaining reader.old) (λ all. all ≡ text)
@@ -46,9 +48,10 @@ pub fn encrypt<R: Read, W: Write>(
     Err(SealError::TooLong)
 }
 
-/// Reads a sealed file up to the reader's end, and writes its text, that of a chunk once its tag was right. If it
-/// fails, the writer has a front of the text of the chunks whose tags were right. `buf` is scratch space of
-/// `CHUNK + TAG + 1` bytes. Don't read it afterwards: it may hold anything, also text whose tag is wrong.
+/// Reads a sealed file up to the reader's end, and writes the text of each chunk after its tag was found right. If it
+/// fails, the writer has a front of the text of the chunks whose tags were right. Which damage an error names, no clause
+/// says. `buf` is scratch space of `CHUNK + TAG + 1` bytes. Don't read it afterwards: it may hold anything, also text
+/// whose tag is wrong.
 pub fn decrypt<R: Read, W: Write>(
     key: &Key,
     reader: &mut R,
@@ -70,7 +73,7 @@ pub fn decrypt<R: Read, W: Write>(
         → R.remaining reader.old ≡ Some (sealed key.now salt text)
         → OnOk result (Appends (W.contents writer.old) (W.contents writer.new) text) }
     ensures too_long { IfErr result (λ e. e ≡ SealError.TooLong
-        → IfSome (R.remaining reader.old) (λ file. 2 ^ 72 < length file)) }
+        → IfSome (R.remaining reader.old) (λ file. 32 + 65552 * 2 ^ 56 < length file)) }
 {
     let salt = read_header(reader)?;
     let mut held = 0;

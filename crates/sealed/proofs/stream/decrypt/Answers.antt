@@ -1,4 +1,4 @@
-use Rattle.std.proofs.Common.{◌≡◌, ◌+◌, ◌∙◌, ◌++◌, [], length, length-take, ◌^◌, take, drop, arith, refl, sym, ap, subst, append-nil, length-take-le, length-append, length-drop, le_of_eq, false}
+use Rattle.std.proofs.Common.{◌≡◌, ◌+◌, ◌*◌, ◌∙◌, ◌++◌, [], length, length-take, ◌^◌, take, drop, arith, refl, sym, ap, subst, append-nil, length-take-le, length-append, length-drop, le_of_eq, false}
 use Rattle.std.proofs.lemmas.Result.{on_ok_weaker}
 use Rattle.std.specs.Io.KnownBytes.{Consumes, prepend_known}
 use Rattle.std.proofs.KnownBytes.{Appends-nil, Appends-trans, Consumes-trans, prepend_known-nil}
@@ -221,7 +221,7 @@ returns-clause-too_long g c is =
     let salt = c.in_ok-salt.salt in
     let one = held (omega (arith, c.chunks-test.false)) in
     long-text _ _ (header salt ++ chunks c.args.key.now salt moved c.chunks.number) (take c.chunks.held c.chunks.buf)
-    (2 ^ 72) read
+    (32 + 65552 * 2 ^ 56) read
     (omega (
       arith,
       long,

@@ -1,4 +1,4 @@
-use Rattle.std.proofs.Common.{◌≡◌, ◌∙◌, ◌++◌, ℕ, [], true, false, OnOk, length, length-take, length-drop, take, drop, ◌^◌, arith, refl, sym, subst, append-nil, length-take-le, length-append, le_of_eq}
+use Rattle.std.proofs.Common.{◌≡◌, ◌≤◌, ◌∙◌, ◌++◌, ℕ, [], true, false, OnOk, length, length-take, length-drop, take, drop, ◌^◌, arith, refl, sym, subst, append-nil, length-take-le, length-append, le_of_eq}
 use Rattle.std.proofs.lemmas.Result.{on_ok_weaker}
 use Rattle.std.specs.Io.KnownBytes.{Appends, Consumes, prepend_known}
 use Rattle.std.proofs.KnownBytes.{Appends-trans, Consumes-trans, Consumes-nil, Consumes-whole, prepend_known-nil}
@@ -56,6 +56,11 @@ returns-then-n-le-CHUNK g c =
           (as-chunk (λ xs. OnOk c.write_chunk.result
           (Appends (g.W.Write.contents c.chunks.writer) (g.W.Write.contents c.write_chunk.new.writer) xs))
           key salt (take n buf) _ c.chunks.number _ true c.write_chunk.ensures.written refl refl);
+      short = on_ok_weaker c.write_chunk.result
+          (λ _.
+          Consumes-whole _ _ _ (λ text. length text ≤ 2 ^ 72) (Consumes-trans _ _ _ _ _ read got.read) end
+          (omega (arith, length-append moved (take n buf), long, wide, c.if-n-le-CHUNK.true, c.chunks-test.true)))
+          c.write_chunk.ensures.written;
       only_sealed =
           let (k, front) = as-chunk (λ xs. (k : ℕ)
           × Appends (g.W.Write.contents c.chunks.writer) (g.W.Write.contents c.write_chunk.new.writer) (take k xs))

@@ -11,3 +11,6 @@ returns-clause-decrypted g c text same =
     omega (arith, c.requires, ap length same, length-sealed_message stream c.args.aad.now text) in
     c.decrypt_detached.ensures.decrypted text
     (c.split_at.ensures.front ∙ ap (take n) same ∙ take-sealed_message stream c.args.aad.now text n size)
+
+pub returns-clause-text : goal.returns-clause-text
+returns-clause-text g c = rw (c.split_at.ensures.front) at c.decrypt_detached.ensures.text
