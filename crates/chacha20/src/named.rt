@@ -25,8 +25,8 @@ use chacha_base::wrapper::StreamCipherCoreWrapper;
 use rand_core::{Rng, SeedableRng};
 use std::fmt;
 
-// The keystream that a key and a nonce define. No source has bytes of XChaCha8 and XChaCha12, so their clauses show that
-// the subkey has the stream's number of rounds.
+// The keystream that a key and a nonce define. No source has bytes of XChaCha8 and XChaCha12, so their clauses show
+// that the subkey has the stream's number of rounds.
 fn ciphers()
     ensures chacha8 { (λ key nonce. keystream ⟦<ChaCha8 as Keystream>⟧.modulus
         (⟦<ChaCha8 as KeyIvInit>⟧.blocks_of key nonce)) ≡ chacha_stream 4 ietf }
@@ -53,7 +53,8 @@ fn limits()
     ensures chacha8 { limit_of ⟦<ChaCha8 as Keystream>⟧.modulus ≡ 274877906944 }
     ensures chacha12 { limit_of ⟦<ChaCha12 as Keystream>⟧.modulus ≡ 274877906944 }
     ensures chacha20 { limit_of ⟦<ChaCha20 as Keystream>⟧.modulus ≡ 274877906944 }
-    ensures chacha20_legacy { limit_of ⟦<ChaCha20Legacy as Keystream>⟧.modulus ≡ 1180591620717411303424 }
+    ensures chacha20_legacy { limit_of ⟦<ChaCha20Legacy as Keystream>⟧.modulus
+        ≡ 1180591620717411303424 }
     ensures xchacha8 { limit_of ⟦<XChaCha8 as Keystream>⟧.modulus ≡ 274877906944 }
     ensures xchacha12 { limit_of ⟦<XChaCha12 as Keystream>⟧.modulus ≡ 274877906944 }
     ensures xchacha20 { limit_of ⟦<XChaCha20 as Keystream>⟧.modulus ≡ 274877906944 }

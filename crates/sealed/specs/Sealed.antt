@@ -43,7 +43,7 @@ sealed key salt text =
     let n = last_number text in
     header salt ++ chunks key salt text n ++ chunk key salt n true (piece text n)
 
--- the text of the file's first chunks
+-- the text of n whole chunks at the file's front, none of them the last; bytes follow them
 abbrev pub BeginsWith : List ℕ → List ℕ → List ℕ → Type 0
 BeginsWith key file text =
     (salt rest : List ℕ) × (n : ℕ) × (length salt ≡ 16) × (length text ≡ 65536 * n)

@@ -49,8 +49,8 @@ pub fn encrypt<R: Read, W: Write>(
 }
 
 /// Reads a sealed file up to the reader's end, and writes the text of each chunk after its tag was found right. If it
-/// fails, the writer has a front of the text of the chunks whose tags were right. Which damage an error names, no clause
-/// says. `buf` is scratch space of `CHUNK + TAG + 1` bytes. Don't read it afterwards: it may hold anything, also text
+/// fails, the writer has a front of the text of the chunks whose tags were right. No clause says which damage an error
+/// names. `buf` is scratch space of `CHUNK + TAG + 1` bytes. Don't read it afterwards: it may hold anything, also text
 /// whose tag is wrong.
 pub fn decrypt<R: Read, W: Write>(
     key: &Key,
