@@ -1,7 +1,10 @@
-"""What the scripts of this folder share: reading and writing files of the repository, and checking crates on a copy."""
+"""What the scripts of this folder share: files of the repository, must-fail edits, and copies of crates."""
 
+import collections
 import contextlib
+import glob
 import os
+import pathlib
 import re
 import shutil
 import subprocess
@@ -15,17 +18,21 @@ TOP = os.path.dirname(os.path.dirname(os.path.abspath(__file__)))
 # by what is no equation.
 LOST = re.compile(r"has no field|is not in scope|has no `|^record `|(?:was|were) not (?:admitted|checked)|homogeneous path|settles argument"
                   r"|no occurrence of the path")
+# The crate and the path of each must-fail edit, and of each idle body, an edit that checks/cut must find.
+EDITS = [(it.split("/")[-3], it) for it in sorted(glob.glob(f"{TOP}/crates/*/must-fail/*.edit"))]
+IDLE = [("chacha_base", it) for it in sorted(glob.glob(f"{TOP}/checks/idle/*.edit"))]
+# What a mistake may not have beyond what stands instead: a call, an operation or a branch, which changes a proof's form. `Steps::new()`
+# is a constant.
+FORM = re.compile(r"\w+(?=(?:::<[^()]*>)?\()|[-+*/%?]|<<|>>|\b(?:if|match|for|while|return)\b")
 
 
 def text_of(path):
     """The text of a file, whose path may be relative to the top of the repository."""
-    with open(os.path.join(TOP, path), encoding="utf-8") as it:
-        return it.read()
+    return pathlib.Path(TOP, path).read_text(encoding="utf-8")
 
 
 def write(path, text):
-    with open(os.path.join(TOP, path), "w", encoding="utf-8") as it:
-        it.write(text)
+    pathlib.Path(TOP, path).write_text(text, encoding="utf-8")
 
 
 def without_comments(text):
@@ -82,3 +89,60 @@ def written(texts):
 def messages(said):
     """The messages of `rt check`, each as one line: the lines of a message after its first are indented."""
     return [" ".join(it.split()) for it in re.split(r"\n(?!\s)", said.rstrip())]
+
+
+def changes(edit):
+    """The changes of an edit: the file, the text that goes, what takes its place, and the mistakes in that, each with what stands there
+    without it. It raises ValueError where a line isn't one of an edit, or a mistake doesn't stand once in what takes the place."""
+    last, made = {}, []
+    for line in text_of(edit).split("\n"):
+        word, text = re.fullmatch(r"(?:(file|old|new|# mistake|# instead): ?)?(.*)", line).groups()
+        if not word and text and not line.startswith("#"):
+            raise ValueError(f"{line!r} isn't a line '#', 'file: ', 'old: ' or 'new:'")
+        last[word] = text
+        if word == "new":
+            made.append((last["file"], last["old"], text, []))
+        elif word == "# instead":
+            if made[-1][2].count(mistake := last["# mistake"]) != 1:
+                raise ValueError(f"its mistake {mistake!r} stands {made[-1][2].count(mistake)} times in the line above, and not once")
+            made[-1][3].append((mistake, text))
+    if not made:
+        raise ValueError("it has no lines 'file:', 'old:' and 'new:'")
+    return made
+
+
+def applied(edit, folder, without=False):
+    """The texts of the files that an edit changes, by their paths in the crate, with or without its mistakes. It raises ValueError as
+    `changes` does, and where a text isn't there once."""
+    texts = {}
+    for path, old, new, mistakes in changes(edit):
+        text = texts.setdefault(path, text_of(f"{folder}/{path}"))
+        if text.count(old) != 1:
+            raise ValueError(f"{old!r} stands in {path} {text.count(old)} times, and not once")
+        for mistake, instead in mistakes if without else ():
+            new = new.replace(mistake, instead)
+        texts[path] = text.replace(old, new)
+    return texts
+
+
+def faults(edit, folder):
+    """What is wrong with the text of an edit."""
+    try:
+        applied(edit, folder)
+    except (OSError, ValueError) as why:
+        return [str(why)]
+    found = [f"{old!r} is a comment, and doesn't end with [edit]" for path, old, _, _ in changes(edit)
+             if old not in without_comments(text_of(f"{folder}/{path}")) and not old.endswith(" [edit]")]
+    if "/idle/" in edit:
+        return found
+    comments = re.findall(r"(?m)^# (?!mistake: |instead:).+", text_of(edit))
+    mistakes = [(path, new, *it) for path, _, new, pairs in changes(edit) for it in pairs]
+    found += ["it has no first line '# WORDS'"] * (not text_of(edit).startswith("# "))
+    found += ["it doesn't say what stands there without its mistake"] * (not mistakes)
+    for path, new, mistake, instead in mistakes if len(comments) < 2 else ():
+        form = [collections.Counter(FORM.findall(it.replace("Steps::new()", ""))) for it in (mistake, instead)]
+        if path.startswith("proofs/"):
+            found.append(f"its mistake {mistake!r} stands in an answer, and no second comment says why")
+        elif not re.search(r"\bfn \w", new) and (more := form[0] - form[1]):
+            found.append(f"its mistake has {', '.join(more)}, and what stands instead hasn't, and no second comment says why")
+    return found
