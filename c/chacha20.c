@@ -60,7 +60,7 @@ enum {
     CHACHA_IN_PLACE = 0, CHACHA_BETWEEN = 0, CHACHA_KEYSTREAM = 16,
     XCHACHA_IN_PLACE = 16, XCHACHA_BETWEEN = 16, XCHACHA_KEYSTREAM = 16,
     LEGACY_IN_PLACE = 16, LEGACY_BETWEEN = 0, LEGACY_KEYSTREAM = 0,
-    AEAD = 0, XAEAD = 16, RNG_FILL = 16
+    AEAD = 0, XAEAD = 16, RNG_FILL = 0
 };
 
 static int overlap(uint8_t *output, const uint8_t *input, size_t len) {

@@ -47,10 +47,10 @@ extern "C" {
 
 /* The version of this header. While the major version is 0, the minor version changes whenever a
    function, its parameters or its meaning changes, and with it the soname of the shared library,
-   libchacha20.so.0.7, and the version node of its symbols, CHACHA20_0.7. */
-#define CHACHA20_VERSION "0.7.0"
+   libchacha20.so.0.8, and the version node of its symbols, CHACHA20_0.8. */
+#define CHACHA20_VERSION "0.8.0"
 #define CHACHA20_VERSION_MAJOR 0
-#define CHACHA20_VERSION_MINOR 7
+#define CHACHA20_VERSION_MINOR 8
 #define CHACHA20_VERSION_PATCH 0
 
 /* Sizes, the same for each number of rounds. */
@@ -72,9 +72,9 @@ extern "C" {
 /* The longest message that can be authenticated: block 0 makes the MAC's key. */
 #define CHACHA20_AEAD_LONGEST (CHACHA20_STREAM_BYTES - 64)
 
-/* An upper bound on the bytes of the stack that a call takes, measured by a test. A third of them is
+/* An upper bound on the bytes of the stack that a call takes, measured by a test. Half of them are
    for the dynamic linker, which may bind memcpy, memmove and memset in a program's first calls. */
-#define CHACHA20_DEEPEST 8704
+#define CHACHA20_DEEPEST 5888
 
 /* What a function that can refuse returns. After CHACHA20_REFUSED no byte has changed: the data are NOT
    encrypted and must not be sent, or NOT decrypted. */
