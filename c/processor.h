@@ -56,17 +56,23 @@ static inline int x86_64_level(const struct processor *it) {
     return has_x86_64_v3(it) ? 3 : has_x86_64_v2(it) ? 2 : 1;
 }
 
+/* Only where OSXSAVE is set: else the processor has no such instruction. A test replaces it. */
+static inline uint32_t read_xcr0(void) {
+    uint32_t low;
+    __asm__ volatile("xgetbv" : "=a"(low) : "c"(0) : "edx");
+    return low;
+}
+#if !defined(READ_XCR0)
+#define READ_XCR0 read_xcr0
+#endif
+
 static inline struct processor this_processor(void) {
     struct processor it = {0, 0, 0, 0};
     unsigned a, b, c, d;
     if (__get_cpuid(1, &a, &b, &c, &d)) it.leaf_1_ecx = c;
     if (__get_cpuid_count(7, 0, &a, &b, &c, &d)) it.leaf_7_ebx = b;
     if (__get_cpuid(0x80000001, &a, &b, &c, &d)) it.leaf_80000001_ecx = c;
-    /* Without OSXSAVE there is no instruction xgetbv. */
-    if (has_all(it.leaf_1_ecx, OSXSAVE)) {
-        __asm__ volatile("xgetbv" : "=a"(a), "=d"(d) : "c"(0));
-        it.xcr0 = a;
-    }
+    if (has_all(it.leaf_1_ecx, OSXSAVE)) it.xcr0 = READ_XCR0();
     return it;
 }
 

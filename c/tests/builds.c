@@ -1,12 +1,290 @@
-/* SPDX-License-Identifier: Apache-2.0 OR MIT */
+/* SPDX-License-Identifier: Apache-2.0 OR MIT
 
-#include <stdio.h>
-#include <stdlib.h>
+   What is compared: OpenSSL and libsodium, where the machine has them; plain C, written after RFC 8439 and the draft, for what
+   they lack; and below them the library's builds, which are declared nowhere else, so that no reference can call them. */
 
 #include "compare.h"
 
-/* By the compiler's own means, to compare with ../processor.h; 0 where there is no choice. */
-static int level_here(void) {
+#include <dlfcn.h>
+#include <stdio.h>
+#include <stdlib.h>
+#include <string.h>
+
+/* The first of these libraries that the machine has. */
+static void *open_first(const char *const *names) {
+    for (; *names; names++) {
+        void *handle = dlopen(*names, RTLD_NOW | RTLD_LOCAL);
+        if (handle) return handle;
+    }
+    return NULL;
+}
+
+/* ISO C has no cast from an object's pointer to a function's. */
+int look_up(void *handle, const char *name, void *function) {
+    void *found = dlsym(handle, name);
+    memcpy(function, &found, sizeof found);
+    return found != NULL;
+}
+
+#define XOR_PARAMETERS \
+    int rounds, const uint8_t *key, const uint8_t *nonce, uint64_t block, uint8_t *output, const uint8_t *input, size_t len
+
+static void store_le(uint8_t *bytes, uint64_t number, int count) {
+    for (int i = 0; i < count; i++) bytes[i] = (uint8_t)(number >> (8 * i));
+}
+
+/* OpenSSL: the counter is in front of the nonce, in 16 bytes together, and the carry goes on past 32 bits. */
+
+static void *(*evp_new)(void);
+static void *(*evp_chacha20)(void);
+static int (*evp_init)(void *, void *, void *, const uint8_t *, const uint8_t *);
+static int (*evp_update)(void *, uint8_t *, int *, const uint8_t *, int);
+static void *evp_context;
+
+/* The context keeps the cipher that it has, so that OpenSSL fetches it once. */
+static void openssl_xor(int counter_bytes, XOR_PARAMETERS) {
+    uint8_t iv[16];
+    (void)rounds;
+    store_le(iv, block, counter_bytes), memcpy(iv + counter_bytes, nonce, (size_t)(16 - counter_bytes));
+    int done = evp_init(evp_context, NULL, NULL, key, iv);
+    while (done && len > 0) {
+        int part = len < 1 << 30 ? (int)len : 1 << 30, out = 0;
+        done = evp_update(evp_context, output, &out, input, part) && out == part;
+        output += part, input += part, len -= (size_t)part;
+    }
+    if (!done) puts("OpenSSL refused a call"), exit(2);
+}
+
+static void openssl_ietf(XOR_PARAMETERS) { openssl_xor(4, rounds, key, nonce, block, output, input, len); }
+static void openssl_legacy(XOR_PARAMETERS) { openssl_xor(8, rounds, key, nonce, block, output, input, len); }
+
+static void *(*evp_chacha20_poly1305)(void);
+static int (*evp_final)(void *, uint8_t *, int *);
+static int (*evp_ctrl)(void *, int, int, void *);
+static void *aead_context;
+
+static void openssl_encrypt(AEAD_PARAMETERS, uint8_t *tag) {
+    enum { GET_TAG = 0x10 };
+    int done = evp_init(aead_context, NULL, NULL, key, nonce), out = 0;
+    done = done && (aad_len == 0 || evp_update(aead_context, NULL, &out, aad, (int)aad_len));
+    done = done && (len == 0 || evp_update(aead_context, output, &out, input, (int)len));
+    if (!done || !evp_final(aead_context, output, &out) || !evp_ctrl(aead_context, GET_TAG, 16, tag)) puts("OpenSSL refused a message"), exit(2);
+}
+
+static int find_openssl(struct other *found) {
+    static const char *const names[] = {"libcrypto.so.3", "libcrypto.so.1.1", "libcrypto.so", NULL};
+    const char *(*version)(int) = NULL;
+    void *handle = open_first(names);
+    if (!handle || !look_up(handle, "EVP_CIPHER_CTX_new", &evp_new) || !look_up(handle, "EVP_chacha20", &evp_chacha20) ||
+        !look_up(handle, "EVP_EncryptInit_ex", &evp_init) || !look_up(handle, "EVP_EncryptUpdate", &evp_update) ||
+        !look_up(handle, "EVP_chacha20_poly1305", &evp_chacha20_poly1305) || !look_up(handle, "EVP_EncryptFinal_ex", &evp_final) ||
+        !look_up(handle, "EVP_CIPHER_CTX_ctrl", &evp_ctrl) || !look_up(handle, "OpenSSL_version", &version) ||
+        !(evp_context = evp_new()) || !evp_init(evp_context, evp_chacha20(), NULL, NULL, NULL) ||
+        !(aead_context = evp_new()) || !evp_init(aead_context, evp_chacha20_poly1305(), NULL, NULL, NULL)) {
+        puts("not found: OpenSSL (libcrypto.so) with ChaCha20");
+        return 0;
+    }
+    printf("found: %s\n", version(0));
+    *found = (struct other){
+        .name = "OpenSSL", .xor_from_block = {[IETF] = openssl_ietf, [LEGACY] = openssl_legacy}, .encrypt = {[IETF] = openssl_encrypt}};
+    return 1;
+}
+
+/* libsodium */
+
+static int (*sodium_ietf_ic)(uint8_t *, const uint8_t *, unsigned long long, const uint8_t *, uint32_t, const uint8_t *);
+static int (*sodium_legacy_ic)(uint8_t *, const uint8_t *, unsigned long long, const uint8_t *, uint64_t, const uint8_t *);
+static int (*sodium_xchacha_ic)(uint8_t *, const uint8_t *, unsigned long long, const uint8_t *, uint64_t, const uint8_t *);
+static int (*sodium_hchacha)(uint8_t *, const uint8_t *, const uint8_t *, const uint8_t *);
+
+static void sodium_ietf(XOR_PARAMETERS) { (void)rounds, sodium_ietf_ic(output, input, len, nonce, (uint32_t)block, key); }
+static void sodium_xchacha(XOR_PARAMETERS) { (void)rounds, sodium_xchacha_ic(output, input, len, nonce, block, key); }
+static void sodium_legacy(XOR_PARAMETERS) { (void)rounds, sodium_legacy_ic(output, input, len, nonce, block, key); }
+
+static void sodium_hchacha20(int rounds, const uint8_t *key, const uint8_t *input, uint8_t *subkey) {
+    (void)rounds, sodium_hchacha(subkey, input, key, NULL);
+}
+
+typedef int sodium_aead(uint8_t *, uint8_t *, unsigned long long *, const uint8_t *, unsigned long long, const uint8_t *,
+                        unsigned long long, const uint8_t *, const uint8_t *, const uint8_t *);
+static sodium_aead *sodium_aeads[AEADS];
+static int (*sodium_mac)(uint8_t *, const uint8_t *, unsigned long long, const uint8_t *);
+
+static void sodium_ietf_encrypt(AEAD_PARAMETERS, uint8_t *tag) {
+    sodium_aeads[IETF](output, tag, NULL, input, len, aad, aad_len, NULL, nonce, key);
+}
+static void sodium_xchacha_encrypt(AEAD_PARAMETERS, uint8_t *tag) {
+    sodium_aeads[XCHACHA](output, tag, NULL, input, len, aad, aad_len, NULL, nonce, key);
+}
+static void sodium_poly1305(const uint8_t *key, const uint8_t *input, size_t len, uint8_t *tag) { sodium_mac(tag, input, len, key); }
+
+static int find_sodium(struct other *found) {
+    static const char *const names[] = {"libsodium.so.23", "libsodium.so.26", "libsodium.so", NULL};
+    int (*init)(void) = NULL;
+    const char *(*version)(void) = NULL;
+    void *handle = open_first(names);
+    if (!handle || !look_up(handle, "sodium_init", &init) || !look_up(handle, "sodium_version_string", &version) ||
+        !look_up(handle, "crypto_stream_chacha20_ietf_xor_ic", &sodium_ietf_ic) ||
+        !look_up(handle, "crypto_stream_chacha20_xor_ic", &sodium_legacy_ic) ||
+        !look_up(handle, "crypto_stream_xchacha20_xor_ic", &sodium_xchacha_ic) ||
+        !look_up(handle, "crypto_core_hchacha20", &sodium_hchacha) ||
+        !look_up(handle, "crypto_aead_chacha20poly1305_ietf_encrypt_detached", &sodium_aeads[IETF]) ||
+        !look_up(handle, "crypto_aead_xchacha20poly1305_ietf_encrypt_detached", &sodium_aeads[XCHACHA]) ||
+        !look_up(handle, "crypto_onetimeauth_poly1305", &sodium_mac) || init() < 0) {
+        puts("not found: libsodium");
+        return 0;
+    }
+    printf("found: libsodium %s\n", version());
+    *found = (struct other){
+        .name = "libsodium",
+        .xor_from_block = {[IETF] = sodium_ietf, [XCHACHA] = sodium_xchacha, [LEGACY] = sodium_legacy},
+        .hchacha = sodium_hchacha20,
+        .encrypt = {sodium_ietf_encrypt, sodium_xchacha_encrypt},
+        .poly1305 = sodium_poly1305};
+    return 1;
+}
+
+/* Plain C */
+
+static uint32_t load_32(const uint8_t *b) {
+    return (uint32_t)b[0] | (uint32_t)b[1] << 8 | (uint32_t)b[2] << 16 | (uint32_t)b[3] << 24;
+}
+
+static uint32_t rotated(uint32_t x, int by) { return x << by | x >> (32 - by); }
+
+static void quarter_round(uint32_t *x, int a, int b, int c, int d) {
+    x[a] += x[b], x[d] = rotated(x[d] ^ x[a], 16);
+    x[c] += x[d], x[b] = rotated(x[b] ^ x[c], 12);
+    x[a] += x[b], x[d] = rotated(x[d] ^ x[a], 8);
+    x[c] += x[d], x[b] = rotated(x[b] ^ x[c], 7);
+}
+
+static void all_rounds(uint32_t *x, int rounds) {
+    for (int i = 0; i < rounds; i += 2) {
+        for (int j = 0; j < 4; j++) quarter_round(x, j, 4 + j, 8 + j, 12 + j);
+        for (int j = 0; j < 4; j++) quarter_round(x, j, 4 + (j + 1) % 4, 8 + (j + 2) % 4, 12 + (j + 3) % 4);
+    }
+}
+
+/* Constants, a key, and 16 bytes more. */
+static void start(uint32_t *x, const uint8_t *key, const uint8_t *last) {
+    static const char constants[] = "expand 32-byte k";
+    for (int i = 0; i < 4; i++) x[i] = load_32((const uint8_t *)constants + 4 * i);
+    for (int i = 0; i < 8; i++) x[4 + i] = load_32(key + 4 * i);
+    for (int i = 0; i < 4; i++) x[12 + i] = load_32(last + 4 * i);
+}
+
+static void plain_hchacha(int rounds, const uint8_t *key, const uint8_t *input, uint8_t *subkey) {
+    uint32_t x[16];
+    start(x, key, input);
+    all_rounds(x, rounds);
+    for (int i = 0; i < 4; i++) store_le(subkey + 4 * i, x[i], 4), store_le(subkey + 16 + 4 * i, x[12 + i], 4);
+}
+
+static void plain_xor(int counter_bytes, XOR_PARAMETERS) {
+    uint8_t last[16], made[64];
+    uint32_t first[16], x[16];
+    memcpy(last + counter_bytes, nonce, (size_t)(16 - counter_bytes));
+    for (size_t at = 0; at < len; at += 64, block++) {
+        store_le(last, block, counter_bytes);
+        start(first, key, last);
+        memcpy(x, first, sizeof x);
+        all_rounds(x, rounds);
+        for (int i = 0; i < 16; i++) store_le(made + 4 * i, x[i] + first[i], 4);
+        for (size_t i = 0; i < 64 && at + i < len; i++) output[at + i] = input[at + i] ^ made[i];
+    }
+}
+
+static void plain_ietf(XOR_PARAMETERS) { plain_xor(4, rounds, key, nonce, block, output, input, len); }
+static void plain_legacy(XOR_PARAMETERS) { plain_xor(8, rounds, key, nonce, block, output, input, len); }
+
+static void plain_xchacha(XOR_PARAMETERS) {
+    uint8_t subkey[32], subnonce[12] = {0};
+    plain_hchacha(rounds, key, nonce, subkey);
+    memcpy(subnonce + 4, nonce + 16, 8);
+    plain_xor(4, rounds, subkey, subnonce, block, output, input, len);
+}
+
+/* The bytes of a sum modulo 2^136, as digits below 256; 2^136 is 64 * 5 modulo 2^130 - 5. */
+static void carry(uint32_t *h) {
+    for (int i = 0; i < 16; i++) h[i + 1] += h[i] >> 8, h[i] &= 255;
+    h[0] += 5 * (h[16] >> 2), h[16] &= 3;
+    for (int i = 0; i < 16; i++) h[i + 1] += h[i] >> 8, h[i] &= 255;
+}
+
+static void times(uint32_t *h, const uint32_t *r) {
+    uint32_t product[17];
+    for (int i = 0; i < 17; i++) {
+        product[i] = 0;
+        for (int j = 0; j < 17; j++) product[i] += j <= i ? h[j] * r[i - j] : 320 * h[j] * r[i + 17 - j];
+    }
+    memcpy(h, product, sizeof product);
+    carry(h);
+}
+
+void plain_poly1305_but(int is_clamped, int is_reduced, const uint8_t *key, const uint8_t *input, size_t len, uint8_t *tag) {
+    uint32_t r[17] = {0}, h[17] = {0}, less[17];
+    for (int i = 0; i < 16; i++) r[i] = key[i] & (!is_clamped ? 255 : i % 4 == 3 ? 15 : i > 0 && i % 4 == 0 ? 252 : 255);
+    for (size_t at = 0; at < len; at += 16) {
+        size_t part = len - at < 16 ? len - at : 16;
+        for (size_t i = 0; i < part; i++) h[i] += input[at + i];
+        h[part]++;
+        carry(h), times(h, r);
+    }
+    /* 2^130 - 5 is taken away where 5 more reach 2^130. */
+    memcpy(less, h, sizeof less);
+    less[0] += 5;
+    for (int i = 0; i < 16; i++) less[i + 1] += less[i] >> 8, less[i] &= 255;
+    if (less[16] >= 4 && is_reduced) memcpy(h, less, sizeof less);
+    for (int i = 0; i < 16; i++) h[i] += key[16 + i], h[i + 1] += h[i] >> 8, tag[i] = (uint8_t)h[i];
+}
+
+static void plain_poly1305(const uint8_t *key, const uint8_t *input, size_t len, uint8_t *tag) {
+    plain_poly1305_but(1, 1, key, input, len, tag);
+}
+
+static void plain_encrypt(enum layout layout, AEAD_PARAMETERS, uint8_t *tag) {
+    uint8_t one_time[32] = {0}, *room = calloc(1, aad_len + len + 48), *at = room;
+    if (!room) puts("no memory"), exit(2);
+    plain_c.xor_from_block[layout](20, key, nonce, 0, one_time, one_time, 32);
+    plain_c.xor_from_block[layout](20, key, nonce, 1, output, input, len);
+    if (aad_len > 0) memcpy(at, aad, aad_len);
+    at += (aad_len + 15) / 16 * 16;
+    if (len > 0) memcpy(at, output, len);
+    at += (len + 15) / 16 * 16;
+    store_le(at, aad_len, 8), store_le(at + 8, len, 8);
+    plain_poly1305(one_time, room, (size_t)(at + 16 - room), tag);
+    free(room);
+}
+
+static void plain_ietf_encrypt(AEAD_PARAMETERS, uint8_t *tag) {
+    plain_encrypt(IETF, key, nonce, aad, aad_len, output, input, len, tag);
+}
+static void plain_xchacha_encrypt(AEAD_PARAMETERS, uint8_t *tag) {
+    plain_encrypt(XCHACHA, key, nonce, aad, aad_len, output, input, len, tag);
+}
+
+const struct other plain_c = {
+    .name = "plain C",
+    .xor_from_block = {[IETF] = plain_ietf, [XCHACHA] = plain_xchacha, [LEGACY] = plain_legacy},
+    .hchacha = plain_hchacha,
+    .encrypt = {plain_ietf_encrypt, plain_xchacha_encrypt},
+    .poly1305 = plain_poly1305};
+
+int find_others(struct other found[MOST_OTHERS]) {
+    int count = find_openssl(found);
+    count += find_sodium(found + count);
+    puts("8 and 12 rounds: beside plain C of this folder");
+    return count;
+}
+
+/* The library: the builds for the levels of x86-64, where they are built, and libchacha20.a, which chooses one. */
+extern const struct library library_1 __attribute__((weak));
+extern const struct library library_2 __attribute__((weak));
+extern const struct library library_3 __attribute__((weak));
+extern const struct library library_chosen __attribute__((weak));
+
+int level_here(void) {
 #if defined(__x86_64__)
     __builtin_cpu_init();
     if (!__builtin_cpu_supports("sse4.2") || !__builtin_cpu_supports("popcnt")) return 1;

@@ -2,7 +2,13 @@
 
    The library beside other implementations: random messages, cut at random places, whose parts are combined in random
    order, in place or between buffers, by builds for different levels; words of generators; refusals; buffers at the ends
-   of mapped pages. The random numbers of a turn are those of its seed, so that each turn can be repeated. */
+   of mapped pages. The random numbers of a turn are those of its seed, so that each turn can be repeated.
+
+   compare check [BYTES [SEED]]   compares the library with what is found on the machine; the last line says how many bytes,
+                                  and how many of them differ. The first turn is that of SEED
+   compare plain [BYTES [SEED]]   the same with the plain C of builds.c alone
+   compare call WORDS             repeats one call: build, layout, rounds, way, block, offset, length, places of output and
+                                  input in their pages, seed of key and nonce. A difference prints these words */
 
 #define _DEFAULT_SOURCE
 
@@ -12,12 +18,9 @@
 #include <string.h>
 #include <sys/mman.h>
 
-#include "compare.h"
+#include "check.h"
 
-enum { OFTEN_LONGEST = 1 << 18, LONGEST = 1 << 22, MOST_CUTS = 40, PAGE = 4096 };
-
-/* What a run makes at least, of each kind of case and by each build. */
-enum { KINDS = 4, LEAST_CASES = 10, LEAST_CALLS = 100 };
+enum { OFTEN_LONGEST = 1 << 18, MOST_CUTS = 40 };
 
 /* A position in a stream: those of the legacy layout have more than 64 bits. */
 __extension__ typedef unsigned __int128 wide;
@@ -25,10 +28,10 @@ __extension__ typedef unsigned __int128 wide;
 static const int rounds_of[ROUNDS] = {8, 12, 20};
 static const size_t nonce_len[LAYOUTS] = {12, 24, 8};
 
-enum way { IN_PLACE, BETWEEN, KEYSTREAM, FILL, NEXT_U32, NEXT_U64, WAYS };
+enum way { IN_PLACE, BETWEEN, KEYSTREAM, FILL, NEXT_U32, NEXT_U64, WORDS, WAYS };
 
 static const char *const layouts[] = {"ietf", "xchacha", "legacy"};
-static const char *const ways[] = {"in_place", "between", "keystream", "fill", "next_u32", "next_u64"};
+static const char *const ways[] = {"in_place", "between", "keystream", "fill", "next_u32", "next_u64", "words"};
 
 /* A call of a cipher, or a read of a generator, that makes so many bytes; the position is in bytes in both. */
 struct call {
@@ -42,14 +45,7 @@ struct call {
     const uint8_t *input;
 };
 
-struct run {
-    const struct machine *machine;
-    uint64_t random, seed; /* the seed of the turn */
-    int is_control;        /* differences are wanted */
-    uint64_t bytes_beside_found, bytes_beside_plain, differences, cases[KINDS], calls[MOST_BUILDS];
-};
-
-static uint8_t input[LONGEST + PAGE], expected[LONGEST + PAGE], made[LONGEST + PAGE];
+uint8_t input[LONGEST + PAGE], expected[LONGEST + PAGE], made[LONGEST + PAGE];
 
 /* splitmix64 */
 static uint64_t next(struct run *run) {
@@ -59,10 +55,9 @@ static uint64_t next(struct run *run) {
     return x ^ x >> 31;
 }
 
-/* From 0 to below a number that isn't 0. */
-static uint64_t below(struct run *run, uint64_t end) { return next(run) % end; }
+uint64_t below(struct run *run, uint64_t end) { return next(run) % end; }
 
-static void random_bytes(struct run *run, uint8_t *bytes, size_t len) {
+void random_bytes(struct run *run, uint8_t *bytes, size_t len) {
     for (size_t i = 0; i < len; i++) bytes[i] = (uint8_t)(next(run) >> 56);
 }
 
@@ -72,14 +67,14 @@ static void wrong(struct run *run, uint64_t count, const char *what) {
     printf("difference: %s; again: compare check 1 %" PRIu64 "\n", what, run->seed);
 }
 
-static void same_bytes(struct run *run, const uint8_t *found, const uint8_t *right, size_t len, const char *what) {
+void same_bytes(struct run *run, const uint8_t *found, const uint8_t *right, size_t len, const char *what) {
     uint64_t count = 0;
     if (memcmp(found, right, len) == 0) return;
     for (size_t i = 0; i < len; i++) count += found[i] != right[i];
     wrong(run, count, what);
 }
 
-static void holds(struct run *run, int fact, const char *what) { if (!fact) wrong(run, 1, what); }
+void holds(struct run *run, int fact, const char *what) { if (!fact) wrong(run, 1, what); }
 
 /* What a call made. A difference is printed as the arguments that repeat the call. */
 static void right_call(struct run *run, const struct call *it, const uint8_t *found, const uint8_t *right) {
@@ -91,7 +86,7 @@ static void right_call(struct run *run, const struct call *it, const uint8_t *fo
     same_bytes(run, found, right, it->len, text);
 }
 
-static const struct library *any_build(struct run *run) {
+const struct library *any_build(struct run *run) {
     int at = (int)below(run, (uint64_t)run->machine->build_count);
     run->calls[at]++;
     return run->machine->builds[at];
@@ -118,7 +113,7 @@ static const uint8_t *by_other(const struct other *other, enum layout layout, in
     return room + before;
 }
 
-static size_t random_length(struct run *run) {
+size_t random_length(struct run *run) {
     static const size_t ends[] = {70, 300, 2000, 20000, OFTEN_LONGEST};
     return below(run, (below(run, 200) == 0 ? LONGEST : ends[below(run, 5)]) + 1);
 }
@@ -222,8 +217,26 @@ static uint64_t stream_of(const uint8_t nonce[8]) {
     return stream;
 }
 
+/* Words one by one, which leave zeros behind. */
+static void by_words(const struct call *it, uint8_t *state) {
+    chacha20_words words;
+    int is_zero = 1;
+    it->library->words_from_state(&words, state);
+    for (size_t i = 0; i < it->len; i += 4) {
+        uint32_t word = it->library->words_next(&words);
+        for (size_t j = 0; j < 4 && i + j < it->len; j++) it->output[i + j] = (uint8_t)(word >> (8 * j));
+    }
+    for (size_t i = 0; i < words.used && i < sizeof words.words; i++) is_zero &= words.words[i] == 0;
+    if (!is_zero && it->len > 0) it->output[0] ^= 1;
+    it->library->words_to_state(&words, state);
+}
+
 static void by_generator(const struct call *it, uint8_t *state) {
     const struct library *library = it->library;
+    if (it->way == WORDS) {
+        by_words(it, state);
+        return;
+    }
     if (it->way == FILL) {
         library->fill[it->at_rounds](state, it->len ? it->output : NULL, it->len);
         return;
@@ -253,8 +266,9 @@ static void one_generator(struct run *run) {
     else any_build(run)->set_word_pos(state, block << 4 | in_block, block >> 60 | next(run) << 4);
     while (done < words) {
         size_t left = 4 * (words - done), len = below(run, (left < 70 || below(run, 2) ? left : 70) + 1);
-        enum way way = (enum way)(FILL + below(run, 4) % 3);
+        enum way way = (enum way)(FILL + below(run, 5) % 4);
         if (way == NEXT_U64 && left < 8) continue;
+        if (way == WORDS && at_rounds < 2) continue;
         struct call call = {any_build(run), LEGACY, at_rounds, way, block + (in_block + done) / 16,
                             (in_block + done) % 16 * 4, way == NEXT_U32 ? 4 : way == NEXT_U64 ? 8 : len, made + 4 * done, NULL};
         state[48] |= (uint8_t)(below(run, 16) << 4);
@@ -410,6 +424,7 @@ static void at_edges(struct run *run, const struct library *library) {
             enum way way = (enum way)(i / 2 / LAYOUTS / ROUNDS);
             int at_rounds = i / 2 / LAYOUTS % ROUNDS;
             if (way < FILL ? !library->ciphers[layout][at_rounds].xor : layout != LEGACY) continue;
+            if (way == WORDS && at_rounds < 2) continue;
             call_at_edge(run, library, layout, at_rounds, way, way == NEXT_U32 ? 4 : way == NEXT_U64 ? 8 : len, i % 2);
         }
     }
@@ -417,10 +432,10 @@ static void at_edges(struct run *run, const struct library *library) {
 }
 
 static void one_turn(struct run *run) {
-    static void (*const kinds[KINDS])(struct run *) = {one_message, one_generator, one_refusal, one_subkey};
+    static void (*const kinds[KINDS])(struct run *) = {one_message, one_sealed, one_generator, one_tag, one_refusal, one_subkey};
     run->seed = run->random;
     for (int i = 0; i < KINDS; i++) {
-        if (i > 0 && below(run, UINT64_C(2) << i) > 0) continue;
+        if (i > 0 && below(run, UINT64_C(2) << (i + 1) / 2) > 0) continue;
         run->cases[i]++;
         kinds[i](run);
     }
@@ -440,7 +455,8 @@ static int index_of(const char *name, const char *const *names, int count) {
     exit(2);
 }
 
-int repeat_call(const struct machine *machine, char **words) {
+/* Returns the exit status. */
+static int repeat_call(const struct machine *machine, char **words) {
     static const char *const rounds[] = {"8", "12", "20"};
     static uint8_t from[LONGEST + PAGE] __attribute__((aligned(PAGE))), to[LONGEST + PAGE] __attribute__((aligned(PAGE)));
     uint8_t key[32], nonce[24], state[CHACHA_RNG_STATE_BYTES];
@@ -473,13 +489,18 @@ int repeat_call(const struct machine *machine, char **words) {
     return run.differences != 0;
 }
 
-int check(const struct machine *machine, uint64_t seed, uint64_t bytes) {
+static int check(const struct machine *machine, uint64_t seed, uint64_t bytes) {
     struct run run = {.machine = machine, .random = 1};
     const uint64_t *done = machine->other_count > 0 ? &run.bytes_beside_found : &run.bytes_beside_plain;
     uint64_t calls = 0, few = 0;
+    int found = 0;
     random_bytes(&run, input, sizeof input);
-    for (int i = 0; i < machine->build_count; i++) at_edges(&run, machine->builds[i]);
-    printf("buffers at the ends of mapped pages: %" PRIu64 " differences\n", run.differences);
+    for (int i = 0; i < machine->build_count; i++) {
+        at_edges(&run, machine->builds[i]);
+        sealed_by_each_length(&run, machine->builds[i]);
+        sealed_at_pages(&run, machine->builds[i]);
+    }
+    printf("buffers at the ends of mapped pages, messages by each length: %" PRIu64 " differences\n", run.differences);
     run.differences += far_apart(machine);
     if (bytes >= 1000000000) run.differences += over_4_gib(machine);
     run.random = seed;
@@ -488,11 +509,26 @@ int check(const struct machine *machine, uint64_t seed, uint64_t bytes) {
     for (int i = 0; i < KINDS; i++) few += run.cases[i] < LEAST_CASES;
     if (few > 0) puts("wrong: too few cases of a kind, or too few calls of a build");
     if (machine->other_count > 0) printf("8 and 12 rounds, beside plain C: %" PRIu64 " bytes\n", run.bytes_beside_plain);
-    int controls_lost = run.differences == 0 ? control(machine) : 0;
+    found = controls_found(machine);
     printf("check, seed %" PRIu64 ":", seed);
     for (int i = 0; i < machine->build_count; i++) printf(" %s", machine->builds[i]->level);
     printf(" in %" PRIu64 " calls; %" PRIu64 " bytes beside", calls, *done);
     for (int i = 0; i < machine->other_count; i++) printf("%s %s", i ? " and" : "", machine->others[i].name);
     printf("%s, %" PRIu64 " differences\n", machine->other_count ? "" : " plain C", run.differences);
-    return controls_lost > 0 || few > 0 || run.differences > 0;
+    return found != CONTROLS || few > 0 || run.differences > 0;
+}
+
+int main(int argc, char **argv) {
+    struct machine machine = {.build_count = 0};
+    const char *use = argc > 1 ? argv[1] : "";
+    int is_plain = strcmp(use, "plain") == 0;
+    machine.build_count = find_builds(machine.builds);
+    if (!is_plain) machine.other_count = find_others(machine.others);
+    if (is_plain || strcmp(use, "check") == 0) {
+        return check(&machine, argc > 3 ? strtoull(argv[3], NULL, 10) : 20260101,
+                     argc > 2 ? strtoull(argv[2], NULL, 10) : 1000000000);
+    }
+    if (argc == 12 && strcmp(use, "call") == 0) return repeat_call(&machine, argv + 2);
+    fputs("compare check|plain|call: see check.c\n", stderr);
+    return 2;
 }

@@ -5,9 +5,10 @@
 #ifndef COMPARE_H
 #define COMPARE_H
 
-#include "../../include/chacha20_reduced.h"
+#include <stddef.h>
+#include <stdint.h>
 
-enum { LAYOUTS = 3, ROUNDS = 3, MOST_BUILDS = 4, MOST_OTHERS = 2 };
+enum { LAYOUTS = 3, ROUNDS = 3, AEADS = 2, MOST_BUILDS = 4, MOST_OTHERS = 2 };
 
 /* Nonces of 12, of 24 and of 8 bytes; 8, 12 and 20 rounds. The legacy layout has 20 rounds alone. */
 enum layout { IETF, XCHACHA, LEGACY };
@@ -20,6 +21,14 @@ struct cipher {
                           size_t len);
 };
 
+/* Authenticated encryption with the nonces of IETF and of XCHACHA. */
+#define AEAD_PARAMETERS \
+    const uint8_t *key, const uint8_t *nonce, const uint8_t *aad, size_t aad_len, uint8_t *output, const uint8_t *input, size_t len
+struct aead {
+    uint32_t (*encrypt)(AEAD_PARAMETERS, uint8_t *tag);
+    uint32_t (*decrypt)(AEAD_PARAMETERS, const uint8_t *tag);
+};
+
 /* The functions of one build, so that one program can have several builds. */
 struct library {
     const char *level;
@@ -30,6 +39,13 @@ struct library {
     uint32_t (*next_u32[ROUNDS])(uint8_t *state);
     uint64_t (*next_u64[ROUNDS])(uint8_t *state);
     void (*fill[ROUNDS])(uint8_t *state, uint8_t *output, size_t len);
+    struct aead aeads[AEADS];
+    void (*poly1305)(const uint8_t *key, const uint8_t *input, size_t len, uint8_t *tag);
+    uint32_t (*equal)(const uint8_t *one, const uint8_t *other, size_t len);
+    /* Of a chacha20_words. */
+    void (*words_from_state)(void *words, const uint8_t *state);
+    uint32_t (*words_next)(void *words);
+    void (*words_to_state)(const void *words, uint8_t *state);
     void (*from_seed)(const uint8_t *seed, uint8_t *state);
     void (*get_word_pos)(const uint8_t *state, uint64_t *low, uint64_t *high);
     void (*set_word_pos)(uint8_t *state, uint64_t low, uint64_t high);
@@ -39,11 +55,8 @@ struct library {
     void (*set_stream)(uint8_t *state, uint64_t stream);
 };
 
-/* The builds for the levels of x86-64, where they are built, and libchacha20.a, which chooses one. */
-extern const struct library library_1 __attribute__((weak));
-extern const struct library library_2 __attribute__((weak));
-extern const struct library library_3 __attribute__((weak));
-extern const struct library library_chosen;
+/* The level of x86-64 that this processor has by the compiler's own means; 0 on another machine. */
+int level_here(void);
 
 /* Finds the builds that this processor can run, library_chosen last, and returns their number. It prints a line for each
    other build, and ends the program if the library has chosen another level than the highest. */
@@ -56,13 +69,21 @@ struct other {
     void (*xor_from_block[LAYOUTS])(int rounds, const uint8_t *key, const uint8_t *nonce, uint64_t block, uint8_t *output,
                                     const uint8_t *input, size_t len);
     void (*hchacha)(int rounds, const uint8_t *key, const uint8_t *input, uint8_t *subkey);
+    void (*encrypt[AEADS])(AEAD_PARAMETERS, uint8_t *tag);
+    void (*poly1305)(const uint8_t *key, const uint8_t *input, size_t len, uint8_t *tag);
 };
+
+/* Writes the address of a library's function to a pointer; 0 if there is none. */
+int look_up(void *handle, const char *name, void *function);
 
 /* What was found on the machine, and how many; it prints a line for each that was or wasn't. */
 int find_others(struct other found[MOST_OTHERS]);
 
 /* Plain C of this folder, written after RFC 8439 and the draft: for what the found ones do not have. */
 extern const struct other plain_c;
+
+/* Its MAC, which can leave out the clamp of the key and the last reduction. */
+void plain_poly1305_but(int is_clamped, int is_reduced, const uint8_t *key, const uint8_t *input, size_t len, uint8_t *tag);
 
 /* What this machine can run. */
 struct machine {
@@ -71,25 +92,5 @@ struct machine {
     struct other others[MOST_OTHERS];
     int other_count;
 };
-
-/* Compares until so many bytes were compared with what was found; returns the exit status. */
-int check(const struct machine *machine, uint64_t seed, uint64_t bytes);
-
-/* Repeats a call that a difference has printed; returns the exit status. */
-int repeat_call(const struct machine *machine, char **words);
-
-/* Whether one of so many turns finds a difference. */
-int turns_find(const struct machine *machine, int turns);
-
-/* Spoils each function of a build; returns how many of these faults no turn finds. */
-int control(const struct machine *machine);
-
-/* Distances, lengths and positions that need more than 32 bits, without so much memory; calls over 4 GiB. They return the
-   number of differences. */
-uint64_t far_apart(const struct machine *machine);
-uint64_t over_4_gib(const struct machine *machine);
-
-/* Prints tables of times; returns the exit status. */
-int time_all(const struct machine *machine, int passes);
 
 #endif

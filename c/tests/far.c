@@ -12,9 +12,9 @@
 #include <sys/mman.h>
 #include <unistd.h>
 
-#include "compare.h"
+#include "check.h"
 
-enum { PAGE = 4096, LARGE = (3 << 20) + 5 };
+enum { LARGE = (3 << 20) + 5 };
 
 #define GIB ((size_t)1 << 30)
 
@@ -22,13 +22,16 @@ static const size_t lengths[] = {1,      2,      63,         64,          4095, 
                                  65536,  1 << 20, (1 << 20) + 1, 3 << 20, 2 * GIB, 4 * GIB - 1, 4 * GIB, 4 * GIB + 1, 5 * GIB};
 static const uint8_t key[32] = {1, 2, 3}, nonce[24] = {4, 5, 6};
 static uint64_t calls, wrong;
+static int is_planted;
 
-static void holds(int fact, const char *what, const char *level, size_t len, size_t apart) {
+static void right_answer(int fact, const char *what, const char *level, size_t len, size_t apart) {
     calls++;
-    if (!fact) wrong++, printf("difference: %s, build %s, length %zu, %zu bytes apart\n", what, level, len, apart);
+    if (fact) return;
+    wrong++;
+    if (!is_planted) printf("difference: %s, build %s, length %zu, %zu bytes apart\n", what, level, len, apart);
 }
 
-static uint8_t *reserve(size_t size) {
+uint8_t *reserve(size_t size) {
     uint8_t *room = mmap(NULL, size, PROT_NONE, MAP_PRIVATE | MAP_ANONYMOUS | MAP_NORESERVE, -1, 0);
     if (room == MAP_FAILED) puts("no room for addresses"), exit(2);
     return room;
@@ -44,11 +47,11 @@ static void refused(const struct library *library, enum layout layout, const str
         for (size_t j = 0; j < sizeof all / sizeof all[0]; j++) {
             uint8_t *other = room + all[j];
             if (all[j] == 0 || all[j] >= len) continue;
-            holds(it->xor(key, nonce, 0, 0, room, other, len) == CHACHA20_REFUSED &&
+            right_answer(it->xor(key, nonce, 0, 0, room, other, len) == CHACHA20_REFUSED &&
                       it->xor(key, nonce, 0, 0, other, room, len) == CHACHA20_REFUSED,
                   "an overlap was taken", library->level, len, all[j]);
         }
-        holds(it->xor(key, nonce, block, offset, room, room, len) == CHACHA20_REFUSED &&
+        right_answer(it->xor(key, nonce, block, offset, room, room, len) == CHACHA20_REFUSED &&
                   it->xor(key, nonce, block, offset, room, room + len, len) == CHACHA20_REFUSED &&
                   it->keystream(key, nonce, block, offset, room, len) == CHACHA20_REFUSED &&
                   library->check[layout](block, offset, len) == CHACHA20_REFUSED &&
@@ -74,7 +77,7 @@ static void taken(const struct library *library, enum layout layout, int at_roun
                    it->xor(key, nonce, 0, 0, other, other, len) == CHACHA20_OK && memcmp(other, room, len) == 0 &&
                    it->keystream(key, nonce, 0, 0, other, len) == CHACHA20_OK && memcmp(other, right, len) == 0 &&
                    it->xor(key, nonce, 0, 0, room, other, len) == CHACHA20_OK && memcmp(room, room + 1, len - 1) == 0;
-        holds(good && room[0] == 0, "buffers that don't overlap", library->level, len, distances[i]);
+        right_answer(good && room[0] == 0, "buffers that don't overlap", library->level, len, distances[i]);
     }
     mprotect(room, 11 * GIB, PROT_NONE);
 }
@@ -85,10 +88,14 @@ static void touched(int number) {
     _exit(1);
 }
 
+void end_where_touched(int is_wanted) {
+    fflush(stdout);
+    signal(SIGSEGV, is_wanted ? touched : SIG_DFL);
+}
+
 uint64_t far_apart(const struct machine *machine) {
     uint8_t *room = reserve(11 * GIB);
-    fflush(stdout);
-    signal(SIGSEGV, touched);
+    end_where_touched(1);
     for (int i = 0; i < machine->build_count; i++) {
         for (int layout = 0; layout < LAYOUTS; layout++) {
             for (int j = 0; j < ROUNDS; j++) {
@@ -99,53 +106,114 @@ uint64_t far_apart(const struct machine *machine) {
             }
         }
     }
-    signal(SIGSEGV, SIG_DFL);
+    end_where_touched(0);
     munmap(room, 11 * GIB);
     printf("far apart: %" PRIu64 " answers, %" PRIu64 " differences\n", calls, wrong);
-    return wrong + (calls < 500);
+    uint64_t before = wrong, is_lost;
+    is_planted = 1, right_answer(0, "a planted answer", "", 0, 0), is_planted = 0;
+    is_lost = wrong != before + 1;
+    if (is_lost) puts("wrong: a planted answer doesn't count");
+    wrong = before;
+    return wrong + is_lost + (calls < 500);
 }
 
 enum { WINDOW = 64 << 20 };
 
+/* Whole blocks: a call may write what is behind them at any time, and the windows show what was written last. */
+enum { WINDOWS = 4096 / 64 + 1, OVER = 64 * 1563, BASE = 0x5a };
+static const size_t len_over = 4 * GIB + OVER, all_windows = (size_t)WINDOWS * WINDOW;
+
 /* Many windows on the same 64 MiB, so that a call goes over them in turn. */
-static uint8_t *windows(size_t count) {
-    uint8_t *room = reserve(count * WINDOW);
+static uint8_t *windows(void) {
+    uint8_t *room = reserve(all_windows);
     int file = memfd_create("windows", 0), good = file >= 0 && ftruncate(file, WINDOW) == 0;
-    for (size_t i = 0; good && i < count; i++) {
+    for (size_t i = 0; good && i < WINDOWS; i++) {
         good = mmap(room + i * WINDOW, WINDOW, PROT_READ | PROT_WRITE, MAP_SHARED | MAP_FIXED, file, 0) != MAP_FAILED;
     }
     if (!good) puts("no memory for 64 MiB"), exit(2);
     return room;
 }
 
+/* What the windows show where the XOR of a stream with bytes has gone over them: the last bytes, and behind them those of the
+   pass before. */
+static int are_last(const uint8_t *room, uint8_t bytes, enum layout layout, int rounds, const struct other *other,
+                    const uint8_t *its_nonce) {
+    static uint8_t right[WINDOW];
+    const size_t blocks = WINDOW / 64;
+    memset(right, bytes, WINDOW);
+    other->xor_from_block[layout](rounds, key, its_nonce, (WINDOWS - 2) * blocks, right, right, WINDOW);
+    memset(right, bytes, OVER);
+    other->xor_from_block[layout](rounds, key, its_nonce, (WINDOWS - 1) * blocks, right, right, OVER);
+    return memcmp(room, right, WINDOW) == 0;
+}
+
+/* In place each pass changes the bytes of the one before. */
+static int are_of_all_passes(const uint8_t *room, const struct other *other) {
+    static uint8_t right[WINDOW];
+    for (size_t i = 0; i < WINDOWS; i++) {
+        other->xor_from_block[IETF](20, key, nonce, i * (WINDOW / 64), right, right, i + 1 < WINDOWS ? WINDOW : OVER);
+    }
+    return memcmp(room, right, WINDOW) == 0;
+}
+
+/* Whether there is memory for a ciphertext, and as much again for others. */
+static int has_memory(void) {
+    return (size_t)sysconf(_SC_AVPHYS_PAGES) * (size_t)sysconf(_SC_PAGESIZE) >= 2 * len_over;
+}
+
+/* Associated data and a text of windows, beside libsodium. A tag depends on the whole ciphertext, so tags stand for it. */
+static void messages_over_4_gib(const struct library *library, const struct other *other, uint8_t *room, const uint8_t *from) {
+    const struct aead *aead = &library->aeads[IETF];
+    uint8_t tag[CHACHA20_TAG_BYTES], right[CHACHA20_TAG_BYTES], *ciphertext;
+    if (!other->encrypt[IETF]) return;
+    other->encrypt[IETF](key, nonce, from, len_over, room, from, 100, right);
+    right_answer(aead->encrypt(key, nonce, from, len_over, room, from, 100, tag) == CHACHA20_OK && memcmp(tag, right, sizeof tag) == 0 &&
+                     aead->decrypt(key, nonce, from, len_over, room, room, 100, tag) == CHACHA20_OK && memcmp(room, from, 100) == 0,
+                 "associated data", "chosen", len_over, 0);
+    if (!has_memory()) {
+        puts("skipped, 8 GiB of memory aren't free: a message of more than 4 GiB");
+        return;
+    }
+    ciphertext = reserve(len_over);
+    if (mprotect(ciphertext, len_over, PROT_READ | PROT_WRITE) != 0) puts("no memory for a ciphertext"), exit(2);
+    other->encrypt[IETF](key, nonce, key, 32, ciphertext, from, len_over, right);
+    right_answer(aead->encrypt(key, nonce, key, 32, ciphertext, from, len_over, tag) == CHACHA20_OK && memcmp(tag, right, sizeof tag) == 0,
+                 "a message", "chosen", len_over, 0);
+    memset(room, 0, WINDOW);
+    right_answer(aead->decrypt(key, nonce, key, 32, room, ciphertext, len_over, right) == CHACHA20_OK && memcmp(room, from, WINDOW) == 0,
+                 "a message between buffers", "chosen", len_over, 0);
+    right_answer(aead->encrypt(key, nonce, key, 32, ciphertext, ciphertext, len_over, tag) == CHACHA20_OK &&
+                     aead->decrypt(key, nonce, key, 32, ciphertext, ciphertext, len_over, tag) == CHACHA20_OK,
+                 "a message in place", "chosen", len_over, 0);
+    munmap(ciphertext, len_over);
+}
+
 uint64_t over_4_gib(const struct machine *machine) {
+    static const uint8_t stream_0[8] = {0};
     const struct library *library = machine->builds[machine->build_count - 1];
-    /* OpenSSL and libsodium have both layouts. */
-    const struct other *others = machine->other_count > 0 ? &machine->others[0] : &plain_c;
-    const size_t count = 4 * GIB / WINDOW + 1, len = 4 * GIB + 100003, blocks = WINDOW / 64;
-    uint8_t *room = windows(count), *right = calloc(1, WINDOW), state[CHACHA_RNG_STATE_BYTES];
-    uint64_t before = wrong, low, high;
-    if (!right) exit(2);
-    holds(library->ciphers[IETF][2].xor(key, nonce, 0, 0, room, room, len) == CHACHA20_OK, "refused", "chosen", len, 0);
-    for (size_t i = 0; i < count; i++) {
-        others->xor_from_block[IETF](20, key, nonce, i * blocks, right, right, i + 1 < count ? WINDOW : len % WINDOW);
+    /* libsodium, the last one, has all layouts. */
+    const struct other *other = machine->other_count > 0 ? &machine->others[machine->other_count - 1] : &plain_c;
+    uint8_t *room = windows(), *from = windows(), state[CHACHA_RNG_STATE_BYTES];
+    uint64_t before = wrong, before_calls = calls, low, high;
+    right_answer(library->ciphers[IETF][2].xor(key, nonce, 0, 0, room, room, len_over) == CHACHA20_OK && are_of_all_passes(room, other),
+          "XOR in place", "chosen", len_over, 0);
+    memset(from, BASE, WINDOW);
+    for (int i = 0; i < LAYOUTS; i++) {
+        const struct cipher *it = &library->ciphers[i][2];
+        right_answer(it->xor(key, nonce, 0, 0, room, from, len_over) == CHACHA20_OK &&
+                  are_last(room, BASE, (enum layout)i, 20, other, nonce), "XOR between buffers", "chosen", len_over, 0);
+        right_answer(it->keystream(key, nonce, 0, 0, room, len_over) == CHACHA20_OK &&
+                  are_last(room, 0, (enum layout)i, 20, other, nonce), "a keystream", "chosen", len_over, 0);
     }
-    holds(memcmp(room, right, WINDOW) == 0, "XOR in place", "chosen", len, 0);
     for (int i = 0; i < ROUNDS; i++) {
-        const struct other *other = i == 2 ? others : &plain_c;
-        const uint8_t stream_0[8] = {0};
-        int rounds = i == 2 ? 20 : 8 + 4 * i;
         library->from_seed(key, state);
-        library->fill[i](state, room, len);
+        library->fill[i](state, room, len_over);
         library->get_word_pos(state, &low, &high);
-        memset(right, 0, WINDOW);
-        other->xor_from_block[LEGACY](rounds, key, stream_0, (count - 2) * blocks, right, right, WINDOW);
-        memset(right, 0, len % WINDOW);
-        other->xor_from_block[LEGACY](rounds, key, stream_0, (count - 1) * blocks, right, right, len % WINDOW);
-        holds(low == (len + 3) / 4 && high == 0 && memcmp(room, right, WINDOW) == 0, "a fill", "chosen", len, 0);
+        right_answer(low == (len_over + 3) / 4 && high == 0 &&
+                  are_last(room, 0, LEGACY, i == 2 ? 20 : 8 + 4 * i, i == 2 ? other : &plain_c, stream_0), "a fill", "chosen", len_over, 0);
     }
-    munmap(room, count * WINDOW);
-    free(right);
-    printf("over 4 GiB: 4 calls of %zu bytes, %" PRIu64 " differences\n", len, wrong - before);
+    messages_over_4_gib(library, other, room, from);
+    munmap(room, all_windows), munmap(from, all_windows);
+    printf("over 4 GiB: %" PRIu64 " calls of %zu bytes, %" PRIu64 " differences\n", calls - before_calls, len_over, wrong - before);
     return wrong - before;
 }

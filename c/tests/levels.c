@@ -6,22 +6,32 @@
 #include <stdint.h>
 #include <stdio.h>
 
-/* What the instruction says of a processor whose highest leaf is 3, and which has all but OSXSAVE: beyond, the same again. */
-static int is_described;
+/* What the instructions say of a processor whose highest leaf is 3, and which has all, or all but OSXSAVE: beyond, the same
+   again. */
+static int is_described, is_xgetbv_run;
+static unsigned bits_of_leaf_1;
 
 static int cpuid_here(unsigned leaf, unsigned *a, unsigned *b, unsigned *c, unsigned *d) {
     if (!is_described) return __get_cpuid_count(leaf, 0, a, b, c, d);
-    *a = *b = *d = UINT32_MAX, *c = UINT32_MAX & ~(1U << 27);
+    *a = *b = *d = UINT32_MAX, *c = bits_of_leaf_1;
     return (leaf & 0x7fffffff) <= 3;
 }
+
+static uint32_t xcr0_here(void);
 #undef __cpuid
 #undef __cpuid_count
 #define __cpuid(LEAF, A, B, C, D) (void)cpuid_here(LEAF, &A, &B, &C, &D)
 #define __cpuid_count(LEAF, SUBLEAF, A, B, C, D) (void)cpuid_here(LEAF, &A, &B, &C, &D)
 #define __get_cpuid(LEAF, A, B, C, D) cpuid_here(LEAF, A, B, C, D)
 #define __get_cpuid_count(LEAF, SUBLEAF, A, B, C, D) cpuid_here(LEAF, A, B, C, D)
+#define READ_XCR0 xcr0_here
 
 #include "../processor.h"
+
+static uint32_t xcr0_here(void) {
+    is_xgetbv_run = 1;
+    return is_described ? 7 : read_xcr0();
+}
 
 struct described {
     const char *name;
@@ -75,12 +85,16 @@ int main(void) {
         int found = x86_64_level(&all[i].processor);
         if (found != all[i].wanted) printf("wrong: %s has level %d\n", all[i].name, found), wrong++;
     }
-    /* compare.c compares it with what the compiler sees. */
+    /* builds.c compares it with what the compiler sees. */
     struct processor here = this_processor();
     printf("this processor: level %d of x86-64\n", x86_64_level(&here));
-    is_described = 1;
-    struct processor lacks_leaf_7 = this_processor();
-    if (lacks_leaf_7.leaf_1_ecx == 0 || lacks_leaf_7.leaf_7_ebx != 0) printf("wrong: leaf 7 where the highest is 3\n"), wrong++;
+    is_described = 1, bits_of_leaf_1 = UINT32_MAX;
+    struct processor whole = this_processor();
+    if (!is_xgetbv_run || whole.xcr0 != SAVES_256) printf("wrong: what the system saves\n"), wrong++;
+    is_xgetbv_run = 0, bits_of_leaf_1 = UINT32_MAX & ~(unsigned)OSXSAVE;
+    struct processor lacks_xgetbv = this_processor();
+    if (is_xgetbv_run || lacks_xgetbv.xcr0 != 0) printf("wrong: xgetbv runs where there is none\n"), wrong++;
+    if (whole.leaf_1_ecx == 0 || whole.leaf_7_ebx != 0) printf("wrong: leaf 7 where the highest is 3\n"), wrong++;
     printf("levels: %d processors, %d wrong\n", count + 1, wrong);
     return wrong != 0 || count < 30;
 }

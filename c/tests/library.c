@@ -3,6 +3,7 @@
    The table of one build. The Makefile compiles it for each build under another name, and links it with the build into one
    object that shows the table alone. */
 
+#include "../../include/chacha20_reduced.h"
 #include "compare.h"
 
 #define CIPHER(NAME, POSITION)                                                                                    \
@@ -26,6 +27,10 @@ CIPHER(xchacha20, ONE_NUMBER)
 CIPHER(chacha20_legacy, TWO_NUMBERS)
 
 static uint32_t ietf_check(uint64_t block, uint64_t offset, size_t len) { return chacha20_check(ONE_NUMBER, len); }
+
+static void words_from_state(void *words, const uint8_t *state) { chacha20_words_from_state(words, state); }
+static uint32_t words_next(void *words) { return chacha20_words_next(words); }
+static void words_to_state(const void *words, uint8_t *state) { chacha20_words_to_state(words, state); }
 
 #define IN_TABLE(NAME) {NAME##_1, NAME##_2}
 
@@ -51,6 +56,12 @@ const struct library LIBRARY = {
     .next_u32 = {chacha8_rng_next_u32, chacha12_rng_next_u32, chacha20_rng_next_u32},
     .next_u64 = {chacha8_rng_next_u64, chacha12_rng_next_u64, chacha20_rng_next_u64},
     .fill = {chacha8_rng_fill, chacha12_rng_fill, chacha20_rng_fill},
+    .aeads = {{chacha20_aead_encrypt, chacha20_aead_decrypt}, {xchacha20_aead_encrypt, xchacha20_aead_decrypt}},
+    .poly1305 = chacha_poly1305,
+    .equal = chacha_equal,
+    .words_from_state = words_from_state,
+    .words_next = words_next,
+    .words_to_state = words_to_state,
     .from_seed = chacha_rng_from_seed,
     .get_word_pos = chacha_rng_get_word_pos,
     .set_word_pos = chacha_rng_set_word_pos,

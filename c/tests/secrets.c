@@ -1,22 +1,25 @@
 /* SPDX-License-Identifier: Apache-2.0 OR MIT
 
-   Run under valgrind's memcheck, with keys, nonces, seeds, stream numbers and data marked as undefined: memcheck then
-   reports each branch and each address that depends on one of them. A branch and an address that are planted show that
-   it would. Lengths, positions, and so the places of words in a generator, aren't secret.
+   Run under valgrind's memcheck, with keys, nonces, seeds, stream numbers, data and tags marked as undefined: memcheck then
+   reports each branch and each address that depends on one of them. A branch that is planted for each of them, and an address,
+   show that it would. Lengths, positions, and so the places of words in a generator, aren't secret; nor is the verdict on a
+   tag: each decryption has one report, wherever the tag is wrong.
 
-   Without memcheck, key, nonce and data are read from stdin, for ./trace, and a branch is planted where there is an argument. */
+   Without memcheck, for ./trace, the secrets are read from stdin. A branch is planted where the argument is `planted`; where
+   it is a letter, one message is decrypted, whose tag is wrong in byte 0 (A) to 15 (P), or right (Q). */
 
 #include <stdio.h>
 #include <string.h>
 #include <unistd.h>
 #include <valgrind/memcheck.h>
 
+#include "../../include/chacha20.h"
 #include "compare.h"
 
-enum { LONGEST = (1 << 16) + 1000 };
+enum { LONGEST = (1 << 16) + 1000, TAG = CHACHA20_TAG_BYTES };
 
-static uint8_t key[32], nonce[24], state[CHACHA_RNG_STATE_BYTES], input[LONGEST], output[LONGEST];
-static unsigned calls, wrong_answers;
+static uint8_t key[32], nonce[24], state[CHACHA_RNG_STATE_BYTES], aad[300], tag[TAG], input[LONGEST], output[LONGEST];
+static unsigned calls, wrong_answers, verdicts, wrong_verdicts;
 
 /* A program that knows no secret may look at an answer. */
 static void done(uint32_t answer) {
@@ -26,6 +29,7 @@ static void done(uint32_t answer) {
 
 static void all_secret(void) {
     (void)VALGRIND_MAKE_MEM_UNDEFINED(key, sizeof key), (void)VALGRIND_MAKE_MEM_UNDEFINED(nonce, sizeof nonce);
+    (void)VALGRIND_MAKE_MEM_UNDEFINED(aad, sizeof aad), (void)VALGRIND_MAKE_MEM_UNDEFINED(tag, sizeof tag);
     (void)VALGRIND_MAKE_MEM_UNDEFINED(input, sizeof input), (void)VALGRIND_MAKE_MEM_UNDEFINED(output, sizeof output);
 }
 
@@ -36,8 +40,34 @@ static void by_cipher(const struct cipher *cipher, uint64_t position, size_t len
     done(cipher->keystream(key, nonce, block, offset, output, len));
 }
 
+/* Of the output, in place or to the input; the tag is wrong in one byte, or right. */
+static void by_decryption(const struct aead *aead, size_t aad_len, size_t len, int is_in_place, int wrong_byte) {
+    unsigned before = VALGRIND_COUNT_ERRORS;
+    if (wrong_byte < TAG) tag[wrong_byte] ^= 0x10;
+    uint32_t answer = aead->decrypt(key, nonce, aad, aad_len, is_in_place ? output : input, output, len, tag);
+    (void)VALGRIND_MAKE_MEM_DEFINED(&answer, sizeof answer);
+    unsigned reports = VALGRIND_COUNT_ERRORS - before;
+    if (wrong_byte < TAG) tag[wrong_byte] ^= 0x10;
+    done(answer == (wrong_byte < TAG ? CHACHA20_REFUSED : CHACHA20_OK) ? CHACHA20_OK : CHACHA20_REFUSED);
+    verdicts++, wrong_verdicts += reports != 1;
+}
+
+static void by_aead(const struct library *library, enum layout layout, size_t aad_len, size_t len) {
+    const struct aead *aead = &library->aeads[layout];
+    done(aead->encrypt(key, nonce, aad, aad_len, output, output, len, tag));
+    for (int i = 0; i < 6; i++) {
+        if (i % 2 == 0) done(aead->encrypt(key, nonce, aad, aad_len, output, input, len, tag));
+        by_decryption(aead, aad_len, len, i % 2, (int[]){TAG, 0, TAG - 1}[i / 2]);
+    }
+    library->poly1305(key, input, len, tag);
+    uint32_t answer = library->equal(input, output, len);
+    (void)VALGRIND_MAKE_MEM_DEFINED(&answer, sizeof answer);
+    calls += 2;
+}
+
 static void by_generator(const struct library *library, int at_rounds, uint64_t position, size_t len) {
     uint64_t low, high, stream = 5;
+    chacha20_words words;
     (void)VALGRIND_MAKE_MEM_UNDEFINED(&stream, sizeof stream);
     memset(state, 0, sizeof state);
     library->from_seed(key, state);
@@ -47,9 +77,12 @@ static void by_generator(const struct library *library, int at_rounds, uint64_t 
     (void)library->next_u32[at_rounds](state);
     (void)library->next_u64[at_rounds](state);
     (void)library->get_stream(state);
+    library->words_from_state(&words, state);
+    (void)library->words_next(&words);
+    library->words_to_state(&words, state);
     library->get_word_pos(state, &low, &high);
     /* The word position isn't secret, and no secret has come into it. */
-    if (high == 1 && low == position + (len + 3) / 4 + 3) calls += 8;
+    if (high == 1 && low == position + (len + 3) / 4 + 4) calls += 11;
     library->set_block_pos(state, library->get_block_pos(state) + 1);
     library->set_stream(state, stream);
     calls += 3;
@@ -71,6 +104,10 @@ static void by_library(const struct library *library, size_t longest) {
                     by_cipher(&library->ciphers[layout][at_rounds], positions[i], len);
                 }
             }
+            for (int layout = 0; layout < AEADS; layout++) {
+                all_secret();
+                by_aead(library, (enum layout)layout, positions[i] % 300, len);
+            }
             for (int at_rounds = 0; at_rounds < ROUNDS; at_rounds++) {
                 all_secret();
                 library->hchacha[at_rounds](key, nonce, output);
@@ -80,28 +117,49 @@ static void by_library(const struct library *library, size_t longest) {
     }
 }
 
+/* For ./trace. */
+static int without_memcheck(const struct library *library, const char *argument) {
+    static volatile uint8_t seen;
+    int is_planted = strcmp(argument, "planted") == 0;
+    if (read(0, key, 32) != 32 || read(0, nonce, 24) != 24 || read(0, aad, 300) != 300 || read(0, input, LONGEST) != LONGEST) return 2;
+    if (argument[0] && !is_planted) {
+        done(library->aeads[IETF].encrypt(key, nonce, aad, 300, output, input, 1000, tag));
+        by_decryption(&library->aeads[IETF], 300, 1000, 1, argument[0] - 'A');
+        return wrong_answers != 0;
+    }
+    by_library(library, 1024);
+    if (is_planted && key[3] & 1) seen = 1;
+    (void)seen;
+    return wrong_answers != 0 || calls < 3000;
+}
+
 int main(int argc, char **argv) {
     static volatile uint8_t table[256], seen;
     const struct library *builds[MOST_BUILDS];
     int build_count = find_builds(builds);
-    (void)argv;
-    if (!RUNNING_ON_VALGRIND) {
-        if (read(0, key, 32) != 32 || read(0, nonce, 24) != 24 || read(0, input, LONGEST) != LONGEST) return 2;
-        by_library(builds[build_count - 1], 1024);
-        if (argc > 1 && key[3] & 1) seen = 1;
-        return wrong_answers != 0 || calls < 3000;
+    if (!RUNNING_ON_VALGRIND) return without_memcheck(builds[build_count - 1], argc > 1 ? argv[1] : "");
+    for (int i = 0; i < build_count; i++) {
+        /* ./verdicts counts the addresses that memcheck reports behind it. */
+        VALGRIND_PRINTF("build %s\n", builds[i]->level);
+        by_library(builds[i], LONGEST);
     }
-    for (int i = 0; i < build_count; i++) by_library(builds[i], LONGEST);
-    unsigned reports = VALGRIND_COUNT_ERRORS;
+    unsigned reports = VALGRIND_COUNT_ERRORS - verdicts;
+    VALGRIND_PRINTF("planted\n");
+    /* The last generator's seed and stream are in its state. */
+    const uint8_t *const marked[] = {key, nonce, aad, tag, input, output, state, state + 32};
+    enum { MARKED = sizeof marked / sizeof marked[0] };
     all_secret();
-    if (key[3] & 1) seen = 1;
-    unsigned of_branch = VALGRIND_COUNT_ERRORS - reports;
+    for (int i = 0; i < MARKED; i++) {
+        if (marked[i][3] & 1) seen = 1;
+    }
+    unsigned of_branches = VALGRIND_COUNT_ERRORS - verdicts - reports;
     seen = table[key[5]];
     (void)seen;
-    unsigned of_address = VALGRIND_COUNT_ERRORS - reports - of_branch;
+    unsigned of_address = VALGRIND_COUNT_ERRORS - verdicts - reports - of_branches;
     printf("secrets,");
     for (int i = 0; i < build_count; i++) printf(" %s", builds[i]->level);
-    printf(": %u calls, %u refused, %u reports; of a planted branch %u, of a planted address %u\n", calls, wrong_answers,
-           reports, of_branch, of_address);
-    return reports != 0 || of_branch != 1 || of_address != 1 || wrong_answers != 0 || calls < 3000 * (unsigned)build_count;
+    printf(": %u calls, %u wrong answers, %u reports; %u verdicts, %u without just one; of planted branches %u, of an address %u\n",
+           calls, wrong_answers, reports, verdicts, wrong_verdicts, of_branches, of_address);
+    return reports != 0 || wrong_verdicts != 0 || of_branches != MARKED || of_address != 1 || wrong_answers != 0 ||
+           calls < 3000 * (unsigned)build_count;
 }

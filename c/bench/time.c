@@ -1,0 +1,269 @@
+/* SPDX-License-Identifier: Apache-2.0 OR MIT
+
+   time [PASSES]: times, all contestants by turns, the making of the cipher included; messages also by libgcrypt and BoringSSL,
+   where the machine has them. A call's time also depends on where its stack and its
+   buffers lie modulo 4096, so each turn has another place. The time at a place is the least of its turns, in processor time,
+   so that what else runs on the machine disturbs it least. Tables have the median and the most of the places. */
+
+#define _GNU_SOURCE
+
+#include <dlfcn.h>
+#include <stdio.h>
+#include <stdlib.h>
+#include <string.h>
+#include <time.h>
+
+#include "../../include/chacha20.h"
+#include "../tests/compare.h"
+
+/* Every multiple of 16 bytes in a page is a place. Long tasks have fewer places. */
+enum { MOST_CONTESTANTS = MOST_BUILDS + MOST_OTHERS + 2, PAGE = 4096, PLACES = PAGE / 16, FEW_PLACES = 16 };
+
+/* What is timed: a cipher or a message with 13 bytes of associated data, so many bytes in place, or between buffers. */
+static const struct task {
+    const char *name;
+    size_t len;
+    int is_between, is_message;
+} tasks[] = {
+    {"16 bytes", 16, 0, 0}, {"64 bytes", 64, 0, 0}, {"256 bytes", 256, 0, 0}, {"512 bytes", 512, 0, 0}, {"576 bytes", 576, 0, 0},
+    {"1024 bytes", 1024, 0, 0}, {"1500 bytes", 1500, 0, 0}, {"4096 bytes", 4096, 0, 0}, {"64 KiB", 64 << 10, 0, 0},
+    {"1 MiB", 1 << 20, 0, 0}, {"64 bytes, two buffers", 64, 1, 0}, {"512 bytes, two buffers", 512, 1, 0},
+    {"1500 bytes, two buffers", 1500, 1, 0}, {"4096 bytes, two buffers", 4096, 1, 0}, {"64 KiB, two buffers", 64 << 10, 1, 0},
+    {"1 MiB, two buffers", 1 << 20, 1, 0}, {"a message of 0 bytes", 0, 0, 1}, {"of 16 bytes", 16, 0, 1}, {"of 64 bytes", 64, 0, 1},
+    {"of 256 bytes", 256, 0, 1}, {"of 512 bytes", 512, 0, 1}, {"of 1024 bytes", 1024, 0, 1}, {"of 1500 bytes", 1500, 0, 1},
+    {"of 4096 bytes", 4096, 0, 1}, {"of 64 KiB", 64 << 10, 0, 1}, {"of 1 MiB", 1 << 20, 0, 1},
+    {"of 64 bytes, two buffers", 64, 1, 1}, {"of 1500 bytes, two buffers", 1500, 1, 1}, {"of 4096 bytes, two buffers", 4096, 1, 1},
+    {"of 64 KiB, two buffers", 64 << 10, 1, 1}};
+
+enum { TASKS = sizeof tasks / sizeof tasks[0] };
+
+/* The most bytes, a page to move them in, and room for a tag. */
+enum { ROOM = (1 << 20) + 2 * PAGE };
+
+static uint8_t *output_room, *input_room;
+
+/* A build of the library or another implementation. */
+struct contestant {
+    const char *name;
+    const struct library *library;
+    const struct other *other;
+};
+
+static const uint8_t key[32] = {1, 2, 3}, nonce[12] = {4, 5, 6};
+
+static double seconds(void) {
+    struct timespec now;
+    clock_gettime(CLOCK_PROCESS_CPUTIME_ID, &now);
+    return (double)now.tv_sec + 1e-9 * (double)now.tv_nsec;
+}
+
+static void call(const struct contestant *it, const struct task *task, uint8_t *output, const uint8_t *input) {
+    static const uint8_t aad[13] = {7};
+    const uint8_t *from = task->is_between ? input : output;
+    uint8_t *tag = output + task->len;
+    uint32_t answer = CHACHA20_OK;
+    if (it->other) {
+        if (task->is_message) it->other->encrypt[IETF](key, nonce, aad, sizeof aad, output, from, task->len, tag);
+        else it->other->xor_from_block[IETF](20, key, nonce, 0, output, from, task->len);
+    } else if (task->is_message) {
+        answer = it->library->aeads[IETF].encrypt(key, nonce, aad, sizeof aad, output, from, task->len, tag);
+    } else {
+        answer = it->library->ciphers[IETF][2].xor(key, nonce, 0, 0, output, from, task->len);
+    }
+    if (answer != CHACHA20_OK) abort();
+}
+
+static int has(const struct contestant *it, const struct task *task) {
+    return !it->other || (task->is_message ? it->other->encrypt[IETF] != NULL : it->other->xor_from_block[IETF] != NULL);
+}
+
+/* The time of a call at a place, which moves the stack by a multiple of 16 bytes and each buffer by one of 64. A call before
+   them brings code and data near. */
+static double calls_here(const struct contestant *it, const struct task *task, int place, int calls) {
+    volatile uint8_t moved[80 * place + 1];
+    uint8_t *output = output_room + 64 * (30 * place % (PAGE / 64));
+    const uint8_t *input = input_room + 64 * (44 * place % (PAGE / 64));
+    moved[0] = 0;
+    if (calls > 1) call(it, task, output, input);
+    double begin = seconds();
+    for (int i = 0; i < calls; i++) call(it, task, output, input);
+    return (seconds() - begin) * 1e9 / calls + moved[0];
+}
+
+/* The least time of each contestant at each place. */
+static double times[TASKS][MOST_CONTESTANTS][PLACES];
+
+static int places_of(int task) { return tasks[task].len >= 1 << 20 ? FEW_PLACES : PLACES; }
+
+/* A turn at each place, of which each begins with another contestant. */
+static void take_turns(const struct contestant *all, int count, int task) {
+    int calls[MOST_CONTESTANTS];
+    for (int i = 0; i < count; i++) {
+        if (!has(&all[i], &tasks[task])) continue;
+        calls_here(&all[i], &tasks[task], 0, 1);
+        calls[i] = (int)(1 + 1e5 / (1 + calls_here(&all[i], &tasks[task], 0, 1)));
+    }
+    for (int place = 0; place < places_of(task); place++) {
+        for (int i = 0; i < count; i++) {
+            int at = (place + i) % count;
+            if (!has(&all[at], &tasks[task])) continue;
+            double *least = &times[task][at][place], time = calls_here(&all[at], &tasks[task], place, calls[at]);
+            if (*least == 0 || time < *least) *least = time;
+        }
+    }
+}
+
+static int is_less(const void *one, const void *other) {
+    double x = *(const double *)one, y = *(const double *)other;
+    return (x > y) - (x < y);
+}
+
+static void print_head(const char *first, const struct contestant *all, int count) {
+    printf("\n| %s |", first);
+    for (int i = 0; i < count; i++) printf(" %s |", all[i].name);
+    printf("\n|");
+    for (int i = 0; i <= count; i++) printf("---|");
+    putchar('\n');
+}
+
+/* libgcrypt and BoringSSL have messages alone. Each takes the key and the nonce in each call, as the library does. */
+static void *gcrypt_cipher;
+static unsigned (*gcrypt_set_key)(void *, const void *, size_t), (*gcrypt_set_nonce)(void *, const void *, size_t);
+static unsigned (*gcrypt_add)(void *, const void *, size_t), (*gcrypt_tag)(void *, void *, size_t);
+static unsigned (*gcrypt_encrypt)(void *, void *, size_t, const void *, size_t);
+
+static void by_gcrypt(AEAD_PARAMETERS, uint8_t *tag) {
+    if (gcrypt_set_key(gcrypt_cipher, key, 32) || gcrypt_set_nonce(gcrypt_cipher, nonce, 12) || gcrypt_add(gcrypt_cipher, aad, aad_len) ||
+        gcrypt_encrypt(gcrypt_cipher, output, len, input == output ? NULL : input, input == output ? 0 : len) ||
+        gcrypt_tag(gcrypt_cipher, tag, 16))
+        abort();
+}
+
+static int find_gcrypt(struct other *found) {
+    enum { CHACHA20 = 316, POLY1305 = 10 };
+    void *handle = dlopen("libgcrypt.so.20", RTLD_NOW | RTLD_LOCAL);
+    const char *(*version)(const char *) = NULL;
+    unsigned (*open)(void **, int, int, unsigned) = NULL;
+    if (!handle || !look_up(handle, "gcry_check_version", &version) || !look_up(handle, "gcry_cipher_open", &open) ||
+        !look_up(handle, "gcry_cipher_setkey", &gcrypt_set_key) || !look_up(handle, "gcry_cipher_setiv", &gcrypt_set_nonce) ||
+        !look_up(handle, "gcry_cipher_authenticate", &gcrypt_add) || !look_up(handle, "gcry_cipher_gettag", &gcrypt_tag) ||
+        !look_up(handle, "gcry_cipher_encrypt", &gcrypt_encrypt) || !version(NULL) || open(&gcrypt_cipher, CHACHA20, POLY1305, 0) != 0)
+        return puts("not found: libgcrypt"), 0;
+    printf("found: libgcrypt %s\n", version(NULL));
+    *found = (struct other){.name = "libgcrypt", .encrypt = {[IETF] = by_gcrypt}};
+    return 1;
+}
+
+static void *(*boringssl_new)(const void *, const uint8_t *, size_t, size_t);
+static void (*boringssl_free)(void *);
+static const void *(*boringssl_aead)(void);
+static int (*boringssl_seal)(const void *, uint8_t *, size_t *, size_t, const uint8_t *, size_t, const uint8_t *, size_t,
+                             const uint8_t *, size_t);
+
+/* It writes the tag behind the ciphertext, where the tag stands here too. */
+static void by_boringssl(AEAD_PARAMETERS, uint8_t *tag) {
+    size_t done;
+    void *context = boringssl_new(boringssl_aead(), key, 32, 16);
+    if (tag != output + len || !boringssl_seal(context, output, &done, len + 16, nonce, 12, input, len, aad, aad_len)) abort();
+    boringssl_free(context);
+}
+
+/* In a name space of its own, since OpenSSL's library has its names. */
+static int find_boringssl(struct other *found) {
+    void *handle = dlmopen(LM_ID_NEWLM, "/usr/lib/x86_64-linux-gnu/android/libcrypto.so.0", RTLD_NOW);
+    if (!handle || !look_up(handle, "EVP_AEAD_CTX_new", &boringssl_new) || !look_up(handle, "EVP_AEAD_CTX_free", &boringssl_free) ||
+        !look_up(handle, "EVP_aead_chacha20_poly1305", &boringssl_aead) || !look_up(handle, "EVP_AEAD_CTX_seal", &boringssl_seal))
+        return puts("not found: BoringSSL (android-libboringssl)"), 0;
+    puts("found: BoringSSL");
+    *found = (struct other){.name = "BoringSSL", .encrypt = {[IETF] = by_boringssl}};
+    return 1;
+}
+
+/* The contestants, and the one by whose time the others' are divided: libsodium, if it is found. */
+static int gather(const struct machine *machine, struct contestant *all, int *base) {
+    static struct other more[2];
+    int count = 0, more_count = find_gcrypt(more);
+    more_count += find_boringssl(more + more_count);
+    for (int i = 0; i < machine->build_count; i++) all[count++] = (struct contestant){machine->builds[i]->level, machine->builds[i], NULL};
+    for (int i = 0; i < machine->other_count; i++) all[count++] = (struct contestant){machine->others[i].name, NULL, &machine->others[i]};
+    *base = count - 1;
+    for (int i = 0; i < more_count; i++) all[count++] = (struct contestant){more[i].name, NULL, &more[i]};
+    return count;
+}
+
+/* The median in nanoseconds; then median and most, divided by the base's median. */
+static void print_times(const struct contestant *all, int count, int base) {
+    for (int task = 0; task < TASKS; task++) {
+        for (int i = 0; i < count; i++) qsort(times[task][i], (size_t)places_of(task), sizeof(double), is_less);
+    }
+    for (int is_share = 0; is_share < 2; is_share++) {
+        if (is_share) printf("\nmedian and most, divided by the median of %s", all[base].name);
+        print_head(is_share ? "" : "nanoseconds a call, median of the places", all, count);
+        for (int task = 0; task < TASKS; task++) {
+            int middle = places_of(task) / 2, most = places_of(task) - 1;
+            double by = times[task][base][middle];
+            printf("| %s |", tasks[task].name);
+            for (int i = 0; i < count; i++) {
+                const double *time = times[task][i];
+                if (!has(&all[i], &tasks[task])) printf(" |");
+                else if (is_share) printf(" %.2f, %.2f |", time[middle] / by, time[most] / by);
+                else printf(" %.0f |", time[middle]);
+            }
+            putchar('\n');
+        }
+    }
+}
+
+/* The least time of 64 words of a generator: one by one, from an array of words, or in a fill. */
+enum words { ONE_BY_ONE, FROM_ARRAY, BY_FILL, WAYS };
+
+static double time_of_words(const struct library *library, enum words way, int turns) {
+    static volatile uint32_t sum;
+    static chacha20_words words;
+    double least = 1e18;
+    for (int turn = 0; turn < turns; turn++) {
+        double begin = seconds(), time;
+        for (int calls = 0; calls < 20; calls++) {
+            if (way == BY_FILL) library->fill[2](output_room, output_room + 64, 256);
+            for (int i = 0; i < 64 && way == ONE_BY_ONE; i++) sum ^= library->next_u32[2](output_room);
+            for (int i = 0; i < 64 && way == FROM_ARRAY; i++) sum ^= library->words_next(&words);
+        }
+        time = seconds() - begin;
+        if (time < least) least = time;
+    }
+    return least;
+}
+
+static void time_words(const struct contestant *all, int count, int turns) {
+    static const char *const names[WAYS] = {"chacha20_rng_next_u32", "chacha20_words_next", "a fill of 256 bytes"};
+    print_head("nanoseconds a word", all, count);
+    for (int way = 0; way < WAYS; way++) {
+        printf("| %s |", names[way]);
+        for (int i = 0; i < count; i++) printf(" %.1f |", time_of_words(all[i].library, (enum words)way, turns) * 1e9 / (20 * 64));
+        putchar('\n');
+    }
+}
+
+int main(int argc, char **argv) {
+    struct machine machine = {.build_count = 0};
+    struct contestant all[MOST_CONTESTANTS];
+    int passes = argc > 1 ? atoi(argv[1]) : 32, base = 0;
+    machine.build_count = find_builds(machine.builds);
+    machine.other_count = find_others(machine.others);
+    int count = gather(&machine, all, &base);
+    output_room = aligned_alloc(PAGE, ROOM), input_room = aligned_alloc(PAGE, ROOM);
+    if (passes < 1 || !output_room || !input_room) return 2;
+    memset(output_room, 0, ROOM), memset(input_room, 0, ROOM);
+    /* A task has its turns over the whole time, so that a minute in which the machine is busy isn't that of one task. */
+    for (int pass = 0; pass < passes; pass++) {
+        for (int task = 0; task < TASKS; task++) {
+            if (tasks[task].len < 1 << 20 || pass % 8 == 0) take_turns(all, count, task);
+        }
+    }
+    printf("\nChaCha20 and ChaCha20-Poly1305, in place but where two buffers are named: %d turns at each of %d places; from 1 MiB on %d places\n", passes,
+           PLACES, FEW_PLACES);
+    print_times(all, count, base);
+    time_words(all, machine.build_count, 256 * passes);
+    free(output_room), free(input_room);
+    return 0;
+}

@@ -1,0 +1,275 @@
+/* SPDX-License-Identifier: Apache-2.0 OR MIT
+
+   Authenticated encryption: random messages beside other implementations, and forgeries of them; each length up to 300 with
+   each of the associated data up to 40; each bit of a tag; sums around 2^130 - 5; forgeries into pages that can't be written;
+   overlaps and lengths that are refused. */
+
+#define _DEFAULT_SOURCE
+
+#include <stdio.h>
+#include <stdlib.h>
+#include <string.h>
+#include <sys/mman.h>
+
+#include "check.h"
+
+enum { TAG = CHACHA20_TAG_BYTES, MOST_AAD = 3000 };
+
+static const size_t nonce_len[AEADS] = {12, 24};
+
+/* A message by another implementation: the text is in |input|, the ciphertext in |expected|. */
+struct sealed {
+    enum layout layout;
+    uint8_t key[32], nonce[24], aad[MOST_AAD], tag[TAG];
+    size_t aad_len, len;
+};
+
+static void seal_by_other(struct run *run, struct sealed *it) {
+    const struct machine *machine = run->machine;
+    const struct other *other = &plain_c;
+    int first = machine->other_count > 0 ? (int)below(run, (uint64_t)machine->other_count) : 0;
+    for (int i = 0; i < machine->other_count && other == &plain_c; i++) {
+        const struct other *one = &machine->others[(first + i) % machine->other_count];
+        if (one->encrypt[it->layout]) other = one;
+    }
+    other->encrypt[it->layout](it->key, it->nonce, it->aad, it->aad_len, expected, input, it->len, it->tag);
+}
+
+/* In place, or between buffers of which the output is first filled. Of length 0 buffers are null. */
+static uint32_t encrypt(const struct library *library, const struct sealed *it, int is_in_place, uint8_t *tag) {
+    uint8_t *output = it->len ? made : NULL;
+    if (is_in_place) memcpy(made, input, it->len);
+    else memset(made, 0x55, it->len);
+    return library->aeads[it->layout].encrypt(it->key, it->nonce, it->aad_len ? it->aad : NULL, it->aad_len, output,
+                                              is_in_place || !it->len ? output : input, it->len, tag);
+}
+
+static uint32_t decrypt(const struct library *library, const struct sealed *it, int is_in_place, const uint8_t *ciphertext) {
+    uint8_t *output = it->len ? made : NULL;
+    if (is_in_place) memcpy(made, ciphertext, it->len);
+    else memset(made, 0x55, it->len);
+    return library->aeads[it->layout].decrypt(it->key, it->nonce, it->aad_len ? it->aad : NULL, it->aad_len, output,
+                                              is_in_place || !it->len ? output : ciphertext, it->len, it->tag);
+}
+
+static void is_right(struct run *run, const struct library *library, const struct sealed *it, int is_in_place) {
+    uint8_t tag[TAG];
+    holds(run, encrypt(library, it, is_in_place, tag) == CHACHA20_OK, "a message wasn't encrypted");
+    same_bytes(run, made, expected, it->len, "a ciphertext");
+    same_bytes(run, tag, it->tag, TAG, "a tag");
+    holds(run, decrypt(library, it, is_in_place, expected) == CHACHA20_OK, "a right tag was refused");
+    same_bytes(run, made, input, it->len, "a decrypted text");
+}
+
+/* A refused message leaves what was there. */
+static void is_refused(struct run *run, const struct library *library, const struct sealed *it, int is_in_place,
+                       const uint8_t *ciphertext) {
+    size_t changed = 0;
+    holds(run, decrypt(library, it, is_in_place, ciphertext) == CHACHA20_REFUSED, "a forgery was taken");
+    for (size_t i = 0; i < it->len; i++) changed += made[i] != (is_in_place ? ciphertext[i] : 0x55);
+    holds(run, changed == 0, "a forgery was written");
+}
+
+/* A bit of one of what the tag depends on is wrong. */
+static void forge(struct run *run, struct sealed *it) {
+    const struct {
+        uint8_t *bytes;
+        size_t len;
+    } parts[] = {{it->tag, TAG}, {it->key, 32}, {it->nonce, nonce_len[it->layout]}, {it->aad, it->aad_len}, {expected, it->len}};
+    size_t which = below(run, sizeof parts / sizeof parts[0]), at = parts[which].len > 0 ? which : 0;
+    parts[at].bytes[below(run, parts[at].len)] ^= (uint8_t)(1 << below(run, 8));
+    is_refused(run, any_build(run), it, (int)below(run, 2), expected);
+}
+
+void one_sealed(struct run *run) {
+    struct sealed it = {.layout = (enum layout)below(run, AEADS), .len = random_length(run)};
+    it.aad_len = below(run, below(run, 4) ? 70 : MOST_AAD + 1);
+    random_bytes(run, it.key, sizeof it.key), random_bytes(run, it.nonce, sizeof it.nonce);
+    random_bytes(run, it.aad, it.aad_len), random_bytes(run, input, it.len < 512 ? it.len : 512);
+    seal_by_other(run, &it);
+    is_right(run, any_build(run), &it, (int)below(run, 2));
+    forge(run, &it);
+}
+
+/* Two blocks, and blocks of zeros before them, whose sum under a key of 1 is close to 2^130 - 5: an accumulator that isn't
+   reduced at the end, or once too often, makes a wrong tag. */
+static size_t close_to_prime(struct run *run, uint8_t *key, uint8_t *text) {
+    size_t before = 64 * below(run, 9);
+    memset(key, 0, 16), key[0] = 1;
+    memset(text, 0, before), memset(text + before, 255, 32);
+    text[before] = (uint8_t)(255 - below(run, 30));
+    return before + 32;
+}
+
+/* The MAC alone, under any key, and the comparison of tags. */
+void one_tag(struct run *run) {
+    const struct machine *machine = run->machine;
+    const struct other *other = &plain_c;
+    uint8_t key[32], right[TAG], tag[TAG];
+    int kind = (int)below(run, 4);
+    size_t len = below(run, 3000);
+    for (int i = 0; i < machine->other_count; i++) {
+        if (machine->others[i].poly1305 && below(run, 2)) other = &machine->others[i];
+    }
+    random_bytes(run, key, sizeof key), random_bytes(run, input, len);
+    if (kind == 0) len = close_to_prime(run, key, input);
+    if (kind == 1) memset(key, 255, 16), memset(input, 255, len);
+    other->poly1305(key, input, len, right);
+    any_build(run)->poly1305(key, len ? input : NULL, len, tag);
+    same_bytes(run, tag, right, TAG, "a MAC");
+    size_t compared = below(run, 100), at = below(run, compared + 1);
+    memcpy(made, input, compared);
+    holds(run, any_build(run)->equal(input, made, compared) == 1, "equal bytes");
+    made[at] ^= (uint8_t)(1 << below(run, 8));
+    holds(run, any_build(run)->equal(made, input, compared) == (at == compared), "unequal bytes");
+}
+
+/* A message by plain C, with each bit of the tag wrong. */
+static void each_bit_of_a_tag(struct run *run, const struct library *library, struct sealed *it) {
+    for (int bit = 0; bit < 8 * TAG; bit++) {
+        it->tag[bit / 8] ^= (uint8_t)(1 << bit % 8);
+        is_refused(run, library, it, bit % 2, expected);
+        is_refused(run, library, it, !(bit % 2), expected);
+        it->tag[bit / 8] ^= (uint8_t)(1 << bit % 8);
+    }
+}
+
+/* Data and ciphertext stand behind each other, so that the border between them can be moved by a byte each way. */
+static void moved_border(struct run *run, const struct library *library, struct sealed *it, int is_in_place) {
+    static uint8_t both[400];
+    struct sealed moved = *it;
+    memcpy(both, it->aad, it->aad_len), memcpy(both + it->aad_len, expected, it->len);
+    for (int by = -1; by <= 1; by += 2) {
+        if (by < 0 ? it->aad_len == 0 : it->len == 0) continue;
+        moved.aad_len = it->aad_len + (size_t)by, moved.len = it->len - (size_t)by;
+        memcpy(moved.aad, both, moved.aad_len);
+        is_refused(run, library, &moved, is_in_place, both + moved.aad_len);
+    }
+}
+
+void sealed_by_each_length(struct run *run, const struct library *library) {
+    static struct sealed it;
+    random_bytes(run, it.key, sizeof it.key), random_bytes(run, it.nonce, sizeof it.nonce), random_bytes(run, it.aad, 41);
+    for (it.len = 0; it.len <= 300; it.len++) {
+        for (it.aad_len = 0; it.aad_len <= 40; it.aad_len++) {
+            it.layout = (enum layout)((it.len + it.aad_len) % AEADS);
+            it.nonce[0]++;
+            seal_by_other(run, &it);
+            is_right(run, library, &it, it.aad_len % 2), is_right(run, library, &it, !(it.aad_len % 2));
+            moved_border(run, library, &it, it.len % 2);
+        }
+    }
+    for (int i = 0; i < 4 * AEADS; i++) {
+        it.layout = (enum layout)(i % AEADS), it.len = (size_t[]){0, 15, 64, 1000}[i / AEADS], it.aad_len = (size_t)i;
+        seal_by_other(run, &it);
+        each_bit_of_a_tag(run, library, &it);
+    }
+}
+
+/* A forgery in place on a page that can't be written, and from there to one that can't be touched. */
+static void forged_at_pages(struct run *run, const struct library *library, struct sealed *it, uint8_t *room) {
+    const struct aead *aead = &library->aeads[it->layout];
+    uint8_t *page = room + PAGE, *beyond = room + 4 * PAGE;
+    mprotect(page, 2 * PAGE, PROT_READ | PROT_WRITE);
+    memcpy(page, expected, it->len);
+    mprotect(page, 2 * PAGE, PROT_READ);
+    for (int at = 0; at < TAG; at++) {
+        it->tag[at] ^= 0x80;
+        holds(run, aead->decrypt(it->key, it->nonce, it->aad, it->aad_len, page, page, it->len, it->tag) == CHACHA20_REFUSED &&
+                       aead->decrypt(it->key, it->nonce, it->aad, it->aad_len, beyond, page, it->len, it->tag) == CHACHA20_REFUSED,
+              "a forgery at a page was taken");
+        it->tag[at] ^= 0x80;
+    }
+}
+
+/* Lengths that no message has, wrapped ones too, and large overlaps, all on pages that can't be touched. */
+static void refused_lengths(struct run *run, const struct aead *aead, uint8_t *room) {
+    static const size_t gib = (size_t)1 << 30;
+    const uint8_t *key = room, *nonce = room + 32, *aad = room + 64;
+    const size_t lengths[] = {CHACHA20_AEAD_LONGEST + 1, CHACHA20_STREAM_BYTES, (size_t)1 << 39, (size_t)1 << 63, 0 - (size_t)64,
+                              0 - (size_t)16, 0 - (size_t)1};
+    const size_t overlaps[][2] = {{2 * gib, gib}, {4 * gib + 1, 4 * gib}, {5 * gib, 4 * gib}, {5 * gib, 1}};
+    uint8_t *tag = room + 128, *output = room + PAGE, *other = room + 6 * gib;
+    for (size_t i = 0; i < sizeof lengths / sizeof lengths[0]; i++) {
+        size_t len = lengths[i], aad_len = len > PTRDIFF_MAX ? len : (size_t)PTRDIFF_MAX + 1;
+        holds(run, aead->encrypt(key, nonce, aad, 8, output, output, len, tag) == CHACHA20_REFUSED &&
+                       aead->encrypt(key, nonce, aad, 8, output, other, len, tag) == CHACHA20_REFUSED &&
+                       aead->encrypt(key, nonce, aad, aad_len, output, output, 8, tag) == CHACHA20_REFUSED &&
+                       aead->decrypt(key, nonce, aad, 8, output, output, len, tag) == CHACHA20_REFUSED &&
+                       aead->decrypt(key, nonce, aad, 8, output, other, len, tag) == CHACHA20_REFUSED &&
+                       aead->decrypt(key, nonce, aad, aad_len, output, output, 8, tag) == CHACHA20_REFUSED,
+              "a length that no message has was taken");
+    }
+    for (size_t i = 0; i < sizeof overlaps / sizeof overlaps[0]; i++) {
+        size_t len = overlaps[i][0], by = overlaps[i][1];
+        holds(run, aead->encrypt(key, nonce, aad, 8, output, output + by, len, tag) == CHACHA20_REFUSED &&
+                       aead->encrypt(key, nonce, aad, 8, output + by, output, len, tag) == CHACHA20_REFUSED &&
+                       aead->decrypt(key, nonce, aad, 8, output, output + by, len, tag) == CHACHA20_REFUSED &&
+                       aead->decrypt(key, nonce, aad, 8, output + by, output, len, tag) == CHACHA20_REFUSED,
+              "a large overlap was taken");
+    }
+}
+
+/* What a call is given, each part at its place in one room. */
+enum part { KEY, NONCE, AAD, INPUT, OUTPUT, ITS_TAG, PARTS };
+
+/* Two parts with so many bytes from the first one's begin to the second one's; the others lie far away, and a part of length
+   0 or the same text in place overlaps nothing. Where a call must be taken, its bytes must be right. */
+static void two_parts(struct run *run, const struct library *library, struct sealed *it, int is_encrypt, enum part one, enum part other,
+                      ptrdiff_t apart) {
+    static uint8_t room[8 * 1024], before[8 * 1024];
+    const size_t len[PARTS] = {32, nonce_len[it->layout], it->aad_len, it->len, it->len, TAG};
+    const struct aead *aead = &library->aeads[it->layout];
+    const uint8_t *const from[PARTS] = {it->key, it->nonce, it->aad, is_encrypt ? input : expected};
+    uint8_t *at[PARTS];
+    for (int i = 0; i < PARTS; i++) at[i] = room + 1024 * (i + 1);
+    at[other] = at[one] + apart;
+    int is_apart = apart >= (ptrdiff_t)len[one] || -apart >= (ptrdiff_t)len[other] || len[one] == 0 || len[other] == 0;
+    int is_in_place = one == OUTPUT && other == INPUT && apart == 0;
+    memset(room, 0x55, sizeof room);
+    for (int i = 0; i < PARTS; i++) {
+        if (from[i]) memcpy(at[i], from[i], len[i]);
+    }
+    if (!is_encrypt) memcpy(at[ITS_TAG], it->tag, TAG);
+    memcpy(before, room, sizeof room);
+    uint32_t answer = (is_encrypt ? aead->encrypt(at[KEY], at[NONCE], at[AAD], len[AAD], at[OUTPUT], at[INPUT], it->len, at[ITS_TAG])
+                                  : aead->decrypt(at[KEY], at[NONCE], at[AAD], len[AAD], at[OUTPUT], at[INPUT], it->len, at[ITS_TAG]));
+    int is_taken = is_apart || is_in_place;
+    holds(run, answer == (is_taken ? CHACHA20_OK : CHACHA20_REFUSED), is_taken ? "parts that don't overlap" : "an overlap");
+    if (!is_taken) same_bytes(run, room, before, sizeof room, "an overlap was refused and written");
+    if (is_taken) same_bytes(run, at[OUTPUT], is_encrypt ? expected : input, it->len, "parts beside each other");
+    if (is_taken && is_encrypt) same_bytes(run, at[ITS_TAG], it->tag, TAG, "a tag beside another part");
+}
+
+/* The output and the tag that is written, with each other part: before it, behind it, and sharing a byte or more. */
+static void overlaps(struct run *run, const struct library *library, struct sealed *it) {
+    for (int i = 0; i < 2 * PARTS * PARTS; i++) {
+        int is_encrypt = i % 2, one = i / 2 / PARTS, other = i / 2 % PARTS;
+        const ptrdiff_t len[PARTS] = {32, (ptrdiff_t)nonce_len[it->layout], (ptrdiff_t)it->aad_len, (ptrdiff_t)it->len,
+                                      (ptrdiff_t)it->len, TAG};
+        if (one == other || (one != OUTPUT && (one != ITS_TAG || !is_encrypt))) continue;
+        const ptrdiff_t all[] = {-len[other], 1 - len[other], -1, 0, 1, len[one] - 1, len[one]};
+        for (size_t j = 0; j < sizeof all / sizeof all[0]; j++) {
+            two_parts(run, library, it, is_encrypt, (enum part)one, (enum part)other, all[j]);
+        }
+    }
+}
+
+void sealed_at_pages(struct run *run, const struct library *library) {
+    static const size_t lengths[][2] = {{0, 5}, {1, 0}, {16, 13}, {100, 16}, {300, 1}};
+    static struct sealed it;
+    const size_t size = (size_t)12 << 30;
+    uint8_t *room = reserve(size);
+    random_bytes(run, it.key, sizeof it.key), random_bytes(run, it.nonce, sizeof it.nonce), random_bytes(run, it.aad, 16);
+    end_where_touched(1);
+    for (size_t i = 0; i < AEADS * sizeof lengths / sizeof lengths[0]; i++) {
+        it.layout = (enum layout)(i % AEADS), it.len = lengths[i / AEADS][0], it.aad_len = lengths[i / AEADS][1];
+        it.nonce[0]++;
+        seal_by_other(run, &it);
+        overlaps(run, library, &it);
+        if (it.len > 0) forged_at_pages(run, library, &it, room);
+        refused_lengths(run, &library->aeads[it.layout], room + 8 * PAGE);
+    }
+    end_where_touched(0);
+    munmap(room, size);
+}
