@@ -162,8 +162,8 @@ void chacha_poly1305(const uint8_t key[32], const uint8_t *input, size_t len,
    differ: compare tags by it, not by memcmp. */
 uint32_t chacha_equal(const uint8_t *one, const uint8_t *other, size_t len) CHACHA20_EQUAL;
 
-/* chacha_wipe_stack overwrites the CHACHA20_DEEPEST bytes of the stack below its caller, where calls
-   from the same function left copies of keys and keystream. */
+/* chacha_wipe_stack overwrites the stack below its caller, as deep as other calls of the caller left copies
+   of keys and keystream. Call it from the function that made these calls. */
 void chacha_wipe_stack(void);
 
 /* Ciphers */
