@@ -493,6 +493,7 @@ static int check(const struct machine *machine, uint64_t seed, uint64_t bytes) {
     struct run run = {.machine = machine, .random = 1};
     const uint64_t *done = machine->other_count > 0 ? &run.bytes_beside_found : &run.bytes_beside_plain;
     uint64_t calls = 0, few = 0;
+    int found = 0;
     random_bytes(&run, input, sizeof input);
     for (int i = 0; i < machine->build_count; i++) {
         at_edges(&run, machine->builds[i]);
@@ -508,13 +509,13 @@ static int check(const struct machine *machine, uint64_t seed, uint64_t bytes) {
     for (int i = 0; i < KINDS; i++) few += run.cases[i] < LEAST_CASES;
     if (few > 0) puts("wrong: too few cases of a kind, or too few calls of a build");
     if (machine->other_count > 0) printf("8 and 12 rounds, beside plain C: %" PRIu64 " bytes\n", run.bytes_beside_plain);
-    int is_judge = controls_found(machine) == CONTROLS;
+    found = controls_found(machine);
     printf("check, seed %" PRIu64 ":", seed);
     for (int i = 0; i < machine->build_count; i++) printf(" %s", machine->builds[i]->level);
     printf(" in %" PRIu64 " calls; %" PRIu64 " bytes beside", calls, *done);
     for (int i = 0; i < machine->other_count; i++) printf("%s %s", i ? " and" : "", machine->others[i].name);
     printf("%s, %" PRIu64 " differences\n", machine->other_count ? "" : " plain C", run.differences);
-    return !is_judge || few > 0 || run.differences > 0;
+    return found != CONTROLS || few > 0 || run.differences > 0;
 }
 
 int main(int argc, char **argv) {
