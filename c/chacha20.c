@@ -60,7 +60,7 @@ enum {
     CHACHA_IN_PLACE = 0, CHACHA_BETWEEN = 0, CHACHA_KEYSTREAM = 16,
     XCHACHA_IN_PLACE = 16, XCHACHA_BETWEEN = 16, XCHACHA_KEYSTREAM = 16,
     LEGACY_IN_PLACE = 16, LEGACY_BETWEEN = 0, LEGACY_KEYSTREAM = 0,
-    AEAD = 0, XAEAD = 16, RNG_FILL = 16
+    AEAD = 0, XAEAD = 16, RNG_FILL = 0
 };
 
 static int overlap(uint8_t *output, const uint8_t *input, size_t len) {
@@ -78,7 +78,7 @@ static int apart(const uint8_t *one, size_t one_len, const uint8_t *other, size_
 /* Whether the arguments are what the header demands. Lengths that no buffer has, wrapped ones too, are
    refused before they are added to an address. */
 static int fit(const uint8_t *key, const uint8_t *nonce, size_t nonce_len, const uint8_t *aad, size_t aad_len,
-               const uint8_t *output, const uint8_t *input, size_t len, const uint8_t *tag, int writes_tag) {
+               uint8_t *output, const uint8_t *input, size_t len, const uint8_t *tag, int writes_tag) {
     if (len > CHACHA20_AEAD_LONGEST || aad_len > PTRDIFF_MAX) return 0;
     int output_fits = ((output == input) | apart(output, len, input, len)) & apart(output, len, key, 32) &
                       apart(output, len, nonce, nonce_len) & apart(output, len, aad, aad_len) &
@@ -120,11 +120,12 @@ uint32_t chacha_equal(const uint8_t *one, const uint8_t *other, size_t len) {
     return len == 0 ? 1 : PROVED(chacha_equal, one, len, other, len);
 }
 
-/* The assembly reads what nothing else does. */
+/* Vectors, since a loop over bytes would become a call of memset, which may take another 3000 bytes while it is
+   bound. The frame itself takes a few. */
 __attribute__((noinline)) void chacha_wipe_stack(void) {
-    uint8_t below[CHACHA20_DEEPEST];
-    memset(below, 0, sizeof below);
-    __asm__ volatile("" : : "r"(below) : "memory");
+    typedef uint64_t vector __attribute__((vector_size(64), aligned(16)));
+    volatile vector below[CHACHA20_DEEPEST / sizeof(vector) - 1];
+    for (size_t i = 0; i < sizeof below / sizeof below[0]; i++) below[i] = (vector){0};
 }
 
 /* Ciphers. Where |len| is 0, the pointers may be null, and the check alone is called. */

@@ -47,10 +47,10 @@ extern "C" {
 
 /* The version of this header. While the major version is 0, the minor version changes whenever a
    function, its parameters or its meaning changes, and with it the soname of the shared library,
-   libchacha20.so.0.7, and the version node of its symbols, CHACHA20_0.7. */
-#define CHACHA20_VERSION "0.7.0"
+   libchacha20.so.0.8, and the version node of its symbols, CHACHA20_0.8. */
+#define CHACHA20_VERSION "0.8.0"
 #define CHACHA20_VERSION_MAJOR 0
-#define CHACHA20_VERSION_MINOR 7
+#define CHACHA20_VERSION_MINOR 8
 #define CHACHA20_VERSION_PATCH 0
 
 /* Sizes, the same for each number of rounds. */
@@ -72,9 +72,9 @@ extern "C" {
 /* The longest message that can be authenticated: block 0 makes the MAC's key. */
 #define CHACHA20_AEAD_LONGEST (CHACHA20_STREAM_BYTES - 64)
 
-/* An upper bound on the bytes of the stack that a call takes, measured by a test. A third of them is
+/* An upper bound on the bytes of the stack that a call takes, measured by a test. Half of them are
    for the dynamic linker, which may bind memcpy, memmove and memset in a program's first calls. */
-#define CHACHA20_DEEPEST 8704
+#define CHACHA20_DEEPEST 5888
 
 /* What a function that can refuse returns. After CHACHA20_REFUSED no byte has changed: the data are NOT
    encrypted and must not be sent, or NOT decrypted. */
@@ -162,8 +162,8 @@ void chacha_poly1305(const uint8_t key[32], const uint8_t *input, size_t len,
    differ: compare tags by it, not by memcmp. */
 uint32_t chacha_equal(const uint8_t *one, const uint8_t *other, size_t len) CHACHA20_EQUAL;
 
-/* chacha_wipe_stack overwrites the CHACHA20_DEEPEST bytes of the stack below its caller, where calls
-   from the same function left copies of keys and keystream. */
+/* chacha_wipe_stack overwrites the stack below its caller, as deep as other calls of the caller left copies
+   of keys and keystream. Call it from the function that made these calls. */
 void chacha_wipe_stack(void);
 
 /* Ciphers */

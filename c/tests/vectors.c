@@ -353,12 +353,12 @@ static void then_wiped(void) {
     if (is_wiped) chacha_wipe_stack();
 }
 
-/* How many bytes below a function aren't zero, but for those next to it, after it called a cipher and wiped the stack or not. */
+/* How many bytes below a function aren't zero, but for those next to it and the deepest, after it called a cipher and wiped the stack or not. */
 static size_t left_on_stack(int wiped) {
     size_t count = 0;
     is_wiped = wiped;
     run_at(then_wiped, 16);
-    for (const volatile uint8_t *at = call_begin - CHACHA20_DEEPEST; at < call_begin - 100; at++) count += *at != 0;
+    for (const volatile uint8_t *at = call_begin - CHACHA20_DEEPEST + 100; at < call_begin - 100; at++) count += *at != 0;
     return count;
 }
 
