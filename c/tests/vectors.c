@@ -353,7 +353,8 @@ static void then_wiped(void) {
     if (is_wiped) chacha_wipe_stack();
 }
 
-/* How many bytes below a function aren't zero, but for those next to it and the deepest, after it called a cipher and wiped the stack or not. */
+/* How many bytes below a function aren't zero after it called a cipher, and wiped the stack or not. Left out are those next to
+   it and the deepest, of which there may be some in the frames of the function and the wipe. */
 static size_t left_on_stack(int wiped) {
     size_t count = 0;
     is_wiped = wiped;
