@@ -91,14 +91,13 @@ void one_sealed(struct run *run) {
     forge(run, &it);
 }
 
-/* Two blocks, and blocks of zeros before them, whose sum under a key of 1 is close to 2^130 - 5: an accumulator that isn't
-   reduced at the end, or once too often, makes a wrong tag. */
-static size_t close_to_prime(struct run *run, uint8_t *key, uint8_t *text) {
-    size_t before = 64 * below(run, 9);
+/* A text whose blocks have the sum 2^130 - 2 + 5 * fours - less modulo 2^130 - 5, under a key of 1: two blocks, and before them
+   blocks of zeros, of which four add 2^130. An accumulator that isn't reduced at the end, or too often, makes a wrong tag. */
+static size_t close_to_prime(uint8_t *key, uint8_t *text, size_t fours, uint8_t less) {
     memset(key, 0, 16), key[0] = 1;
-    memset(text, 0, before), memset(text + before, 255, 32);
-    text[before] = (uint8_t)(255 - below(run, 30));
-    return before + 32;
+    memset(text, 0, 64 * fours), memset(text + 64 * fours, 255, 32);
+    text[64 * fours] = (uint8_t)(255 - less);
+    return 64 * fours + 32;
 }
 
 /* The MAC alone, under any key, and the comparison of tags. */
@@ -112,7 +111,7 @@ void one_tag(struct run *run) {
         if (machine->others[i].poly1305 && below(run, 2)) other = &machine->others[i];
     }
     random_bytes(run, key, sizeof key), random_bytes(run, input, len);
-    if (kind == 0) len = close_to_prime(run, key, input);
+    if (kind == 0) len = close_to_prime(key, input, below(run, 9), (uint8_t)below(run, 30));
     if (kind == 1) memset(key, 255, 16), memset(input, 255, len);
     other->poly1305(key, input, len, right);
     any_build(run)->poly1305(key, len ? input : NULL, len, tag);
@@ -144,6 +143,17 @@ static void moved_border(struct run *run, const struct library *library, struct 
         moved.aad_len = it->aad_len + (size_t)by, moved.len = it->len - (size_t)by;
         memcpy(moved.aad, both, moved.aad_len);
         is_refused(run, library, &moved, is_in_place, both + moved.aad_len);
+    }
+}
+
+void sums_around_prime(struct run *run, const struct library *library) {
+    uint8_t key[32], right[TAG], tag[TAG];
+    memset(key, 3, sizeof key);
+    for (size_t i = 0; i < 20 * 120; i++) {
+        size_t len = close_to_prime(key, input, i / 120, (uint8_t)(i % 120));
+        plain_c.poly1305(key, input, len, right);
+        library->poly1305(key, input, len, tag);
+        same_bytes(run, tag, right, TAG, "the MAC of a sum close to 2^130 - 5");
     }
 }
 
