@@ -1,234 +1,206 @@
-//! The rows of ciphers.
+//! Calls on ciphers.
 
-ghost use Rattle.std.specs.Prelude.{◌≤◌, ◌^◌};
-ghost use Rattle.chacha20.specs.Cipher.{limit_of};
+ghost use Rattle.std.specs.Prelude.{◌↔◌, ◌≤◌, ◌+◌, IsTrue, All};
+ghost use Rattle.chacha20.specs.Runs.{InSlices};
 
-use crate::lists::{CipherList, EMPTY, Fresh};
-use crate::published::{COUNTING, FROM_1, HCHACHA_INPUT, LEGACY_NONCE, NONCE, SUBKEY};
-use crate::verdicts::{Verdict, failed};
-use chacha20::CipherAnswer::{Done, Position, Refused};
-use chacha20::CipherCall::{Apply, ApplyFrom, CheckRemaining, Pos, Seek, Write};
-use chacha20::cipher::{StreamCipher, StreamCipherSeek};
-use chacha20::{CipherCall, Key, LegacyNonce, Nonce, R20, hchacha};
-
-/// The key of row 1.
-pub static KEY_1: Key = [0x42; 32];
-
-/// The nonce of row 1.
-pub static NONCE_1: Nonce = [0x24; 12];
-
-const PLAINTEXT: &[u8; 16] = &[0, 1, 2, 3, 4, 5, 6, 7, 8, 9, 10, 11, 12, 13, 14, 15];
-
-const CIPHERTEXT: &[u8; 16] = b"\xe4\x05\x62\x6e\x4f\x12\x36\xb3\x67\x0e\xe4\x28\x33\x2e\xa2\x0e";
-
-/// A message encrypted, decrypted, and encrypted again in pieces of 3, for `KEY_1` and `NONCE_1`.
-pub static ROW_1: [CipherList; 3] = [
-    CipherList {
-        name: "encrypted",
-        data: PLAINTEXT,
-        calls: &[(Apply { at: 0, len: 16 }, Done)],
-        after: CIPHERTEXT,
-        ..EMPTY
-    },
-    CipherList {
-        name: "decrypted",
-        data: CIPHERTEXT,
-        calls: &[(Seek(0), Done), (Apply { at: 0, len: 16 }, Done)],
-        after: PLAINTEXT,
-        ..EMPTY
-    },
-    CipherList {
-        name: "in pieces of 3",
-        data: PLAINTEXT,
-        calls: &[
-            (Seek(0), Done),
-            (Apply { at: 0, len: 3 }, Done),
-            (Apply { at: 3, len: 3 }, Done),
-            (Apply { at: 6, len: 3 }, Done),
-            (Apply { at: 9, len: 3 }, Done),
-            (Apply { at: 12, len: 3 }, Done),
-            (Apply { at: 15, len: 1 }, Done),
-        ],
-        after: CIPHERTEXT,
-        ..EMPTY
-    },
-];
-
-/// The first three bytes of the input, and the first four of the data.
-pub const THREE_INTO_FOUR: CipherCall = ApplyFrom {
-    from: 0,
-    from_len: 3,
-    at: 0,
-    len: 4,
+use crate::calls::{Answer, Call, Data, Range, Type, part, part_mut};
+use crate::check::{Start, Subject, Way};
+use chacha20::cipher::{
+    KeyIvInit, SeekNum, StreamCipher, StreamCipherError, StreamCipherSeek, StreamCipherSeekCore,
 };
+use chacha20::{CipherAnswer, CipherCall, Key, StreamCipherCoreWrapper, run_cipher};
 
-/// A message from block 1 on (RFC 8439, section 2.4.2), for `COUNTING` and `NONCE`, as the rows 11, 16, 18 and 22.
-pub static ROW_4: [CipherList; 2] = [
-    CipherList {
-        name: "block 0",
-        data: &[0; 64],
-        calls: &[(Apply { at: 0, len: 64 }, Done)],
-        ..EMPTY
-    },
-    CipherList {
-        name: "the message",
-        data: b"Ladies and Gentl",
-        calls: &[(Apply { at: 0, len: 16 }, Done)],
-        after: b"\x6e\x2e\x35\x9a\x25\x68\xf9\x80\x41\xba\x07\x28\xdd\x0d\x69\x81",
-        ..EMPTY
-    },
-];
+impl<N: Drop, K> Start<StreamCipherCoreWrapper<K>> for (Key, N)
+where
+    K: KeyIvInit<Key = Key, Iv = N> + StreamCipherSeekCore + Drop,
+{
+    fn make(&self) -> StreamCipherCoreWrapper<K> {
+        StreamCipherCoreWrapper::new(&self.0, &self.1)
+    }
+}
 
-/// Two slices of different lengths.
-pub static ROW_16: [CipherList; 1] = [CipherList {
-    name: "three bytes into four",
-    input: &[5, 6, 7],
-    data: &[9; 4],
-    calls: &[(THREE_INTO_FOUR, Refused), (Pos, Position(0))],
-    after: &[9; 4],
-}];
+impl<K: StreamCipherSeekCore + Drop> Subject for StreamCipherCoreWrapper<K> {
+    const WAYS: &'static [Way] = &[Way::WithoutTry, Way::AsList];
 
-/// How much a fresh cipher takes.
-pub static ROW_22: [CipherList; 1] = [CipherList {
-    name: "all blocks but the last, one byte more, and more than all",
-    calls: &[
-        (CheckRemaining(274877906880), Done),
-        (CheckRemaining(274877906881), Done),
-        (CheckRemaining(274877906945), Refused),
-    ],
-    ..EMPTY
-}];
+    fn call(&mut self, way: Way, call: Call, input: &Data, data: &mut Data) -> Answer {
+        let changed = part_mut(data, call.range());
+        match call {
+            Call::Cipher(call, of_type) => {
+                make_call(self, way == Way::WithoutTry, call, of_type, input, changed)
+            }
+            _ => Answer::Missing,
+        }
+    }
 
-/// The legacy cipher for `FROM_1` and `LEGACY_NONCE`.
-pub static ROW_6: [CipherList; 1] = [CipherList {
-    name: "32 bytes",
-    data: &[0; 32],
-    calls: &[(Write { at: 0, len: 32 }, Done)],
-    after: b"\xde\xeb\x6b\x9d\x06\xdf\xf3\xe0\x91\xbf\x3a\xd4\xf4\xd4\x92\xb6\
-        \xdd\x98\x24\x6f\x69\x69\x18\x02\xe4\x66\xe0\x3b\xad\x23\x57\x87",
-    ..EMPTY
-}];
-
-/// The same of the legacy cipher.
-pub static LEGACY_ROW_22: [CipherList; 1] = [CipherList {
-    name: "all that a length says",
-    calls: &[(CheckRemaining(usize::MAX), Done)],
-    ..EMPTY
-}];
-
-/// XChaCha20 from block 1 on, for `FROM_80` and `X_NONCE`.
-pub static ROW_5: [CipherList; 2] = [
-    CipherList {
-        name: "block 0",
-        data: &[0; 64],
-        calls: &[(Write { at: 0, len: 64 }, Done)],
-        ..EMPTY
-    },
-    CipherList {
-        name: "the front of block 1",
-        data: &[0; 32],
-        calls: &[(Write { at: 0, len: 32 }, Done)],
-        after: b"\x29\x62\x4b\x4b\x1b\x14\x0a\xce\x53\x74\x0e\x40\x5b\x21\x68\x54\
-            \x0f\xd7\xd6\x30\xc1\xf5\x36\xfe\xcd\x72\x2f\xc3\xcd\xdb\xa7\xf4",
-        ..EMPTY
-    },
-];
-
-// Applies a cipher in pieces of at most so many bytes. What is refused stays as it is.
-fn apply<C: StreamCipher>(cipher: &mut C, data: &mut [u8], most: usize) {
-    for piece in data.chunks_mut(most.max(1)) {
-        if cipher.check_remaining(piece.len()).is_ok() {
-            cipher.apply_keystream(piece);
+    fn run_list(&mut self, calls: &[Call], input: &Data, data: &mut Data, answers: &mut [Answer]) {
+        let mut made = [CipherCall::Pos; 128];
+        let mut given = [CipherAnswer::Overflow; 128];
+        let count = calls.len().min(128);
+        for i in 0..count {
+            if let Call::Cipher(call, _) = calls[i] {
+                made[i] = call;
+            }
+        }
+        if !all_in_slices(&made[..count], 1536, 1536) {
+            return;
+        }
+        run_cipher(self, input, data, &made[..count], &mut given[..count]);
+        for i in 0..count.min(answers.len()) {
+            answers[i] = of_listed(calls[i], given[i]);
         }
     }
 }
 
-/// Row 1 by the calls without `try_`. Returns the ciphertext too.
-pub fn row_1<C: Fresh<Nonce> + StreamCipherSeek>() -> ([u8; 16], Verdict) {
-    let mut cipher = C::fresh(&KEY_1, &NONCE_1);
-    let mut data = *PLAINTEXT;
-    apply(&mut cipher, &mut data, 16);
-    let there = data;
-    cipher.seek(0u32);
-    apply(&mut cipher, &mut data, 16);
-    let back = data == *PLAINTEXT;
-    cipher.seek(0u32);
-    apply(&mut cipher, &mut data, 3);
-    let parts = [there == *CIPHERTEXT, back, data == *CIPHERTEXT];
-    (
-        there,
-        failed("there, back, and there in pieces of 3", &parts),
-    )
+// A list's answer, in the type that the call names.
+fn of_listed(call: Call, answer: CipherAnswer) -> Answer {
+    match (answer, call) {
+        (CipherAnswer::Done, _) => Answer::Done,
+        (CipherAnswer::Refused, _) => Answer::Refused,
+        (CipherAnswer::PositionI32(position), _) => of_position(position),
+        (CipherAnswer::Position(position), Call::Cipher(_, of_type)) if of_type.has(position) => {
+            Answer::Number(position)
+        }
+        _ => Answer::Overflow,
+    }
 }
 
-/// HChaCha (draft-irtf-cfrg-xchacha, section 2.2.1).
-pub fn row_3() -> Verdict {
-    failed(
-        "the subkey",
-        &[hchacha::<R20>(&COUNTING, &HCHACHA_INPUT) == SUBKEY],
-    )
+fn of_outcome(outcome: Result<(), StreamCipherError>) -> Answer {
+    match outcome {
+        Ok(()) => Answer::Done,
+        Err(_) => Answer::Refused,
+    }
 }
 
-/// Row 6 from byte 17 on.
-pub fn row_6<C: Fresh<LegacyNonce> + StreamCipherSeek>() -> Verdict
-    requires { 2 ^ 32 ≤ limit_of C.modulus }
+fn of_position<T: SeekNum>(position: T) -> Answer {
+    match position.to_position() {
+        Some(position) => Answer::Number(position),
+        None => Answer::Missing,
+    }
+}
+
+fn make_call<C: StreamCipherSeek>(
+    cipher: &mut C,
+    without_try: bool,
+    call: CipherCall,
+    of_type: Type,
+    input: &Data,
+    data: &mut [u8],
+) -> Answer {
+    match call {
+        CipherCall::CheckRemaining(len) => of_outcome(cipher.check_remaining(len)),
+        CipherCall::Apply { .. } => apply(cipher, without_try, data),
+        CipherCall::Write { .. } => write(cipher, without_try, data),
+        CipherCall::ApplyFrom {
+            from: at,
+            from_len: len,
+            ..
+        } => apply_from(cipher, without_try, part(input, Range { at, len }), data),
+        CipherCall::SeekI32(position) => seek(cipher, without_try, position),
+        CipherCall::Seek(position) => match of_type {
+            Type::U32 => seek_in::<u32, C>(cipher, without_try, position),
+            Type::U64 => seek_in::<u64, C>(cipher, without_try, position),
+            Type::U128 => seek(cipher, without_try, position),
+            Type::Usize => seek_in::<usize, C>(cipher, without_try, position),
+        },
+        CipherCall::PosI32 => position::<i32, C>(cipher, without_try),
+        CipherCall::Pos => match of_type {
+            Type::U32 => position::<u32, C>(cipher, without_try),
+            Type::U64 => position::<u64, C>(cipher, without_try),
+            Type::U128 => position::<u128, C>(cipher, without_try),
+            Type::Usize => position::<usize, C>(cipher, without_try),
+        },
+    }
+}
+
+// The forms without `try_` may be called where the `try_` forms succeed.
+
+fn apply<C: StreamCipher>(cipher: &mut C, without_try: bool, data: &mut [u8]) -> Answer {
+    if without_try && cipher.check_remaining(data.len()).is_ok() {
+        cipher.apply_keystream(data);
+        return Answer::Done;
+    }
+    of_outcome(cipher.try_apply_keystream(data))
+}
+
+fn write<C: StreamCipher>(cipher: &mut C, without_try: bool, data: &mut [u8]) -> Answer {
+    if without_try && cipher.check_remaining(data.len()).is_ok() {
+        cipher.write_keystream(data);
+        return Answer::Done;
+    }
+    of_outcome(cipher.try_write_keystream(data))
+}
+
+fn apply_from<C: StreamCipher>(
+    cipher: &mut C,
+    without_try: bool,
+    input: &[u8],
+    data: &mut [u8],
+) -> Answer {
+    if without_try && input.len() == data.len() && cipher.check_remaining(data.len()).is_ok() {
+        cipher.apply_keystream_b2b(input, data);
+        return Answer::Done;
+    }
+    of_outcome(cipher.try_apply_keystream_b2b(input, data))
+}
+
+// The first `try_seek` shows that the position may be sought, the second takes the cipher elsewhere.
+fn seek<T: SeekNum, C: StreamCipherSeek>(cipher: &mut C, without_try: bool, position: T) -> Answer {
+    let outcome = cipher.try_seek(position);
+    if without_try && outcome.is_ok() && cipher.try_seek(0u32).is_ok() {
+        cipher.seek(position);
+    }
+    of_outcome(outcome)
+}
+
+fn seek_in<T: SeekNum, C: StreamCipherSeek>(
+    cipher: &mut C,
+    without_try: bool,
+    position: u128,
+) -> Answer {
+    match T::from_position(position) {
+        Ok(position) => seek(cipher, without_try, position),
+        Err(_) => Answer::Missing,
+    }
+}
+
+fn position<T: SeekNum, C: StreamCipherSeek>(cipher: &C, without_try: bool) -> Answer {
+    match cipher.try_current_pos::<T>() {
+        Ok(_) if without_try => of_position(cipher.current_pos::<T>()),
+        Ok(position) => of_position(position),
+        Err(_) => Answer::Overflow,
+    }
+}
+
+fn all_in_slices(calls: &[CipherCall], input: usize, bytes: usize) -> bool
+    ensures { IsTrue result ↔ All (InSlices input bytes) calls.now }
 {
-    let mut cipher = C::fresh(&FROM_1, &LEGACY_NONCE);
-    cipher.seek(17u64);
-    let mut three = [0; 3];
-    let parts = [
-        cipher.applies(&mut three) && three == *b"\x98\x24\x6f",
-        cipher.applies(&mut []),
-        cipher.is_at(Some(20u64)),
-    ];
-    failed("from byte 17: three bytes, no bytes, the position", &parts)
+    'each: for i in 0..calls.len() {
+        if !in_slices(calls[i], input, bytes) {
+            return false;
+        }
+    }
+    true
 }
 
-/// The block with the greatest counter is like any other.
-pub fn row_11<C: Fresh<Nonce>>() -> Verdict {
-    let mut cipher = C::fresh(&COUNTING, &NONCE);
-    let parts = [
-        cipher.seeks(274877906880u64),
-        cipher.applies(&mut []),
-        cipher.applies(&mut [7]),
-        cipher.seeks(274877906881u64),
-        !cipher.seeks(-1i32),
-        cipher.is_at(Some(274877906881u64)),
-    ];
-    failed("a seek, no bytes, a byte, two seeks, the position", &parts)
-}
-
-/// Positions that a type can't represent.
-pub fn row_12<C: Fresh<Nonce> + StreamCipherSeek>() -> Verdict
-    requires { 2 ^ 32 ≤ limit_of C.modulus }
+// Whether the ranges of a call lie in slices of these lengths.
+fn in_slices(call: CipherCall, input: usize, bytes: usize) -> bool
+    ensures { IsTrue result ↔ InSlices input bytes call }
 {
-    let mut cipher = C::fresh(&COUNTING, &[0; 12]);
-    cipher.seek(2147483648u32);
-    let parts = [cipher.is_at::<i32>(None), cipher.is_at(Some(2147483648u32))];
-    failed("past 31 bits, in 31 and in 32", &parts)
+    match call {
+        CipherCall::Apply { at, len } | CipherCall::Write { at, len } => in_range(at, len, bytes),
+        CipherCall::ApplyFrom {
+            from,
+            from_len,
+            at,
+            len,
+        } => in_range(from, from_len, input) && in_range(at, len, bytes),
+        _ => true,
+    }
 }
 
-/// The same of the legacy cipher.
-pub fn legacy_row_12<C: Fresh<LegacyNonce>>() -> Verdict {
-    let mut cipher = C::fresh(&FROM_1, &LEGACY_NONCE);
-    let parts = [
-        cipher.seeks(1180591620717411303360u128),
-        cipher.is_at::<u64>(None),
-        cipher.is_at(Some(1180591620717411303360u128)),
-    ];
-    failed("past 64 bits: a seek, in 64, in 128", &parts)
-}
-
-/// The last byte: the stream ends after it.
-pub fn row_18<C: Fresh<Nonce>>() -> Verdict {
-    let mut cipher = C::fresh(&COUNTING, &NONCE);
-    let mut data = [0];
-    let parts = [
-        cipher.is_at(Some(0u64)),
-        cipher.seeks(274877906943u64),
-        cipher.applies(&mut [0]),
-        cipher.is_at(Some(274877906944u64)),
-        !cipher.applies(&mut data) && data == [0],
-    ];
-    failed("0, a seek, the last byte, the limit, one more", &parts)
+// Whether a range lies in a slice of this length.
+fn in_range(at: usize, len: usize, bytes: usize) -> bool
+    ensures { IsTrue result ↔ (at + len ≤ bytes) }
+{
+    at <= bytes && len <= bytes - at
 }

@@ -1,56 +1,105 @@
-//! The row of cores.
+//! Calls on cores.
 
-use crate::verdicts::{Verdict, failed};
+ghost use Rattle.std.specs.Prelude.{◌≤◌};
+
+use crate::calls::{Answer, Call, Data, part_mut};
+use crate::check::{Start, Subject, Way};
 use chacha20::cipher::{KeyIvInit, StreamCipherCounter, StreamCipherSeekCore};
 use chacha20::rand_core::SeedableRng;
-use chacha20::{Key, Nonce, Seed};
+use chacha20::{Key, RngCall, Seed};
 
-/// The last row of a block.
-pub fn last_row(block: &[u8; 64]) -> [u8; 16] {
-    let mut row = [0; 16];
-    row.copy_from_slice(&block[48..]);
-    row
+/// A core, as a subject of its own.
+#[derive(Drop)]
+pub struct Core<K> {
+    core: K,
 }
 
-// The next block, the last rows of the two blocks from a counter on, and the counter after them.
-fn around<C: StreamCipherSeekCore>(
-    core: &mut C,
-    counter: C::Counter,
-) -> ([u8; 64], [[u8; 16]; 2], u64) {
-    let mut first = [0; 64];
-    let mut two = [[0; 64]; 2];
-    core.write_keystream_block(&mut first);
-    core.set_block_pos(counter);
-    core.write_keystream_blocks(&mut two);
-    let rows = [last_row(&two[0]), last_row(&two[1])];
-    (first, rows, core.get_block_pos().to_u64())
-}
-
-// The first block for a key and a nonce of zeros: the text "expand 32-byte k", doubled.
-static FIRST_BLOCK: [u8; 64] = *b"\xca\xf0\xe0\xc2\xdc\xc8\x40\x66\x64\x5a\xc4\xf2\xe8\xca\x40\xd6\
-    \0\0\0\0\0\0\0\0\0\0\0\0\0\0\0\0\0\0\0\0\0\0\0\0\0\0\0\0\0\0\0\0\0\0\0\0\0\0\0\0\0\0\0\0\0\0\0\0";
-
-// The last rows of the blocks 2^32 - 1 and 2^32, without a carry and with one: the counter, doubled.
-static WRAPPED: [[u8; 16]; 2] = [*b"\xfe\xff\xff\xff\0\0\0\0\0\0\0\0\0\0\0\0", [0; 16]];
-
-static CARRIED: [[u8; 16]; 2] = [
-    *b"\xfe\xff\xff\xff\0\0\0\0\0\0\0\0\0\0\0\0",
-    *b"\0\0\0\0\x02\0\0\0\0\0\0\0\0\0\0\0",
-];
-
-/// A counter that wraps: without a carry where it has 32 bits, and with one where it has 64. Both cores make no rounds.
-pub fn row_13<I, L>() -> Verdict
+impl<N: Drop, K> Start<Core<K>> for (Key, N)
 where
-    I: KeyIvInit<Key = Key, Iv = Nonce> + StreamCipherSeekCore<Counter = u32> + Drop,
-    L: SeedableRng<Seed = Seed> + StreamCipherSeekCore<Counter = u64> + Drop,
+    K: KeyIvInit<Key = Key, Iv = N> + StreamCipherSeekCore + Drop,
 {
-    let ietf = around(&mut I::new(&[0; 32], &[0; 12]), 0xffff_ffff);
-    let legacy = around(&mut L::from_seed([0; 32]), 0xffff_ffff);
-    failed(
-        "counters of 32 and of 64 bits",
-        &[
-            ietf == (FIRST_BLOCK, WRAPPED, 1),
-            legacy == (FIRST_BLOCK, CARRIED, 0x1_0000_0001),
-        ],
-    )
+    fn make(&self) -> Core<K> {
+        Core {
+            core: K::new(&self.0, &self.1),
+        }
+    }
+}
+
+impl<K> Start<Core<K>> for Seed
+where
+    K: SeedableRng<Seed = Seed> + StreamCipherSeekCore + Drop,
+{
+    fn make(&self) -> Core<K> {
+        Core {
+            core: K::from_seed(*self),
+        }
+    }
+}
+
+impl<K: StreamCipherSeekCore + Drop> Subject for Core<K> {
+    const WAYS: &'static [Way] = &[Way::Applying];
+
+    fn call(&mut self, way: Way, call: Call, _: &Data, data: &mut Data) -> Answer {
+        make_call(
+            &mut self.core,
+            way == Way::Applying,
+            call,
+            part_mut(data, call.range()),
+        )
+    }
+
+    fn run_list(&mut self, _: &[Call], _: &Data, _: &mut Data, _: &mut [Answer]) {}
+}
+
+fn make_call<K: StreamCipherSeekCore>(
+    core: &mut K,
+    applies: bool,
+    call: Call,
+    data: &mut [u8],
+) -> Answer {
+    match call {
+        Call::Rng(RngCall::GetBlockPos) => {
+            Answer::Number(u128::from(core.get_block_pos().to_u64()))
+        }
+        Call::Rng(RngCall::SetBlockPos(number)) if number <= K::Counter::last() => {
+            core.set_block_pos(K::Counter::from_u64(number));
+            Answer::Done
+        }
+        Call::RemainingBlocks => match core.remaining_blocks() {
+            Some(count) => Answer::Number(count as u128),
+            None => Answer::Overflow,
+        },
+        Call::WriteBlock(_) => make_block(core, applies, data),
+        Call::WriteBlocks(_) => make_blocks(core, applies, data),
+        _ => Answer::Missing,
+    }
+}
+
+fn make_block<K: StreamCipherSeekCore>(core: &mut K, applies: bool, data: &mut [u8]) -> Answer {
+    let mut block = [0; 64];
+    if applies {
+        core.apply_keystream_block(&mut block);
+    } else {
+        core.write_keystream_block(&mut block);
+    }
+    copied(&block, data)
+}
+
+fn make_blocks<K: StreamCipherSeekCore>(core: &mut K, applies: bool, data: &mut [u8]) -> Answer {
+    let mut blocks = [[0; 64]; 24];
+    let blocks = &mut blocks[..(data.len() / 64).min(24)];
+    if applies {
+        core.apply_keystream_blocks(blocks);
+    } else {
+        core.write_keystream_blocks(blocks);
+    }
+    copied(blocks.as_flattened(), data)
+}
+
+fn copied(bytes: &[u8], data: &mut [u8]) -> Answer {
+    if bytes.len() != data.len() {
+        return Answer::Missing;
+    }
+    data.copy_from_slice(bytes);
+    Answer::Done
 }

@@ -1,30 +1,58 @@
 //! What the program `vectors` prints, and how it ends.
 
-ghost use Rattle.std.specs.Prelude.{◌≡◌, ◌↔◌, All, IsNone, IsTrue};
+ghost use Rattle.std.specs.Prelude.{◌≡◌, ◌↔◌, All, IfSome, IsTrue};
 ghost use Rattle.std.specs.Process.{exit_status};
 
-use crate::verdicts::Row;
+use crate::Backend;
+use crate::cases::CASES;
+use crate::subjects::check_case;
+use crate::text::Case;
 use std::fmt::{self, Display, Formatter};
 use std::marker::Model;
 use std::process::{ExitCode, Termination};
+
+/// Whether all cases of each number are right; nothing for a number without cases.
+pub type Verdicts = [Option<bool>; 32];
+
+// The number behind `case`; 0 where there is none below 32.
+fn number_of(title: &str) -> usize {
+    let title = title.strip_prefix("case ").unwrap_or("");
+    let (number, _) = title.split_once('.').unwrap_or(("", ""));
+    match number.parse::<usize>() {
+        Ok(number) if number < 32 => number,
+        _ => 0,
+    }
+}
+
+/// Runs the cases that have a number: ciphers and cores over a backend, and generators over another.
+pub fn run_cases<B: Backend, G: Backend>() -> Verdicts {
+    let mut verdicts = [None; 32];
+    for paragraph in CASES.split("\n\n") {
+        let case = Case::read(paragraph.trim());
+        let is_right = check_case::<B, G>(case).is_ok();
+        if let Some(verdict) = verdicts.get_mut(number_of(case.title)) {
+            *verdict = Some(verdict.unwrap_or(true) && is_right);
+        }
+    }
+    verdicts
+}
 
 // The lines that the program prints.
 #[derive(Drop)]
 struct Lines<'a> {
     ciphertext: &'a [u8; 16],
-    rows: &'a [Row],
-}
-
-fn write_row<W: fmt::Write>(f: &mut Formatter<W>, row: Row) -> fmt::Result {
-    let word = if row.1.is_none() { "ok" } else { "bad" };
-    writeln!(f, "row {} {word}", row.0)
+    verdicts: &'a Verdicts,
 }
 
 impl Display for Lines<'_> {
     fn fmt<W: fmt::Write>(&self, f: &mut Formatter<W>) -> fmt::Result {
         writeln!(f, "{:032x}", u128::from_be_bytes(*self.ciphertext))?;
-        for i in 0..self.rows.len() {
-            write_row(f, self.rows[i])?;
+        for number in 0..32usize {
+            match self.verdicts[number] {
+                Some(true) => writeln!(f, "row {number} ok")?,
+                Some(false) => writeln!(f, "row {number} bad")?,
+                None => {}
+            }
         }
         Ok(())
     }
@@ -54,22 +82,24 @@ impl Termination for Outcome {
     }
 }
 
-fn all_ok(rows: &[Row]) -> bool
-    ensures { IsTrue result ↔ All (λ row. IsNone row.1) rows.now }
+fn all_right(verdicts: &Verdicts) -> bool
+    ensures { IsTrue result ↔ All (λ verdict. IfSome verdict IsTrue) verdicts.now }
 {
-    'each: for i in 0..rows.len() {
-        if rows[i].1.is_some() {
-            return false;
+    'each: for i in 0..verdicts.len() {
+        if let Some(is_right) = verdicts[i] {
+            if !is_right {
+                return false;
+            }
         }
     }
     true
 }
 
-// Success exactly where the lines could be printed and no row is bad.
-fn outcome_of(printed: bool, rows: &[Row]) -> Outcome
-    ensures { result ≡ 0 ↔ (IsTrue printed × All (λ row. IsNone row.1) rows.now) }
+// Success exactly where the lines could be printed and each verdict is right.
+fn outcome_of(printed: bool, verdicts: &Verdicts) -> Outcome
+    ensures { result ≡ 0 ↔ (IsTrue printed × All (λ verdict. IfSome verdict IsTrue) verdicts.now) }
 {
-    let status = if printed && all_ok(rows) {
+    let status = if printed && all_right(verdicts) {
         ExitCode::SUCCESS
     } else {
         ExitCode::FAILURE
@@ -77,11 +107,14 @@ fn outcome_of(printed: bool, rows: &[Row]) -> Outcome
     Outcome { status }
 }
 
-/// Prints the ciphertext of row 1, then a line for each row: `row N ok` or `row N bad`. The outcome is success where
-/// the lines could be printed and no row is bad.
-pub fn report(rt: &impl Print, ciphertext: &[u8; 16], rows: &[Row]) -> Outcome
-    ensures { result ≡ 0 → All (λ row. IsNone row.1) rows.now }
+/// Prints the ciphertext of case 1, then a line for each verdict: `row N ok` or `row N bad`. The outcome is success where
+/// the lines could be printed and none is bad.
+pub fn report(rt: &impl Print, ciphertext: &[u8; 16], verdicts: &Verdicts) -> Outcome
+    ensures { result ≡ 0 → All (λ verdict. IfSome verdict IsTrue) verdicts.now }
 {
-    let lines = Lines { ciphertext, rows };
-    outcome_of(print!(rt; "{lines}").is_ok(), rows)
+    let lines = Lines {
+        ciphertext,
+        verdicts,
+    };
+    outcome_of(print!(rt; "{lines}").is_ok(), verdicts)
 }

@@ -194,6 +194,21 @@ fn apply_586_bytes_columns8(steps: &mut Steps) -> Result<(), StreamCipherError>
     apply_586_bytes::<Columns8>(steps)
 }
 
+// Each of the six returns: no other test calls `try_apply_keystream_counted`.
+#[test]
+fn apply_586_bytes_to_each_backend(rt: HostRuntime) {
+    let mut steps = Steps::new();
+    let accepted = [
+        apply_586_bytes_soft(&mut steps).is_ok(),
+        apply_586_bytes_lanes4(&mut steps).is_ok(),
+        apply_586_bytes_lanes8(&mut steps).is_ok(),
+        apply_586_bytes_rows8(&mut steps).is_ok(),
+        apply_586_bytes_lanes16(&mut steps).is_ok(),
+        apply_586_bytes_columns8(&mut steps).is_ok(),
+    ];
+    assert!(rt; accepted == [true; 6]);
+}
+
 // Bounds on what the named ciphers count, at every position: those of `Lanes16`.
 fn named_costs()
     ensures chacha20 { ⟦<ChaCha20 as StreamCipher>⟧.cost ≡ for_bytes 16 80 20 }
