@@ -133,10 +133,11 @@ static unsigned (*gcrypt_add)(void *, const void *, size_t), (*gcrypt_tag)(void 
 static unsigned (*gcrypt_encrypt)(void *, void *, size_t, const void *, size_t);
 
 static void by_gcrypt(AEAD_PARAMETERS, uint8_t *tag) {
-    if (gcrypt_set_key(gcrypt_cipher, key, 32) || gcrypt_set_nonce(gcrypt_cipher, nonce, 12) || gcrypt_add(gcrypt_cipher, aad, aad_len) ||
-        gcrypt_encrypt(gcrypt_cipher, output, len, input == output ? NULL : input, input == output ? 0 : len) ||
-        gcrypt_tag(gcrypt_cipher, tag, 16))
-        abort();
+    void *it = gcrypt_cipher;
+    int is_in_place = input == output;
+    unsigned error = gcrypt_set_key(it, key, 32) | gcrypt_set_nonce(it, nonce, 12) | gcrypt_add(it, aad, aad_len);
+    error |= gcrypt_encrypt(it, output, len, is_in_place ? NULL : input, is_in_place ? 0 : len) | gcrypt_tag(it, tag, 16);
+    if (error != 0) abort();
 }
 
 static int find_gcrypt(struct other *found) {
@@ -147,7 +148,8 @@ static int find_gcrypt(struct other *found) {
     if (!handle || !look_up(handle, "gcry_check_version", &version) || !look_up(handle, "gcry_cipher_open", &open) ||
         !look_up(handle, "gcry_cipher_setkey", &gcrypt_set_key) || !look_up(handle, "gcry_cipher_setiv", &gcrypt_set_nonce) ||
         !look_up(handle, "gcry_cipher_authenticate", &gcrypt_add) || !look_up(handle, "gcry_cipher_gettag", &gcrypt_tag) ||
-        !look_up(handle, "gcry_cipher_encrypt", &gcrypt_encrypt) || !version(NULL) || open(&gcrypt_cipher, CHACHA20, POLY1305, 0) != 0)
+        !look_up(handle, "gcry_cipher_encrypt", &gcrypt_encrypt) || !version(NULL) ||
+        open(&gcrypt_cipher, CHACHA20, POLY1305, 0) != 0)
         return puts("not found: libgcrypt"), 0;
     printf("found: libgcrypt %s\n", version(NULL));
     *found = (struct other){.name = "libgcrypt", .encrypt = {[IETF] = by_gcrypt}};
@@ -184,8 +186,12 @@ static int gather(const struct machine *machine, struct contestant *all, int *ba
     static struct other more[2];
     int count = 0, more_count = find_gcrypt(more);
     more_count += find_boringssl(more + more_count);
-    for (int i = 0; i < machine->build_count; i++) all[count++] = (struct contestant){machine->builds[i]->level, machine->builds[i], NULL};
-    for (int i = 0; i < machine->other_count; i++) all[count++] = (struct contestant){machine->others[i].name, NULL, &machine->others[i]};
+    for (int i = 0; i < machine->build_count; i++) {
+        all[count++] = (struct contestant){machine->builds[i]->level, machine->builds[i], NULL};
+    }
+    for (int i = 0; i < machine->other_count; i++) {
+        all[count++] = (struct contestant){machine->others[i].name, NULL, &machine->others[i]};
+    }
     *base = count - 1;
     for (int i = 0; i < more_count; i++) all[count++] = (struct contestant){more[i].name, NULL, &more[i]};
     return count;
@@ -260,8 +266,8 @@ int main(int argc, char **argv) {
             if (tasks[task].len < 1 << 20 || pass % 8 == 0) take_turns(all, count, task);
         }
     }
-    printf("\nChaCha20 and ChaCha20-Poly1305, in place but where two buffers are named: %d turns at each of %d places; from 1 MiB on %d places\n", passes,
-           PLACES, FEW_PLACES);
+    printf("\nChaCha20 and ChaCha20-Poly1305, in place but where two buffers are named: %d turns at each of %d places; "
+           "from 1 MiB on %d places\n", passes, PLACES, FEW_PLACES);
     print_times(all, count, base);
     time_words(all, machine.build_count, 256 * passes);
     free(output_room), free(input_room);

@@ -65,10 +65,11 @@ static void *aead_context;
 
 static void openssl_encrypt(AEAD_PARAMETERS, uint8_t *tag) {
     enum { GET_TAG = 0x10 };
-    int done = evp_init(aead_context, NULL, NULL, key, nonce), out = 0;
-    done = done && (aad_len == 0 || evp_update(aead_context, NULL, &out, aad, (int)aad_len));
-    done = done && (len == 0 || evp_update(aead_context, output, &out, input, (int)len));
-    if (!done || !evp_final(aead_context, output, &out) || !evp_ctrl(aead_context, GET_TAG, 16, tag)) puts("OpenSSL refused a message"), exit(2);
+    int out = 0, done = evp_init(aead_context, NULL, NULL, key, nonce) &&
+                        (aad_len == 0 || evp_update(aead_context, NULL, &out, aad, (int)aad_len)) &&
+                        (len == 0 || evp_update(aead_context, output, &out, input, (int)len)) &&
+                        evp_final(aead_context, output, &out) && evp_ctrl(aead_context, GET_TAG, 16, tag);
+    if (!done) puts("OpenSSL refused a message"), exit(2);
 }
 
 static int find_openssl(struct other *found) {
@@ -77,16 +78,17 @@ static int find_openssl(struct other *found) {
     void *handle = open_first(names);
     if (!handle || !look_up(handle, "EVP_CIPHER_CTX_new", &evp_new) || !look_up(handle, "EVP_chacha20", &evp_chacha20) ||
         !look_up(handle, "EVP_EncryptInit_ex", &evp_init) || !look_up(handle, "EVP_EncryptUpdate", &evp_update) ||
-        !look_up(handle, "EVP_chacha20_poly1305", &evp_chacha20_poly1305) || !look_up(handle, "EVP_EncryptFinal_ex", &evp_final) ||
-        !look_up(handle, "EVP_CIPHER_CTX_ctrl", &evp_ctrl) || !look_up(handle, "OpenSSL_version", &version) ||
+        !look_up(handle, "EVP_chacha20_poly1305", &evp_chacha20_poly1305) ||
+        !look_up(handle, "EVP_EncryptFinal_ex", &evp_final) || !look_up(handle, "EVP_CIPHER_CTX_ctrl", &evp_ctrl) || !look_up(handle, "OpenSSL_version", &version) ||
         !(evp_context = evp_new()) || !evp_init(evp_context, evp_chacha20(), NULL, NULL, NULL) ||
         !(aead_context = evp_new()) || !evp_init(aead_context, evp_chacha20_poly1305(), NULL, NULL, NULL)) {
         puts("not found: OpenSSL (libcrypto.so) with ChaCha20");
         return 0;
     }
     printf("found: %s\n", version(0));
-    *found = (struct other){
-        .name = "OpenSSL", .xor_from_block = {[IETF] = openssl_ietf, [LEGACY] = openssl_legacy}, .encrypt = {[IETF] = openssl_encrypt}};
+    *found = (struct other){.name = "OpenSSL",
+                            .xor_from_block = {[IETF] = openssl_ietf, [LEGACY] = openssl_legacy},
+                            .encrypt = {[IETF] = openssl_encrypt}};
     return 1;
 }
 
@@ -116,7 +118,9 @@ static void sodium_ietf_encrypt(AEAD_PARAMETERS, uint8_t *tag) {
 static void sodium_xchacha_encrypt(AEAD_PARAMETERS, uint8_t *tag) {
     sodium_aeads[XCHACHA](output, tag, NULL, input, len, aad, aad_len, NULL, nonce, key);
 }
-static void sodium_poly1305(const uint8_t *key, const uint8_t *input, size_t len, uint8_t *tag) { sodium_mac(tag, input, len, key); }
+static void sodium_poly1305(const uint8_t *key, const uint8_t *input, size_t len, uint8_t *tag) {
+    sodium_mac(tag, input, len, key);
+}
 
 static int find_sodium(struct other *found) {
     static const char *const names[] = {"libsodium.so.23", "libsodium.so.26", "libsodium.so", NULL};

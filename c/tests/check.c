@@ -497,6 +497,7 @@ static int check(const struct machine *machine, uint64_t seed, uint64_t bytes) {
     random_bytes(&run, input, sizeof input);
     for (int i = 0; i < machine->build_count; i++) {
         at_edges(&run, machine->builds[i]);
+        sums_around_prime(&run, machine->builds[i]);
         sealed_by_each_length(&run, machine->builds[i]);
         sealed_at_pages(&run, machine->builds[i]);
     }
@@ -515,6 +516,7 @@ static int check(const struct machine *machine, uint64_t seed, uint64_t bytes) {
     printf(" in %" PRIu64 " calls; %" PRIu64 " bytes beside", calls, *done);
     for (int i = 0; i < machine->other_count; i++) printf("%s %s", i ? " and" : "", machine->others[i].name);
     printf("%s, %" PRIu64 " differences\n", machine->other_count ? "" : " plain C", run.differences);
+    if (found != CONTROLS) puts("wrong: faults of the negative control were lost");
     return found != CONTROLS || few > 0 || run.differences > 0;
 }
 

@@ -35,6 +35,7 @@ extern uint8_t input[LONGEST + PAGE], expected[LONGEST + PAGE], made[LONGEST + P
 /* A message, and tags; and, by each build, what needs no random messages. */
 void one_sealed(struct run *run);
 void one_tag(struct run *run);
+void sums_around_prime(struct run *run, const struct library *library);
 void sealed_by_each_length(struct run *run, const struct library *library);
 void sealed_at_pages(struct run *run, const struct library *library);
 

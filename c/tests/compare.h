@@ -22,8 +22,9 @@ struct cipher {
 };
 
 /* Authenticated encryption with the nonces of IETF and of XCHACHA. */
-#define AEAD_PARAMETERS \
-    const uint8_t *key, const uint8_t *nonce, const uint8_t *aad, size_t aad_len, uint8_t *output, const uint8_t *input, size_t len
+#define AEAD_PARAMETERS                                                                                                      \
+    const uint8_t *key, const uint8_t *nonce, const uint8_t *aad, size_t aad_len, uint8_t *output, const uint8_t *input, \
+        size_t len
 struct aead {
     uint32_t (*encrypt)(AEAD_PARAMETERS, uint8_t *tag);
     uint32_t (*decrypt)(AEAD_PARAMETERS, const uint8_t *tag);

@@ -94,8 +94,11 @@ static uint32_t equal(const uint8_t *one, const uint8_t *other, size_t len) {
 }
 
 static void poly1305(const uint8_t *key, const uint8_t *input, size_t len, uint8_t *tag) {
-    if (spoilt == NO_CLAMP || spoilt == NO_REDUCTION) plain_poly1305_but(spoilt != NO_CLAMP, spoilt != NO_REDUCTION, key, input, len, tag);
-    else good->poly1305(key, input, spoilt == MAC_OF_WHOLE_BLOCKS ? len / 16 * 16 : len, tag);
+    if (spoilt == NO_CLAMP || spoilt == NO_REDUCTION) {
+        plain_poly1305_but(spoilt != NO_CLAMP, spoilt != NO_REDUCTION, key, input, len, tag);
+    } else {
+        good->poly1305(key, input, spoilt == MAC_OF_WHOLE_BLOCKS ? len / 16 * 16 : len, tag);
+    }
 }
 
 /* Authenticated encryption by the cipher and the MAC of the build. */
@@ -115,7 +118,8 @@ static void tag_of(enum layout layout, const uint8_t *key, const uint8_t *nonce,
     poly1305(one_time, room, (size_t)(at - room) + (spoilt == NO_LENGTHS ? 0 : 2 * lengths), tag);
 }
 
-static uint32_t apply(enum layout layout, const uint8_t *key, const uint8_t *nonce, uint8_t *output, const uint8_t *bytes, size_t len) {
+static uint32_t apply(enum layout layout, const uint8_t *key, const uint8_t *nonce, uint8_t *output, const uint8_t *bytes,
+                      size_t len) {
     return good->ciphers[layout][2].xor(key, nonce, spoilt != BLOCK_0_AGAIN, 0, output, bytes, len);
 }
 
@@ -160,7 +164,8 @@ int controls_found(const struct machine *machine) {
     one.get_block_pos = get_block_pos, one.set_block_pos = set_block_pos;
     one.get_stream = get_stream, one.set_stream = set_stream;
     one.words_next = words_next, one.words_to_state = words_to_state, one.equal = equal, one.poly1305 = poly1305;
-    one.aeads[IETF] = (struct aead){ietf_encrypt, ietf_decrypt}, one.aeads[XCHACHA] = (struct aead){xchacha_encrypt, xchacha_decrypt};
+    one.aeads[IETF] = (struct aead){ietf_encrypt, ietf_decrypt};
+    one.aeads[XCHACHA] = (struct aead){xchacha_encrypt, xchacha_decrypt};
     for (spoilt = 0; spoilt < NO_FAULT; spoilt++) {
         if (turns_find(&only, 800)) found++;
         else printf("wrong: negative control %d isn't found\n", (int)spoilt);

@@ -164,28 +164,31 @@ static int has_memory(void) {
 /* Associated data and a text of windows, beside libsodium. A tag depends on the whole ciphertext, so tags stand for it. */
 static void messages_over_4_gib(const struct library *library, const struct other *other, uint8_t *room, const uint8_t *from) {
     const struct aead *aead = &library->aeads[IETF];
+    const size_t len = len_over;
     uint8_t tag[CHACHA20_TAG_BYTES], right[CHACHA20_TAG_BYTES], *ciphertext;
+    uint32_t answer;
     if (!other->encrypt[IETF]) return;
-    other->encrypt[IETF](key, nonce, from, len_over, room, from, 100, right);
-    right_answer(aead->encrypt(key, nonce, from, len_over, room, from, 100, tag) == CHACHA20_OK && memcmp(tag, right, sizeof tag) == 0 &&
-                     aead->decrypt(key, nonce, from, len_over, room, room, 100, tag) == CHACHA20_OK && memcmp(room, from, 100) == 0,
-                 "associated data", "chosen", len_over, 0);
+    other->encrypt[IETF](key, nonce, from, len, room, from, 100, right);
+    answer = aead->encrypt(key, nonce, from, len, room, from, 100, tag);
+    right_answer(answer == CHACHA20_OK && memcmp(tag, right, sizeof tag) == 0, "associated data", "chosen", len, 0);
+    answer = aead->decrypt(key, nonce, from, len, room, room, 100, tag);
+    right_answer(answer == CHACHA20_OK && memcmp(room, from, 100) == 0, "associated data, decrypted", "chosen", len, 0);
     if (!has_memory()) {
-        puts("skipped, 8 GiB of memory aren't free: a message of more than 4 GiB");
+        puts("skipped, 8 GiB of memory aren't free: messages of more than 4 GiB");
         return;
     }
-    ciphertext = reserve(len_over);
-    if (mprotect(ciphertext, len_over, PROT_READ | PROT_WRITE) != 0) puts("no memory for a ciphertext"), exit(2);
-    other->encrypt[IETF](key, nonce, key, 32, ciphertext, from, len_over, right);
-    right_answer(aead->encrypt(key, nonce, key, 32, ciphertext, from, len_over, tag) == CHACHA20_OK && memcmp(tag, right, sizeof tag) == 0,
-                 "a message", "chosen", len_over, 0);
+    ciphertext = reserve(len);
+    if (mprotect(ciphertext, len, PROT_READ | PROT_WRITE) != 0) puts("no memory for a ciphertext"), exit(2);
+    other->encrypt[IETF](key, nonce, key, 32, ciphertext, from, len, right);
+    answer = aead->encrypt(key, nonce, key, 32, ciphertext, from, len, tag);
+    right_answer(answer == CHACHA20_OK && memcmp(tag, right, sizeof tag) == 0, "a message", "chosen", len, 0);
     memset(room, 0, WINDOW);
-    right_answer(aead->decrypt(key, nonce, key, 32, room, ciphertext, len_over, right) == CHACHA20_OK && memcmp(room, from, WINDOW) == 0,
-                 "a message between buffers", "chosen", len_over, 0);
-    right_answer(aead->encrypt(key, nonce, key, 32, ciphertext, ciphertext, len_over, tag) == CHACHA20_OK &&
-                     aead->decrypt(key, nonce, key, 32, ciphertext, ciphertext, len_over, tag) == CHACHA20_OK,
-                 "a message in place", "chosen", len_over, 0);
-    munmap(ciphertext, len_over);
+    answer = aead->decrypt(key, nonce, key, 32, room, ciphertext, len, right);
+    right_answer(answer == CHACHA20_OK && memcmp(room, from, WINDOW) == 0, "a decrypted message", "chosen", len, 0);
+    answer = aead->decrypt(key, nonce, key, 32, ciphertext, ciphertext, len, right);
+    answer |= aead->encrypt(key, nonce, key, 32, ciphertext, ciphertext, len, tag);
+    right_answer(answer == CHACHA20_OK && memcmp(tag, right, sizeof tag) == 0, "a message in place", "chosen", len, 0);
+    munmap(ciphertext, len);
 }
 
 uint64_t over_4_gib(const struct machine *machine) {
@@ -193,27 +196,29 @@ uint64_t over_4_gib(const struct machine *machine) {
     const struct library *library = machine->builds[machine->build_count - 1];
     /* libsodium, the last one, has all layouts. */
     const struct other *other = machine->other_count > 0 ? &machine->others[machine->other_count - 1] : &plain_c;
+    const size_t len = len_over;
     uint8_t *room = windows(), *from = windows(), state[CHACHA_RNG_STATE_BYTES];
     uint64_t before = wrong, before_calls = calls, low, high;
-    right_answer(library->ciphers[IETF][2].xor(key, nonce, 0, 0, room, room, len_over) == CHACHA20_OK && are_of_all_passes(room, other),
-          "XOR in place", "chosen", len_over, 0);
+    uint32_t answer = library->ciphers[IETF][2].xor(key, nonce, 0, 0, room, room, len);
+    right_answer(answer == CHACHA20_OK && are_of_all_passes(room, other), "XOR in place", "chosen", len, 0);
     memset(from, BASE, WINDOW);
     for (int i = 0; i < LAYOUTS; i++) {
         const struct cipher *it = &library->ciphers[i][2];
-        right_answer(it->xor(key, nonce, 0, 0, room, from, len_over) == CHACHA20_OK &&
-                  are_last(room, BASE, (enum layout)i, 20, other, nonce), "XOR between buffers", "chosen", len_over, 0);
-        right_answer(it->keystream(key, nonce, 0, 0, room, len_over) == CHACHA20_OK &&
-                  are_last(room, 0, (enum layout)i, 20, other, nonce), "a keystream", "chosen", len_over, 0);
+        enum layout layout = (enum layout)i;
+        answer = it->xor(key, nonce, 0, 0, room, from, len);
+        right_answer(answer == CHACHA20_OK && are_last(room, BASE, layout, 20, other, nonce), "XOR", "chosen", len, 0);
+        answer = it->keystream(key, nonce, 0, 0, room, len);
+        right_answer(answer == CHACHA20_OK && are_last(room, 0, layout, 20, other, nonce), "a keystream", "chosen", len, 0);
     }
     for (int i = 0; i < ROUNDS; i++) {
         library->from_seed(key, state);
-        library->fill[i](state, room, len_over);
+        library->fill[i](state, room, len);
         library->get_word_pos(state, &low, &high);
-        right_answer(low == (len_over + 3) / 4 && high == 0 &&
-                  are_last(room, 0, LEGACY, i == 2 ? 20 : 8 + 4 * i, i == 2 ? other : &plain_c, stream_0), "a fill", "chosen", len_over, 0);
+        int good = are_last(room, 0, LEGACY, i == 2 ? 20 : 8 + 4 * i, i == 2 ? other : &plain_c, stream_0);
+        right_answer(good && low == (len + 3) / 4 && high == 0, "a fill", "chosen", len, 0);
     }
     messages_over_4_gib(library, other, room, from);
     munmap(room, all_windows), munmap(from, all_windows);
-    printf("over 4 GiB: %" PRIu64 " calls of %zu bytes, %" PRIu64 " differences\n", calls - before_calls, len_over, wrong - before);
+    printf("over 4 GiB: %" PRIu64 " calls of %zu bytes, %" PRIu64 " differences\n", calls - before_calls, len, wrong - before);
     return wrong - before;
 }

@@ -121,7 +121,8 @@ static void by_library(const struct library *library, size_t longest) {
 static int without_memcheck(const struct library *library, const char *argument) {
     static volatile uint8_t seen;
     int is_planted = strcmp(argument, "planted") == 0;
-    if (read(0, key, 32) != 32 || read(0, nonce, 24) != 24 || read(0, aad, 300) != 300 || read(0, input, LONGEST) != LONGEST) return 2;
+    if (read(0, key, 32) != 32 || read(0, nonce, 24) != 24 || read(0, aad, 300) != 300) return 2;
+    if (read(0, input, LONGEST) != LONGEST) return 2;
     if (argument[0] && !is_planted) {
         done(library->aeads[IETF].encrypt(key, nonce, aad, 300, output, input, 1000, tag));
         by_decryption(&library->aeads[IETF], 300, 1000, 1, argument[0] - 'A');
@@ -158,8 +159,9 @@ int main(int argc, char **argv) {
     unsigned of_address = VALGRIND_COUNT_ERRORS - verdicts - reports - of_branches;
     printf("secrets,");
     for (int i = 0; i < build_count; i++) printf(" %s", builds[i]->level);
-    printf(": %u calls, %u wrong answers, %u reports; %u verdicts, %u without just one; of planted branches %u, of an address %u\n",
-           calls, wrong_answers, reports, verdicts, wrong_verdicts, of_branches, of_address);
+    printf(": %u calls, %u wrong answers, %u reports; %u verdicts on tags, %u without just one report; ", calls, wrong_answers,
+           reports, verdicts, wrong_verdicts);
+    printf("of planted branches %u, of a planted address %u\n", of_branches, of_address);
     return reports != 0 || wrong_verdicts != 0 || of_branches != MARKED || of_address != 1 || wrong_answers != 0 ||
            calls < 3000 * (unsigned)build_count;
 }

@@ -250,7 +250,8 @@ static void legacy_and_generators(void) {
 enum { STACK = 1 << 15, PLACES = 64, LONGEST = (1 << 14) + 1000, LONG = 1024, PAINT = 0xa5 };
 
 static volatile uint8_t stack[STACK] __attribute__((aligned(4096)));
-static uint8_t one_key[32], one_nonce[24], one_aad[30], one_tag[16], one_state[CHACHA_RNG_STATE_BYTES], input[LONGEST], output[LONGEST];
+static uint8_t one_key[32], one_nonce[24], one_aad[30], one_tag[16], one_state[CHACHA_RNG_STATE_BYTES];
+static uint8_t input[LONGEST], output[LONGEST];
 static size_t call_len;
 static int call_kind;
 static const volatile uint8_t *call_begin;
@@ -352,7 +353,8 @@ static void then_wiped(void) {
     if (is_wiped) chacha_wipe_stack();
 }
 
-/* How many bytes below a function aren't zero, but for those next to it and the deepest, after it called a cipher and wiped the stack or not. */
+/* How many bytes below a function aren't zero after it called a cipher, and wiped the stack or not. Left out are those next to
+   it and the deepest, of which there may be some in the frames of the function and the wipe. */
 static size_t left_on_stack(int wiped) {
     size_t count = 0;
     is_wiped = wiped;
