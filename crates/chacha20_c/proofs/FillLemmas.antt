@@ -1,5 +1,5 @@
 -- A generator's bytes are the keystream of the legacy cipher whose key is the seed and whose nonce is the stream.
-use Rattle.std.proofs.Common.{◌≡◌, ◌≤◌, ◌<◌, ◌∙◌, ◌+◌, ◌*◌, ◌/◌, ◌%◌, ◌^◌, ℕ, zero, suc, List, [], ◌∷◌, ◌++◌, length, take, slice_index, arith, refl, sym, ap, ap₂}
+use Rattle.std.proofs.Common.{◌≡◌, ◌<◌, ◌∙◌, ◌+◌, ◌*◌, ◌/◌, ◌%◌, ◌^◌, ℕ, zero, suc, List, [], ◌∷◌, ◌++◌, take, slice_index, arith, refl, sym, ap}
 use Rattle.std.specs.Int.{w64, to_le_bytes}
 use Rattle.chacha20.specs.ChaCha.{bytes, chacha_stream, legacy, mix, start, stream_part, word_bytes}
 use Rattle.chacha20.specs.Generator.{GeneratorState, fill, positions, word}

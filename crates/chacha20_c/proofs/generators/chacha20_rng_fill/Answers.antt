@@ -1,4 +1,4 @@
-use Rattle.std.proofs.Common.{◌∙◌, ◌*◌, ℕ, List, length, ap, ap₂, sym}
+use Rattle.std.proofs.Common.{◌∙◌, ◌*◌, length, ap, ap₂, sym}
 use Rattle.std.specs.Int.{w64, to_le_bytes}
 use Rattle.chacha20.specs.ChaCha.{chacha_stream, legacy, stream_part}
 use Rattle.chacha20.specs.Generator.{of_state_bytes}
