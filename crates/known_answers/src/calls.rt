@@ -35,8 +35,8 @@ impl Type {
     }
 }
 
-/// A call on a cipher, with the type of its position; one on a generator; or one on a core, which has the block position
-/// of a generator.
+/// A call on a cipher, with the type of its position; on a generator; or on a core. The block position of a core is
+/// called as that of a generator.
 #[derive(Clone, Copy)]
 pub enum Call {
     Cipher(CipherCall, Type),

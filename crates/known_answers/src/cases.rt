@@ -31,14 +31,14 @@
 //!
 //! A line of a generator is one of its functions, as `fill_bytes 5 -> e8ca40d600`, or `100 times next_u32`. Four must
 //! agree: one by its own functions, one with reads through `Rng`, one with reads through `TryRng`, and one on which
-//! `run_rng` makes all calls so far. `equals S -> true` compares by `==` with the generator of a stored state: the seed,
-//! the stream in eight bytes, and the word position in nine.
+//! `run_rng` makes all calls so far. `equals S -> true` compares by `==` with the generator of a stored state, which is
+//! the seed, the stream in eight bytes, and the word position in nine.
 //!
 //! A line of a core is one of its functions. A second core applies what the first writes, and must make the same.
 //!
 //! Bytes are pairs of hexadecimal digits with spaces anywhere between pairs; `00*12` is twelve times 00, `00..1f` all
-//! from 00 to 1f, and `..*12` any twelve bytes. A number is decimal, `0x` and hexadecimal digits, or as `2^68`, `2^68-1`,
-//! `2^68+5`. OpenSSL's answers are those of `openssl enc -chacha20`.
+//! from 00 to 1f, and `..*12` any twelve bytes. A number is decimal, `0x` and hexadecimal digits, or as `2^68`,
+//! `2^68-1`, `2^68+5`. OpenSSL's answers are those of `openssl enc -chacha20`.
 
 pub static CASES: &str = "
 case 1. OpenSSL: a message there, back, and there in pieces of 3

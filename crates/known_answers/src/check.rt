@@ -20,8 +20,8 @@ pub enum Way {
     AsList,
 }
 
-/// What a case is about: a cipher, a generator or a core. It has no contract, so that the proofs of the interpreter show
-/// only that it is safe.
+/// What a case is about: a cipher, a generator or a core. It has no contract, so that the proofs of the interpreter
+/// show only that it is safe.
 pub trait Subject: Drop {
     /// The ways to make its calls, beside `Directly`.
     const WAYS: &'static [Way];

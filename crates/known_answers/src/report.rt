@@ -107,8 +107,8 @@ fn outcome_of(printed: bool, verdicts: &Verdicts) -> Outcome
     Outcome { status }
 }
 
-/// Prints the ciphertext of case 1, then a line for each verdict: `row N ok` or `row N bad`. The outcome is success where
-/// the lines could be printed and none is bad.
+/// Prints the ciphertext of case 1, then a line for each verdict: `row N ok` or `row N bad`. The outcome is success
+/// where the lines could be printed and none is bad.
 pub fn report(rt: &impl Print, ciphertext: &[u8; 16], verdicts: &Verdicts) -> Outcome
     ensures { result ≡ 0 → All (λ verdict. IfSome verdict IsTrue) verdicts.now }
 {

@@ -32,6 +32,13 @@ pub fn check_case<B: Backend, G: Backend>(case: Case) -> Result<(), Failure> {
         "ChaCha20Legacy" => check_cipher::<8, ChaChaCore<R20, Legacy, B>>(case),
         "XChaCha20" => check_cipher::<24, XChaChaCore<R20, B>>(case),
         "ChaCha0" => check_cipher::<12, ChaChaCore<R0, Ietf, B>>(case),
+        _ => check_other::<B, G>(case),
+    }
+}
+
+// Of a subject that is no cipher. A function of its own, since it takes less time to prove two short matches.
+fn check_other<B: Backend, G: Backend>(case: Case) -> Result<(), Failure> {
+    match case.subject {
         "ChaCha20Core" => check_core::<ChaChaCore<R20, Ietf, B>>(case),
         "ChaCha0Core" => check_core::<ChaChaCore<R0, Ietf, B>>(case),
         "ChaCha0LegacyCore" => check_seeded_core::<ChaChaCore<R0, Legacy, B>>(case),

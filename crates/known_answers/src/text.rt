@@ -61,8 +61,8 @@ pub struct Bytes {
 }
 
 impl Bytes {
-    /// Reads bytes: pairs of hexadecimal digits, `00*12` for twelve times 00, `..*12` for any twelve bytes, and `00..1f`
-    /// for all from 00 to 1f, with spaces between such parts.
+    /// Reads bytes: pairs of hexadecimal digits, `00*12` for twelve times 00, `..*12` for any twelve bytes, and
+    /// `00..1f` for all from 00 to 1f, with spaces between such parts.
     pub fn read(text: &str) -> Option<Bytes> {
         let mut bytes = Bytes {
             bytes: [0; 1536],

@@ -115,10 +115,7 @@ where
         &mut S::new(&KEY, &[7; 12]),
         0xffff_fffb,
     )?;
-    fronts(
-        &mut Cipher::<K>::new(&KEY, &[7; 12]),
-        &mut Cipher::<S>::new(&KEY, &[7; 12]),
-    )
+    fronts_of::<Nonce, K, S>(&[7; 12])
 }
 
 fn legacy_beside<K, S>() -> Result<(), Broken>
@@ -134,30 +131,19 @@ pub fn fronts_beside_soft<B>() -> Result<(), Broken>
 where
     B: StreamCipherBackend<R20, Ietf> + StreamCipherBackend<R20, Legacy> + RngBackend<R20>,
 {
-    extended_fronts::<XChaChaCore<R20, B>, XChaChaCore<R20, Soft>>()?;
-    legacy_fronts::<ChaChaCore<R20, Legacy, B>, ChaChaCore<R20, Legacy, Soft>>()?;
+    fronts_of::<XNonce, XChaChaCore<R20, B>, XChaChaCore<R20, Soft>>(&[7; 24])?;
+    fronts_of::<LegacyNonce, ChaChaCore<R20, Legacy, B>, ChaChaCore<R20, Legacy, Soft>>(&[7; 8])?;
     generator_fronts::<R20, B, Soft>(KEY)
 }
 
-fn extended_fronts<K, S>() -> Result<(), Broken>
+fn fronts_of<N, K, S>(nonce: &N) -> Result<(), Broken>
 where
-    K: KeyIvInit<Key = Key, Iv = XNonce> + StreamCipherSeekCore + Drop,
-    S: KeyIvInit<Key = Key, Iv = XNonce> + StreamCipherSeekCore + Drop,
+    K: KeyIvInit<Key = Key, Iv = N> + StreamCipherSeekCore + Drop,
+    S: KeyIvInit<Key = Key, Iv = N> + StreamCipherSeekCore + Drop,
 {
     fronts(
-        &mut Cipher::<K>::new(&KEY, &[7; 24]),
-        &mut Cipher::<S>::new(&KEY, &[7; 24]),
-    )
-}
-
-fn legacy_fronts<K, S>() -> Result<(), Broken>
-where
-    K: KeyIvInit<Key = Key, Iv = LegacyNonce> + StreamCipherSeekCore + Drop,
-    S: KeyIvInit<Key = Key, Iv = LegacyNonce> + StreamCipherSeekCore + Drop,
-{
-    fronts(
-        &mut Cipher::<K>::new(&KEY, &[7; 8]),
-        &mut Cipher::<S>::new(&KEY, &[7; 8]),
+        &mut Cipher::<K>::new(&KEY, nonce),
+        &mut Cipher::<S>::new(&KEY, nonce),
     )
 }
 

@@ -104,7 +104,7 @@ write_keystream_blocks 2 -> ca ..*126 01",
 
 #[test]
 fn faults_are_found(rt: HostRuntime) {
-    for (subject, fault, lines) in WRONG {
+    for (subject, fault, lines) in &WRONG {
         let (subject, made_of) = split_word(subject);
         for line in lines.lines() {
             let case = Case {
@@ -115,7 +115,7 @@ fn faults_are_found(rt: HostRuntime) {
             };
             let found = check_case::<Soft, Soft>(case).err();
             assert!(rt;
-                found.is_some_and(|failure| failure.fault == fault),
+                found.is_some_and(|failure| failure.fault == *fault),
                 "{line}"
             );
         }
