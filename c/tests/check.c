@@ -255,7 +255,7 @@ static void one_generator(struct run *run) {
     size_t words = random_length(run) / 4, done = 0;
     uint64_t block = next(run) >> below(run, 64), stream = stream_of(nonce), low, high;
     unsigned in_block = (unsigned)below(run, 16);
-    if (below(run, 4) == 0) block = UINT64_MAX - below(run, LONGEST / 64);
+    if (below(run, 4) == 0) block = UINT64_MAX - below(run, below(run, 2) ? 8 : LONGEST / 64);
     random_bytes(run, state, sizeof state);
     const struct other *other = any_other(run, LEGACY, rounds_of[at_rounds], 4 * words);
     wrapping_blocks(other, rounds_of[at_rounds], seed, nonce, block, expected, 4 * (words + in_block));
