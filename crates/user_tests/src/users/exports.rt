@@ -3,8 +3,7 @@
 //! The proof of a call grows with the callee's contract, and that of a function with the square of its length. So
 //! exports are called in functions without a contract, and the tests are short functions and tables.
 
-use crate::users::authenticated::{self, AAD};
-use chacha20::{Key, Nonce, R8, R12, R20, SerializedRngState, hchacha};
+use chacha20::{Key, Nonce, R8, R12, R20, SerializedRngState, XNonce, hchacha};
 use chacha20_c::authenticated::{
     chacha_equal, chacha_poly1305, chacha20_aead_decrypt_between, chacha20_aead_decrypt_in_place,
     chacha20_aead_encrypt_between, chacha20_aead_encrypt_in_place, xchacha20_aead_decrypt_between,
@@ -339,69 +338,97 @@ fn stream_is_stored(state: &SerializedRngState) -> bool {
         && state[32..41].starts_with(b"\x01\x02\x03\x04\x05\x06\x07\x08\x05")
 }
 
+// RFC 8439, section 2.8.2, and draft-irtf-cfrg-xchacha, section A.3.1: the key `FROM_80`, the text `MESSAGE`.
+
+static AAD: [u8; 12] = *b"PQRS\xc0\xc1\xc2\xc3\xc4\xc5\xc6\xc7";
+
+static SHORT_NONCE: Nonce = *b"\x07\0\0\0@ABCDEFG";
+
+static EXTENDED_NONCE: XNonce = *b"@ABCDEFGHIJKLMNOPQRSTUVW";
+
+// Whether the nonce is the extended one, and the tag.
+static AEADS: [(bool, Tag); 2] = [
+    (
+        false,
+        *b"\x1a\xe1\x0b\x59\x4f\x09\xe2\x6a\x7e\x90\x2e\xcb\xd0\x60\x06\x91",
+    ),
+    (
+        true,
+        *b"\xc0\x87\x59\x24\xc1\xc7\x98\x79\x47\xde\xaf\xd8\x78\x0a\xcf\x49",
+    ),
+];
+
 // The exports that authenticate, with a nonce of 24 bytes or of 12.
 
 fn encrypt_in_place(extended: bool, data: &mut [u8], tag: &mut Tag) -> u32 {
     if extended {
-        xchacha20_aead_encrypt_in_place(&FROM_80, &authenticated::X_NONCE, AAD, data, tag)
+        xchacha20_aead_encrypt_in_place(&FROM_80, &EXTENDED_NONCE, &AAD, data, tag)
     } else {
-        chacha20_aead_encrypt_in_place(&FROM_80, &authenticated::NONCE, AAD, data, tag)
+        chacha20_aead_encrypt_in_place(&FROM_80, &SHORT_NONCE, &AAD, data, tag)
     }
 }
 
 fn encrypt_between(extended: bool, output: &mut [u8], input: &[u8], tag: &mut Tag) -> u32 {
     if extended {
-        xchacha20_aead_encrypt_between(&FROM_80, &authenticated::X_NONCE, AAD, output, input, tag)
+        xchacha20_aead_encrypt_between(&FROM_80, &EXTENDED_NONCE, &AAD, output, input, tag)
     } else {
-        chacha20_aead_encrypt_between(&FROM_80, &authenticated::NONCE, AAD, output, input, tag)
+        chacha20_aead_encrypt_between(&FROM_80, &SHORT_NONCE, &AAD, output, input, tag)
     }
 }
 
 fn decrypt_in_place(extended: bool, data: &mut [u8], tag: &Tag) -> u32 {
     if extended {
-        xchacha20_aead_decrypt_in_place(&FROM_80, &authenticated::X_NONCE, AAD, data, tag)
+        xchacha20_aead_decrypt_in_place(&FROM_80, &EXTENDED_NONCE, &AAD, data, tag)
     } else {
-        chacha20_aead_decrypt_in_place(&FROM_80, &authenticated::NONCE, AAD, data, tag)
+        chacha20_aead_decrypt_in_place(&FROM_80, &SHORT_NONCE, &AAD, data, tag)
     }
 }
 
 fn decrypt_between(extended: bool, output: &mut [u8], input: &[u8], tag: &Tag) -> u32 {
     if extended {
-        xchacha20_aead_decrypt_between(&FROM_80, &authenticated::X_NONCE, AAD, output, input, tag)
+        xchacha20_aead_decrypt_between(&FROM_80, &EXTENDED_NONCE, &AAD, output, input, tag)
     } else {
-        chacha20_aead_decrypt_between(&FROM_80, &authenticated::NONCE, AAD, output, input, tag)
+        chacha20_aead_decrypt_between(&FROM_80, &SHORT_NONCE, &AAD, output, input, tag)
     }
 }
 
-fn encrypts(extended: bool, ciphertext: &[u8; 114], tag: &Tag) -> bool {
-    let (mut data, mut output, mut of_data, mut of_output) = (*MESSAGE, [0; 114], [0; 16], [0; 16]);
-    encrypt_in_place(extended, &mut data, &mut of_data) == 0
-        && encrypt_between(extended, &mut output, MESSAGE, &mut of_output) == 0
-        && data == *ciphertext
-        && output == *ciphertext
-        && of_data == *tag
-        && of_output == *tag
+// The ciphertext of the message, and its tag.
+fn encrypted(extended: bool) -> ([u8; 114], Tag) {
+    let (mut data, mut tag) = (*MESSAGE, [0; 16]);
+    encrypt_in_place(extended, &mut data, &mut tag);
+    (data, tag)
 }
 
-fn decrypts(extended: bool, ciphertext: &[u8; 114], tag: &Tag) -> bool {
-    let (mut data, mut output) = (*ciphertext, [0; 114]);
+// A tag is right only if the ciphertext is.
+fn encrypts(extended: bool, tag: &Tag) -> bool {
+    let (ciphertext, made) = encrypted(extended);
+    let (mut output, mut of_output) = ([0; 114], [0; 16]);
+    encrypt_between(extended, &mut output, MESSAGE, &mut of_output) == 0
+        && output == ciphertext
+        && of_output == *tag
+        && made == *tag
+}
+
+fn decrypts(extended: bool, tag: &Tag) -> bool {
+    let (ciphertext, _) = encrypted(extended);
+    let (mut data, mut output) = (ciphertext, [0; 114]);
     decrypt_in_place(extended, &mut data, tag) == 0
-        && decrypt_between(extended, &mut output, ciphertext, tag) == 0
+        && decrypt_between(extended, &mut output, &ciphertext, tag) == 0
         && data == *MESSAGE
         && output == *MESSAGE
 }
 
 // A tag whose last bit is turned, and an output that is too short. Nothing changes.
-fn refuses_forgery(extended: bool, ciphertext: &[u8; 114], tag: &Tag) -> bool {
-    let (mut data, mut output, mut short) = (*ciphertext, [7; 114], [7; 113]);
-    let mut wrong = *tag;
+fn refuses_forgery(extended: bool, tag: &Tag) -> bool {
+    let (ciphertext, mut wrong) = encrypted(extended);
+    let (mut data, mut output, mut short) = (ciphertext, [7; 114], [7; 113]);
     wrong[15] ^= 128;
     let kept = wrong;
     decrypt_in_place(extended, &mut data, &wrong) == 1
-        && decrypt_between(extended, &mut output, ciphertext, &wrong) == 1
-        && decrypt_between(extended, &mut short, ciphertext, tag) == 1
+        && decrypt_between(extended, &mut output, &ciphertext, &wrong) == 1
+        && decrypt_between(extended, &mut short, &ciphertext, tag) == 1
         && encrypt_between(extended, &mut short, MESSAGE, &mut wrong) == 1
-        && data == *ciphertext
+        && data == ciphertext
         && output == [7; 114]
         && short == [7; 113]
         && wrong == kept
@@ -426,11 +453,10 @@ fn compares() -> bool {
 
 #[test]
 fn authenticate(rt: HostRuntime) {
-    let (short, long) = (&authenticated::CIPHERTEXT, authenticated::X_CIPHERTEXT);
-    let (tag, long_tag) = (&authenticated::TAG, &authenticated::X_TAG);
-    assert!(rt; encrypts(false, short, tag) && encrypts(true, long, long_tag));
-    assert!(rt; decrypts(false, short, tag) && decrypts(true, long, long_tag));
-    assert!(rt; refuses_forgery(false, short, tag) && refuses_forgery(true, long, long_tag));
+    for (extended, tag) in &AEADS {
+        assert!(rt; encrypts(*extended, tag) && decrypts(*extended, tag));
+        assert!(rt; refuses_forgery(*extended, tag));
+    }
     assert!(rt; mac() && compares());
 }
 
