@@ -10,11 +10,7 @@ use chacha20::Key;
 use known_answers::published::COUNTING as KEY;
 use std::io::{Read, Write};
 
-const SALT: Salt = *b"defghijklmnopqrs";
-
-// The file of the text "text" under KEY and SALT; the chunk as libsodium seals it (checks/seal).
-static FILE_OF_TEXT: [u8; 52] = *b"chacha20-seal v1defghijklmnopqrs\
-    \xa2\x58\xa9\xdf\x48\x9e\x69\x1f\x7f\x17\xa2\xbb\xbd\x04\x97\x5a\xb1\x18\xa7\xf9";
+pub const SALT: Salt = *b"defghijklmnopqrs";
 
 // What a call says.
 #[derive(Clone, Copy, PartialEq)]
@@ -36,23 +32,6 @@ fn said_by(done: Result<(), SealError>) -> Said {
     }
 }
 
-// The numbers from 0 to 250, again and again.
-fn count(text: &mut [u8]) {
-    for i in 0..text.len() {
-        text[i] = (i % 251) as u8;
-    }
-}
-
-// Whether a text's file fills this one.
-fn seals<const N: usize, const F: usize>(salt: &Salt, text: &[u8; N], file: &mut [u8; F]) -> bool
-    requires text { N < 2 ^ 63 }
-    requires file { F < 2 ^ 63 }
-{
-    let (mut reader, mut writer) = (text.as_slice(), file.as_mut_slice());
-    let done = encrypt(&KEY, salt, &mut reader, &mut writer, &mut [0; CHUNK + 1]);
-    said_by(done) == Said::Done && writer.is_empty()
-}
-
 // Of a sealed file, whatever is said, a front of its text is written.
 fn opens<R: Read, W: Write>(key: &Key, reader: &mut R, writer: &mut W) -> Said
     ensures { (salt text : List ℕ) → length salt ≡ 16
@@ -63,56 +42,156 @@ fn opens<R: Read, W: Write>(key: &Key, reader: &mut R, writer: &mut W) -> Said
     said_by(done)
 }
 
-// What is said of a file, and how much text is written.
-fn opened(file: &[u8], text: &mut [u8]) -> (Said, usize) {
+// What is said of a file, and how much text is written, where reader and writer fail in these calls, or never.
+fn opened(file: &[u8], text: &mut [u8], read: u32, write: u32) -> (Said, usize) {
     let most = text.len();
-    let (mut reader, mut room) = (file, text);
-    let answer = opens(&KEY, &mut reader, &mut room);
-    (answer, most - room.len().min(most))
+    let mut reader = Unsteady::new(file, 1000, read);
+    let mut writer = Unsteady::new(text, 1000, write);
+    let said = opens(&KEY, &mut reader, &mut writer);
+    (said, most - writer.inner.len().min(most))
 }
+
+// The file of the text "text"; its chunk is as libsodium seals it (checks/seal).
+static FILE_OF_TEXT: [u8; 52] = *b"chacha20-seal v1defghijklmnopqrs\
+    \xa2\x58\xa9\xdf\x48\x9e\x69\x1f\x7f\x17\xa2\xbb\xbd\x04\x97\x5a\xb1\x18\xa7\xf9";
 
 #[test]
-fn opens_another_implementations_file(rt: HostRuntime) {
+fn another_implementations_file(rt: HostRuntime) {
     let mut text = [0; 5];
-    assert!(rt; opened(&FILE_OF_TEXT, &mut text) == (Said::Done, 4) && text == *b"text\0");
+    assert!(rt; opened(&FILE_OF_TEXT, &mut text, 0, 0) == (Said::Done, 4) && text == *b"text\0");
 }
 
-// Whether a text of N bytes has a file of F bytes, and comes back.
-fn comes_back<const N: usize, const F: usize>() -> bool
-    requires text { N < 2 ^ 63 }
-    requires file { F < 2 ^ 63 }
-{
-    let (mut text, mut file, mut back) = ([0; N], [0; F], [0; N]);
-    count(&mut text);
-    seals(&SALT, &text, &mut file) && opened(&file, &mut back) == (Said::Done, N) && back == text
+// Whether a text's file fills this one.
+pub fn seals(salt: &Salt, text: &[u8], file: &mut [u8]) -> bool {
+    let (mut reader, mut writer) = (text, file);
+    let done = encrypt(&KEY, salt, &mut reader, &mut writer, &mut [0; CHUNK + 1]);
+    done.is_ok() && writer.is_empty()
+}
+
+// Writes the numbers from 0 to 250, again and again.
+pub fn count(text: &mut [u8]) {
+    for i in 0..text.len() {
+        text[i] = (i % 251) as u8;
+    }
+}
+
+// Lengths of texts and of their files.
+static LENGTHS: [(usize, usize); 6] = [
+    (0, 48),
+    (1, 49),
+    (65535, 65583),
+    (65536, 65584),
+    (65537, 65601),
+    (400000, 400144),
+];
+
+// Whether a text has a file of this length, and comes back.
+fn comes_back(text_len: usize, file_len: usize) -> bool {
+    let (mut text, mut file, mut back) = ([0; 400000], [0; 400144], [0; 400000]);
+    let text = &mut text[..text_len.min(400000)];
+    let file = &mut file[..file_len.min(400144)];
+    let back = &mut back[..text.len()];
+    count(text);
+    seals(&SALT, text, file) && opened(file, back, 0, 0) == (Said::Done, text_len) && *back == *text
 }
 
 #[test]
 fn round_trips(rt: HostRuntime) {
-    assert!(rt; comes_back::<0, 48>() && comes_back::<1, 49>() && comes_back::<65535, 65583>());
-    assert!(rt; comes_back::<65536, 65584>() && comes_back::<65537, 65601>());
-    assert!(rt; comes_back::<400000, 400144>());
+    for (text, file) in &LENGTHS {
+        assert!(rt; comes_back(*text, *file), "{text}");
+    }
 }
 
-type Part = (usize, usize, usize);
+// A text whose file has four chunks, and that file.
+pub const TEXT: usize = 200000;
 
-// Of a file of 200,000 bytes of text: the header, its four chunks, the second one of another such file, and all.
-const HEADER: Part = (0, 0, 32);
+pub const FILE: usize = 200096;
 
-const FIRST: Part = (0, 32, 65584);
+// From where to where a part stands in two such files, one behind the other.
+type Part = (usize, usize);
 
-const SECOND: Part = (0, 65584, 131136);
+const HEADER: Part = (0, 32);
 
-const THIRD: Part = (0, 131136, 196688);
+const FIRST: Part = (32, 65584);
 
-const LAST: Part = (0, 196688, 200096);
+const SECOND: Part = (65584, 131136);
 
-const OTHER_SECOND: Part = (1, 65584, 131136);
+const THIRD: Part = (131136, 196688);
 
-const WHOLE: Part = (0, 0, 200096);
+const LAST: Part = (196688, FILE);
 
-// The same with a chunk missing, out of order, twice or of the other file.
-const CUT_BEFORE_LAST: &[Part] = &[HEADER, FIRST, SECOND, THIRD];
+const OTHER_SECOND: Part = (FILE + 65584, FILE + 131136);
+
+// A damaged file.
+#[derive(Clone, Copy)]
+pub enum Change {
+    // Only so many bytes are left.
+    Cut(usize),
+    // A bit of this byte is turned.
+    Turned(usize),
+    // It has these parts.
+    Has(&'static [Part]),
+}
+
+// Writes the damaged file, and returns its length.
+pub fn changed(files: &[u8; 2 * FILE], change: Change, bytes: &mut [u8; 2 * FILE]) -> usize {
+    *bytes = *files;
+    match change {
+        Change::Cut(len) => len.min(FILE),
+        Change::Turned(place) => {
+            bytes[place % FILE] ^= 1;
+            FILE
+        }
+        Change::Has(parts) => put_parts(files, parts, bytes),
+    }
+}
+
+// Writes parts, and returns how many bytes that are.
+fn put_parts(files: &[u8], parts: &[Part], bytes: &mut [u8]) -> usize {
+    let most = bytes.len();
+    let mut room = bytes;
+    for (from, to) in parts {
+        let _ = room.write_all(files.get(*from..*to).unwrap_or(&[]));
+    }
+    most - room.len().min(most)
+}
+
+// Files of the text under two salts, one behind the other.
+pub fn two_files(text: &[u8; TEXT], files: &mut [u8; 2 * FILE]) -> bool {
+    let (first, second) = files.split_at_mut(FILE);
+    seals(&SALT, text, first) && seals(&[7; 16], text, second)
+}
+
+// What is wrong with a damaged file, and how much text is written.
+static DAMAGED: [(Change, Damage, usize); 27] = [
+    (Change::Cut(0), Damage::NotSealed, 0),
+    (Change::Cut(1), Damage::NotSealed, 0),
+    (Change::Cut(15), Damage::CutHeader, 0),
+    (Change::Cut(31), Damage::CutHeader, 0),
+    (Change::Cut(32), Damage::WrongEnd(0), 0),
+    (Change::Cut(33), Damage::WrongEnd(0), 0),
+    (Change::Cut(48), Damage::WrongEnd(0), 0),
+    (Change::Cut(65583), Damage::WrongEnd(0), 0),
+    (Change::Cut(65584), Damage::WrongEnd(0), 0),
+    (Change::Cut(65585), Damage::WrongEnd(1), 65536),
+    (Change::Cut(196688), Damage::WrongEnd(2), 131072),
+    (Change::Cut(200095), Damage::WrongEnd(3), 196608),
+    (Change::Turned(0), Damage::NotSealed, 0),
+    (Change::Turned(14), Damage::NotSealed, 0),
+    (Change::Turned(15), Damage::OtherVersion, 0),
+    (Change::Turned(16), Damage::WrongChunk(0), 0),
+    (Change::Turned(32), Damage::WrongChunk(0), 0),
+    (Change::Turned(65583), Damage::WrongChunk(0), 0),
+    (Change::Turned(65584), Damage::WrongChunk(1), 65536),
+    (Change::Turned(196688), Damage::WrongEnd(3), 196608),
+    (Change::Turned(200095), Damage::WrongEnd(3), 196608),
+    (Change::Has(EXCHANGED), Damage::WrongChunk(0), 0),
+    (Change::Has(LEFT_OUT), Damage::WrongChunk(1), 65536),
+    (Change::Has(REPEATED), Damage::WrongChunk(1), 65536),
+    (Change::Has(OF_ANOTHER_FILE), Damage::WrongChunk(1), 65536),
+    (Change::Has(LAST_TWICE), Damage::WrongEnd(3), 196608),
+    (Change::Has(WHOLE_TWICE), Damage::WrongChunk(3), 196608),
+];
 
 const EXCHANGED: &[Part] = &[HEADER, SECOND, FIRST, THIRD, LAST];
 
@@ -124,131 +203,47 @@ const OF_ANOTHER_FILE: &[Part] = &[HEADER, FIRST, OTHER_SECOND, THIRD, LAST];
 
 const LAST_TWICE: &[Part] = &[HEADER, FIRST, SECOND, THIRD, LAST, LAST];
 
-const NONE: usize = usize::MAX;
+const WHOLE_TWICE: &[Part] = &[(0, FILE), (0, FILE)];
 
-// Parts of two files, the byte in which a bit is turned, what is wrong, and how much text is written.
-static DAMAGED: [(&[Part], usize, Damage, usize); 27] = [
-    (&[], NONE, Damage::NotSealed, 0),
-    (&[(0, 0, 1)], NONE, Damage::NotSealed, 0),
-    (&[(0, 0, 15)], NONE, Damage::CutHeader, 0),
-    (&[(0, 0, 31)], NONE, Damage::CutHeader, 0),
-    (&[HEADER], NONE, Damage::WrongEnd(0), 0),
-    (&[(0, 0, 33)], NONE, Damage::WrongEnd(0), 0),
-    (&[(0, 0, 48)], NONE, Damage::WrongEnd(0), 0),
-    (&[(0, 0, 65583)], NONE, Damage::WrongEnd(0), 0),
-    (&[HEADER, FIRST], NONE, Damage::WrongEnd(0), 0),
-    (&[(0, 0, 65585)], NONE, Damage::WrongEnd(1), 65536),
-    (CUT_BEFORE_LAST, NONE, Damage::WrongEnd(2), 131072),
-    (&[(0, 0, 200095)], NONE, Damage::WrongEnd(3), 196608),
-    (&[WHOLE], 0, Damage::NotSealed, 0),
-    (&[WHOLE], 14, Damage::NotSealed, 0),
-    (&[WHOLE], 15, Damage::OtherVersion, 0),
-    (&[WHOLE], 16, Damage::WrongChunk(0), 0),
-    (&[WHOLE], 32, Damage::WrongChunk(0), 0),
-    (&[WHOLE], 65583, Damage::WrongChunk(0), 0),
-    (&[WHOLE], 65584, Damage::WrongChunk(1), 65536),
-    (&[WHOLE], 196688, Damage::WrongEnd(3), 196608),
-    (&[WHOLE], 200095, Damage::WrongEnd(3), 196608),
-    (EXCHANGED, NONE, Damage::WrongChunk(0), 0),
-    (LEFT_OUT, NONE, Damage::WrongChunk(1), 65536),
-    (REPEATED, NONE, Damage::WrongChunk(1), 65536),
-    (OF_ANOTHER_FILE, NONE, Damage::WrongChunk(1), 65536),
-    (LAST_TWICE, NONE, Damage::WrongEnd(3), 196608),
-    (&[WHOLE, WHOLE], NONE, Damage::WrongChunk(3), 196608),
-];
-
-// Writes these parts of the files, and returns how many bytes that are.
-fn put_parts(files: [&[u8]; 2], parts: &[Part], bytes: &mut [u8]) -> usize {
-    let most = bytes.len();
-    let mut room = bytes;
-    for (file, from, to) in parts {
-        let _ = room.write_all(files[*file % 2].get(*from..*to).unwrap_or(&[]));
-    }
-    most - room.len().min(most)
-}
-
-fn opened_parts<const F: usize, const M: usize>(
-    files: [&[u8; F]; 2],
-    parts: &[Part],
-    turned: usize,
-) -> (Said, usize)
-    requires file { F < 2 ^ 63 }
-    requires most { M < 2 ^ 63 }
-{
-    let (mut bytes, mut text) = ([0; M], [0; F]);
-    let len = put_parts([files[0], files[1]], parts, &mut bytes).min(M);
-    if turned < len {
-        bytes[turned] ^= 1;
-    }
-    opened(&bytes[..len], &mut text)
-}
-
-// The place of the first damage that isn't found, of files of N zeros, which have F bytes.
-fn not_found<const N: usize, const F: usize, const M: usize>() -> Option<usize>
-    requires text { N < 2 ^ 63 }
-    requires file { F < 2 ^ 63 }
-    requires most { M < 2 ^ 63 }
-{
-    let (mut first, mut second) = ([0; F], [0; F]);
-    let sealed = seals(&SALT, &[0; N], &mut first) && seals(&[7; 16], &[0; N], &mut second);
-    for place in 0..27usize {
-        let (parts, turned, damage, written) = &DAMAGED[place];
-        let found = opened_parts::<F, M>([&first, &second], parts, *turned);
-        if !sealed || found != (Said::Damaged(*damage), *written) {
-            return Some(place);
-        }
-    }
-    None
+// What is said of a damaged file, and how much text is written.
+fn opened_after(files: &[u8; 2 * FILE], change: Change) -> (Said, usize) {
+    let (mut bytes, mut back) = ([0; 2 * FILE], [0; FILE]);
+    let len = changed(files, change, &mut bytes).min(2 * FILE);
+    opened(&bytes[..len], &mut back, 0, 0)
 }
 
 #[test]
 fn damaged_files_are_refused(rt: HostRuntime) {
-    let place = not_found::<200000, 200096, 400192>();
-    assert!(rt; place.is_none(), "{place:?}");
-}
-
-// Opens a file of a text where reader and writer fail in these calls, or never.
-fn opened_unsteadily<const N: usize>(
-    file: &[u8],
-    text: &[u8; N],
-    reads: u32,
-    writes: u32,
-) -> (Said, bool)
-    requires { N < 2 ^ 63 }
-{
-    let mut back = [0; N];
-    let mut reader = Unsteady::new(file, 1000, reads);
-    let answer = opens(
-        &KEY,
-        &mut reader,
-        &mut Unsteady::new(back.as_mut_slice(), 1000, writes),
-    );
-    (answer, back == *text)
-}
-
-// Whether a failure at a call is the error that comes out.
-fn is_told<const N: usize>(file: &[u8], text: &[u8; N], call: u32) -> bool
-    requires { N < 2 ^ 63 }
-{
-    opened_unsteadily(file, text, call, 0).0 == Said::Read
-        && opened_unsteadily(file, text, 0, call).0 == Said::Write
-}
-
-// Short and interrupted reads and writes change nothing.
-fn is_steady<const N: usize, const F: usize>() -> bool
-    requires text { N < 2 ^ 63 }
-    requires file { F < 2 ^ 63 }
-{
-    let (mut text, mut file) = ([0; N], [0; F]);
+    let (mut text, mut files) = ([0; TEXT], [0; 2 * FILE]);
     count(&mut text);
-    seals(&SALT, &text, &mut file)
-        && opened_unsteadily(&file, &text, 0, 0) == (Said::Done, true)
-        && is_told(&file, &text, 1)
-        && is_told(&file, &text, 40)
-        && is_told(&file, &text, 100)
+    assert!(rt; two_files(&text, &mut files));
+    for i in 0..DAMAGED.len() {
+        let (change, damage, written) = &DAMAGED[i];
+        assert!(rt;
+            opened_after(&files, *change) == (Said::Damaged(*damage), *written),
+            "{i}"
+        );
+    }
 }
+
+// Calls in which a reader and a writer fail.
+static FAILURES: [(u32, u32, Said); 6] = [
+    (1, 0, Said::Read),
+    (40, 0, Said::Read),
+    (100, 0, Said::Read),
+    (0, 1, Said::Write),
+    (0, 40, Said::Write),
+    (0, 100, Said::Write),
+];
 
 #[test]
-fn unsteady_files(rt: HostRuntime) {
-    assert!(rt; is_steady::<70000, 70064>());
+fn failures_are_told(rt: HostRuntime) {
+    let (mut text, mut file) = ([0; TEXT], [0; FILE]);
+    assert!(rt; seals(&SALT, &text, &mut file));
+    for (read, write, said) in &FAILURES {
+        assert!(rt;
+            opened(&file, &mut text, *read, *write).0 == *said,
+            "{read} {write}"
+        );
+    }
 }
