@@ -17,7 +17,7 @@
 //! restores the message, and otherwise changes nothing. They don't say how hard a tag is to forge. Never use a nonce
 //! twice under one key: the two messages reveal the XOR of their texts, and tags can be forged.
 //!
-//! The module `sealed` does this for files, chunk by chunk.
+//! The crate `sealed` does this for files, chunk by chunk.
 //! All proofs use only the public contracts, definitions and lemmas of `chacha20` and `poly1305`.
 #![tactic(auto)]
 
@@ -26,7 +26,6 @@ mod error;
 mod mac;
 mod message;
 mod named;
-pub mod sealed;
 
 pub use chacha_poly1305::{AeadCore, ChaChaPoly1305};
 pub use error::AeadError;

@@ -1,6 +1,6 @@
 //! Why the program stops: each failure prints as a sentence.
 
-use aead::sealed::{Damage, SealError};
+use sealed::{Damage, SealError};
 use std::alloc::AllocError;
 use std::fmt::{Display, Formatter};
 use std::{fmt, io};

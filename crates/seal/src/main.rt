@@ -7,10 +7,10 @@ mod failure;
 mod files;
 mod progress;
 
-use aead::sealed::{CHUNK, SealError, SealedReader, TAG, chunk, stream};
 use chacha20::Key;
 use failure::{Failure, Refusal};
 use progress::Progress;
+use sealed::{CHUNK, SealError, SealedReader, TAG, chunk, stream};
 use std::fs::File;
 use std::io::{ErrorKind, Seek, SeekFrom, Write};
 use std::process::ExitCode;

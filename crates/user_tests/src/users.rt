@@ -14,7 +14,7 @@ mod packets;
 mod pieces;
 mod readme;
 mod scalar;
-mod sealed;
+mod sealed_files;
 mod sealed_parts;
 mod sectors;
 mod simulation;

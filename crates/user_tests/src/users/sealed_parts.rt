@@ -3,12 +3,12 @@
 ghost use Rattle.std.specs.Prelude.{◌≡◌, ◌≤◌, ℕ, List, length};
 ghost use Rattle.std.specs.List.{slice_range};
 ghost use Rattle.std.specs.Result.{IsOkAnd};
-ghost use Rattle.aead.specs.Sealed.{sealed};
+ghost use Rattle.sealed.specs.Sealed.{sealed};
 
-use super::sealed::{Change, FILE, SALT, TEXT, changed, count, seals, two_files};
+use super::sealed_files::{Change, FILE, SALT, TEXT, changed, count, seals, two_files};
 use super::unsteady::Unsteady;
-use aead::sealed::{CHUNK, Damage, SealError, SealedReader, SealedSlice, TAG};
 use known_answers::published::COUNTING as KEY;
+use sealed::{CHUNK, Damage, SealError, SealedReader, SealedSlice, TAG};
 use std::fs::{File, OpenOptions, remove_file};
 use std::io::{self, Cursor, ErrorKind, Read, Seek, SeekFrom, Write};
 

@@ -1,0 +1,195 @@
+-- What a reader had, of which the chunks before chunk i were right.
+use Rattle.std.proofs.Common.{◌≡◌, ◌≢◌, ◌<◌, ◌≤◌, ◌+◌, ◌*◌, ◌∙◌, ℕ, zero, suc, true, false, List, [], ◌++◌, Some, None, Ok, Err, inl, inr, IfSome, IfErr, IsErrAnd, OnOk, length, take, drop, take_all, arith, sym, ap, subst, append-nil, append_assoc, length-append}
+use Rattle.std.proofs.lemmas.List.{take-append-drop}
+use Rattle.std.proofs.Math.Seq.{take-append-add, take-length}
+use Rattle.std.specs.declared.option.Option.{Option}
+use Rattle.std.specs.declared.result.Result.{Result}
+use Rattle.std.specs.Io.KnownBytes.{Appends, Consumes, IsAtEnd, prepend_known}
+use Rattle.std.proofs.KnownBytes.{Appends-nil, Appends-trans, Consumes-whole}
+use Rattle.sealed.specs.declared.error.Damage.{Damage}
+use Rattle.sealed.specs.declared.error.SealError.{SealError}
+use Rattle.sealed.specs.declared.error.SealError.TheVariants.{Damaged}
+use Rattle.sealed.specs.Sealed.{header, chunk, chunks, sealed, IsRight}
+use Rattle.sealed.proofs.ChunkLemmas.{body, chunks-more, sealed-is, sealed-end, length-chunk}
+use Rattle.sealed.proofs.FileLemmas.{one-text, right-front, wrong-mid, wrong-last}
+use Rattle.sealed.proofs.FrontLemmas.{front-more}
+use Rattle.sealed.proofs.ReaderLemmas.{Consumes-held, Consumes-some}
+
+-- what follows from each refusal
+pub refusal-weaker : {T P Q : Type 0} (r : Result T SealError) → (P → Q)
+    → IfErr r (λ e. (damage : Damage) → e ≡ Damaged damage → P)
+    → IfErr r (λ e. (damage : Damage) → e ≡ Damaged damage → Q)
+refusal-weaker (Ok x) next holds = tt
+refusal-weaker (Err e) next holds = λ damage is. next (holds damage is)
+
+-- an error that is passed on
+pub passed-on : {T P : Type 0} (r : Result T SealError) (e : SealError) → IsErrAnd r (λ y. y ≡ e)
+    → ((damage : Damage) → e ≡ Damaged damage → P) → IfErr r (λ y. (damage : Damage) → y ≡ Damaged damage → P)
+passed-on (Ok x) e err holds = tt
+passed-on (Err y) e err holds = λ damage is. holds damage (sym err ∙ is)
+
+-- nothing is said of a text then
+pub on_ok-passed : {T : Type 0} (r : Result T SealError) (e : SealError) (P : Type 0) → IsErrAnd r (λ y. y ≡ e)
+    → OnOk r P
+on_ok-passed (Ok x) e P err = absurd err
+on_ok-passed (Err y) e P err = tt
+
+-- no header
+pub no-file : (a : Option (List ℕ)) (key : List ℕ)
+    → IfSome a (λ file. (salt rest : List ℕ) → length salt ≡ 16 → file ≢ header salt ++ rest)
+    → IfSome a (λ file. (salt text : List ℕ) → length salt ≡ 16 → file ≢ sealed key salt text)
+no-file None key none = tt
+no-file (Some file) key none = λ salt text size same. none salt (body key salt text) size (same
+    ∙ sealed-is key salt text)
+
+-- one text
+pub text-of : (a w v : Option (List ℕ)) (key : List ℕ)
+    → IfSome a (λ file. (salt text : List ℕ) × (length salt ≡ 16) × (file ≡ sealed key salt text) × Appends w v text)
+    → (salt text : List ℕ) → length salt ≡ 16 → a ≡ Some (sealed key salt text) → Appends w v text
+text-of a w v key holds salt text size is =
+    let (salt', text', size', same, written) =
+    subst (λ o. IfSome o (λ file. (s t : List ℕ) × (length s ≡ 16) × (file ≡ sealed key s t)
+    × Appends w v t)) is holds in
+    subst (Appends w v) (sym (one-text key salt salt' text text' size size' same)) written
+
+-- a full buffer: a chunk, and the next one's first byte
+pub split-full : (before buf : List ℕ) (n : ℕ) → length buf ≡ 65553 → 65552 < n
+    → before ++ take n buf ≡ (before ++ take 65552 buf) ++ drop 65552 buf
+split-full before buf n full more =
+    ap (λ xs. before ++ xs) (take_all n buf (omega (arith, more, full)) ∙ sym (take-append-drop 65552 buf))
+    ∙ sym (append_assoc before (take 65552 buf) (drop 65552 buf))
+
+-- what was written is the front of a right text
+abbrev pub RightFront : Option (List ℕ) → List ℕ → Option (List ℕ) → Option (List ℕ) → Type 0
+RightFront a key w v = IfSome a (λ file. (text : List ℕ) × (n : ℕ) × (0 < n → IsRight key file text)
+    × Appends w v (take n text))
+
+-- of a sealed file that is the front of its text
+pub only-front : (a w v : Option (List ℕ)) (key salt text : List ℕ) → length salt ≡ 16
+    → a ≡ Some (sealed key salt text) → RightFront a key w v → (n : ℕ) × Appends w v (take n text)
+only-front a w v key salt text size is written =
+    let (t, n, right, appends) = subst (λ o. RightFront o key w v) is written in
+    front t n right appends
+  where
+    front : (t : List ℕ) (n : ℕ) → (0 < n → IsRight key (sealed key salt text) t) → Appends w v (take n t)
+        → (k : ℕ) × Appends w v (take k text)
+    front t zero right appends = (0, appends)
+    front t (suc n) right appends =
+        let (rest, is) = right-front key salt text t size (right (omega arith)) in
+        front-more w w v [] t rest text (suc n) is (Appends-nil w) appends
+
+-- all of the chunks before, and a front of the next one
+right-then : (a w v u : Option (List ℕ)) (key moved text : List ℕ) (n : ℕ) → IfSome a (λ file. IsRight key file moved)
+    → (0 < n → IfSome a (λ file. IsRight key file (moved ++ text))) → Appends w v moved → Appends v u (take n text)
+    → RightFront a key w u
+right-then None w v u key moved text n before after written more = tt
+right-then (Some file) w v u key moved text zero before after written more = (
+  moved,
+  length moved,
+  λ _. before,
+  subst (Appends w u) (append-nil moved ∙ sym (take-length moved)) (Appends-trans w v u moved [] written more),
+)
+right-then (Some file) w v u key moved text (suc n) before after written more = (
+  moved ++ text,
+  length moved + suc n,
+  λ _. after (omega arith),
+  subst (Appends w u) (sym (take-append-add moved text (suc n)))
+      (Appends-trans w v u moved (take (suc n) text) written more),
+)
+
+-- the chunks before are right
+begins : (a b : Option (List ℕ)) (key salt moved held : List ℕ) (i : ℕ) → length salt ≡ 16
+    → length moved ≡ 65536 * i → (0 < i → 0 < length held)
+    → Consumes a (prepend_known held b) (header salt ++ chunks key salt moved i)
+    → IfSome a (λ file. IsRight key file moved)
+begins None b key salt moved held i size long more read = tt
+begins (Some file) None key salt moved held i size long more read = absurd read
+begins (Some file) (Some left) key salt moved held i size long more read =
+    inl (salt, held ++ left, i, size, long, λ some. omega (arith, more some, length-append held left), read)
+
+-- only the text of the chunks before is written
+pub right-before : (a b w v : Option (List ℕ)) (key salt moved held : List ℕ) (i : ℕ) → length salt ≡ 16
+    → length moved ≡ 65536 * i → (0 < i → 0 < length held)
+    → Consumes a (prepend_known held b) (header salt ++ chunks key salt moved i) → Appends w v moved
+    → RightFront a key w v
+right-before a b w v key salt moved held i size long more read written =
+    right-then a w v v key moved [] 0 (begins a b key salt moved held i size long more read)
+    (λ less. absurd (omega (arith, less))) written (Appends-nil v)
+
+module _ (a b : Option (List ℕ)) (key salt moved bytes : List ℕ) (i : ℕ) (size : length salt
+    ≡ 16) (long : length moved ≡ 65536 * i) where
+  abbrev pub front : List ℕ
+  front = header salt ++ chunks key salt moved i
+
+  -- the last chunk is right
+  whole : (text : List ℕ) → length bytes ≤ 65552 → (0 < i → 0 < length text) → bytes ≡ chunk key salt i true text
+      → front ++ bytes ≡ sealed key salt (moved ++ text)
+  whole text fits some is =
+      ap (λ cs. front ++ cs) is
+      ∙ sealed-end key salt moved text i long
+      (omega (arith, fits, ap length is, length-chunk key salt i true text)) some
+
+  pub opened : (w v u : Option (List ℕ)) (text : List ℕ) → length bytes ≤ 65552 → (0 < i → 0 < length text)
+      → bytes ≡ chunk key salt i true text → Consumes a b (front ++ bytes) → IsAtEnd b → Appends w v moved
+      → Appends v u text
+      → IfSome a (λ file. (salt' text' : List ℕ) × (length salt' ≡ 16) × (file ≡ sealed key salt' text')
+      × Appends w u text')
+  opened w v u text fits some is read end before more =
+      Consumes-whole a b (front ++ bytes)
+      (λ file. (salt' text' : List ℕ) × (length salt' ≡ 16) × (file ≡ sealed key salt' text') × Appends w u text')
+      read end (salt, moved ++ text, size, whole text fits some is, Appends-trans w v u moved text before more)
+
+  -- the last chunk is wrong
+  pub refused-last : length bytes ≤ 65552 → (0 < i → 0 < length bytes)
+      → ((text : List ℕ) → (0 < i → 0 < length text) → bytes ≢ chunk key salt i true text)
+      → Consumes a b (front ++ bytes) → IsAtEnd b
+      → IfSome a (λ file. (salt' text' : List ℕ) → length salt' ≡ 16 → file ≢ sealed key salt' text')
+  refused-last fits some wrong read end =
+      Consumes-whole a b (front ++ bytes)
+      (λ file. (salt' text' : List ℕ) → length salt' ≡ 16 → file ≢ sealed key salt' text') read end
+      (λ salt' text' size' same. wrong-last key salt salt' moved bytes text' i size size' long fits some wrong same)
+
+  -- another chunk is wrong
+  pub refused-mid : (held : List ℕ) → length bytes ≡ 65552 → 0 < length held
+      → ((text : List ℕ) → (0 < i → 0 < length text) → bytes ≢ chunk key salt i false text)
+      → Consumes a b ((front ++ bytes) ++ held)
+      → IfSome a (λ file. (salt' text' : List ℕ) → length salt' ≡ 16 → file ≢ sealed key salt' text')
+  refused-mid held wide more wrong read =
+      Consumes-some a b ((front ++ bytes) ++ held)
+      (λ file. (salt' text' : List ℕ) → length salt' ≡ 16 → file ≢ sealed key salt' text') read
+      (λ rest salt' text' size' same.
+      wrong-mid key salt salt' moved bytes (held ++ rest) text' i size size' long wide
+      (omega (arith, length-append held rest, more)) wrong
+      (sym (append_assoc (front ++ bytes) held rest) ∙ same))
+
+  -- a front of the last chunk's text is written
+  pub right-last : (c w v u : Option (List ℕ)) (held text : List ℕ) (n : ℕ) → length bytes ≤ 65552
+      → (0 < n → (0 < i → 0 < length text) × (bytes ≡ chunk key salt i true text))
+      → (0 < i → 0 < length held) → Consumes a (prepend_known held c) front
+      → Consumes a b (front ++ bytes) → IsAtEnd b → Appends w v moved → Appends v u (take n text)
+      → RightFront a key w u
+  right-last c w v u held text n fits right some read read' end written more =
+      right-then a w v u key moved text n (begins a c key salt moved held i size long some read)
+      (λ less.
+      let (some, is) = right less in
+      Consumes-whole a b (front ++ bytes) (λ file. IsRight key file (moved ++ text)) read' end
+      (inr (salt, size, whole text fits some is)))
+      written more
+
+  -- a front of another chunk's text is written
+  pub right-mid : (c w v u : Option (List ℕ)) (held next text : List ℕ) (n : ℕ) → length bytes ≡ 65552
+      → (0 < n → bytes ≡ chunk key salt i false text) → (0 < i → 0 < length held) → 0 < length next
+      → Consumes a (prepend_known held c) front → Consumes a b ((front ++ bytes) ++ next) → Appends w v moved
+      → Appends v u (take n text)
+      → RightFront a key w u
+  right-mid c w v u held next text n wide right some follows read read' written more =
+      right-then a w v u key moved text n (begins a c key salt moved held i size long some read)
+      (λ less.
+      let is = right less in
+      let all : length text ≡ 65536 = omega (arith, sym wide ∙ ap length is ∙ length-chunk key salt i false text) in
+      begins a b key salt (moved ++ text) next (i + 1) size
+      (omega (arith, length-append moved text, long, all)) (λ _. follows)
+      (subst (Consumes a (prepend_known next b))
+      (ap (λ cs. front ++ cs) is ∙ chunks-more key salt moved text i long all)
+      (Consumes-held a b (front ++ bytes) next read')))
+      written more

@@ -1,0 +1,53 @@
+use Rattle.std.proofs.Common.{◌≡◌, ◌∙◌, [], subst, sym, append-nil}
+use Rattle.std.specs.Io.KnownBytes.{Appends}
+use Rattle.std.proofs.KnownBytes.{Appends-nil, Appends-trans}
+use Rattle.std.proofs.lemmas.Result.{on_ok_weaker}
+use Rattle.chacha20.specs.XChaCha.{xchacha_stream}
+use Rattle.aead.specs.Aead.{encrypted, poly1305_tag}
+use Rattle.sealed.specs.Sealed.{chunk}
+use Rattle.sealed.proofs.ChunkLemmas.{chunk-is}
+use Rattle.sealed.proofs.FrontLemmas.{front-more}
+use Rattle.sealed.proofs.chunk.write_chunk.Goals as goal
+
+pub returns-in_err-put-clause-partly : goal.returns-in_err-put-clause-partly
+returns-in_err-put-clause-partly g c =
+    let key = c.args.key.now in
+    let text = c.args.text.now in
+    let nonce = c.chunk_nonce-nonce.result in
+    let stream = xchacha_stream 10 key nonce in
+    let ciphertext = c.encrypt_in_place_detached.new.message in
+    let tag = c.unwrap-tag.result in
+    let encrypts : ciphertext ≡ encrypted stream text =
+    rw (c.unwrap-tag.ensures, c.new-cipher.ensures) at c.encrypt_in_place_detached.ensures.ciphertext in
+    let tags : tag ≡ poly1305_tag stream c.header.result ciphertext =
+    rw (c.unwrap-tag.ensures, c.new-cipher.ensures) at c.encrypt_in_place_detached.ensures.tag in
+    let whole = chunk-is key c.args.salt.now c.args.number c.args.last text nonce c.header.result ciphertext tag
+    c.chunk_nonce-nonce.ensures.value c.header.ensures encrypts tags in
+    let (n, written) = c.put.ensures.partly in
+    front-more _ _ _ [] ciphertext tag (chunk key c.args.salt.now c.args.number c.args.last text) n (sym whole)
+    (Appends-nil _) written
+
+pub returns : goal.returns
+returns g c =
+    let key = c.args.key.now in
+    let text = c.args.text.now in
+    let nonce = c.chunk_nonce-nonce.result in
+    let stream = xchacha_stream 10 key nonce in
+    let ciphertext = c.encrypt_in_place_detached.new.message in
+    let tag = c.unwrap-tag.result in
+    let encrypts : ciphertext ≡ encrypted stream text =
+    rw (c.unwrap-tag.ensures, c.new-cipher.ensures) at c.encrypt_in_place_detached.ensures.ciphertext in
+    let tags : tag ≡ poly1305_tag stream c.header.result ciphertext =
+    rw (c.unwrap-tag.ensures, c.new-cipher.ensures) at c.encrypt_in_place_detached.ensures.tag in
+    let whole = chunk-is key c.args.salt.now c.args.number c.args.last text nonce c.header.result ciphertext tag
+    c.chunk_nonce-nonce.ensures.value c.header.ensures encrypts tags in
+    let (n, written) = c.put-2.ensures.partly in
+    record {
+      written = on_ok_weaker c.put-2.result
+          (λ written. subst (Appends _ _) whole (Appends-trans _ _ _ _ _ c.in_ok-put.ensures.written written))
+          c.put-2.ensures.written;
+      partly = front-more _ _ _ ciphertext tag []
+          (chunk key c.args.salt.now c.args.number c.args.last text) n (sym whole ∙ sym (append-nil _))
+          c.in_ok-put.ensures.written written;
+      not_long = c.put-2.ensures.not_long;
+    }

@@ -1,0 +1,32 @@
+-- What a reader gives at a place of its file. The first arguments are `remaining`, `stream_position` and `stream_bytes`
+-- of the standard library's `Read` and `Seek`.
+use Rattle.std.specs.Prelude.{◌≡◌, ◌≢◌, ◌<◌, ◌++◌, ℕ, Bool, List, length, Some, IfSome}
+use Rattle.std.specs.declared.option.Option.{Option}
+use Rattle.std.specs.Io.KnownBytes.{Keeps, Consumes, IsAtEnd}
+use Rattle.sealed.specs.Sealed.{header, place, IsNoChunk}
+
+-- a reader went to a place: that is its position, and its file is the same, where these are known
+abbrev pub GoesTo : {R : Type 0} → (R → Option ℕ) → (R → Option (List ℕ)) → R → R → ℕ → Type 0
+GoesTo position file old new place =
+    IfSome (position old) (λ _. position new ≡ Some place) × Keeps (file old) (file new)
+
+-- a reader went to a place, and gave these bytes from there on
+abbrev pub GivesAt : {R : Type 0} → (R → Option (List ℕ)) → (R → Option ℕ)
+    → (R → Option (List ℕ)) → R → R → ℕ → List ℕ → Type 0
+GivesAt {R} remaining position file old new place bytes =
+    (there : R) × GoesTo position file old there place
+    × Consumes (remaining there) (remaining new) bytes
+
+-- a reader went to the place of chunk i, and gave 65552 bytes, or all that it had left, which aren't this chunk
+abbrev pub GivesNoChunk : {R : Type 0} → (R → Option (List ℕ)) → (R → Option ℕ)
+    → (R → Option (List ℕ)) → R → R → List ℕ → List ℕ → ℕ → Bool → Type 0
+GivesNoChunk remaining position file old new key salt i last =
+    (bytes : List ℕ) × GivesAt remaining position file old new (place i) bytes
+    × (length bytes < 65552 → IsAtEnd (remaining new)) × IsNoChunk key salt i last bytes
+
+-- a reader went to the front of its file, which doesn't begin with a header
+abbrev pub GivesNoHeader : {R : Type 0} → (R → Option (List ℕ)) → (R → Option ℕ)
+    → (R → Option (List ℕ)) → R → Type 0
+GivesNoHeader {R} remaining position file old =
+    (there : R) × GoesTo position file old there 0 × IfSome (remaining there) (λ bytes.
+    (salt rest : List ℕ) → length salt ≡ 16 → bytes ≢ header salt ++ rest)

@@ -1,0 +1,30 @@
+//! Sealed files, in which a change is noticed: XChaCha20-Poly1305 by chunks of 64 KiB (the STREAM construction), from
+//! any reader to any writer. The program `seal` calls this. `specs/Sealed.antt` has the format. As for messages, no
+//! contract says how hard a tag is to forge.
+//!
+//! `R.remaining reader` is `Some` of the bytes that the reader has left, `W.contents writer` of those that the writer
+//! holds. They are known for a slice and a `Vec`; for a `File` they are `None`. `Consumes a b text`: a reader with `a`
+//! left gave the text and has `b` left. `IsAtEnd a`: none are left. `Appends a b bytes`: a writer that held `a` took
+//! the bytes and holds `b`. Clauses on unknown bytes say nothing. A reader or a writer may fail at any time, so no
+//! clause says when a call returns `Ok`.
+//!
+//! `SealedSlice` reads any part of the text of a file in memory, and `SealedReader` of one behind a reader that seeks.
+//! Both check only the chunks that hold the part, so they don't notice damage elsewhere, nor a cut before they read the
+//! end.
+//!
+//! All proofs use only the public contracts, definitions and lemmas of `aead` and `chacha20`.
+#![tactic(auto)]
+
+pub mod chunk;
+pub mod error;
+pub mod places;
+pub mod reader;
+pub mod slice;
+pub mod stream;
+
+pub use chunk::{CHUNK, Salt, TAG};
+pub use error::{Damage, SealError};
+pub use places::text_len;
+pub use reader::SealedReader;
+pub use slice::SealedSlice;
+pub use stream::{decrypt, encrypt};

@@ -1,0 +1,100 @@
+//! A sealed file in memory, whose text is read from any place.
+
+ghost use Rattle.std.specs.Prelude.{◌≡◌, ◌≤◌, ◌-◌, ◌*◌, ◌/◌, ℕ, List, length, take, min, nat_eq, IfOk, IfErr, OnErr};
+ghost use Rattle.std.specs.Result.{IsOkAnd};
+ghost use Rattle.sealed.specs.Sealed.{chunk_at, last_in, damage_at, sealed, IsNoChunk, CopiesFrom, ReadsPart, IsPart};
+
+use crate::chunk::{CHUNK, Salt, TAG, open_chunk};
+use crate::error::Damage;
+use crate::places::{chunk_place, last_chunk, text_len};
+use chacha20::Key;
+
+/// A sealed file in memory. `read_header` gives its salt.
+#[derive(Clone, Copy)]
+pub struct SealedSlice<'f> {
+    /// The key.
+    pub key: Key,
+    /// The salt that the file's header has.
+    pub salt: Salt,
+    /// The whole file, with its header.
+    pub file: &'f [u8],
+}
+
+impl<'f> SealedSlice<'f> {
+    /// How many bytes of text the file has; any number if it isn't a sealed file.
+    pub fn text_len(&self) -> u64
+        ensures { (key salt text : List ℕ) → length salt ≡ 16
+            → self.now.file.now ≡ sealed key salt text → result ≡ length text }
+    {
+        text_len(self.file.len() as u64)
+    }
+
+    /// Reads text from byte `start` on to the window's front, up to the window's end or that of the chunk, and returns
+    /// how many bytes that are: 0 at the end of the text and past it, where it checks the last chunk. Fails exactly
+    /// where the chunk isn't right; then the window stays as it was.
+    pub fn read_at(&self, start: u64, window: &mut [u8]) -> Result<usize, Damage>
+        ensures read { let i = min (start / 65536) (last_in self.now.file.now) in
+            IfOk result (ReadsPart self.now.key self.now.salt self.now.file.now i
+            (start - 65536 * i) window.old window.new) }
+        ensures refused { let i = min (start / 65536) (last_in self.now.file.now) in
+            let last = nat_eq i (last_in self.now.file.now) in
+            IfErr result (λ e. (e ≡ damage_at i last)
+            × IsNoChunk self.now.key self.now.salt i last (chunk_at self.now.file.now i)) }
+        ensures unchanged { OnErr result (window.new ≡ window.old) }
+        ensures text { (text : List ℕ)
+            → self.now.file.now ≡ sealed self.now.key self.now.salt text
+            → IsOkAnd result (IsPart text start window.old window.new) }
+    {
+        read_from(&self.key, &self.salt, self.file, start, window)
+    }
+}
+
+// `read_at` of the parts.
+fn read_from(
+    key: &Key,
+    salt: &Salt,
+    file: &[u8],
+    start: u64,
+    window: &mut [u8],
+) -> Result<usize, Damage>
+    ensures read { let i = min (start / 65536) (last_in file.now) in IfOk result
+        (ReadsPart key.now salt.now file.now i (start - 65536 * i) window.old window.new) }
+    ensures refused { let i = min (start / 65536) (last_in file.now) in
+        let last = nat_eq i (last_in file.now) in IfErr result (λ e. (e ≡ damage_at i last)
+        × IsNoChunk key.now salt.now i last (chunk_at file.now i)) }
+    ensures unchanged { OnErr result (window.new ≡ window.old) }
+    ensures text { (text : List ℕ) → file.now ≡ sealed key.now salt.now text
+        → IsOkAnd result (IsPart text start window.old window.new) }
+{
+    let last = last_chunk(file.len() as u64);
+    let number = (start / 65536).min(last);
+    let mut space = [0; CHUNK + TAG];
+    let bytes = copy_chunk(file, number, &mut space);
+    if !open_chunk(key, salt, number, number == last, &mut space[..bytes]) {
+        return Err(Damage::of_chunk(number, number == last));
+    }
+    Ok(copy_text(&space[..bytes - TAG], start - 65536 * number, window))
+}
+
+// Copies the bytes where a chunk stands, and returns how many that are.
+fn copy_chunk(file: &[u8], number: u64, space: &mut [u8]) -> usize
+    requires number { number ≤ last_in file.now }
+    requires space { length space.old ≡ 65552 }
+    ensures bytes { take result space.new ≡ chunk_at file.now number }
+    ensures size { result ≡ length (chunk_at file.now number) }
+{
+    let begin = (chunk_place(number) as usize).min(file.len());
+    let size = (file.len() - begin).min(65552);
+    space[..size].copy_from_slice(&file[begin..begin + size]);
+    size
+}
+
+/// Copies text from byte `from` on, which may be past its end, and returns how many bytes that are.
+pub(crate) fn copy_text(text: &[u8], from: u64, window: &mut [u8]) -> usize
+    ensures { CopiesFrom text.now from window.old window.new result }
+{
+    let from = from.min(text.len() as u64) as usize;
+    let size = window.len().min(text.len() - from);
+    window[..size].copy_from_slice(&text[from..from + size]);
+    size
+}

@@ -1,6 +1,0 @@
-use Rattle.aead.proofs.sealed.OpenLemmas.{only-front}
-use Rattle.user_tests.proofs.users.sealed.opens.Goals as goal
-
-pub returns : goal.returns
-returns g c salt text size is =
-    only-front _ _ _ c.args.key.now salt text size is c.decrypt-done.ensures.only_right

@@ -1,0 +1,6 @@
+use Rattle.sealed.proofs.OpenLemmas.{only-front}
+use Rattle.user_tests.proofs.users.sealed_files.opens.Goals as goal
+
+pub returns : goal.returns
+returns g c salt text size is =
+    only-front _ _ _ c.args.key.now salt text size is c.decrypt-done.ensures.only_right
