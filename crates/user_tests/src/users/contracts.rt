@@ -3,12 +3,12 @@
 ghost use Rattle.std.specs.Prelude.{◌≡◌, ◌+◌, ◌≤◌, ◌<◌, ℕ, ◌*◌, length, slice_get, IsOk, OnOk};
 ghost use Rattle.chacha20.specs.State.{fixed_words, state_counter};
 ghost use Rattle.chacha20.specs.Cipher.{limit_of};
-ghost use Rattle.chacha20.specs.Counts.{Grows, for_bytes};
+ghost use Rattle.chacha20.specs.Counts.{Grows, for_bytes, for_call};
 
 use chacha20::backends::{Columns8, Lanes4, Lanes8, Lanes16, Rows8, Soft};
 use chacha20::cipher::{
-    KeyIvInit, RngBackend, StreamCipher, StreamCipherBackend, StreamCipherCore, StreamCipherError,
-    StreamCipherSeek,
+    KeyIvInit, ParBlocksSizeUser, RngBackend, StreamCipher, StreamCipherBackend, StreamCipherCore,
+    StreamCipherError, StreamCipherSeek,
 };
 use chacha20::variants::{Ietf, Variant};
 use chacha20::{
@@ -131,68 +131,29 @@ fn apply_586_bytes<B: StreamCipherBackend<R20, Ietf>>(
     Ietf20::<B>::new(&[0; 32], &[0; 12]).try_apply_keystream_counted(&mut [0; 586], steps)
 }
 
-// What that is over each backend: parallel calls and others at most, and quarter rounds.
-
-// Nine parallel calls of one block.
-fn apply_586_bytes_soft(steps: &mut Steps) -> Result<(), StreamCipherError>
-    ensures accepted { IsOk result }
-    ensures par { steps.new.par ≤ steps.old.par + 9 }
-    ensures other { steps.new.other ≤ steps.old.other + 1 }
-    ensures rounds { steps.new.rounds ≡ steps.old.rounds + 800 }
-{
-    apply_586_bytes::<Soft>(steps)
-}
-
-// Two parallel calls of four blocks, a tail of one, and the last part.
-fn apply_586_bytes_lanes4(steps: &mut Steps) -> Result<(), StreamCipherError>
-    ensures accepted { IsOk result }
-    ensures par { steps.new.par ≤ steps.old.par + 2 }
-    ensures other { steps.new.other ≤ steps.old.other + 2 }
-    ensures rounds { steps.new.rounds ≡ steps.old.rounds + 320 }
-{
-    apply_586_bytes::<Lanes4>(steps)
-}
-
-// The same, two blocks to a vector.
-fn apply_586_bytes_lanes8(steps: &mut Steps) -> Result<(), StreamCipherError>
-    ensures accepted { IsOk result }
-    ensures par { steps.new.par ≤ steps.old.par + 2 }
-    ensures other { steps.new.other ≤ steps.old.other + 2 }
-    ensures rounds { steps.new.rounds ≡ steps.old.rounds + 160 }
-{
-    apply_586_bytes::<Lanes8>(steps)
-}
-
-// One parallel call of eight blocks, a tail of one, and the last part.
-fn apply_586_bytes_rows8(steps: &mut Steps) -> Result<(), StreamCipherError>
-    ensures accepted { IsOk result }
-    ensures par { steps.new.par ≤ steps.old.par + 1 }
-    ensures other { steps.new.other ≤ steps.old.other + 2 }
-    ensures rounds { steps.new.rounds ≡ steps.old.rounds + 480 }
-{
-    apply_586_bytes::<Rows8>(steps)
-}
-
-// A tail of nine blocks, and the last part.
-fn apply_586_bytes_lanes16(steps: &mut Steps) -> Result<(), StreamCipherError>
-    ensures accepted { IsOk result }
-    ensures par { steps.new.par ≤ steps.old.par + 0 }
-    ensures other { steps.new.other ≤ steps.old.other + 10 }
-    ensures rounds_from { steps.old.rounds + 40 ≤ steps.new.rounds }
-    ensures rounds_to { steps.new.rounds ≤ steps.old.rounds + 200 }
-{
-    apply_586_bytes::<Lanes16>(steps)
-}
-
-// One parallel call of eight blocks, a tail of one, and the last part.
-fn apply_586_bytes_columns8(steps: &mut Steps) -> Result<(), StreamCipherError>
-    ensures accepted { IsOk result }
-    ensures par { steps.new.par ≤ steps.old.par + 1 }
-    ensures other { steps.new.other ≤ steps.old.other + 2 }
-    ensures rounds { steps.new.rounds ≡ steps.old.rounds + 120 }
-{
-    apply_586_bytes::<Columns8>(steps)
-}
+// What that is over each backend: parallel calls and others at most, and quarter rounds. `Soft` takes nine parallel calls
+// of one block and one for the last part; `Lanes4` and `Lanes8` two calls of four blocks, `Rows8` and `Columns8` one of
+// eight, and one for the tail and the last part each; `Lanes16` a tail of nine blocks and the last part.
+fn costs_of_586_bytes()
+    ensures soft { let b = ⟦<Soft as StreamCipherBackend<R20, Ietf>>⟧ in
+        for_bytes ⟦<Soft as ParBlocksSizeUser>⟧.PAR_BLOCKS (b.PAR_STEPS * 10) (b.ONE_STEPS * 10) 0 586
+        ≡ for_call 9 1 800 }
+    ensures lanes4 { let b = ⟦<Lanes4 as StreamCipherBackend<R20, Ietf>>⟧ in
+        for_bytes ⟦<Lanes4 as ParBlocksSizeUser>⟧.PAR_BLOCKS (b.PAR_STEPS * 10) (b.ONE_STEPS * 10) 0 586
+        ≡ for_call 2 2 320 }
+    ensures lanes8 { let b = ⟦<Lanes8 as StreamCipherBackend<R20, Ietf>>⟧ in
+        for_bytes ⟦<Lanes8 as ParBlocksSizeUser>⟧.PAR_BLOCKS (b.PAR_STEPS * 10) (b.ONE_STEPS * 10) 0 586
+        ≡ for_call 2 2 160 }
+    ensures rows8 { let b = ⟦<Rows8 as StreamCipherBackend<R20, Ietf>>⟧ in
+        for_bytes ⟦<Rows8 as ParBlocksSizeUser>⟧.PAR_BLOCKS (b.PAR_STEPS * 10) (b.ONE_STEPS * 10) 0 586
+        ≡ for_call 1 2 480 }
+    ensures lanes16 { let b = ⟦<Lanes16 as StreamCipherBackend<R20, Ietf>>⟧ in
+        for_bytes ⟦<Lanes16 as ParBlocksSizeUser>⟧.PAR_BLOCKS (b.PAR_STEPS * 10) (b.ONE_STEPS * 10) 0 586
+        ≡ record { par = 0; other = 10; least = 40; most = 200 } }
+    ensures columns8 { let b = ⟦<Columns8 as StreamCipherBackend<R20, Ietf>>⟧ in
+        for_bytes ⟦<Columns8 as ParBlocksSizeUser>⟧.PAR_BLOCKS (b.PAR_STEPS * 10) (b.ONE_STEPS * 10) 0 586
+        ≡ for_call 1 2 120 }
+{}
 
 // Bounds on what the named ciphers count, at every position: those of `Lanes16`.
 fn named_costs()

@@ -75,31 +75,23 @@ pub fn count(text: &mut [u8]) {
     }
 }
 
-// Lengths of texts and of their files.
-static LENGTHS: [(usize, usize); 6] = [
-    (0, 48),
-    (1, 49),
-    (65535, 65583),
-    (65536, 65584),
-    (65537, 65601),
-    (400000, 400144),
-];
-
-// Whether a text has a file of this length, and comes back.
-fn comes_back(text_len: usize, file_len: usize) -> bool {
-    let (mut text, mut file, mut back) = ([0; 400000], [0; 400144], [0; 400000]);
-    let text = &mut text[..text_len.min(400000)];
-    let file = &mut file[..file_len.min(400144)];
-    let back = &mut back[..text.len()];
-    count(text);
-    seals(&SALT, text, file) && opened(file, back, 0, 0) == (Said::Done, text_len) && *back == *text
+// Whether a text of N bytes has a file of F bytes, and comes back.
+fn comes_back<const N: usize, const F: usize>() -> bool
+    requires text { N < 2 ^ 63 }
+    requires file { F < 2 ^ 63 }
+{
+    let (mut text, mut file, mut back) = ([0; N], [0; F], [0; N]);
+    count(&mut text);
+    seals(&SALT, &text, &mut file)
+        && opened(&file, &mut back, 0, 0) == (Said::Done, N)
+        && back == text
 }
 
 #[test]
 fn round_trips(rt: HostRuntime) {
-    for (text, file) in &LENGTHS {
-        assert!(rt; comes_back(*text, *file), "{text}");
-    }
+    assert!(rt; comes_back::<0, 48>() && comes_back::<1, 49>() && comes_back::<65535, 65583>());
+    assert!(rt; comes_back::<65536, 65584>() && comes_back::<65537, 65601>());
+    assert!(rt; comes_back::<400000, 400144>());
 }
 
 // A text whose file has four chunks, and that file.
@@ -134,7 +126,7 @@ pub enum Change {
 }
 
 // Writes the damaged file, and returns its length.
-pub fn changed(files: &[u8; 2 * FILE], change: Change, bytes: &mut [u8; 2 * FILE]) -> usize {
+pub fn apply(files: &[u8; 2 * FILE], change: Change, bytes: &mut [u8; 2 * FILE]) -> usize {
     *bytes = *files;
     match change {
         Change::Cut(len) => len.min(FILE),
@@ -208,7 +200,7 @@ const WHOLE_TWICE: &[Part] = &[(0, FILE), (0, FILE)];
 // What is said of a damaged file, and how much text is written.
 fn opened_after(files: &[u8; 2 * FILE], change: Change) -> (Said, usize) {
     let (mut bytes, mut back) = ([0; 2 * FILE], [0; FILE]);
-    let len = changed(files, change, &mut bytes).min(2 * FILE);
+    let len = apply(files, change, &mut bytes).min(2 * FILE);
     opened(&bytes[..len], &mut back, 0, 0)
 }
 

@@ -5,7 +5,7 @@ ghost use Rattle.std.specs.List.{slice_range};
 ghost use Rattle.std.specs.Result.{IsOkAnd};
 ghost use Rattle.sealed.specs.Sealed.{sealed};
 
-use super::sealed_files::{Change, FILE, SALT, TEXT, changed, count, seals, two_files};
+use super::sealed_files::{Change, FILE, SALT, TEXT, apply, count, seals, two_files};
 use super::unsteady::Unsteady;
 use known_answers::published::COUNTING as KEY;
 use sealed::{CHUNK, Damage, SealError, SealedReader, SealedSlice, TAG};
@@ -203,7 +203,7 @@ fn damaged_parts_are_refused(rt: HostRuntime) {
     assert!(rt; two_files(&text, &mut files));
     for i in 0..DAMAGED.len() {
         let (change, place, damage) = &DAMAGED[i];
-        let len = changed(&files, *change, &mut bytes).min(FILE);
+        let len = apply(&files, *change, &mut bytes).min(FILE);
         assert!(rt; is_found(&bytes[..len], *place, *damage), "{i}");
     }
 }
