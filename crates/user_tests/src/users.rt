@@ -4,22 +4,24 @@
 mod authenticated;
 mod contracts;
 mod exports;
-mod file;
 mod first_calls;
-mod frames;
 mod generators;
-mod log;
-mod message;
 mod names;
-mod packets;
-mod pieces;
 mod readme;
-mod scalar;
-mod sealed;
+mod sealed_files;
 mod sealed_parts;
-mod sectors;
-mod simulation;
-mod stream;
 mod tags;
 mod unexported;
 mod unsteady;
+
+// The tests of `examples`, each under the name of its example; `own_core` has its own in the crate `tests`.
+mod file;
+mod frames;
+mod log;
+mod message;
+mod packets;
+mod pieces;
+mod scalar;
+mod sectors;
+mod simulation;
+mod stream;

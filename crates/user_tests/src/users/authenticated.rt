@@ -1,4 +1,5 @@
-//! The AEAD: published examples, and tags of libsodium. A caller's proof that what is encrypted is decrypted.
+//! The AEADs: published examples, tags of libsodium, and texts of all lengths. A caller's proof that what is encrypted
+//! is decrypted.
 
 ghost use Rattle.std.specs.Prelude.{◌≡◌, ◌≤◌, ◌+◌, ◌↔◌, length, IsOk, OnOk};
 ghost use Rattle.chacha20.specs.Cipher.{limit_of};
@@ -7,92 +8,11 @@ use aead::{
     AeadError, ChaCha8Poly1305, ChaCha12Poly1305, ChaCha20Poly1305, ChaChaPoly1305,
     XChaCha8Poly1305, XChaCha12Poly1305, XChaCha20Poly1305,
 };
+use chacha20::backends::Lanes16;
 use chacha20::cipher::{KeyIvInit, StreamCipher};
-use chacha20::{Key, Nonce, XNonce};
+use chacha20::variants::Ietf;
+use chacha20::{ChaChaCore, Key, Nonce, Rounds, StreamCipherCoreWrapper, XChaChaCore, XNonce};
 use known_answers::published::{FROM_80, MESSAGE};
-use poly1305::Tag;
-
-// The front of the message, sealed, and its tag.
-fn sealed(len: usize, aad: &[u8]) -> ([u8; 114], Tag) {
-    let mut message = *MESSAGE;
-    let cipher = ChaCha20Poly1305::new(&FROM_80);
-    let tag = cipher.encrypt_in_place_detached(&NONCE, aad, &mut message[..len.min(114)]);
-    (message, tag.unwrap_or([0; 16]))
-}
-
-#[test]
-fn example(rt: HostRuntime) {
-    assert!(rt; sealed(114, AAD) == (CIPHERTEXT, TAG));
-}
-
-// For these lengths of the message, the XOR of the tags.
-fn all_tags(aad: &[u8]) -> u128 {
-    let mut all = 0;
-    for len in [0usize, 1, 15, 16, 17, 63, 64, 65] {
-        all ^= u128::from_le_bytes(sealed(len, aad).1);
-    }
-    all
-}
-
-// The data are the front of the ciphertext.
-#[test]
-fn lengths(rt: HostRuntime) {
-    for (len, tags) in &TAGS {
-        assert!(rt; all_tags(&CIPHERTEXT[..*len]) == *tags);
-    }
-}
-
-// Whether the ciphertext of section A.5 with this tag gives this answer, and becomes this text.
-fn gives(tag: &Tag, answer: Result<(), AeadError>, text: &[u8; 265]) -> bool {
-    let mut message = *A5_CIPHERTEXT;
-    let cipher = ChaCha20Poly1305::new(&A5_KEY);
-    let given = cipher.decrypt_in_place_detached(&A5_NONCE, A5_AAD, &mut message, tag);
-    given == answer && message == *text
-}
-
-#[test]
-fn opened(rt: HostRuntime) {
-    assert!(rt; gives(&WRONG_TAG, Err(AeadError::WrongTag), A5_CIPHERTEXT));
-    assert!(rt; gives(&A5_TAG, Ok(()), A5_MESSAGE));
-}
-
-// The same from one slice into another, where a wrong tag changes nothing.
-fn gives_apart(tag: &Tag, answer: Result<(), AeadError>, text: &[u8; 265]) -> bool {
-    let mut sealed = [0; 281];
-    sealed[..265].copy_from_slice(A5_CIPHERTEXT);
-    sealed[265..].copy_from_slice(tag);
-    let mut output = *A5_CIPHERTEXT;
-    let given = ChaCha20Poly1305::new(&A5_KEY).decrypt(&A5_NONCE, A5_AAD, &sealed, &mut output);
-    given == answer && output == *text
-}
-
-#[test]
-fn opened_apart(rt: HostRuntime) {
-    assert!(rt; gives_apart(&WRONG_TAG, Err(AeadError::WrongTag), A5_CIPHERTEXT));
-    assert!(rt; gives_apart(&A5_TAG, Ok(()), A5_MESSAGE));
-}
-
-#[test]
-fn sealed_apart(rt: HostRuntime) {
-    let mut output = [0; 281];
-    let made = ChaCha20Poly1305::new(&A5_KEY).encrypt(&A5_NONCE, A5_AAD, A5_MESSAGE, &mut output);
-    assert!(rt; made == Ok(()) && output.starts_with(A5_CIPHERTEXT) && output.ends_with(&A5_TAG));
-}
-
-// The draft's example, there and back.
-fn draft_example(key: &Key, nonce: &XNonce, aad: &[u8]) -> Result<bool, AeadError> {
-    let mut message = *MESSAGE;
-    let cipher = XChaCha20Poly1305::new(key);
-    let tag = cipher.encrypt_in_place_detached(nonce, aad, &mut message)?;
-    let right = tag == X_TAG && message == *X_CIPHERTEXT;
-    cipher.decrypt_in_place_detached(nonce, aad, &mut message, &tag)?;
-    Ok(right && message == *MESSAGE)
-}
-
-#[test]
-fn xchacha(rt: HostRuntime) {
-    assert!(rt; draft_example(&FROM_80, &X_NONCE, AAD) == Ok(true));
-}
 
 // Whatever the cipher and the message are: what is encrypted is decrypted, and the message is as it was.
 fn there_and_back<C: KeyIvInit<Key = Key> + StreamCipher + Drop>(
@@ -109,65 +29,184 @@ fn there_and_back<C: KeyIvInit<Key = Key> + StreamCipher + Drop>(
     cipher.decrypt_in_place_detached(nonce, aad, message, &tag)
 }
 
-// Whether a text of `len` bytes has one ciphertext and tag in place and from slice to slice, and comes back both ways.
-fn both_ways<C: KeyIvInit<Key = Key> + StreamCipher + Drop>(
-    cipher: &ChaChaPoly1305<C>,
+// The longest text and sealed message here.
+const TEXT: usize = 1200;
+
+const SEALED: usize = TEXT + 16;
+
+// Bytes, and zeros behind them.
+fn padded(bytes: &[u8]) -> [u8; SEALED] {
+    let mut room = [0; SEALED];
+    let len = bytes.len().min(SEALED);
+    room[..len].copy_from_slice(&bytes[..len]);
+    room
+}
+
+// The sealed message of a text, where it is the same in place and from slice to slice.
+fn encrypted<C: KeyIvInit<Key = Key> + StreamCipher + Drop>(
+    aead: &ChaChaPoly1305<C>,
     nonce: &C::Iv,
+    aad: &[u8],
+    text: &[u8],
+) -> Option<[u8; SEALED]> {
+    let text = &text[..text.len().min(TEXT)];
+    let (mut message, mut output) = (padded(text), [0; SEALED]);
+    let (front, end) = message.split_at_mut(text.len());
+    let tag = aead.encrypt_in_place_detached(nonce, aad, front);
+    end[..16].copy_from_slice(&tag.unwrap_or([0; 16]));
+    let done = aead.encrypt(nonce, aad, text, &mut output[..text.len() + 16]);
+    if tag.is_ok() && done.is_ok() && message == output {
+        Some(output)
+    } else {
+        None
+    }
+}
+
+// What decryption of a text of this length answers, in place and from slice to slice, and what it leaves.
+fn decrypted<C: KeyIvInit<Key = Key> + StreamCipher + Drop>(
+    aead: &ChaChaPoly1305<C>,
+    nonce: &C::Iv,
+    aad: &[u8],
+    sealed: &[u8; SEALED],
     len: usize,
-) -> Result<bool, AeadError> {
-    let (mut message, mut sealed, mut output) = ([7; 1200], [0; 1216], [0; 1200]);
-    let len = len.min(1200);
-    let (text, place) = (&mut message[..len], &mut sealed[..len + 16]);
-    cipher.encrypt(nonce, AAD, text, place)?;
-    cipher.decrypt(nonce, AAD, place, &mut output[..len])?;
-    let tag = cipher.encrypt_in_place_detached(nonce, AAD, text)?;
-    let same = place.starts_with(text) && place.ends_with(&tag);
-    cipher.decrypt_in_place_detached(nonce, AAD, text, &tag)?;
-    Ok(same && output.starts_with(text) && message == [7; 1200])
+) -> ([Result<(), AeadError>; 2], [[u8; SEALED]; 2]) {
+    let len = len.min(TEXT);
+    let (mut message, mut output, mut tag) = (*sealed, *sealed, [0; 16]);
+    tag.copy_from_slice(&sealed[len..len + 16]);
+    let answers = [
+        aead.decrypt_in_place_detached(nonce, aad, &mut message[..len], &tag),
+        aead.decrypt(nonce, aad, &sealed[..len + 16], &mut output[..len]),
+    ];
+    (answers, [message, output])
+}
+
+// The sealed message, where both ways to encrypt agree, and both ways to decrypt give the text, and with another tag
+// fail and change nothing.
+fn sealed<C: KeyIvInit<Key = Key> + StreamCipher + Drop>(
+    aead: &ChaChaPoly1305<C>,
+    nonce: &C::Iv,
+    aad: &[u8],
+    text: &[u8],
+) -> Option<[u8; SEALED]> {
+    let sealed = encrypted(aead, nonce, aad, text)?;
+    let mut forged = sealed;
+    forged[text.len().min(TEXT) + 15] ^= 1;
+    let (right, texts) = decrypted(aead, nonce, aad, &sealed, text.len());
+    let (wrong, same) = decrypted(aead, nonce, aad, &forged, text.len());
+    if right == [Ok(()); 2]
+        && texts[0].starts_with(text)
+        && texts[1].starts_with(text)
+        && wrong == [Err(AeadError::WrongTag); 2]
+        && same == [forged; 2]
+    {
+        Some(sealed)
+    } else {
+        None
+    }
+}
+
+// The same of an AEAD of any number of rounds: the bounds of its cipher are proved here, and not for each type anew.
+
+fn by_chacha<R: Rounds>(
+    aead: &ChaChaPoly1305<StreamCipherCoreWrapper<ChaChaCore<R, Ietf, Lanes16>>>,
+    nonce: &Nonce,
+    aad: &[u8],
+    text: &[u8],
+) -> Option<[u8; SEALED]> {
+    sealed(aead, nonce, aad, text)
+}
+
+fn by_xchacha<R: Rounds>(
+    aead: &ChaChaPoly1305<StreamCipherCoreWrapper<XChaChaCore<R, Lanes16>>>,
+    nonce: &XNonce,
+    aad: &[u8],
+    text: &[u8],
+) -> Option<[u8; SEALED]> {
+    sealed(aead, nonce, aad, text)
+}
+
+// RFC 8439, sections 2.8.2 and A.5, and draft-irtf-cfrg-xchacha, section A.3.1.
+#[test]
+fn published(rt: HostRuntime) {
+    let made = by_chacha(&ChaCha20Poly1305::new(&FROM_80), &NONCE, AAD, MESSAGE);
+    assert!(rt; made == Some(padded(CIPHERTEXT_AND_TAG)));
+    let made = by_chacha(&ChaCha20Poly1305::new(&A5_KEY), &A5_NONCE, A5_AAD, A5_TEXT);
+    assert!(rt; made == Some(padded(A5_CIPHERTEXT_AND_TAG)));
+    let made = by_xchacha(&XChaCha20Poly1305::new(&FROM_80), &X_NONCE, AAD, MESSAGE);
+    assert!(rt; made == Some(padded(X_CIPHERTEXT_AND_TAG)));
 }
 
 // All lengths of a front, and those around its bounds.
 #[test]
-fn all_lengths(rt: HostRuntime) {
-    let cipher = ChaCha20Poly1305::new(&FROM_80);
-    for len in 0..1200 {
-        assert!(rt; both_ways(&cipher, &NONCE, len) == Ok(true));
+fn lengths(rt: HostRuntime) {
+    let aead = ChaCha20Poly1305::new(&FROM_80);
+    for len in 0..TEXT + 1 {
+        assert!(rt; by_chacha(&aead, &NONCE, AAD, &[7; TEXT][..len]).is_some());
     }
 }
 
 #[test]
 fn other_rounds(rt: HostRuntime) {
-    assert!(rt; both_ways(&ChaCha8Poly1305::new(&FROM_80), &NONCE, 1000) == Ok(true));
-    assert!(rt; both_ways(&ChaCha12Poly1305::new(&FROM_80), &NONCE, 1000) == Ok(true));
-    assert!(rt; both_ways(&XChaCha8Poly1305::new(&FROM_80), &X_NONCE, 1000) == Ok(true));
-    assert!(rt; both_ways(&XChaCha12Poly1305::new(&FROM_80), &X_NONCE, 1000) == Ok(true));
+    assert!(rt; by_chacha(&ChaCha8Poly1305::new(&FROM_80), &NONCE, AAD, &[7; 1000]).is_some());
+    assert!(rt; by_chacha(&ChaCha12Poly1305::new(&FROM_80), &NONCE, AAD, &[7; 1000]).is_some());
+    assert!(rt; by_xchacha(&XChaCha8Poly1305::new(&FROM_80), &X_NONCE, AAD, &[7; 1000]).is_some());
+    assert!(rt; by_xchacha(&XChaCha12Poly1305::new(&FROM_80), &X_NONCE, AAD, &[7; 1000]).is_some());
 }
 
-// RFC 8439, section 2.8.2.
+// For these lengths of the message, the XOR of the tags. The data are the front of the ciphertext.
+fn all_tags(aad: usize) -> u128 {
+    let aead = ChaCha20Poly1305::new(&FROM_80);
+    let mut all = 0;
+    for len in [0usize, 1, 15, 16, 17, 63, 64, 65] {
+        let made = by_chacha(
+            &aead,
+            &NONCE,
+            &CIPHERTEXT_AND_TAG[..aad.min(130)],
+            &MESSAGE[..len],
+        );
+        all ^= tag_of(&made.unwrap_or([0; SEALED]), len);
+    }
+    all
+}
+
+// The tag behind so many bytes.
+fn tag_of(sealed: &[u8; SEALED], len: usize) -> u128 {
+    let mut tag = [0; 16];
+    let len = len.min(TEXT);
+    tag.copy_from_slice(&sealed[len..len + 16]);
+    u128::from_le_bytes(tag)
+}
+
+#[test]
+fn tags_of_libsodium(rt: HostRuntime) {
+    for (len, tags) in &TAGS {
+        assert!(rt; all_tags(*len) == *tags);
+    }
+}
+
+// RFC 8439, section 2.8.2, with the key `FROM_80` and the text `MESSAGE`.
 static NONCE: Nonce = *b"\x07\x00\x00\x00@ABCDEFG";
 
-pub static AAD: &[u8] = b"PQRS\xc0\xc1\xc2\xc3\xc4\xc5\xc6\xc7";
+pub const AAD: &[u8] = b"PQRS\xc0\xc1\xc2\xc3\xc4\xc5\xc6\xc7";
 
-pub static CIPHERTEXT: [u8; 114] = *b"\
+pub const CIPHERTEXT_AND_TAG: &[u8; 130] = b"\
     \xd3\x1a\x8d\x34\x64\x8e\x60\xdb\x7b\x86\xaf\xbc\x53\xef\x7e\xc2\xa4\xad\xed\x51\x29\x6e\x08\xfe\
     \xa9\xe2\xb5\xa7\x36\xee\x62\xd6\x3d\xbe\xa4\x5e\x8c\xa9\x67\x12\x82\xfa\xfb\x69\xda\x92\x72\x8b\
     \x1a\x71\xde\x0a\x9e\x06\x0b\x29\x05\xd6\xa5\xb6\x7e\xcd\x3b\x36\x92\xdd\xbd\x7f\x2d\x77\x8b\x8c\
     \x98\x03\xae\xe3\x28\x09\x1b\x58\xfa\xb3\x24\xe4\xfa\xd6\x75\x94\x55\x85\x80\x8b\x48\x31\xd7\xbc\
-    \x3f\xf4\xde\xf0\x8e\x4b\x7a\x9d\xe5\x76\xd2\x65\x86\xce\xc6\x4b\x61\x16";
+    \x3f\xf4\xde\xf0\x8e\x4b\x7a\x9d\xe5\x76\xd2\x65\x86\xce\xc6\x4b\x61\x16\
+    \x1a\xe1\x0b\x59\x4f\x09\xe2\x6a\x7e\x90\x2e\xcb\xd0\x60\x06\x91";
 
-pub static TAG: Tag = *b"\x1a\xe1\x0b\x59\x4f\x09\xe2\x6a\x7e\x90\x2e\xcb\xd0\x60\x06\x91";
-
-// draft-irtf-cfrg-xchacha, section A.3.1, with the same key, data and message.
+// The draft's example, with the same key, data and text.
 static X_NONCE: XNonce = *b"@ABCDEFGHIJKLMNOPQRSTUVW";
 
-static X_CIPHERTEXT: &[u8; 114] = b"\
+const X_CIPHERTEXT_AND_TAG: &[u8; 130] = b"\
     \xbd\x6d\x17\x9d\x3e\x83\xd4\x3b\x95\x76\x57\x94\x93\xc0\xe9\x39\x57\x2a\x17\x00\x25\x2b\xfa\xcc\xbe\
     \xd2\x90\x2c\x21\x39\x6c\xbb\x73\x1c\x7f\x1b\x0b\x4a\xa6\x44\x0b\xf3\xa8\x2f\x4e\xda\x7e\x39\xae\x64\
     \xc6\x70\x8c\x54\xc2\x16\xcb\x96\xb7\x2e\x12\x13\xb4\x52\x2f\x8c\x9b\xa4\x0d\xb5\xd9\x45\xb1\x1b\x69\
     \xb9\x82\xc1\xbb\x9e\x3f\x3f\xac\x2b\xc3\x69\x48\x8f\x76\xb2\x38\x35\x65\xd3\xff\xf9\x21\xf9\x66\x4c\
-    \x97\x63\x7d\xa9\x76\x88\x12\xf6\x15\xc6\x8b\x13\xb5\x2e";
-
-static X_TAG: Tag = *b"\xc0\x87\x59\x24\xc1\xc7\x98\x79\x47\xde\xaf\xd8\x78\x0a\xcf\x49";
+    \x97\x63\x7d\xa9\x76\x88\x12\xf6\x15\xc6\x8b\x13\xb5\x2e\
+    \xc0\x87\x59\x24\xc1\xc7\x98\x79\x47\xde\xaf\xd8\x78\x0a\xcf\x49";
 
 // RFC 8439, section A.5.
 static A5_KEY: Key = *b"\
@@ -176,9 +215,14 @@ static A5_KEY: Key = *b"\
 
 static A5_NONCE: Nonce = [0, 0, 0, 0, 1, 2, 3, 4, 5, 6, 7, 8];
 
-static A5_AAD: &[u8] = b"\xf3\x33\x88\x86\0\0\0\0\0\0\x4e\x91";
+const A5_AAD: &[u8] = b"\xf3\x33\x88\x86\0\0\0\0\0\0\x4e\x91";
 
-static A5_CIPHERTEXT: &[u8; 265] = b"\
+const A5_TEXT: &[u8; 265] = b"\
+    Internet-Drafts are draft documents valid for a maximum of six months and may be updated, replaced, or \
+    obsoleted by other documents at any time. It is inappropriate to use Internet-Drafts as reference \
+    material or to cite them other than as /\xe2\x80\x9cwork in progress./\xe2\x80\x9d";
+
+const A5_CIPHERTEXT_AND_TAG: &[u8; 281] = b"\
     \x64\xa0\x86\x15\x75\x86\x1a\xf4\x60\xf0\x62\xc7\x9b\xe6\x43\xbd\x5e\x80\x5c\xfd\x34\x5c\xf3\x89\xf1\
     \x08\x67\x0a\xc7\x6c\x8c\xb2\x4c\x6c\xfc\x18\x75\x5d\x43\xee\xa0\x9e\xe9\x4e\x38\x2d\x26\xb0\xbd\xb7\
     \xb7\x3c\x32\x1b\x01\x00\xd4\xf0\x3b\x7f\x35\x58\x94\xcf\x33\x2f\x83\x0e\x71\x0b\x97\xce\x98\xc8\xa8\
@@ -189,17 +233,8 @@ static A5_CIPHERTEXT: &[u8; 265] = b"\
     \x6a\x0d\x07\x2b\x04\xb3\x56\x4e\xea\x1b\x42\x22\x73\xf5\x48\x27\x1a\x0b\xb2\x31\x60\x53\xfa\x76\x99\
     \x19\x55\xeb\xd6\x31\x59\x43\x4e\xce\xbb\x4e\x46\x6d\xae\x5a\x10\x73\xa6\x72\x76\x27\x09\x7a\x10\x49\
     \xe6\x17\xd9\x1d\x36\x10\x94\xfa\x68\xf0\xff\x77\x98\x71\x30\x30\x5b\xea\xba\x2e\xda\x04\xdf\x99\x7b\
-    \x71\x4d\x6c\x6f\x2c\x29\xa6\xad\x5c\xb4\x02\x2b\x02\x70\x9b";
-
-static A5_TAG: Tag = *b"\xee\xad\x9d\x67\x89\x0c\xbb\x22\x39\x23\x36\xfe\xa1\x85\x1f\x38";
-
-// That tag with a bit turned.
-static WRONG_TAG: Tag = *b"\xee\xad\x9d\x67\x89\x0c\xbb\x22\x39\x23\x36\xfe\xa1\x85\x1f\x39";
-
-static A5_MESSAGE: &[u8; 265] = b"\
-    Internet-Drafts are draft documents valid for a maximum of six months and may be updated, replaced, or \
-    obsoleted by other documents at any time. It is inappropriate to use Internet-Drafts as reference \
-    material or to cite them other than as /\xe2\x80\x9cwork in progress./\xe2\x80\x9d";
+    \x71\x4d\x6c\x6f\x2c\x29\xa6\xad\x5c\xb4\x02\x2b\x02\x70\x9b\
+    \xee\xad\x9d\x67\x89\x0c\xbb\x22\x39\x23\x36\xfe\xa1\x85\x1f\x38";
 
 // For each length of data, the XOR of the tags of messages of all these lengths, as little-endian numbers. Made by
 // `crypto_aead_chacha20poly1305_ietf_encrypt` of libsodium 1.0.18; OpenSSL 3.0 gave the same.

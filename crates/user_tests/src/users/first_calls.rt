@@ -1,9 +1,9 @@
-//! The examples in the comments of the calls that users make first.
+//! The examples of README and GUIDE, and of the comments of the calls that users make first.
 
-use aead::{AeadError, ChaCha20Poly1305};
+use aead::{AeadError, ChaCha20Poly1305, XChaCha20Poly1305};
 use chacha20::cipher::{KeyIvInit, StreamCipher, StreamCipherError, StreamCipherSeek};
-use chacha20::{ChaCha20, ChaCha20Rng, Key, Nonce};
-use known_answers::published::{CIPHERTEXT, COUNTING, MESSAGE, NONCE, OF_20_ROUNDS};
+use chacha20::{ChaCha20, ChaCha20Rng, Key, Nonce, XNonce};
+use known_answers::published::{CIPHERTEXT, COUNTING, MESSAGE, NONCE, OF_20_ROUNDS, X_NONCE};
 
 fn encrypted_and_decrypted(key: &Key, nonce: &Nonce) -> Result<[u8; 14], StreamCipherError> {
     let mut message = *b"attack at dawn";
@@ -26,6 +26,14 @@ fn ciphers(rt: HostRuntime) {
     assert!(rt; from_block_1(&COUNTING, &NONCE) == Ok(*CIPHERTEXT));
 }
 
+fn there_and_back(key: &Key, nonce: &XNonce, aad: &[u8]) -> Result<[u8; 14], AeadError> {
+    let mut message = *b"attack at dawn";
+    let cipher = XChaCha20Poly1305::new(key);
+    let tag = cipher.encrypt_in_place_detached(nonce, aad, &mut message)?;
+    cipher.decrypt_in_place_detached(nonce, aad, &mut message, &tag)?;
+    Ok(message)
+}
+
 fn sealed_and_opened(key: &Key, nonce: &Nonce) -> Result<[u8; 14], AeadError> {
     let cipher = ChaCha20Poly1305::new(key);
     let mut sealed = [0; 14 + 16];
@@ -38,6 +46,7 @@ fn sealed_and_opened(key: &Key, nonce: &Nonce) -> Result<[u8; 14], AeadError> {
 
 #[test]
 fn messages(rt: HostRuntime) {
+    assert!(rt; there_and_back(&COUNTING, &X_NONCE, b"header") == Ok(*b"attack at dawn"));
     assert!(rt; sealed_and_opened(&COUNTING, &NONCE) == Ok(*b"attack at dawn"));
 }
 

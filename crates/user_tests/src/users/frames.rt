@@ -2,7 +2,7 @@
 
 ghost use Rattle.std.specs.Prelude.{◌≡◌, ◌<◌, ◌+◌, ◌^◌, length, IsOk, OnOk};
 
-use crate::users::authenticated::{AAD, CIPHERTEXT, TAG};
+use crate::users::authenticated::{AAD, CIPHERTEXT_AND_TAG};
 use examples::frames::{Channel, FrameError, Receiver, Sender};
 use known_answers::published::{FROM_80, MESSAGE};
 
@@ -12,11 +12,28 @@ fn published(rt: HostRuntime) {
     let mut sender = Sender::resume(&FROM_80, b"\x07\0\0\0", u64::from_le_bytes(*b"@ABCDEFG"));
     let mut frame = [0; 130];
     let sent = sender.encrypt(AAD, MESSAGE, &mut frame);
-    assert!(rt; sent == Ok(()) && frame.starts_with(&CIPHERTEXT) && frame.ends_with(&TAG));
+    assert!(rt; sent == Ok(()) && frame == *CIPHERTEXT_AND_TAG);
 }
 
-// Sends each message as a frame and receives it again. Whatever the messages are, they come out as they went in, and
-// both sides have the same number, which has counted them. `Err` only where the numbers are used up.
+// Sends a message as a frame and receives it again: it comes out as it went in, and both sides count it. `Err` only
+// where the numbers are used up.
+fn pass_one(
+    sender: &mut Sender,
+    receiver: &mut Receiver,
+    message: &mut [u8; 100],
+) -> Result<(), FrameError>
+    requires { sender.old ≡ receiver.old }
+    ensures message { message.new ≡ message.old }
+    ensures same { sender.new ≡ receiver.new }
+    ensures accepted { sender.old.next + 1 < 2 ^ 64 → IsOk result }
+    ensures counted { OnOk result (sender.new.next ≡ sender.old.next + 1) }
+{
+    let mut frame = [0; 116];
+    sender.encrypt(b"", message, &mut frame)?;
+    receiver.decrypt(b"", &frame, message)
+}
+
+// The same of any number of messages.
 fn pass(
     sender: &mut Sender,
     receiver: &mut Receiver,
@@ -29,10 +46,8 @@ fn pass(
     ensures counted { OnOk result (sender.new.next
         ≡ sender.old.next + length messages.old) }
 {
-    let mut frame = [0; 116];
     'each: for i in 0..messages.len() {
-        sender.encrypt(b"", &messages[i], &mut frame)?;
-        receiver.decrypt(b"", &frame, &mut messages[i])?;
+        pass_one(sender, receiver, &mut messages[i])?;
     }
     Ok(())
 }
@@ -45,20 +60,32 @@ fn three_pass(sender: &mut Sender, receiver: &mut Receiver, next: u64) -> bool
     pass(sender, receiver, &mut messages).is_ok() && [sender.next(), receiver.next()] == [next; 2]
 }
 
-// The last number serves one frame, and then both sides refuse.
+fn first_three_pass() -> bool {
+    three_pass(
+        &mut Sender::new(&[1; 32], &[2; 4]),
+        &mut Receiver::new(&[1; 32], &[2; 4]),
+        3,
+    )
+}
+
+// Whether both sides refuse.
+fn refuse(sender: &mut Sender, receiver: &mut Receiver) -> bool {
+    let sent = sender.encrypt(b"", &[7; 5], &mut [0; 21]);
+    let received = receiver.decrypt(b"", &[7; 21], &mut [0; 5]);
+    [sent, received] == [Err(FrameError::NumbersUsedUp); 2]
+}
+
+// The last number but one serves the last frame, and then both sides refuse.
+fn last_three_pass() -> bool {
+    let mut sender = Sender::resume(&[1; 32], &[2; 4], u64::MAX - 3);
+    let mut receiver = Receiver::resume(&[1; 32], &[2; 4], u64::MAX - 3);
+    let passed = three_pass(&mut sender, &mut receiver, u64::MAX);
+    passed & refuse(&mut sender, &mut receiver)
+}
+
 #[test]
 fn in_order(rt: HostRuntime) {
-    let mut sender = Sender::new(&[1; 32], &[2; 4]);
-    let mut receiver = Receiver::new(&[1; 32], &[2; 4]);
-    let first = three_pass(&mut sender, &mut receiver, 3);
-    sender = Sender::resume(&[1; 32], &[2; 4], u64::MAX - 3);
-    receiver = Receiver::resume(&[1; 32], &[2; 4], u64::MAX - 3);
-    let last = three_pass(&mut sender, &mut receiver, u64::MAX);
-    let refused = [
-        sender.encrypt(b"", &[7; 5], &mut [0; 21]),
-        receiver.decrypt(b"", &[7; 21], &mut [0; 5]),
-    ];
-    assert!(rt; first && last && refused == [Err(FrameError::NumbersUsedUp); 2]);
+    assert!(rt; first_three_pass() && last_three_pass());
 }
 
 // What comes to a receiver: the channel, the number, a byte in which a bit is turned, and whether it is accepted.

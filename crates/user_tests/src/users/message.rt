@@ -45,16 +45,17 @@ fn ends(example: Example, len: usize, end: &[u8]) -> bool {
     encrypts(example, message) && message.ends_with(end)
 }
 
+// Nobody has published a stream of six rounds: a second call undoes the first.
+fn is_undone(mut message: [u8; 14]) -> bool {
+    let text = message;
+    let encrypted = encrypts(Example::OwnRounds, &mut message) && message != text;
+    encrypted && encrypts(Example::OwnRounds, &mut message) && message == text
+}
+
 #[test]
 fn published(rt: HostRuntime) {
     for (example, len, end) in &STREAMS {
         assert!(rt; ends(*example, *len, end));
     }
-}
-
-#[test]
-fn own_rounds(rt: HostRuntime) {
-    let mut message = *b"attack at dawn";
-    assert!(rt; encrypts(Example::OwnRounds, &mut message) && message != *b"attack at dawn");
-    assert!(rt; encrypts(Example::OwnRounds, &mut message) && message == *b"attack at dawn");
+    assert!(rt; is_undone(*b"attack at dawn"));
 }

@@ -73,42 +73,33 @@ static UNMIXED: Key = *b"expand 32-byte k\0\0\0\x09\0\0\0\x4a\0\0\0\0\x31\x41\x5
 type Cipher<K> = StreamCipherCoreWrapper<K>;
 
 // The type that each alias names, its backend included: another type would not be accepted here.
-fn ciphers_in_full(
+fn in_full<'n>(
     named: (
-        ChaCha8,
-        ChaCha12,
-        ChaCha20,
-        ChaCha20Legacy,
-        XChaCha8,
-        XChaCha12,
-        XChaCha20,
+        &'n (ChaCha8, ChaCha12, ChaCha20, ChaCha20Legacy),
+        &'n (XChaCha8, XChaCha12, XChaCha20),
+        &'n ChaCha20LegacyCore,
+        &'n (ChaCha8Rng, ChaCha12Rng, ChaCha20Rng),
+        &'n (XNonce, Seed, SerializedRngState),
     ),
 ) -> (
-    Cipher<ChaChaCore<R8, Ietf, Lanes16>>,
-    Cipher<ChaChaCore<R12, Ietf, Lanes16>>,
-    Cipher<ChaChaCore<R20, Ietf, Lanes16>>,
-    Cipher<ChaChaCore<R20, Legacy, Lanes16>>,
-    Cipher<XChaChaCore<R8, Lanes16>>,
-    Cipher<XChaChaCore<R12, Lanes16>>,
-    Cipher<XChaChaCore<R20, Lanes16>>,
+    &'n (
+        Cipher<ChaChaCore<R8, Ietf, Lanes16>>,
+        Cipher<ChaChaCore<R12, Ietf, Lanes16>>,
+        Cipher<ChaChaCore<R20, Ietf, Lanes16>>,
+        Cipher<ChaChaCore<R20, Legacy, Lanes16>>,
+    ),
+    &'n (
+        Cipher<XChaChaCore<R8, Lanes16>>,
+        Cipher<XChaChaCore<R12, Lanes16>>,
+        Cipher<XChaChaCore<R20, Lanes16>>,
+    ),
+    &'n ChaChaCore<R20, Legacy, Lanes16>,
+    &'n (
+        ChaChaRng<R8, Lanes8>,
+        ChaChaRng<R12, Lanes8>,
+        ChaChaRng<R20, Lanes8>,
+    ),
+    &'n ([u8; 24], [u8; 32], [u8; 49]),
 ) {
-    named
-}
-
-fn legacy_core_in_full(named: ChaCha20LegacyCore) -> ChaChaCore<R20, Legacy, Lanes16> {
-    named
-}
-
-fn generators_in_full(
-    named: (ChaCha8Rng, ChaCha12Rng, ChaCha20Rng),
-) -> (
-    ChaChaRng<R8, Lanes8>,
-    ChaChaRng<R12, Lanes8>,
-    ChaChaRng<R20, Lanes8>,
-) {
-    named
-}
-
-fn bytes_in_full(named: (XNonce, Seed, SerializedRngState)) -> ([u8; 24], [u8; 32], [u8; 49]) {
     named
 }

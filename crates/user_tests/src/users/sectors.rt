@@ -52,16 +52,34 @@ fn refused(rt: HostRuntime) {
     assert!(rt; text == [6; SECTOR] && disk == [9; 2 * SECTOR - 1]);
 }
 
-// What a change makes of the first of two sectors: a bit of its bytes or of its seal is turned, or it is exchanged with
-// the other one.
-fn change(case: usize, seals: &mut [Seal; 2], disk: &mut [u8; 2 * SECTOR]) {
-    match case {
-        0 => disk[511] ^= 1,
-        1 => seals[0].tag[15] ^= 1,
-        2 => seals[0].version ^= 1 << 63,
-        3 => disk.rotate_left(SECTOR),
-        4 => seals.swap(0, 1),
-        _ => {
+// What is done to the first of two sectors: a bit is turned, or it gets text or seal of the other one.
+#[derive(Clone, Copy)]
+enum Change {
+    LastByte,
+    Tag,
+    Version,
+    OtherText,
+    OtherSeal,
+    OtherSector,
+}
+
+static CHANGES: [Change; 6] = [
+    Change::LastByte,
+    Change::Tag,
+    Change::Version,
+    Change::OtherText,
+    Change::OtherSeal,
+    Change::OtherSector,
+];
+
+fn apply(change: Change, seals: &mut [Seal; 2], disk: &mut [u8; 2 * SECTOR]) {
+    match change {
+        Change::LastByte => disk[511] ^= 1,
+        Change::Tag => seals[0].tag[15] ^= 1,
+        Change::Version => seals[0].version ^= 1 << 63,
+        Change::OtherText => disk.rotate_left(SECTOR),
+        Change::OtherSeal => seals.swap(0, 1),
+        Change::OtherSector => {
             disk.rotate_left(SECTOR);
             seals.swap(0, 1);
         }
@@ -69,13 +87,13 @@ fn change(case: usize, seals: &mut [Seal; 2], disk: &mut [u8; 2 * SECTOR]) {
 }
 
 // Whether a read finds that a sector was changed, and writes nothing.
-fn finds(case: usize) -> bool {
+fn is_found(it: Change) -> bool {
     let (mut seals, mut disk) = ([BLANK; 2], [0; 2 * SECTOR]);
     let written = [
         write(&COUNTING, &mut seals, &mut disk, 0, &[1; SECTOR]),
         write(&COUNTING, &mut seals, &mut disk, 1, &[2; SECTOR]),
     ];
-    change(case, &mut seals, &mut disk);
+    apply(it, &mut seals, &mut disk);
     let mut text = [9; SECTOR];
     let answer = read(&COUNTING, &seals, &disk, 0, &mut text);
     written == [Ok(()); 2] && answer == Err(SectorError::Forged) && text == [9; SECTOR]
@@ -83,7 +101,7 @@ fn finds(case: usize) -> bool {
 
 #[test]
 fn changed(rt: HostRuntime) {
-    for case in 0..6 {
-        assert!(rt; finds(case));
+    for it in &CHANGES {
+        assert!(rt; is_found(*it));
     }
 }

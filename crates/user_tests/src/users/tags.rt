@@ -1,5 +1,4 @@
-//! The tags of RFC 8439, sections 2.5.2 and A.3, and of long texts those of libsodium: of the whole text, and of each
-//! cut in two.
+//! Tags of RFC 8439, and of long texts those of libsodium: of the whole text, and of each cut in two.
 
 use poly1305::{Poly1305, Tag, authenticate, is_equal};
 
@@ -12,57 +11,119 @@ fn is_right(key: &[u8; 32], text: &[u8], cut: usize, tag: &Tag) -> bool {
     is_equal(mac.finish(), tag) && is_equal(authenticate(key, text), tag)
 }
 
-#[test]
-fn tags(rt: HostRuntime) {
-    for (key, text, tag) in &TAGS {
-        for cut in 0..text.len() + 1 {
-            assert!(rt; is_right(key, text, cut, tag));
-        }
-    }
-}
-
-// The tag of a text in pieces that are too short for lanes.
-fn by_blocks(key: &[u8; 32], text: &[u8]) -> Tag {
-    let mut mac = Poly1305::new(key);
-    for piece in text.chunks(496) {
-        mac.update(piece);
-    }
-    mac.finish()
-}
-
-// The first length at which the two ways to a tag differ, or 701.
-fn differing_length(key: &[u8; 32], text: &[u8; 700]) -> usize {
-    for len in 0..701usize {
-        if by_blocks(key, &text[..len]) != authenticate(key, &text[..len]) {
-            return len;
-        }
-    }
-    701
-}
-
-// The first cut at which a tag is wrong, or 701.
-fn wrong_cut(key: &[u8; 32], text: &[u8; 700], tag: &Tag) -> usize {
-    for cut in 0..701usize {
+// The first cut at which the tag is wrong.
+fn wrong_cut(key: &[u8; 32], text: &[u8], tag: &Tag) -> Option<usize> {
+    for cut in 0..text.len() + 1 {
         if !is_right(key, text, cut, tag) {
-            return cut;
+            return Some(cut);
         }
     }
-    701
+    None
+}
+
+#[test]
+fn published(rt: HostRuntime) {
+    for (source, key, text, tag) in &TAGS {
+        assert!(rt; wrong_cut(key, text, tag).is_none(), "{source}");
+    }
+}
+
+// A text whose bytes grow by this step.
+fn text_of(first: u8, step: u8) -> [u8; 700] {
+    let mut text = [first; 700];
+    for i in 1..700usize {
+        text[i] = text[i - 1].wrapping_add(step);
+    }
+    text
+}
+
+// Whether the fronts of these lengths have these tags.
+fn has_tags(key: &[u8; 32], text: &[u8; 700], tags: &[Tag; 7]) -> bool {
+    let mut right = true;
+    for i in 0..7usize {
+        right &= authenticate(key, &text[..LENGTHS[i].min(700)]) == tags[i];
+    }
+    right
+}
+
+// The first length at which the tag is another in pieces that are too short for lanes.
+fn wrong_length(key: &[u8; 32], text: &[u8; 700]) -> Option<usize> {
+    for len in 0..701usize {
+        let front = &text[..len];
+        if !is_right(key, front, 496, &authenticate(key, front)) {
+            return Some(len);
+        }
+    }
+    None
 }
 
 #[test]
 fn long_texts(rt: HostRuntime) {
     for (key, (first, step), tags) in &LONG_TAGS {
-        let key = [*key; 32];
-        let mut text = [*first; 700];
-        for i in 1..700usize {
-            text[i] = text[i - 1].wrapping_add(*step);
-        }
-        assert_eq!(rt; differing_length(&key, &text), 701);
-        assert!(rt; LENGTHS.map(|len| authenticate(&key, &text[..len.min(700)])) == *tags);
-        assert_eq!(rt; wrong_cut(&key, &text, &tags[6]), 701);
+        let (key, text) = ([*key; 32], text_of(*first, *step));
+        assert!(rt; has_tags(&key, &text, tags));
+        assert!(rt; wrong_length(&key, &text).is_none());
+        assert!(rt; wrong_cut(&key, &text, &tags[6]).is_none());
     }
 }
+
+static TAGS: [(&str, &[u8; 32], &[u8], Tag); 9] = [
+    (
+        "section 2.5.2",
+        b"\x85\xd6\xbe\x78\x57\x55\x6d\x33\x7f\x44\x52\xfe\x42\xd5\x06\xa8\x01\x03\x80\x8a\xfb\x0d\xb2\xfd\x4a\xbf\xf6\xaf\x41\x49\xf5\x1b",
+        b"Cryptographic Forum Research Group",
+        *b"\xa8\x06\x1d\xc1\x30\x51\x36\xc6\xc2\x2b\x8b\xaf\x0c\x01\x27\xa9",
+    ),
+    (
+        "section A.3, number 4",
+        b"\x1c\x92\x40\xa5\xeb\x55\xd3\x8a\xf3\x33\x88\x86\x04\xf6\xb5\xf0\x47\x39\x17\xc1\x40\x2b\x80\x09\x9d\xca\x5c\xbc\x20\x70\x75\xc0",
+        b"'Twas brillig, and the slithy toves\n\
+            Did gyre and gimble in the wabe:\nAll mimsy were the borogoves,\nAnd the mome raths outgrabe.",
+        *b"\x45\x41\x66\x9a\x7e\xaa\xee\x61\xe7\x08\xdc\x7c\xbc\xc5\xeb\x62",
+    ),
+    (
+        "section A.3, number 5",
+        b"\x02\0\0\0\0\0\0\0\0\0\0\0\0\0\0\0\0\0\0\0\0\0\0\0\0\0\0\0\0\0\0\0",
+        b"\xff\xff\xff\xff\xff\xff\xff\xff\xff\xff\xff\xff\xff\xff\xff\xff",
+        *b"\x03\0\0\0\0\0\0\0\0\0\0\0\0\0\0\0",
+    ),
+    (
+        "section A.3, number 6",
+        b"\x02\0\0\0\0\0\0\0\0\0\0\0\0\0\0\0\xff\xff\xff\xff\xff\xff\xff\xff\xff\xff\xff\xff\xff\xff\xff\xff",
+        b"\x02\0\0\0\0\0\0\0\0\0\0\0\0\0\0\0",
+        *b"\x03\0\0\0\0\0\0\0\0\0\0\0\0\0\0\0",
+    ),
+    (
+        "section A.3, number 7",
+        b"\x01\0\0\0\0\0\0\0\0\0\0\0\0\0\0\0\0\0\0\0\0\0\0\0\0\0\0\0\0\0\0\0",
+        b"\xff\xff\xff\xff\xff\xff\xff\xff\xff\xff\xff\xff\xff\xff\xff\xff\xf0\xff\xff\xff\xff\xff\xff\xff\xff\xff\xff\xff\xff\xff\xff\xff\x11\0\0\0\0\0\0\0\0\0\0\0\0\0\0\0",
+        *b"\x05\0\0\0\0\0\0\0\0\0\0\0\0\0\0\0",
+    ),
+    (
+        "section A.3, number 8",
+        b"\x01\0\0\0\0\0\0\0\0\0\0\0\0\0\0\0\0\0\0\0\0\0\0\0\0\0\0\0\0\0\0\0",
+        b"\xff\xff\xff\xff\xff\xff\xff\xff\xff\xff\xff\xff\xff\xff\xff\xff\xfb\xfe\xfe\xfe\xfe\xfe\xfe\xfe\xfe\xfe\xfe\xfe\xfe\xfe\xfe\xfe\x01\x01\x01\x01\x01\x01\x01\x01\x01\x01\x01\x01\x01\x01\x01\x01",
+        *b"\0\0\0\0\0\0\0\0\0\0\0\0\0\0\0\0",
+    ),
+    (
+        "section A.3, number 9",
+        b"\x02\0\0\0\0\0\0\0\0\0\0\0\0\0\0\0\0\0\0\0\0\0\0\0\0\0\0\0\0\0\0\0",
+        b"\xfd\xff\xff\xff\xff\xff\xff\xff\xff\xff\xff\xff\xff\xff\xff\xff",
+        *b"\xfa\xff\xff\xff\xff\xff\xff\xff\xff\xff\xff\xff\xff\xff\xff\xff",
+    ),
+    (
+        "section A.3, number 10",
+        b"\x01\0\0\0\0\0\0\0\x04\0\0\0\0\0\0\0\0\0\0\0\0\0\0\0\0\0\0\0\0\0\0\0",
+        b"\xe3\x35\x94\xd7\x50\x5e\x43\xb9\0\0\0\0\0\0\0\0\x33\x94\xd7\x50\x5e\x43\x79\xcd\x01\0\0\0\0\0\0\0\0\0\0\0\0\0\0\0\0\0\0\0\0\0\0\0\x01\0\0\0\0\0\0\0\0\0\0\0\0\0\0\0",
+        *b"\x14\0\0\0\0\0\0\0\x55\0\0\0\0\0\0\0",
+    ),
+    (
+        "section A.3, number 11",
+        b"\x01\0\0\0\0\0\0\0\x04\0\0\0\0\0\0\0\0\0\0\0\0\0\0\0\0\0\0\0\0\0\0\0",
+        b"\xe3\x35\x94\xd7\x50\x5e\x43\xb9\0\0\0\0\0\0\0\0\x33\x94\xd7\x50\x5e\x43\x79\xcd\x01\0\0\0\0\0\0\0\0\0\0\0\0\0\0\0\0\0\0\0\0\0\0\0",
+        *b"\x13\0\0\0\0\0\0\0\0\0\0\0\0\0\0\0",
+    ),
+];
 
 static LENGTHS: [usize; 7] = [511, 512, 513, 575, 576, 640, 700];
 
@@ -119,54 +180,5 @@ static LONG_TAGS: [(u8, (u8, u8), [Tag; 7]); 4] = [
             *b"\x70\x05\x0c\x6a\x8f\x24\xcf\xe3\xcf\x85\x99\xfb\x75\xa7\xf6\x22",
             *b"\x80\x1b\xdf\xa6\xe2\xd3\x86\x83\x09\xd3\x55\x82\xe6\x97\x52\x20",
         ],
-    ),
-];
-
-static TAGS: [(&[u8; 32], &[u8], Tag); 9] = [
-    (
-        b"\x85\xd6\xbe\x78\x57\x55\x6d\x33\x7f\x44\x52\xfe\x42\xd5\x06\xa8\x01\x03\x80\x8a\xfb\x0d\xb2\xfd\x4a\xbf\xf6\xaf\x41\x49\xf5\x1b",
-        b"Cryptographic Forum Research Group",
-        *b"\xa8\x06\x1d\xc1\x30\x51\x36\xc6\xc2\x2b\x8b\xaf\x0c\x01\x27\xa9",
-    ),
-    (
-        b"\x1c\x92\x40\xa5\xeb\x55\xd3\x8a\xf3\x33\x88\x86\x04\xf6\xb5\xf0\x47\x39\x17\xc1\x40\x2b\x80\x09\x9d\xca\x5c\xbc\x20\x70\x75\xc0",
-        b"'Twas brillig, and the slithy toves\n\
-            Did gyre and gimble in the wabe:\nAll mimsy were the borogoves,\nAnd the mome raths outgrabe.",
-        *b"\x45\x41\x66\x9a\x7e\xaa\xee\x61\xe7\x08\xdc\x7c\xbc\xc5\xeb\x62",
-    ),
-    (
-        b"\x02\0\0\0\0\0\0\0\0\0\0\0\0\0\0\0\0\0\0\0\0\0\0\0\0\0\0\0\0\0\0\0",
-        b"\xff\xff\xff\xff\xff\xff\xff\xff\xff\xff\xff\xff\xff\xff\xff\xff",
-        *b"\x03\0\0\0\0\0\0\0\0\0\0\0\0\0\0\0",
-    ),
-    (
-        b"\x02\0\0\0\0\0\0\0\0\0\0\0\0\0\0\0\xff\xff\xff\xff\xff\xff\xff\xff\xff\xff\xff\xff\xff\xff\xff\xff",
-        b"\x02\0\0\0\0\0\0\0\0\0\0\0\0\0\0\0",
-        *b"\x03\0\0\0\0\0\0\0\0\0\0\0\0\0\0\0",
-    ),
-    (
-        b"\x01\0\0\0\0\0\0\0\0\0\0\0\0\0\0\0\0\0\0\0\0\0\0\0\0\0\0\0\0\0\0\0",
-        b"\xff\xff\xff\xff\xff\xff\xff\xff\xff\xff\xff\xff\xff\xff\xff\xff\xf0\xff\xff\xff\xff\xff\xff\xff\xff\xff\xff\xff\xff\xff\xff\xff\x11\0\0\0\0\0\0\0\0\0\0\0\0\0\0\0",
-        *b"\x05\0\0\0\0\0\0\0\0\0\0\0\0\0\0\0",
-    ),
-    (
-        b"\x01\0\0\0\0\0\0\0\0\0\0\0\0\0\0\0\0\0\0\0\0\0\0\0\0\0\0\0\0\0\0\0",
-        b"\xff\xff\xff\xff\xff\xff\xff\xff\xff\xff\xff\xff\xff\xff\xff\xff\xfb\xfe\xfe\xfe\xfe\xfe\xfe\xfe\xfe\xfe\xfe\xfe\xfe\xfe\xfe\xfe\x01\x01\x01\x01\x01\x01\x01\x01\x01\x01\x01\x01\x01\x01\x01\x01",
-        *b"\0\0\0\0\0\0\0\0\0\0\0\0\0\0\0\0",
-    ),
-    (
-        b"\x02\0\0\0\0\0\0\0\0\0\0\0\0\0\0\0\0\0\0\0\0\0\0\0\0\0\0\0\0\0\0\0",
-        b"\xfd\xff\xff\xff\xff\xff\xff\xff\xff\xff\xff\xff\xff\xff\xff\xff",
-        *b"\xfa\xff\xff\xff\xff\xff\xff\xff\xff\xff\xff\xff\xff\xff\xff\xff",
-    ),
-    (
-        b"\x01\0\0\0\0\0\0\0\x04\0\0\0\0\0\0\0\0\0\0\0\0\0\0\0\0\0\0\0\0\0\0\0",
-        b"\xe3\x35\x94\xd7\x50\x5e\x43\xb9\0\0\0\0\0\0\0\0\x33\x94\xd7\x50\x5e\x43\x79\xcd\x01\0\0\0\0\0\0\0\0\0\0\0\0\0\0\0\0\0\0\0\0\0\0\0\x01\0\0\0\0\0\0\0\0\0\0\0\0\0\0\0",
-        *b"\x14\0\0\0\0\0\0\0\x55\0\0\0\0\0\0\0",
-    ),
-    (
-        b"\x01\0\0\0\0\0\0\0\x04\0\0\0\0\0\0\0\0\0\0\0\0\0\0\0\0\0\0\0\0\0\0\0",
-        b"\xe3\x35\x94\xd7\x50\x5e\x43\xb9\0\0\0\0\0\0\0\0\x33\x94\xd7\x50\x5e\x43\x79\xcd\x01\0\0\0\0\0\0\0\0\0\0\0\0\0\0\0\0\0\0\0\0\0\0\0",
-        *b"\x13\0\0\0\0\0\0\0\0\0\0\0\0\0\0\0",
     ),
 ];

@@ -1,16 +1,17 @@
-//! Readers and writers that take few bytes in a call, are interrupted, and fail.
+//! A reader and writer that takes few bytes in a call, is interrupted, and fails.
 
-use std::io;
-use std::io::{ErrorKind, Read, Write};
+use std::io::{self, ErrorKind, Read, Seek, SeekFrom, Write};
 
-// It takes at most `most` bytes in a call, is interrupted in each third one, and fails in the one with the number
-// `fails`.
+// It takes at most `most` bytes in a call, and is interrupted in each third read or write. It fails in the read or
+// write with the number `fails`, and in the seek with the number `failing_seek`; the first is 1.
 #[derive(Drop)]
 pub struct Unsteady<T> {
     pub inner: T,
     most: usize,
     fails: u32,
     calls: u32,
+    pub seeks: u32,
+    pub failing_seek: u32,
 }
 
 impl<T> Unsteady<T> {
@@ -20,6 +21,8 @@ impl<T> Unsteady<T> {
             most,
             fails,
             calls: 0,
+            seeks: 0,
+            failing_seek: 0,
         }
     }
 
@@ -52,5 +55,15 @@ impl<W: Write> Write for Unsteady<W> {
 
     fn flush(&mut self) -> io::Result<()> {
         self.inner.flush()
+    }
+}
+
+impl<S: Seek> Seek for Unsteady<S> {
+    fn seek(&mut self, to: SeekFrom) -> io::Result<u64> {
+        self.seeks = self.seeks.saturating_add(1);
+        if self.seeks == self.failing_seek {
+            return Err(io::Error::from(ErrorKind::BrokenPipe));
+        }
+        self.inner.seek(to)
     }
 }

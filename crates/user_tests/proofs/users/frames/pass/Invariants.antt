@@ -1,4 +1,4 @@
-use Rattle.std.proofs.Common.{◌≡◌, ◌+◌, length}
+use Rattle.std.proofs.Common.{◌≡◌, ◌+◌}
 use Rattle.user_tests.proofs.users.frames.pass.Given as goal
 
 abbrev pub invariant-each : goal.invariant-each
@@ -6,5 +6,4 @@ invariant-each l = record {
   messages : l.messages ≡ l.initial.messages;
   same : l.sender ≡ l.receiver;
   counted : l.sender.next ≡ l.initial.sender.next + l.i;
-  long : length l.frame ≡ 116;
 }

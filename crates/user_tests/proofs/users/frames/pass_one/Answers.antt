@@ -1,0 +1,33 @@
+use Rattle.std.proofs.Common.{◌≡◌, ◌<◌, ◌≤◌, ◌+◌, ◌^◌, ◌∙◌, ℕ, List, [], length, refl, sym, ap, arith}
+use Rattle.chacha20.proofs.ResultLemmas.{on_ok-holds, on_ok_given}
+use Rattle.examples.specs.Frames.{Endpoint, frame_of, IsFrame, after}
+use Rattle.user_tests.proofs.users.frames.pass_one.Goals as goal
+
+-- the receiver accepts what the sender made
+accepts : (sender receiver : Endpoint) (message frame : List ℕ) → sender ≡ receiver → frame ≡ frame_of sender [] message
+    → (sender.next + 1 < 2 ^ 64) × (length message ≤ 274877906880)
+    → (receiver.next + 1 < 2 ^ 64) × IsFrame receiver [] frame
+accepts sender receiver message frame same sent fits = (
+  omega (arith, fits.0, ap (λ e. e.next) same),
+  (message, fits.1, sent ∙ ap (λ side. frame_of side [] message) same),
+)
+
+pub returns-clause-accepted : goal.returns-clause-accepted
+returns-clause-accepted c few =
+    c.decrypt.ensures.accepted.1 (accepts c.args.sender.now c.args.receiver.now _ _ c.requires
+    c.in_ok-encrypt.ensures.frame (c.in_ok-encrypt.ensures.accepted.0 refl))
+
+pub returns-clause-message : goal.returns-clause-message
+returns-clause-message c =
+    let ok = returns-clause-accepted c (c.in_ok-encrypt.ensures.accepted.0 refl).0 in
+    on_ok-holds c.decrypt.result ok (c.decrypt.ensures.message c.args.message.now
+    (c.in_ok-encrypt.ensures.frame ∙ ap (λ side. frame_of side [] c.args.message.now) c.requires))
+
+pub returns-clause-same : goal.returns-clause-same
+returns-clause-same c =
+    let ok = returns-clause-accepted c (c.in_ok-encrypt.ensures.accepted.0 refl).0 in
+    c.in_ok-encrypt.ensures.next ∙ ap after c.requires ∙ sym (on_ok-holds c.decrypt.result ok c.decrypt.ensures.next)
+
+pub returns-clause-counted : goal.returns-clause-counted
+returns-clause-counted c =
+    on_ok_given c.decrypt.result (λ ok next. ap (λ e. e.next) c.in_ok-encrypt.ensures.next) c.decrypt.ensures.next

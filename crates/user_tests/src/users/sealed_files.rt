@@ -1,0 +1,241 @@
+//! Sealed files: one of another implementation, round trips, damage, and readers and writers that fail.
+
+ghost use Rattle.std.specs.Prelude.{◌≡◌, ◌<◌, ◌^◌, ℕ, List, Some, length, take};
+ghost use Rattle.std.specs.Io.KnownBytes.{Appends};
+ghost use Rattle.sealed.specs.Sealed.{sealed};
+
+use super::unsteady::Unsteady;
+use chacha20::Key;
+use known_answers::published::COUNTING as KEY;
+use sealed::{CHUNK, Damage, Salt, SealError, TAG, decrypt, encrypt};
+use std::io::{Read, Write};
+
+pub const SALT: Salt = *b"defghijklmnopqrs";
+
+// What a call says.
+#[derive(Clone, Copy, PartialEq)]
+enum Said {
+    Done,
+    Damaged(Damage),
+    Read,
+    Write,
+    TooLong,
+}
+
+fn said_by(done: Result<(), SealError>) -> Said {
+    match done {
+        Ok(()) => Said::Done,
+        Err(SealError::Damaged(damage)) => Said::Damaged(damage),
+        Err(SealError::Read(_)) => Said::Read,
+        Err(SealError::Write(_)) => Said::Write,
+        Err(SealError::TooLong) => Said::TooLong,
+    }
+}
+
+// Of a sealed file, whatever is said, a front of its text is written.
+fn opens<R: Read, W: Write>(key: &Key, reader: &mut R, writer: &mut W) -> Said
+    ensures { (salt text : List ℕ) → length salt ≡ 16
+        → R.remaining reader.old ≡ Some (sealed key.now salt text)
+        → (n : ℕ) × Appends (W.contents writer.old) (W.contents writer.new) (take n text) }
+{
+    let done = decrypt(key, reader, writer, &mut [0; CHUNK + TAG + 1]);
+    said_by(done)
+}
+
+// What is said of a file, and how much text is written, where reader and writer fail in these calls, or never.
+fn opened(file: &[u8], text: &mut [u8], read: u32, write: u32) -> (Said, usize) {
+    let most = text.len();
+    let mut reader = Unsteady::new(file, 1000, read);
+    let mut writer = Unsteady::new(text, 1000, write);
+    let said = opens(&KEY, &mut reader, &mut writer);
+    (said, most - writer.inner.len().min(most))
+}
+
+// The file of the text "text"; its chunk is as libsodium seals it (checks/seal).
+static FILE_OF_TEXT: [u8; 52] = *b"chacha20-seal v1defghijklmnopqrs\
+    \xa2\x58\xa9\xdf\x48\x9e\x69\x1f\x7f\x17\xa2\xbb\xbd\x04\x97\x5a\xb1\x18\xa7\xf9";
+
+#[test]
+fn another_implementations_file(rt: HostRuntime) {
+    let mut text = [0; 5];
+    assert!(rt; opened(&FILE_OF_TEXT, &mut text, 0, 0) == (Said::Done, 4) && text == *b"text\0");
+}
+
+// Whether a text's file fills this one.
+pub fn seals(salt: &Salt, text: &[u8], file: &mut [u8]) -> bool {
+    let (mut reader, mut writer) = (text, file);
+    let done = encrypt(&KEY, salt, &mut reader, &mut writer, &mut [0; CHUNK + 1]);
+    done.is_ok() && writer.is_empty()
+}
+
+// Writes the numbers from 0 to 250, again and again.
+pub fn count(text: &mut [u8]) {
+    for i in 0..text.len() {
+        text[i] = (i % 251) as u8;
+    }
+}
+
+// Whether a text of N bytes has a file of F bytes, and comes back.
+fn comes_back<const N: usize, const F: usize>() -> bool
+    requires text { N < 2 ^ 63 }
+    requires file { F < 2 ^ 63 }
+{
+    let (mut text, mut file, mut back) = ([0; N], [0; F], [0; N]);
+    count(&mut text);
+    seals(&SALT, &text, &mut file)
+        && opened(&file, &mut back, 0, 0) == (Said::Done, N)
+        && back == text
+}
+
+#[test]
+fn round_trips(rt: HostRuntime) {
+    assert!(rt; comes_back::<0, 48>() && comes_back::<1, 49>() && comes_back::<65535, 65583>());
+    assert!(rt; comes_back::<65536, 65584>() && comes_back::<65537, 65601>());
+    assert!(rt; comes_back::<400000, 400144>());
+}
+
+// A text whose file has four chunks, and that file.
+pub const TEXT: usize = 200000;
+
+pub const FILE: usize = 200096;
+
+// From where to where a part stands in two such files, one behind the other.
+type Part = (usize, usize);
+
+const HEADER: Part = (0, 32);
+
+const FIRST: Part = (32, 65584);
+
+const SECOND: Part = (65584, 131136);
+
+const THIRD: Part = (131136, 196688);
+
+const LAST: Part = (196688, FILE);
+
+const OTHER_SECOND: Part = (FILE + 65584, FILE + 131136);
+
+// A damaged file.
+#[derive(Clone, Copy)]
+pub enum Change {
+    // Only so many bytes are left.
+    Cut(usize),
+    // A bit of this byte is turned.
+    Turned(usize),
+    // It has these parts.
+    Has(&'static [Part]),
+}
+
+// Writes the damaged file, and returns its length.
+pub fn apply(files: &[u8; 2 * FILE], change: Change, bytes: &mut [u8; 2 * FILE]) -> usize {
+    *bytes = *files;
+    match change {
+        Change::Cut(len) => len.min(FILE),
+        Change::Turned(place) => {
+            bytes[place % FILE] ^= 1;
+            FILE
+        }
+        Change::Has(parts) => put_parts(files, parts, bytes),
+    }
+}
+
+// Writes parts, and returns how many bytes that are.
+fn put_parts(files: &[u8], parts: &[Part], bytes: &mut [u8]) -> usize {
+    let most = bytes.len();
+    let mut room = bytes;
+    for (from, to) in parts {
+        let _ = room.write_all(files.get(*from..*to).unwrap_or(&[]));
+    }
+    most - room.len().min(most)
+}
+
+// Files of the text under two salts, one behind the other.
+pub fn two_files(text: &[u8; TEXT], files: &mut [u8; 2 * FILE]) -> bool {
+    let (first, second) = files.split_at_mut(FILE);
+    seals(&SALT, text, first) && seals(&[7; 16], text, second)
+}
+
+// What is wrong with a damaged file, and how much text is written.
+static DAMAGED: [(Change, Damage, usize); 27] = [
+    (Change::Cut(0), Damage::NotSealed, 0),
+    (Change::Cut(1), Damage::NotSealed, 0),
+    (Change::Cut(15), Damage::CutHeader, 0),
+    (Change::Cut(31), Damage::CutHeader, 0),
+    (Change::Cut(32), Damage::WrongEnd(0), 0),
+    (Change::Cut(33), Damage::WrongEnd(0), 0),
+    (Change::Cut(48), Damage::WrongEnd(0), 0),
+    (Change::Cut(65583), Damage::WrongEnd(0), 0),
+    (Change::Cut(65584), Damage::WrongEnd(0), 0),
+    (Change::Cut(65585), Damage::WrongEnd(1), 65536),
+    (Change::Cut(196688), Damage::WrongEnd(2), 131072),
+    (Change::Cut(200095), Damage::WrongEnd(3), 196608),
+    (Change::Turned(0), Damage::NotSealed, 0),
+    (Change::Turned(14), Damage::NotSealed, 0),
+    (Change::Turned(15), Damage::OtherVersion, 0),
+    (Change::Turned(16), Damage::WrongChunk(0), 0),
+    (Change::Turned(32), Damage::WrongChunk(0), 0),
+    (Change::Turned(65583), Damage::WrongChunk(0), 0),
+    (Change::Turned(65584), Damage::WrongChunk(1), 65536),
+    (Change::Turned(196688), Damage::WrongEnd(3), 196608),
+    (Change::Turned(200095), Damage::WrongEnd(3), 196608),
+    (Change::Has(EXCHANGED), Damage::WrongChunk(0), 0),
+    (Change::Has(LEFT_OUT), Damage::WrongChunk(1), 65536),
+    (Change::Has(REPEATED), Damage::WrongChunk(1), 65536),
+    (Change::Has(OF_ANOTHER_FILE), Damage::WrongChunk(1), 65536),
+    (Change::Has(LAST_TWICE), Damage::WrongEnd(3), 196608),
+    (Change::Has(WHOLE_TWICE), Damage::WrongChunk(3), 196608),
+];
+
+const EXCHANGED: &[Part] = &[HEADER, SECOND, FIRST, THIRD, LAST];
+
+const LEFT_OUT: &[Part] = &[HEADER, FIRST, THIRD, LAST];
+
+const REPEATED: &[Part] = &[HEADER, FIRST, FIRST, SECOND, THIRD, LAST];
+
+const OF_ANOTHER_FILE: &[Part] = &[HEADER, FIRST, OTHER_SECOND, THIRD, LAST];
+
+const LAST_TWICE: &[Part] = &[HEADER, FIRST, SECOND, THIRD, LAST, LAST];
+
+const WHOLE_TWICE: &[Part] = &[(0, FILE), (0, FILE)];
+
+// What is said of a damaged file, and how much text is written.
+fn opened_after(files: &[u8; 2 * FILE], change: Change) -> (Said, usize) {
+    let (mut bytes, mut back) = ([0; 2 * FILE], [0; FILE]);
+    let len = apply(files, change, &mut bytes).min(2 * FILE);
+    opened(&bytes[..len], &mut back, 0, 0)
+}
+
+#[test]
+fn damaged_files_are_refused(rt: HostRuntime) {
+    let (mut text, mut files) = ([0; TEXT], [0; 2 * FILE]);
+    count(&mut text);
+    assert!(rt; two_files(&text, &mut files));
+    for i in 0..DAMAGED.len() {
+        let (change, damage, written) = &DAMAGED[i];
+        assert!(rt;
+            opened_after(&files, *change) == (Said::Damaged(*damage), *written),
+            "{i}"
+        );
+    }
+}
+
+// Calls in which a reader and a writer fail.
+static FAILURES: [(u32, u32, Said); 6] = [
+    (1, 0, Said::Read),
+    (40, 0, Said::Read),
+    (100, 0, Said::Read),
+    (0, 1, Said::Write),
+    (0, 40, Said::Write),
+    (0, 100, Said::Write),
+];
+
+#[test]
+fn failures_are_told(rt: HostRuntime) {
+    let (mut text, mut file) = ([0; TEXT], [0; FILE]);
+    assert!(rt; seals(&SALT, &text, &mut file));
+    for (read, write, said) in &FAILURES {
+        assert!(rt;
+            opened(&file, &mut text, *read, *write).0 == *said,
+            "{read} {write}"
+        );
+    }
+}
