@@ -131,9 +131,9 @@ fn apply_586_bytes<B: StreamCipherBackend<R20, Ietf>>(
     Ietf20::<B>::new(&[0; 32], &[0; 12]).try_apply_keystream_counted(&mut [0; 586], steps)
 }
 
-// What that is over each backend: parallel calls and others at most, and quarter rounds. `Soft` takes nine parallel calls
-// of one block and one for the last part; `Lanes4` and `Lanes8` two calls of four blocks, `Rows8` and `Columns8` one of
-// eight, and one for the tail and the last part each; `Lanes16` a tail of nine blocks and the last part.
+// What that is over each backend: parallel calls and others at most, and quarter rounds. `Soft` takes nine parallel
+// calls of one block and one for the last part; `Lanes4` and `Lanes8` two calls of four blocks, `Rows8` and `Columns8`
+// one of eight, and one for the tail and the last part each; `Lanes16` a tail of nine blocks and the last part.
 fn costs_of_586_bytes()
     ensures soft { let b = ⟦<Soft as StreamCipherBackend<R20, Ietf>>⟧ in
         for_bytes ⟦<Soft as ParBlocksSizeUser>⟧.PAR_BLOCKS (b.PAR_STEPS * 10) (b.ONE_STEPS * 10) 0 586

@@ -1,5 +1,5 @@
-//! Draws of the seed 0. Its first block on stream 0 is that of RFC 8439, A.1, number 1, and on stream 2^57 that of number
-//! 5. Their words of 64 bits, times a bound, divided by 2^64, give the numbers here.
+//! Draws of the seed 0. Its first block on stream 0 is that of RFC 8439, A.1, number 1, and on stream 2^57 that of
+//! number 5. Their words of 64 bits, times a bound, divided by 2^64, give the numbers here.
 
 use chacha20::cipher::RngBackend;
 use chacha20::{ChaChaRng, Rounds};
