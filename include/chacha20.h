@@ -33,7 +33,7 @@
    - The proved code has no unwind tables. A thread that is cancelled asynchronously during a call
      may skip its cleanup handlers, and a backtrace from within a call can show keystream.
 
-   chacha20_reduced.h has the same with 12 and 8 rounds. */
+   chacha20_reduced.h has ciphers, HChaCha and generators with 12 and 8 rounds. */
 
 #ifndef CHACHA20_H
 #define CHACHA20_H
@@ -140,7 +140,8 @@ uint32_t chacha20_aead_encrypt(const uint8_t key[32], const uint8_t nonce[12], c
    then decrypts |len| bytes to |output|.
 
    It returns CHACHA20_OK, or CHACHA20_REFUSED if the tag is wrong, and where chacha20_aead_encrypt
-   does, except that |tag| is an input, which may overlap all but |output|. */
+   does, except that |tag| is an input, which may overlap all but |output|. The 16 bytes of the tag
+   taken from a total below 16 wrap, and are refused as a |len| that is too great. */
 uint32_t chacha20_aead_decrypt(const uint8_t key[32], const uint8_t nonce[12], const uint8_t *aad,
                                size_t aad_len, uint8_t *output, const uint8_t *input, size_t len,
                                const uint8_t tag[16]) CHACHA20_SEAL;
