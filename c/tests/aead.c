@@ -123,7 +123,7 @@ void one_tag(struct run *run) {
     holds(run, any_build(run)->equal(made, input, compared) == (at == compared), "unequal bytes");
 }
 
-/* A message by plain C, with each bit of the tag wrong. */
+/* A message, with each bit of its tag wrong, in place and between buffers. */
 static void each_bit_of_a_tag(struct run *run, const struct library *library, struct sealed *it) {
     for (int bit = 0; bit < 8 * TAG; bit++) {
         it->tag[bit / 8] ^= (uint8_t)(1 << bit % 8);

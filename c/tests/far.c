@@ -158,7 +158,12 @@ static int are_of_all_passes(const uint8_t *room, const struct other *other) {
 
 /* Whether there is memory for a ciphertext, and as much again for others. */
 static int has_memory(void) {
-    return (size_t)sysconf(_SC_AVPHYS_PAGES) * (size_t)sysconf(_SC_PAGESIZE) >= 2 * len_over;
+    unsigned long long kib = 0;
+    char line[100];
+    FILE *file = fopen("/proc/meminfo", "r");
+    while (file && fgets(line, sizeof line, file) && sscanf(line, "MemAvailable: %llu", &kib) != 1) continue;
+    if (file) fclose(file);
+    return kib >= 2 * len_over / 1024;
 }
 
 /* Associated data and a text of windows, beside libsodium. A tag depends on the whole ciphertext, so tags stand for it. */
