@@ -4,6 +4,8 @@ use aead::{AeadError, ChaCha20Poly1305, XChaCha20Poly1305};
 use chacha20::cipher::{KeyIvInit, StreamCipher, StreamCipherError, StreamCipherSeek};
 use chacha20::{ChaCha20, ChaCha20Rng, Key, Nonce, XNonce};
 use known_answers::published::{CIPHERTEXT, COUNTING, MESSAGE, NONCE, OF_20_ROUNDS, X_NONCE};
+use sealed::{CHUNK, SealError, TAG};
+use std::random::RandomSource;
 
 fn encrypted_and_decrypted(key: &Key, nonce: &Nonce) -> Result<[u8; 14], StreamCipherError> {
     let mut message = *b"attack at dawn";
@@ -48,6 +50,23 @@ fn sealed_and_opened(key: &Key, nonce: &Nonce) -> Result<[u8; 14], AeadError> {
 fn messages(rt: HostRuntime) {
     assert!(rt; there_and_back(&COUNTING, &X_NONCE, b"header") == Ok(*b"attack at dawn"));
     assert!(rt; sealed_and_opened(&COUNTING, &NONCE) == Ok(*b"attack at dawn"));
+}
+
+fn in_memory(rt: &HostRuntime, key: &Key, text: &[u8]) -> Result<bool, SealError> {
+    let mut salt = [0; 16];
+    rt.fill_bytes(&mut salt).map_err(SealError::Read)?;
+    let mut file = Vec::new(rt.alloc());
+    let mut reader = text;
+    sealed::encrypt(key, &salt, &mut reader, &mut file, &mut [0; CHUNK + 1])?;
+    let mut opened = Vec::new(rt.alloc());
+    let mut reader = file.as_slice();
+    sealed::decrypt(key, &mut reader, &mut opened, &mut [0; CHUNK + TAG + 1])?;
+    Ok(opened.as_slice() == text)
+}
+
+#[test]
+fn files(rt: HostRuntime) {
+    assert!(rt; in_memory(&rt, &COUNTING, b"attack at dawn").unwrap_or(false));
 }
 
 // The words of a seed of zeros are those of block 0 of RFC 8439, appendix A.1, number 1.
