@@ -1,17 +1,19 @@
-//! The cases that have a number, in its order. They run on each backend in `tests`, and in the program `vectors`, which
-//! prints `row N ok` for the cases with the number N.
+//! The cases whose title begins with a number, sorted by it. They run on each backend in `tests`, and in the program
+//! `vectors`, which prints `row N ok` if all cases with the number N hold. None has the number 2.
 //!
-//! A case is a paragraph. Its first line is the title: where the answers come from, and what the case shows. The second
-//! line is the subject. Each line after it is a call, with its answer behind `->`; a call with nothing behind it is
-//! accepted. To add a case, add a paragraph, here or in [`more_cases`](crate::more_cases): no other file changes.
+//! A case is a paragraph. Its first line is the title: where the answers come from, and what the case shows; a source
+//! in parentheses is that of the bytes it names, and `By hand` means by the definition, without a program. The second
+//! line is the subject. Each line after it is a call, with its answer behind `->`; a call with nothing behind it must
+//! not be refused. To add a case, add a paragraph: with a number here, without one anywhere in
+//! [`more_cases`](crate::more_cases). No other file changes. A `\` at a line's end goes on to the next.
 //!
 //! | subject | made of |
 //! |---|---|
-//! | `ChaCha20`, `ChaCha12`, `ChaCha8`, `ChaCha20Legacy`, `XChaCha20` | `key K nonce N` |
+//! | `ChaCha20`, `ChaCha12`, `ChaCha8`; `ChaCha20Legacy`; `XChaCha20` | `key K nonce N`, of 32 bytes and of 12; 8; 24 |
 //! | `ChaCha0`: no rounds, so that bytes can be computed by hand | `key K nonce N` |
 //! | the cores `ChaCha20Core`, `ChaCha0Core` | `key K nonce N` |
 //! | the core `ChaCha0LegacyCore` | `seed S` |
-//! | the generators `ChaCha20Rng`, `ChaCha12Rng`, `ChaCha8Rng`, `ChaCha0Rng` | `seed S` or `state S` |
+//! | the generators `ChaCha20Rng`, `ChaCha12Rng`, `ChaCha8Rng`, `ChaCha0Rng` | `seed S`, or `state S` as stored |
 //! | `hchacha`; its only line is `subkey -> S` | `key K input I` |
 //!
 //! | line of a cipher | call | answer |
@@ -20,25 +22,26 @@
 //! | `apply 4c61 -> 6e2e` | the same on 4c 61 | they become 6e 2e |
 //! | `write 32 -> deeb ..*30` | `write_keystream` of 32 bytes | they begin with de eb |
 //! | `b2b 0102 into 09*3 -> refused` | `apply_keystream_b2b` of two bytes into three | refused: nothing changes |
-//! | `room 64` | `check_remaining(64)` | accepted |
+//! | `room 64` | `check_remaining(64)`: whether 64 bytes are left | accepted |
 //! | `seek i32 -1 -> refused` | `seek(-1i32)` | refused |
 //! | `pos u128 -> 2^70` | `current_pos::<u128>()` | 2^70 |
 //! | `pos u64 -> overflow` | the same in 64 bits | the type can't represent it |
 //!
-//! After each line three ciphers must agree with it: one called by `try_` forms, one by the forms without `try_` where
-//! they may be called, and one on which `run_cipher` makes all calls so far. A call leaves all other bytes of the case
-//! as they were.
+//! Positions count bytes, in an `i32`, `u32`, `u64`, `u128` or `usize`. After each line three ciphers must have given
+//! its answer: one called by `try_` forms, one by the forms without `try_` unless the call is refused, and one on which
+//! `run_cipher` makes all calls so far. A call changes no bytes but its line's, and a refused one nothing.
 //!
 //! A line of a generator is one of its functions, as `fill_bytes 5 -> e8ca40d600`, or `100 times next_u32`. Four must
 //! agree: one by its own functions, one with reads through `Rng`, one with reads through `TryRng`, and one on which
 //! `run_rng` makes all calls so far. `equals S -> true` compares by `==` with the generator of a stored state, which is
-//! the seed, the stream in eight bytes, and the word position in nine.
+//! the seed, the stream in eight bytes, and the word position in nine, little-endian.
 //!
 //! A line of a core is one of its functions. A second core applies what the first writes, and must make the same.
 //!
 //! Bytes are pairs of hexadecimal digits with spaces anywhere between pairs; `00*12` is twelve times 00, `00..1f` all
 //! from 00 to 1f, and `..*12` any twelve bytes. A number is decimal, `0x` and hexadecimal digits, or as `2^68`,
-//! `2^68-1`, `2^68+5`. OpenSSL's answers are those of `openssl enc -chacha20`.
+//! `2^68-1`, `2^68+5`. OpenSSL's answers are those of `openssl enc -chacha20 -K KEY -iv C`. C is the number of the
+//! block, little-endian in 4 bytes (8 for the legacy cipher and generators), and then the nonce or the stream.
 
 pub static CASES: &str = "
 case 1. OpenSSL: a message there, back, and there in pieces of 3
@@ -133,11 +136,12 @@ ChaCha20Rng seed 00*32
 set_block_pos 2^32-1
 fill_bytes 80 -> ace4cd09e294d1912d4ad205d06f95d9 ..*48 3db41d3aa0d329285de6f225e6e24bd5
 
-case 11. By hand: the block with the greatest counter is like any other (its byte: OpenSSL)
+case 11. By hand: the last block can be used, and a refused seek leaves the position (the byte: OpenSSL)
 ChaCha20 key 00..1f nonce 000000000000004a00000000
 seek u64 2^38-64
 apply 00*0
 apply 07 -> 6a
+pos u64 -> 2^38-63
 seek u64 2^38-63
 seek i32 -1 -> refused
 pos u64 -> 2^38-63

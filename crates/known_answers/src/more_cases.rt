@@ -49,6 +49,12 @@ write 256 -> \
     aefd4ec031f3f13f099e3d811d83a2cf1d544a68d2752409cc6be852b0511a2e \
     32f69aa0be91b30981584a1c56ce7546cca24d8cfdfca525d6b15eea83b6b686
 
+OpenSSL: ten bytes of the legacy cipher from the middle of its second block on
+ChaCha20Legacy key 40..5f nonce 1122334455667788
+seek u32 100
+apply 00..09 -> fb992fc54a44b468c906
+pos u64 -> 110
+
 draft-strombergson-chacha-test-vectors, TC1, 256 bits, 8 rounds
 ChaCha8 key 00*32 nonce 00*12
 write 32 -> 3e00ef2f895f40d67f5bb8e81f09a5a12c840ec3ce9a7f3b181be188ef711a1e
