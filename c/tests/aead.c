@@ -111,7 +111,7 @@ void one_tag(struct run *run) {
         if (machine->others[i].poly1305 && below(run, 2)) other = &machine->others[i];
     }
     random_bytes(run, key, sizeof key), random_bytes(run, input, len);
-    if (kind == 0) len = close_to_prime(key, input, below(run, 9), (uint8_t)below(run, 30));
+    if (kind == 0) len = close_to_prime(key, input, below(run, 3), (uint8_t)below(run, 12));
     if (kind == 1) memset(key, 255, 16), memset(input, 255, len);
     other->poly1305(key, input, len, right);
     any_build(run)->poly1305(key, len ? input : NULL, len, tag);
