@@ -1,4 +1,4 @@
-use Rattle.std.proofs.Common.{[], ◌∙◌, get_or, ap, arith}
+use Rattle.std.proofs.Common.{[], ◌∙◌, ap, arith}
 use Rattle.std.specs.Prelude.{slice_set}
 use Rattle.std.proofs.lemmas.List.{set-get_or}
 use Rattle.user_tests.proofs.users.frames.pass.Goals as goal
