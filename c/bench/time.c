@@ -77,14 +77,14 @@ static int has(const struct contestant *it, const struct task *task) {
     return !it->other || (task->is_message ? it->other->encrypt[IETF] != NULL : it->other->xor_from_block[IETF] != NULL);
 }
 
-/* The time of a call at a place, which moves the stack by a multiple of 16 bytes and each buffer by one of 64. A call before
-   them brings code and data near. */
+/* The time of a call at a place, which moves the stack by a multiple of 16 bytes and each buffer by one of 64. A call that
+   isn't counted brings code and data near. */
 static double calls_here(const struct contestant *it, const struct task *task, int place, int calls) {
     volatile uint8_t moved[80 * place + 1];
     uint8_t *output = output_room + 64 * (30 * place % (PAGE / 64));
     const uint8_t *input = input_room + 64 * (44 * place % (PAGE / 64));
     moved[0] = 0;
-    if (calls > 1) call(it, task, output, input);
+    call(it, task, output, input);
     double begin = seconds();
     for (int i = 0; i < calls; i++) call(it, task, output, input);
     return (seconds() - begin) * 1e9 / calls + moved[0];
@@ -100,8 +100,7 @@ static void take_turns(const struct contestant *all, int count, int task) {
     int calls[MOST_CONTESTANTS];
     for (int i = 0; i < count; i++) {
         if (!has(&all[i], &tasks[task])) continue;
-        calls_here(&all[i], &tasks[task], 0, 1);
-        calls[i] = (int)(1 + 1e5 / (1 + calls_here(&all[i], &tasks[task], 0, 1)));
+        calls[i] = (int)(4 + 1e5 / (1 + calls_here(&all[i], &tasks[task], 0, 1)));
     }
     for (int place = 0; place < places_of(task); place++) {
         for (int i = 0; i < count; i++) {

@@ -23,6 +23,7 @@
 
 mod chacha_poly1305;
 mod error;
+mod front;
 mod mac;
 mod message;
 mod named;

@@ -7,6 +7,7 @@ ghost use Rattle.aead.specs.Aead.{mac_key, encrypted, poly1305_tag};
 ghost use Rattle.aead.specs.Front.{HasFront};
 
 use crate::error::AeadError;
+use crate::front::{APART, SHORT};
 use crate::mac::tag_of;
 use chacha20::cipher::StreamCipher;
 use poly1305::{Tag, is_equal};
@@ -15,16 +16,15 @@ use poly1305::{Tag, is_equal};
 pub const FRONT: usize = 512;
 
 /// The bytes of a message's front: those of block 0, and of all blocks of a short message. Of a longer one, of so many
-/// that a multiple of four or eight whole blocks is left, since ciphers make four, eight or sixteen at once. Of 128
-/// bytes it is block 0 alone: three blocks in one call would be slower below x86-64-v3.
+/// that a multiple of four or eight whole blocks is left, since ciphers make four, eight or sixteen at once.
 pub fn front_len(len: usize) -> usize
     ensures whole { result % 64 ≡ 0 }
     ensures bounds { (64 ≤ result) × (result ≤ 512) }
     ensures needed { result < 128 + len }
 {
-    let blocks = if len == 128 {
+    let blocks = if len == APART {
         0
-    } else if len <= 192 {
+    } else if len <= SHORT {
         len.div_ceil(64)
     } else if len < 512 {
         len / 64 % 4
