@@ -71,32 +71,27 @@ fn stat(rt: &HostRuntime, path: &str) -> io::Result<(u64, u64, bool)> {
     Ok((it.dev(), it.ino(), it.is_file()))
 }
 
-/// Fails if `to` exists and is one of the files in `sources`, or not a regular file.
-pub fn check_target(rt: &HostRuntime, to: &str, sources: &[&str]) -> Result<(), Failed> {
-    match stat(rt, to) {
-        Ok(there) => check_existing(rt, to, there, sources),
-        Err(e) if e.kind() == ErrorKind::NotFound => Ok(()),
-        Err(e) => written(rt, to, Err(e)),
-    }
-}
-
-fn check_existing(
-    rt: &HostRuntime,
-    to: &str,
-    (dev, ino, is_file): (u64, u64, bool),
-    sources: &[&str],
-) -> Result<(), Failed> {
-    for source in sources {
-        let (its_dev, its_ino, _) = read(rt, source, stat(rt, source))?;
-        if its_dev == dev && its_ino == ino {
-            return Err(fail(rt, "OUT ", to, " is the same file as IN or KEYFILE"));
-        }
+/// Fails if `to` exists and is IN or KEYFILE, or not a regular file.
+pub fn check_target(rt: &HostRuntime, key: &str, from: &str, to: &str) -> Result<(), Failed> {
+    let (dev, ino, is_file) = match stat(rt, to) {
+        Ok(there) => there,
+        Err(e) if e.kind() == ErrorKind::NotFound => return Ok(()),
+        Err(e) => return written(rt, to, Err(e)),
+    };
+    if is_same(rt, key, dev, ino)? || is_same(rt, from, dev, ino)? {
+        return Err(fail(rt, "OUT ", to, " is the same file as IN or KEYFILE"));
     }
     if is_file {
         Ok(())
     } else {
         Err(fail(rt, "", to, " exists and isn't a regular file"))
     }
+}
+
+// Whether a path has this device and inode.
+fn is_same(rt: &HostRuntime, path: &str, dev: u64, ino: u64) -> Result<bool, Failed> {
+    let (its_dev, its_ino, _) = read(rt, path, stat(rt, path))?;
+    Ok(its_dev == dev && its_ino == ino)
 }
 
 /// The name of a new file beside `to`: that of `to`, and 16 random digits.

@@ -57,7 +57,7 @@ fn transform(rt: &HostRuntime, encrypts: bool, words: &[String]) -> Result<(), F
         return Err(usage(rt));
     };
     let (key, from, to) = (key.as_str(), from.as_str(), to.as_str());
-    files::check_target(rt, to, &[key, from])?;
+    files::check_target(rt, key, from, to)?;
     let path = files::beside(rt, to)?;
     replace(rt, encrypts, key, from, to, path.as_str())
 }

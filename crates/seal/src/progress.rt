@@ -26,33 +26,24 @@ impl<'a> Progress<'a, File> {
     pub fn open(rt: &'a HostRuntime, path: &str) -> Result<Progress<'a, File>, Failed> {
         let len = read(rt, path, fs::metadata(rt, path))?.len();
         let inner = files::open(rt, path)?;
-        Ok(Progress::new(rt, inner, len))
-    }
-}
-
-impl<'a, R> Progress<'a, R> {
-    pub fn new(rt: &'a HostRuntime, inner: R, len: u64) -> Progress<'a, R> {
-        let shows = len > 0 && rt.stderr().is_terminal();
-        Progress {
+        Ok(Progress {
             rt,
             inner,
             len,
             read: 0,
             next: STEP,
-            shows,
-        }
+            shows: len > 0 && rt.stderr().is_terminal(),
+        })
     }
+}
 
+impl<R> Progress<'_, R> {
     fn count(&mut self, n: u64) {
         self.read = self.read.saturating_add(n);
         if self.shows && self.read >= self.next {
             self.next = self.next.saturating_add(STEP);
-            show(
-                self.rt,
-                self.read >> 20,
-                self.len >> 20,
-                self.next > self.len,
-            );
+            let last = self.next > self.len;
+            show(self.rt, self.read >> 20, self.len >> 20, last);
         }
     }
 }
