@@ -1,107 +1,63 @@
-//! Why the program stops: each failure prints as a sentence.
+//! Says on standard error why the program stops, in a sentence.
 
-use sealed::{Damage, SealError};
-use std::alloc::AllocError;
-use std::fmt::{Display, Formatter};
-use std::{fmt, io};
+use sealed::SealError;
+use std::fmt::Display;
+use std::io;
 
-const USAGE: &str = "usage: seal encrypt KEYFILE IN OUT | seal decrypt KEYFILE IN OUT | \
-                     seal cat KEYFILE IN START LEN | seal key KEYFILE";
-
-/// Why a call of the program failed. A path is the file's name as it was given.
+/// The call failed, and the program has said why.
 #[derive(Clone, Copy)]
-pub enum Failure<'a> {
-    /// The words aren't those of a call.
-    Usage,
-    OutOfMemory,
-    Refused(Refusal, &'a str),
-    NoRandomBytes(io::Error),
-    Read(&'a str, io::Error),
-    Write(&'a str, io::Error),
-    Damaged(&'a str, Damage),
-    /// START + LEN is past the end of the text, which has so many bytes.
-    EndOfText(&'a str, u64),
+pub struct Failed;
+
+/// Says a sentence about a word of the call, mostly the name of a file.
+pub fn fail(rt: &HostRuntime, before: &str, word: &str, after: &str) -> Failed {
+    let _ = eprintln!(rt; "seal: {before}{word}{after}");
+    Failed
 }
 
-/// What is wrong with a word or a file.
-#[derive(Clone, Copy)]
-pub enum Refusal {
-    /// START or LEN isn't a number below 2^64.
-    NotANumber,
-    /// A key file that doesn't have 32 bytes.
-    NotAKey,
-    /// OUT is also IN or KEYFILE.
-    SameFile,
-    /// OUT isn't a regular file.
-    NotAFile,
-    /// IN has more chunks than a sealed file may have.
-    TooLong,
+/// Says what the call couldn't do with a file, and the cause.
+pub fn fail_at<E: Display>(rt: &HostRuntime, what: &str, path: &str, cause: &E) -> Failed {
+    let _ = eprintln!(rt; "seal: {what}{path}: {cause}");
+    Failed
 }
 
-impl Refusal {
-    // The words before and after the name, which make a sentence of it.
-    fn words(self) -> (&'static str, &'static str) {
-        match self {
-            Refusal::NotANumber => ("", " is not a number of bytes"),
-            Refusal::NotAKey => ("the key file ", " doesn't have 32 bytes"),
-            Refusal::SameFile => ("OUT ", " is the same file as IN or KEYFILE"),
-            Refusal::NotAFile => ("", " exists and isn't a regular file"),
-            Refusal::TooLong => ("", " has more chunks than a sealed file may have"),
-        }
+/// The words aren't those of a call.
+pub fn usage(rt: &HostRuntime) -> Failed {
+    let calls = "seal encrypt KEYFILE IN OUT | seal decrypt KEYFILE IN OUT | \
+                 seal cat KEYFILE IN START LEN | seal key KEYFILE";
+    fail(rt, "usage: ", calls, "")
+}
+
+/// What a read of a file gave.
+pub fn read<T>(rt: &HostRuntime, path: &str, done: io::Result<T>) -> Result<T, Failed> {
+    match done {
+        Ok(it) => Ok(it),
+        Err(e) => Err(fail_at(rt, "cannot read ", path, &e)),
     }
 }
 
-impl<'a> Failure<'a> {
-    /// The failure of a stream between two files.
-    pub fn of_stream(error: SealError, from: &'a str, to: &'a str) -> Failure<'a> {
-        match error {
-            SealError::Read(e) => Failure::Read(from, e),
-            SealError::Write(e) => Failure::Write(to, e),
-            SealError::Damaged(damage) => Failure::Damaged(from, damage),
-            SealError::TooLong => Failure::Refused(Refusal::TooLong, from),
-        }
+/// What a write of a file gave.
+pub fn written<T>(rt: &HostRuntime, path: &str, done: io::Result<T>) -> Result<T, Failed> {
+    match done {
+        Ok(it) => Ok(it),
+        Err(e) => Err(fail_at(rt, "cannot write ", path, &e)),
     }
 }
 
-impl From<AllocError> for Failure<'_> {
-    fn from(_: AllocError) -> Self {
-        Failure::OutOfMemory
-    }
-}
-
-impl Failure<'_> {
-    // The text before the name, the name, and the text after it. `fmt` adds a cause or a number. The prover takes
-    // seconds for each `write!`, so there are few.
-    fn words(&self) -> (&str, &str, &str) {
-        match *self {
-            Failure::Usage => (USAGE, "", ""),
-            Failure::OutOfMemory => ("out of memory", "", ""),
-            Failure::Refused(refusal, name) => {
-                let (before, after) = refusal.words();
-                (before, name, after)
-            }
-            Failure::NoRandomBytes(_) => ("the system gives no random bytes: ", "", ""),
-            Failure::Read(path, _) => ("cannot read ", path, ": "),
-            Failure::Write(path, _) => ("cannot write ", path, ": "),
-            Failure::Damaged(path, _) => ("", path, ": "),
-            Failure::EndOfText(path, _) => (
-                "START + LEN is past the end: by its length, ",
-                path,
-                " has ",
-            ),
-        }
-    }
-}
-
-impl Display for Failure<'_> {
-    fn fmt<W: fmt::Write>(&self, f: &mut Formatter<W>) -> fmt::Result {
-        let (before, name, after) = self.words();
-        write!(f, "{before}{name}{after}")?;
-        match self {
-            Failure::NoRandomBytes(e) | Failure::Read(_, e) | Failure::Write(_, e) => e.fmt(f),
-            Failure::Damaged(_, damage) => damage.fmt(f),
-            Failure::EndOfText(_, len) => write!(f, "{len} bytes of text"),
-            Failure::Usage | Failure::OutOfMemory | Failure::Refused(..) => Ok(()),
+/// What a stream between two files gave.
+pub fn streamed<T>(
+    rt: &HostRuntime,
+    from: &str,
+    to: &str,
+    done: Result<T, SealError>,
+) -> Result<T, Failed> {
+    match done {
+        Ok(it) => Ok(it),
+        Err(SealError::Read(e)) => Err(fail_at(rt, "cannot read ", from, &e)),
+        Err(SealError::Write(e)) => Err(fail_at(rt, "cannot write ", to, &e)),
+        Err(SealError::Damaged(damage)) => Err(fail_at(rt, "", from, &damage)),
+        Err(SealError::TooLong) => {
+            let after = " has more chunks than a sealed file may have";
+            Err(fail(rt, "", from, after))
         }
     }
 }

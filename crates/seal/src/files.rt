@@ -1,26 +1,27 @@
 //! Keys and files of the program.
 
-use crate::failure::{Failure, Refusal};
+use crate::failure::{Failed, fail, fail_at, read, streamed, written};
 use chacha20::Key;
+use sealed::stream;
 use std::fs::{File, OpenOptions};
-use std::io::{ErrorKind, Read, Write};
+use std::io::{ErrorKind, Write};
 use std::os::unix::fs::{MetadataExt, OpenOptionsExt};
 use std::random::RandomSource;
 use std::{fs, io};
 
 /// Random bytes.
-pub fn random<'a, const N: usize>(rt: &HostRuntime) -> Result<[u8; N], Failure<'a>> {
+pub fn random<const N: usize>(rt: &HostRuntime) -> Result<[u8; N], Failed> {
     let mut bytes = [0; N];
     match rt.fill_bytes(&mut bytes) {
         Ok(()) => Ok(bytes),
-        Err(e) => Err(Failure::NoRandomBytes(e)),
+        Err(e) => Err(fail_at(rt, "the system gives no random bytes", "", &e)),
     }
 }
 
 /// Writes a new key of 32 random bytes, which its owner alone may read. Fails if the file is there.
-pub fn new_key<'a>(rt: &HostRuntime, path: &'a str) -> Result<(), Failure<'a>> {
+pub fn new_key(rt: &HostRuntime, path: &str) -> Result<(), Failed> {
     let key = random::<32>(rt)?;
-    write_new(rt, path, &key).map_err(|e| Failure::Write(path, e))
+    written(rt, path, write_new(rt, path, &key))
 }
 
 fn write_new(rt: &HostRuntime, path: &str, bytes: &[u8]) -> io::Result<()> {
@@ -40,29 +41,28 @@ fn write_synced(file: &mut File, bytes: &[u8]) -> io::Result<()> {
 }
 
 /// Reads a key. Fails if the file has another length than 32 bytes.
-pub fn read_key<'a>(rt: &HostRuntime, path: &'a str) -> Result<Key, Failure<'a>> {
-    let bytes = start_of(rt, path).map_err(|e| Failure::Read(path, e))?;
-    let bytes = bytes.as_slice();
+pub fn read_key(rt: &HostRuntime, path: &str) -> Result<Key, Failed> {
+    // One byte more than a key, so that a longer file is noticed.
+    let mut bytes = [0; 33];
+    let len = read_start(rt, path, &mut bytes)?;
+    let bytes = &bytes[..len.min(33)];
     if bytes.len() != 32 {
-        return Err(Failure::Refused(Refusal::NotAKey, path));
+        return Err(fail(rt, "the key file ", path, " doesn't have 32 bytes"));
     }
     let mut key = [0; 32];
     key.copy_from_slice(bytes);
     Ok(key)
 }
 
-// The first 33 bytes of a file, or all of a shorter one.
-fn start_of(rt: &HostRuntime, path: &str) -> io::Result<Vec<u8>> {
-    let mut bytes = Vec::new(rt.alloc());
-    fs::open(rt, path)?.take(33).read_to_end(&mut bytes)?;
-    Ok(bytes)
+// Fills a buffer with the first bytes of a file, and returns how many there are.
+fn read_start(rt: &HostRuntime, path: &str, bytes: &mut [u8]) -> Result<usize, Failed> {
+    let mut file = open(rt, path)?;
+    streamed(rt, path, path, stream::fill(&mut file, bytes, 0))
 }
 
-/// Opens a file to read it, and tells its length.
-pub fn open(rt: &HostRuntime, path: &str) -> io::Result<(File, u64)> {
-    let file = fs::open(rt, path)?;
-    let metadata = file.metadata()?;
-    Ok((file, metadata.len()))
+/// Opens a file to read it.
+pub fn open(rt: &HostRuntime, path: &str) -> Result<File, Failed> {
+    read(rt, path, fs::open(rt, path))
 }
 
 // The device and inode of a path, and whether it is a regular file.
@@ -71,45 +71,40 @@ fn stat(rt: &HostRuntime, path: &str) -> io::Result<(u64, u64, bool)> {
     Ok((it.dev(), it.ino(), it.is_file()))
 }
 
-/// Fails if `to` exists and is one of the files in `read`, or not a regular file.
-pub fn check_target<'a>(
-    rt: &HostRuntime,
-    to: &'a str,
-    read: &[&'a str],
-) -> Result<(), Failure<'a>> {
+/// Fails if `to` exists and is IN or KEYFILE, or not a regular file.
+pub fn check_target(rt: &HostRuntime, key: &str, from: &str, to: &str) -> Result<(), Failed> {
     let (dev, ino, is_file) = match stat(rt, to) {
         Ok(there) => there,
         Err(e) if e.kind() == ErrorKind::NotFound => return Ok(()),
-        Err(e) => return Err(Failure::Write(to, e)),
+        Err(e) => return written(rt, to, Err(e)),
     };
-    for path in read {
-        match stat(rt, path) {
-            Ok((its_dev, its_ino, _)) if its_dev == dev && its_ino == ino => {
-                return Err(Failure::Refused(Refusal::SameFile, to));
-            }
-            Ok(_) => {}
-            Err(e) => return Err(Failure::Read(path, e)),
-        }
+    if is_same(rt, key, dev, ino)? || is_same(rt, from, dev, ino)? {
+        return Err(fail(rt, "OUT ", to, " is the same file as IN or KEYFILE"));
     }
     if is_file {
         Ok(())
     } else {
-        Err(Failure::Refused(Refusal::NotAFile, to))
+        Err(fail(rt, "", to, " exists and isn't a regular file"))
     }
 }
 
-/// A new file beside `to`, and its name, which ends in 16 random digits.
-pub fn beside<'a>(rt: &HostRuntime, to: &'a str) -> Result<(String, File), Failure<'a>> {
+// Whether a path has this device and inode.
+fn is_same(rt: &HostRuntime, path: &str, dev: u64, ino: u64) -> Result<bool, Failed> {
+    let (its_dev, its_ino, _) = read(rt, path, stat(rt, path))?;
+    Ok(its_dev == dev && its_ino == ino)
+}
+
+/// The name of a new file beside `to`: that of `to`, and 16 random digits.
+pub fn beside(rt: &HostRuntime, to: &str) -> Result<String, Failed> {
     let number = u64::from_le_bytes(random(rt)?);
-    let path = format!(in rt.alloc(); "{to}.{number:016x}")?;
-    match File::create_new(rt, path.as_str()) {
-        Ok(file) => Ok((path, file)),
-        Err(e) => Err(Failure::Write(to, e)),
+    match format!(in rt.alloc(); "{to}.{number:016x}") {
+        Ok(path) => Ok(path),
+        Err(_) => Err(fail(rt, "out of memory", "", "")),
     }
 }
 
 /// Puts a finished file in the place of `to`.
-pub fn rename(rt: &HostRuntime, file: &File, path: &str, to: &str) -> io::Result<()> {
-    file.sync_all()?;
-    fs::rename(rt, path, to)
+pub fn rename(rt: &HostRuntime, file: &File, path: &str, to: &str) -> Result<(), Failed> {
+    written(rt, to, file.sync_all())?;
+    written(rt, to, fs::rename(rt, path, to))
 }

@@ -1,175 +1,189 @@
 //! Encrypts files so that a change within one is noticed. README.md has the calls and the format.
 #![tactic(auto)]
 
-ghost use Rattle.std.specs.Prelude.{◌≤◌, IfOk};
-
 mod failure;
 mod files;
 mod progress;
 
 use chacha20::Key;
-use failure::{Failure, Refusal};
+use failure::{Failed, fail, read, streamed, usage, written};
 use progress::Progress;
-use sealed::{CHUNK, SealError, SealedReader, TAG, chunk, stream};
+use sealed::{CHUNK, Salt, SealError, SealedReader, TAG, chunk, stream};
 use std::fs::File;
-use std::io::{ErrorKind, Seek, SeekFrom, Write};
+use std::io::{ErrorKind, Read, Seek, SeekFrom, Write};
 use std::process::ExitCode;
 use std::{env, fs, io};
+
+const OUTPUT: &str = "standard output";
 
 fn main(rt: HostRuntime) -> io::Result<ExitCode> {
     let words: Vec<String> = env::args(&rt)?.collect(rt.alloc())?;
     match run(&rt, words.as_slice()) {
         Ok(()) => Ok(ExitCode::SUCCESS),
-        Err(failure) => {
-            eprintln!(rt; "seal: {failure}")?;
-            Ok(ExitCode::FAILURE)
-        }
+        Err(Failed) => Ok(ExitCode::FAILURE),
     }
 }
 
-fn run<'a>(rt: &HostRuntime, words: &'a [String]) -> Result<(), Failure<'a>> {
+fn run(rt: &HostRuntime, words: &[String]) -> Result<(), Failed> {
     let [_, call, words @ ..] = words else {
-        return Err(Failure::Usage);
+        return Err(usage(rt));
     };
     match call.as_str() {
         "key" => new_key(rt, words),
         "encrypt" => transform(rt, true, words),
         "decrypt" => transform(rt, false, words),
         "cat" => cat(rt, words),
-        _ => Err(Failure::Usage),
+        _ => Err(usage(rt)),
     }
 }
 
-fn new_key<'a>(rt: &HostRuntime, words: &'a [String]) -> Result<(), Failure<'a>> {
+fn new_key(rt: &HostRuntime, words: &[String]) -> Result<(), Failed> {
     match words {
         [key] => files::new_key(rt, key.as_str()),
-        _ => Err(Failure::Usage),
+        _ => Err(usage(rt)),
     }
 }
 
-fn number(word: &str) -> Result<u64, Failure<'_>> {
-    word.parse::<u64>()
-        .map_err(|_| Failure::Refused(Refusal::NotANumber, word))
+fn number(rt: &HostRuntime, word: &str) -> Result<u64, Failed> {
+    match word.parse() {
+        Ok(number) => Ok(number),
+        Err(_) => Err(fail(rt, "", word, " is not a number of bytes")),
+    }
 }
 
 // Encrypts or decrypts IN into a new file beside OUT, and then renames it to OUT.
-fn transform<'a>(rt: &HostRuntime, encrypts: bool, words: &'a [String]) -> Result<(), Failure<'a>> {
+fn transform(rt: &HostRuntime, encrypts: bool, words: &[String]) -> Result<(), Failed> {
     let [key, from, to] = words else {
-        return Err(Failure::Usage);
+        return Err(usage(rt));
     };
     let (key, from, to) = (key.as_str(), from.as_str(), to.as_str());
-    files::check_target(rt, to, &[key, from])?;
-    let (path, mut file) = files::beside(rt, to)?;
-    replace(rt, encrypts, key, from, to, path.as_str(), &mut file)
+    files::check_target(rt, key, from, to)?;
+    let path = files::beside(rt, to)?;
+    replace(rt, encrypts, key, from, to, path.as_str())
 }
 
 // Writes the new file and renames it to OUT. After a failure, removes it.
-fn replace<'a>(
+fn replace(
     rt: &HostRuntime,
     encrypts: bool,
-    key: &'a str,
-    from: &'a str,
-    to: &'a str,
+    key: &str,
+    from: &str,
+    to: &str,
     path: &str,
-    file: &mut File,
-) -> Result<(), Failure<'a>> {
-    let done = match write(rt, encrypts, key, from, to, file) {
-        Ok(()) => files::rename(rt, file, path, to).map_err(|e| Failure::Write(to, e)),
-        Err(failure) => Err(failure),
-    };
+) -> Result<(), Failed> {
+    let mut file = written(rt, to, File::create_new(rt, path))?;
+    let mut done = write(rt, encrypts, key, from, to, &mut file);
+    if done.is_ok() {
+        done = files::rename(rt, &file, path, to);
+    }
     if done.is_err() {
         let _ = fs::remove_file(rt, path);
     }
     done
 }
 
-fn write<'a>(
+fn write(
     rt: &HostRuntime,
     encrypts: bool,
-    key: &'a str,
-    from: &'a str,
-    to: &'a str,
+    key: &str,
+    from: &str,
+    to: &str,
     file: &mut File,
-) -> Result<(), Failure<'a>> {
+) -> Result<(), Failed> {
     let secret = files::read_key(rt, key)?;
-    // Before IN is opened: the prover follows its drop over each later branch.
-    let salt = if encrypts {
-        Some(files::random(rt)?)
+    let salt = files::random(rt)?;
+    let mut reader = Progress::open(rt, from)?;
+    let done = stream_by(encrypts, &secret, &salt, &mut reader, file);
+    streamed(rt, from, to, done)
+}
+
+// Encrypts or decrypts. A file that is decrypted has its own salt.
+fn stream_by<R: Read, W: Write>(
+    encrypts: bool,
+    secret: &Key,
+    salt: &Salt,
+    reader: &mut R,
+    writer: &mut W,
+) -> Result<(), SealError> {
+    if encrypts {
+        stream::encrypt(secret, salt, reader, writer, &mut [0; CHUNK + 1])
     } else {
-        None
-    };
-    let (from_file, len) = files::open(rt, from).map_err(|e| Failure::Read(from, e))?;
-    let mut reader = Progress::new(rt, from_file, len);
-    let done = match salt {
-        Some(salt) => stream::encrypt(&secret, &salt, &mut reader, file, &mut [0; CHUNK + 1]),
-        None => stream::decrypt(&secret, &mut reader, file, &mut [0; CHUNK + TAG + 1]),
-    };
-    done.map_err(|e| Failure::of_stream(e, from, to))
+        stream::decrypt(secret, reader, writer, &mut [0; CHUNK + TAG + 1])
+    }
 }
 
 // Prints a part of a file's text.
-fn cat<'a>(rt: &HostRuntime, words: &'a [String]) -> Result<(), Failure<'a>> {
+fn cat(rt: &HostRuntime, words: &[String]) -> Result<(), Failed> {
     let [key, from, start, len] = words else {
-        return Err(Failure::Usage);
+        return Err(usage(rt));
     };
-    let start = number(start.as_str())?;
-    let len = number(len.as_str())?;
+    let start = number(rt, start.as_str())?;
+    let len = number(rt, len.as_str())?;
     let secret = files::read_key(rt, key.as_str())?;
     print(rt, &secret, from.as_str(), start, len)
 }
 
-fn print<'a>(
-    rt: &HostRuntime,
-    secret: &Key,
-    from: &'a str,
-    start: u64,
-    len: u64,
-) -> Result<(), Failure<'a>> {
-    let told = |e: SealError| Failure::of_stream(e, from, "standard output");
-    let mut buf = vec![in rt.alloc(); 0u8; CHUNK + TAG]?;
-    let (file, _) = files::open(rt, from).map_err(|e| Failure::Read(from, e))?;
-    let mut reader = SealedReader::new(secret, file, &mut buf).map_err(told)?;
-    let text_len = reader.text_len();
-    if start > text_len || len > text_len - start {
-        return Err(Failure::EndOfText(from, text_len));
-    }
-    print_part(rt, &mut reader, start, len).map_err(told)
+fn print(rt: &HostRuntime, secret: &Key, from: &str, start: u64, len: u64) -> Result<(), Failed> {
+    let mut buf = [0; CHUNK + TAG];
+    let file = files::open(rt, from)?;
+    let made = SealedReader::new(secret, file, &mut buf);
+    let mut reader = streamed(rt, from, OUTPUT, made)?;
+    print_part(rt, &mut reader, from, start, len)
 }
 
 fn print_part(
     rt: &HostRuntime,
     reader: &mut SealedReader<'_, File>,
+    from: &str,
     start: u64,
     len: u64,
-) -> Result<(), SealError> {
-    reader
-        .seek(SeekFrom::Start(start))
-        .map_err(SealError::Read)?;
+) -> Result<(), Failed> {
+    check_end(rt, from, reader.text_len(), start, len)?;
+    read(rt, from, reader.seek(SeekFrom::Start(start)))?;
     let mut writer = io::writer(rt);
     let mut left = len;
     for _ in 0..len {
         if left == 0 {
             break;
         }
-        left -= print_piece(reader, left, &mut writer)?;
+        let n = print_piece(rt, reader, from, left, &mut writer)?;
+        left = left.saturating_sub(n);
     }
-    writer.flush().map_err(SealError::Write)
+    written(rt, OUTPUT, writer.flush())
+}
+
+// Fails if a part is past the end of a text.
+fn check_end(
+    rt: &HostRuntime,
+    from: &str,
+    text_len: u64,
+    start: u64,
+    len: u64,
+) -> Result<(), Failed> {
+    if start <= text_len && len <= text_len - start {
+        return Ok(());
+    }
+    let what = "START + LEN is past the end: by its length, ";
+    let _ = eprintln!(rt; "seal: {what}{from} has {text_len} bytes of text");
+    Err(Failed)
 }
 
 // Prints at most so many bytes of what the reader has next, and returns how many.
 fn print_piece<W: Write>(
+    rt: &HostRuntime,
     reader: &mut SealedReader<'_, File>,
+    from: &str,
     most: u64,
     writer: &mut W,
-) -> Result<u64, SealError>
-    ensures { IfOk result (λ n. n ≤ most) }
-{
+) -> Result<u64, Failed> {
     let mut piece = [0; 8192];
-    let size = most.min(8192) as usize;
-    let n = reader.read_text(&mut piece[..size])?;
-    if n == 0 {
-        return Err(SealError::Read(io::Error::from(ErrorKind::UnexpectedEof)));
+    let window = &mut piece[..most.min(8192) as usize];
+    match reader.read_text(window) {
+        Ok(0) => read(rt, from, Err(io::Error::from(ErrorKind::UnexpectedEof))),
+        Ok(n) => {
+            streamed(rt, from, OUTPUT, chunk::write_whole(writer, &window[..n]))?;
+            Ok(n as u64)
+        }
+        Err(e) => streamed(rt, from, OUTPUT, Err(e)),
     }
-    chunk::write_whole(writer, &piece[..n])?;
-    Ok(n as u64)
 }

@@ -1,7 +1,10 @@
 //! A reader that says on a terminal how far it is.
 
-use std::io;
+use crate::failure::{Failed, read};
+use crate::files;
+use std::fs::File;
 use std::io::{IsTerminal, Read};
+use std::{fs, io};
 
 const STEP: u64 = 1 << 26;
 
@@ -18,16 +21,29 @@ pub struct Progress<'a, R> {
     shows: bool,
 }
 
-impl<'a, R> Progress<'a, R> {
-    pub fn new(rt: &'a HostRuntime, inner: R, len: u64) -> Progress<'a, R> {
-        let shows = len > 0 && rt.stderr().is_terminal();
-        Progress {
+impl<'a> Progress<'a, File> {
+    /// Opens a file.
+    pub fn open(rt: &'a HostRuntime, path: &str) -> Result<Progress<'a, File>, Failed> {
+        let len = read(rt, path, fs::metadata(rt, path))?.len();
+        let inner = files::open(rt, path)?;
+        Ok(Progress {
             rt,
             inner,
             len,
             read: 0,
             next: STEP,
-            shows,
+            shows: len > 0 && rt.stderr().is_terminal(),
+        })
+    }
+}
+
+impl<R> Progress<'_, R> {
+    fn count(&mut self, n: u64) {
+        self.read = self.read.saturating_add(n);
+        if self.shows && self.read >= self.next {
+            self.next = self.next.saturating_add(STEP);
+            let last = self.next > self.len;
+            show(self.rt, self.read >> 20, self.len >> 20, last);
         }
     }
 }
@@ -35,16 +51,7 @@ impl<'a, R> Progress<'a, R> {
 impl<R: Read> Read for Progress<'_, R> {
     fn read(&mut self, buf: &mut [u8]) -> io::Result<usize> {
         let n = self.inner.read(buf)?;
-        self.read = self.read.saturating_add(n as u64);
-        if self.shows && self.read >= self.next {
-            self.next = self.next.saturating_add(STEP);
-            show(
-                self.rt,
-                self.read >> 20,
-                self.len >> 20,
-                self.next > self.len,
-            );
-        }
+        self.count(n as u64);
         Ok(n)
     }
 }

@@ -2,9 +2,11 @@
 //! key as an argument, so that no call is worked out beforehand.
 
 use chacha20::backends::{Columns8, Lanes4, Lanes8, Lanes16, Rows8, Soft};
-use chacha20::cipher::{KeyIvInit, RngBackend, StreamCipherBackend, StreamCipherSeek};
+use chacha20::cipher::{
+    KeyIvInit, RngBackend, StreamCipher, StreamCipherBackend, StreamCipherSeek,
+};
 use chacha20::variants::Ietf;
-use chacha20::{ChaChaCore, ChaChaRng, Key, R20, StreamCipher, StreamCipherCoreWrapper};
+use chacha20::{ChaChaCore, ChaChaRng, Key, Nonce, R20, StreamCipherCoreWrapper};
 use poly1305::Poly1305;
 
 /// A call to be measured, on a slice. `NextU32` takes as many words as the slice holds, `Seek` goes into a block and
@@ -20,35 +22,58 @@ pub enum Call {
     Tag,
 }
 
-/// The calls by name, with their backends or ways, and the lengths in bytes for which a table has them.
-pub static CALLS: [(&str, Call, &[&str], &[usize]); 7] = [
-    (
-        "in_place",
-        Call::InPlace,
-        &BACKENDS,
-        &[64, 256, 512, 576, 1024, 1500, 4096, 65536],
-    ),
-    (
-        "two_slices",
-        Call::TwoSlices,
-        &BACKENDS,
-        &[64, 512, 4096, 65536],
-    ),
-    (
-        "keystream",
-        Call::Keystream,
-        &BACKENDS,
-        &[64, 512, 4096, 65536],
-    ),
-    ("seek", Call::Seek, &BACKENDS, &[0, 64]),
-    ("fill", Call::Fill, &BACKENDS, &[64, 4096]),
-    ("next_u32", Call::NextU32, &BACKENDS, &[16384]),
-    (
-        "tag",
-        Call::Tag,
-        &WAYS,
-        &[64, 256, 512, 1024, 1500, 4096, 65536],
-    ),
+/// A call with its name, its backends or ways, and the lengths in bytes for which a table has it.
+pub struct Row {
+    pub name: &'static str,
+    pub call: Call,
+    pub over: &'static [&'static str],
+    pub lengths: &'static [usize],
+}
+
+/// All calls.
+pub static ROWS: [Row; 7] = [
+    Row {
+        name: "in_place",
+        call: Call::InPlace,
+        over: &BACKENDS,
+        lengths: &[64, 256, 512, 576, 1024, 1500, 4096, 65536],
+    },
+    Row {
+        name: "two_slices",
+        call: Call::TwoSlices,
+        over: &BACKENDS,
+        lengths: &[64, 512, 4096, 65536],
+    },
+    Row {
+        name: "keystream",
+        call: Call::Keystream,
+        over: &BACKENDS,
+        lengths: &[64, 512, 4096, 65536],
+    },
+    Row {
+        name: "seek",
+        call: Call::Seek,
+        over: &BACKENDS,
+        lengths: &[0, 64],
+    },
+    Row {
+        name: "fill",
+        call: Call::Fill,
+        over: &BACKENDS,
+        lengths: &[64, 4096],
+    },
+    Row {
+        name: "next_u32",
+        call: Call::NextU32,
+        over: &BACKENDS,
+        lengths: &[16384],
+    },
+    Row {
+        name: "tag",
+        call: Call::Tag,
+        over: &WAYS,
+        lengths: &[64, 256, 512, 1024, 1500, 4096, 65536],
+    },
 ];
 
 const BACKENDS: [&str; 6] = ["Soft", "Lanes4", "Lanes8", "Rows8", "Lanes16", "Columns8"];
@@ -56,35 +81,35 @@ const BACKENDS: [&str; 6] = ["Soft", "Lanes4", "Lanes8", "Rows8", "Lanes16", "Co
 // Pieces of a text that are too short for lanes, and the whole text.
 const WAYS: [&str; 2] = ["blocks", "lanes"];
 
-// A backend with its cipher. The cipher's trait bounds are proved once, in the `impl`.
-trait Backend: RngBackend<R20> {
-    type Cipher: KeyIvInit<Key = Key, Iv = [u8; 12]> + StreamCipherSeek + Drop;
-}
-
-impl<B: StreamCipherBackend<R20, Ietf> + RngBackend<R20>> Backend for B {
-    type Cipher = StreamCipherCoreWrapper<ChaChaCore<R20, Ietf, B>>;
-}
-
 #[inline(never)]
-fn in_place<B: Backend>(key: &Key, data: &mut [u8]) -> bool {
-    let mut cipher = B::Cipher::new(key, &[0; 12]);
+fn in_place<C>(key: &Key, data: &mut [u8]) -> bool
+where
+    C: KeyIvInit<Key = Key, Iv = Nonce> + StreamCipher + Drop,
+{
+    let mut cipher = C::new(key, &[0; 12]);
     cipher.try_apply_keystream(data).is_ok()
 }
 
 #[inline(never)]
-fn two_slices<B: Backend>(key: &Key, input: &[u8], data: &mut [u8]) -> bool {
-    let mut cipher = B::Cipher::new(key, &[0; 12]);
+fn two_slices<C>(key: &Key, input: &[u8], data: &mut [u8]) -> bool
+where
+    C: KeyIvInit<Key = Key, Iv = Nonce> + StreamCipher + Drop,
+{
+    let mut cipher = C::new(key, &[0; 12]);
     cipher.try_apply_keystream_b2b(input, data).is_ok()
 }
 
 #[inline(never)]
-fn keystream<B: Backend>(key: &Key, data: &mut [u8]) -> bool {
-    let mut cipher = B::Cipher::new(key, &[0; 12]);
+fn keystream<C>(key: &Key, data: &mut [u8]) -> bool
+where
+    C: KeyIvInit<Key = Key, Iv = Nonce> + StreamCipher + Drop,
+{
+    let mut cipher = C::new(key, &[0; 12]);
     cipher.try_write_keystream(data).is_ok()
 }
 
 #[inline(never)]
-fn seek<B: Backend>(cipher: &mut B::Cipher, data: &mut [u8]) -> bool {
+fn seek<C: StreamCipherSeek>(cipher: &mut C, data: &mut [u8]) -> bool {
     cipher.try_seek(1u64).is_ok() && cipher.try_apply_keystream(data).is_ok()
 }
 
@@ -121,17 +146,21 @@ fn tags(times: usize, text: &[u8], piece: usize) -> bool {
     made
 }
 
-// Makes a call so many times over a backend, and says whether each was accepted.
-fn repeats<B: Backend>(call: Call, times: usize, input: &[u8], data: &mut [u8]) -> bool {
+// Makes a call so many times over a cipher and the backend of its generator, and says whether each was accepted.
+fn repeats<C, B>(call: Call, times: usize, input: &[u8], data: &mut [u8]) -> bool
+where
+    C: KeyIvInit<Key = Key, Iv = Nonce> + StreamCipherSeek + Drop,
+    B: RngBackend<R20>,
+{
     let key = [(times % 256) as u8; 32];
-    let mut cipher = B::Cipher::new(&key, &[0; 12]);
+    let mut cipher = C::new(&key, &[0; 12]);
     let mut accepted = true;
     for _ in 0..times {
         accepted &= match call {
-            Call::InPlace => in_place::<B>(&key, data),
-            Call::TwoSlices => two_slices::<B>(&key, input, data),
-            Call::Keystream => keystream::<B>(&key, data),
-            Call::Seek => seek::<B>(&mut cipher, data),
+            Call::InPlace => in_place::<C>(&key, data),
+            Call::TwoSlices => two_slices::<C>(&key, input, data),
+            Call::Keystream => keystream::<C>(&key, data),
+            Call::Seek => seek(&mut cipher, data),
             Call::Fill => fill::<B>(&key, data),
             Call::NextU32 => next_u32::<B>(&key, data),
             Call::Tag => false,
@@ -140,12 +169,12 @@ fn repeats<B: Backend>(call: Call, times: usize, input: &[u8], data: &mut [u8]) 
     accepted
 }
 
-// `repeats`. Here `B: Backend` is proved once for all `B`; `makes` would prove it for each backend.
+// `repeats`. Here the cipher's trait bounds are proved once for all `B`; `makes` would prove them for each backend.
 fn makes_over<B>(call: Call, times: usize, input: &[u8], data: &mut [u8]) -> bool
 where
     B: StreamCipherBackend<R20, Ietf> + RngBackend<R20>,
 {
-    repeats::<B>(call, times, input, data)
+    repeats::<StreamCipherCoreWrapper<ChaChaCore<R20, Ietf, B>>, B>(call, times, input, data)
 }
 
 /// Makes a call so many times over the backend or in the way of a name. It returns true if there is one, and each call
@@ -166,9 +195,9 @@ pub fn makes(call: Call, name: &str, times: usize, input: &[u8], data: &mut [u8]
 
 /// The call of a name.
 pub fn call_of(name: &str) -> Option<Call> {
-    for (it, call, _, _) in &CALLS {
-        if *it == name {
-            return Some(*call);
+    for row in &ROWS {
+        if row.name == name {
+            return Some(row.call);
         }
     }
     None

@@ -6,12 +6,12 @@
 //! speed count CALL OVER LENGTH TIMES   makes so many calls, for a program that counts instructions
 //! ```
 //!
-//! `CALLS` has the names of calls and of what they go over; a length is in bytes.
+//! `ROWS` has the names of calls and of what they go over; a length is in bytes.
 #![tactic(auto)]
 
 mod calls;
 
-use calls::{CALLS, Call, call_of, makes};
+use calls::{Call, ROWS, Row, call_of, makes};
 use std::num::nearest_usize_to_f64;
 use std::time::{Duration, Instant};
 use std::{env, io};
@@ -26,77 +26,85 @@ static INPUT: [u8; MOST] = [0; MOST];
 
 fn main(rt: HostRuntime) -> io::Result<()> {
     let words: Vec<String> = env::args(&rt)?.collect(rt.alloc())?;
-    let words = words.as_slice();
-    match words.len() {
-        1 => each_once(&rt),
-        2 if words[1].as_str() == "time" => table(&rt),
-        6 if words[1].as_str() == "count" => {
-            let (call, over) = (words[2].as_str(), words[3].as_str());
-            count(call, over, words[4].as_str(), words[5].as_str())
-        }
-        _ => refused(),
+    run(&rt, words.as_slice())
+}
+
+fn run(rt: &HostRuntime, words: &[String]) -> io::Result<()> {
+    match words {
+        [_] if each_once() => println!(rt; "each backend makes each call"),
+        [_, word] if word.as_str() == "time" => table(rt),
+        [_, word, words @ ..] if word.as_str() == "count" && count(words) => Ok(()),
+        _ => Err(io::Error::from(io::ErrorKind::InvalidInput)),
     }
 }
 
-fn refused<T>() -> io::Result<T> {
-    Err(io::Error::from(io::ErrorKind::InvalidInput))
-}
-
-// Makes each call once over each backend.
-fn each_once(rt: &HostRuntime) -> io::Result<()> {
-    for (_, call, names, _) in &CALLS {
-        for over in *names {
-            if !makes(*call, over, 1, &INPUT[..1500], &mut [0; 1500]) {
-                return refused();
+// Makes each call once over each backend, and says whether each was accepted.
+fn each_once() -> bool {
+    for row in &ROWS {
+        for over in row.over {
+            if !makes(row.call, over, 1, &INPUT[..1500], &mut [0; 1500]) {
+                return false;
             }
         }
     }
-    println!(rt; "each backend makes each call")
+    true
 }
 
-// Makes as many calls as the words say.
-fn count(call: &str, over: &str, length: &str, times: &str) -> io::Result<()> {
-    let (Some(call), Ok(length), Ok(times)) = (call_of(call), length.parse(), times.parse()) else {
-        return refused();
+// Makes as many calls as the words say, and says whether they are right and each call was accepted.
+fn count(words: &[String]) -> bool {
+    let [call, over, length, times] = words else {
+        return false;
     };
+    let call = call_of(call.as_str());
+    let (length, times) = (length.as_str().parse(), times.as_str().parse());
+    let (Some(call), Ok(length), Ok(times)) = (call, length, times) else {
+        return false;
+    };
+    makes_so_many(call, over.as_str(), length, times)
+}
+
+// `count`, with words that are read.
+fn makes_so_many(call: Call, over: &str, length: usize, times: usize) -> bool {
     let mut data = [0; MOST];
-    if length > MOST || !makes(call, over, times, &INPUT[..length], &mut data[..length]) {
-        return refused();
-    }
-    Ok(())
+    length <= MOST && makes(call, over, times, &INPUT[..length], &mut data[..length])
 }
 
 // Prints the table.
 fn table(rt: &HostRuntime) -> io::Result<()> {
     println!(rt; "call        bytes  over      least ns  median ns    GB/s")?;
-    for (name, call, names, lengths) in &CALLS {
-        for length in *lengths {
-            lines(rt, name, *call, names, *length)?;
+    for row in &ROWS {
+        for length in row.lengths {
+            lines(rt, row, *length)?;
         }
     }
     Ok(())
 }
 
-// Prints the lines of a call and a length. The backends take turns, so that a slower processor slows them all.
-fn lines(
+// Prints the lines of a call and a length.
+fn lines(rt: &HostRuntime, row: &Row, length: usize) -> io::Result<()> {
+    let mut taken = [[Duration::ZERO; TURNS]; 6];
+    take_turns(rt, row, length, &mut taken)?;
+    for i in 0..row.over.len().min(6) {
+        taken[i].sort_unstable();
+        let least_and_median = [taken[i][0], taken[i][TURNS / 2]];
+        line(rt, row.name, row.over[i], length, least_and_median)?;
+    }
+    Ok(())
+}
+
+// Times each backend as often as it has turns. They alternate, so that a slower processor slows them all.
+fn take_turns(
     rt: &HostRuntime,
-    name: &str,
-    call: Call,
-    names: &[&str],
+    row: &Row,
     length: usize,
+    taken: &mut [[Duration; TURNS]; 6],
 ) -> io::Result<()> {
     let mut data = [0; MOST];
     let data = &mut data[..length.min(MOST)];
-    let mut taken = [[Duration::ZERO; TURNS]; 6];
     for turn in 0..TURNS {
-        for i in 0..names.len().min(6) {
-            taken[i][turn] = time(rt, call, names[i], data)?;
+        for i in 0..row.over.len().min(6) {
+            taken[i][turn] = time(rt, row.call, row.over[i], data)?;
         }
-    }
-    for i in 0..names.len().min(6) {
-        taken[i].sort_unstable();
-        let least_and_median = [taken[i][0], taken[i][TURNS / 2]];
-        line(rt, name, names[i], length, least_and_median)?;
     }
     Ok(())
 }
@@ -105,7 +113,7 @@ fn time(rt: &HostRuntime, call: Call, over: &str, data: &mut [u8]) -> io::Result
     let input = &INPUT[..data.len().min(MOST)];
     let start = Instant::now(rt)?;
     if !makes(call, over, times(data.len()), input, data) {
-        return refused();
+        return Err(io::Error::from(io::ErrorKind::InvalidInput));
     }
     start.elapsed(rt)
 }
