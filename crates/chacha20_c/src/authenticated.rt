@@ -9,76 +9,84 @@ ghost use Rattle.chacha20_c.specs.Results.{Decrypted, DecryptedInto, Encrypted, 
 
 use crate::chosen::Chosen;
 use aead::{AeadError, ChaChaPoly1305};
-use chacha20::cipher::{KeyIvInit, StreamCipher};
+use chacha20::cipher::{KeyIvInit, StreamCipherSeekCore};
 use chacha20::{ChaChaCore, Ietf, Key, Nonce, R20, StreamCipherCoreWrapper, XChaChaCore, XNonce};
 use poly1305::{Tag, authenticate};
 
-type Short = StreamCipherCoreWrapper<ChaChaCore<R20, Ietf, Chosen>>;
+type Short = ChaChaCore<R20, Ietf, Chosen>;
 
-type Long = StreamCipherCoreWrapper<XChaChaCore<R20, Chosen>>;
+type Long = XChaChaCore<R20, Chosen>;
 
-fn encrypt_in_place<C: KeyIvInit<Key = Key> + StreamCipher + Drop>(
+fn encrypt_in_place<K: KeyIvInit<Key = Key> + StreamCipherSeekCore + Drop>(
     key: &Key,
-    nonce: &C::Iv,
+    nonce: &K::Iv,
     aad: &[u8],
     data: &mut [u8],
     tag: &mut Tag,
 ) -> u32
-    ensures { Encrypted (limit_of C.modulus) (keystream C.modulus (C.blocks_of key.now nonce.now))
+    ensures { Encrypted (limit_of K.modulus) (keystream K.modulus (K.blocks_of key.now nonce.now))
         aad.now result «data».old «data».new tag.old tag.new }
 {
-    let made = ChaChaPoly1305::<C>::new(key).encrypt_in_place_detached(nonce, aad, data);
+    let made = ChaChaPoly1305::<StreamCipherCoreWrapper<K>>::new(key).encrypt_in_place_detached(
+        nonce, aad, data,
+    );
     answer_with(made, tag)
 }
 
-fn encrypt_between<C: KeyIvInit<Key = Key> + StreamCipher + Drop>(
+fn encrypt_between<K: KeyIvInit<Key = Key> + StreamCipherSeekCore + Drop>(
     key: &Key,
-    nonce: &C::Iv,
+    nonce: &K::Iv,
     aad: &[u8],
     output: &mut [u8],
     input: &[u8],
     tag: &mut Tag,
 ) -> u32
-    ensures { EncryptedInto (limit_of C.modulus)
-        (keystream C.modulus (C.blocks_of key.now nonce.now))
+    ensures { EncryptedInto (limit_of K.modulus)
+        (keystream K.modulus (K.blocks_of key.now nonce.now))
         aad.now result input.now output.old output.new tag.old tag.new }
 {
     if output.len() != input.len() {
         return 1;
     }
-    let made = ChaChaPoly1305::<C>::new(key).encrypt_detached(nonce, aad, input, output);
+    let made = ChaChaPoly1305::<StreamCipherCoreWrapper<K>>::new(key).encrypt_detached(
+        nonce, aad, input, output,
+    );
     answer_with(made, tag)
 }
 
-fn decrypt_in_place<C: KeyIvInit<Key = Key> + StreamCipher + Drop>(
+fn decrypt_in_place<K: KeyIvInit<Key = Key> + StreamCipherSeekCore + Drop>(
     key: &Key,
-    nonce: &C::Iv,
+    nonce: &K::Iv,
     aad: &[u8],
     data: &mut [u8],
     tag: &Tag,
 ) -> u32
-    ensures { Decrypted (limit_of C.modulus) (keystream C.modulus (C.blocks_of key.now nonce.now))
+    ensures { Decrypted (limit_of K.modulus) (keystream K.modulus (K.blocks_of key.now nonce.now))
         aad.now tag.now result «data».old «data».new }
 {
-    answer(ChaChaPoly1305::<C>::new(key).decrypt_in_place_detached(nonce, aad, data, tag))
+    answer(ChaChaPoly1305::<StreamCipherCoreWrapper<K>>::new(key).decrypt_in_place_detached(
+        nonce, aad, data, tag,
+    ))
 }
 
-fn decrypt_between<C: KeyIvInit<Key = Key> + StreamCipher + Drop>(
+fn decrypt_between<K: KeyIvInit<Key = Key> + StreamCipherSeekCore + Drop>(
     key: &Key,
-    nonce: &C::Iv,
+    nonce: &K::Iv,
     aad: &[u8],
     output: &mut [u8],
     input: &[u8],
     tag: &Tag,
 ) -> u32
-    ensures { DecryptedInto (limit_of C.modulus)
-        (keystream C.modulus (C.blocks_of key.now nonce.now))
+    ensures { DecryptedInto (limit_of K.modulus)
+        (keystream K.modulus (K.blocks_of key.now nonce.now))
         aad.now tag.now result input.now output.old output.new }
 {
     if output.len() != input.len() {
         return 1;
     }
-    answer(ChaChaPoly1305::<C>::new(key).decrypt_detached(nonce, aad, input, output, tag))
+    answer(ChaChaPoly1305::<StreamCipherCoreWrapper<K>>::new(key).decrypt_detached(
+        nonce, aad, input, output, tag,
+    ))
 }
 
 // 0 and the tag for a message that was encrypted, and else 1.

@@ -6,7 +6,7 @@ use Rattle.chacha20_c.proofs.authenticated.decrypt_between.Goals as goal
 
 pub returns : goal.returns
 returns g c =
-    let stream = keystream g.C.Keystream.modulus (g.C.KeyIvInit.blocks_of c.new.result c.args.nonce.now) in
+    let stream = keystream g.K.Keystream.modulus (g.K.KeyIvInit.blocks_of c.new.result c.args.nonce.now) in
     let input = c.args.input.now in
     let text = c.decrypt_detached.ensures.decrypted (encrypted stream input)
     (sym (xor_stream-xor_stream stream 64 input)) in

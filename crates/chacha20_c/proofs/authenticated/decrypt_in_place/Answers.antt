@@ -6,7 +6,7 @@ use Rattle.chacha20_c.proofs.authenticated.decrypt_in_place.Goals as goal
 
 pub returns : goal.returns
 returns g c =
-    let stream = keystream g.C.Keystream.modulus (g.C.KeyIvInit.blocks_of c.new.result c.args.nonce.now) in
+    let stream = keystream g.K.Keystream.modulus (g.K.KeyIvInit.blocks_of c.new.result c.args.nonce.now) in
     let old = c.args.data.now in
     let text = c.decrypt_in_place_detached.ensures.decrypted (encrypted stream old)
     (sym (xor_stream-xor_stream stream 64 old)) in
