@@ -1,3 +1,4 @@
 pub mod Sealed
 pub mod SealedReader
+pub mod SealedSlice
 pub mod Seeking

@@ -69,7 +69,7 @@ impl<'b, R: Read + Seek> SealedReader<'b, R> {
         ensures len { IfOk result (λ r. IfSome (R.stream_position reader) (λ _.
             IfSome (R.stream_bytes reader) (λ bytes. (file r).len ≡ length bytes))) }
         ensures damaged { IfErr result (λ e. (damage : Damage) → e ≡ SealError.Damaged damage
-            → GivesNoHeader R.remaining R.stream_position R.stream_bytes reader) }
+            → GivesNoHeader R.remaining R.stream_position R.stream_bytes reader damage) }
     {
         let (salt, file_len) = read_start(&mut reader)?;
         Ok(SealedReader {
@@ -197,7 +197,7 @@ fn read_start<R: Read + Seek>(reader: &mut R) -> Result<(Salt, u64), SealError>
     ensures len { IfOk result (λ r. IfSome (R.stream_position reader.old) (λ _.
         IfSome (R.stream_bytes reader.old) (λ bytes. r.1 ≡ length bytes))) }
     ensures damaged { IfErr result (λ e. (damage : Damage) → e ≡ SealError.Damaged damage
-        → GivesNoHeader R.remaining R.stream_position R.stream_bytes reader.old) }
+        → GivesNoHeader R.remaining R.stream_position R.stream_bytes reader.old damage) }
 {
     let file_len = go_to(reader, SeekFrom::End(0))?;
     go_to(reader, SeekFrom::Start(0))?;
