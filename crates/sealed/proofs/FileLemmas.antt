@@ -189,9 +189,9 @@ damage-refuses key file (WrongChunk i) (salt, m, rest, (size, long, _, same), wi
     (append_assoc front c others ∙ ap (λ xs. front ++ xs) (take-append-drop 65552 rest) ∙ sym same ∙ is)
 damage-refuses key file (WrongEnd i) (salt, m, rest, (size, long, some, same), fits, wrong) salt' text size' is =
     wrong-last key salt salt' m rest text i size size' long fits some wrong (sym same ∙ is)
-damage-refuses key file NotSealed wrong salt text size same = no-sealed key file NotSealed wrong salt text size same
-damage-refuses key file CutHeader wrong salt text size same = no-sealed key file CutHeader wrong salt text size same
-damage-refuses key file OtherVersion wrong salt text size same = no-sealed key file OtherVersion wrong salt text size same
+damage-refuses key file NotSealed wrong salt text size is = no-sealed key file NotSealed wrong salt text size is
+damage-refuses key file CutHeader wrong salt text size is = no-sealed key file CutHeader wrong salt text size is
+damage-refuses key file OtherVersion wrong salt text size is = no-sealed key file OtherVersion wrong salt text size is
 
 -- the length of a text, from that of its file
 pub text-size : (key salt text : List ℕ) (file : ℕ) → length salt ≡ 16 → length (sealed key salt text) ≡ file
@@ -205,16 +205,16 @@ text-size key salt text file size is =
       length-body key salt text,
     )
 
--- a sealed file begins with its header, which tells its salt
-
+-- a sealed file begins with its header
 pub has-salt : (key salt text file : List ℕ) → length salt ≡ 16 → file ≡ sealed key salt text → HasSalt file salt
 has-salt key salt text file size is = (body key salt text, size, is ∙ sealed-is key salt text)
 
+-- so it has one salt
 pub own-salt : (key salt salt' text file : List ℕ) → length salt' ≡ 16 → take 32 file ≡ header salt
     → file ≡ sealed key salt' text → file ≡ sealed key salt text
 own-salt key salt salt' text file size begins is =
-    let same : salt' ≡ salt = ap (drop 16) (sym (front-is file salt' (has-salt key salt' text file size is)) ∙ begins) in
-    is ∙ ap (λ s. sealed key s text) same
+    let header' = front-is file salt' (has-salt key salt' text file size is) in
+    let same : salt' ≡ salt = ap (drop 16) (sym header' ∙ begins) in is ∙ ap (λ s. sealed key s text) same
 
 pub salt-of : (key salt text : List ℕ) → length salt ≡ 16 → slice_range (sealed key salt text) 16 32 ≡ salt
 salt-of key salt text size =

@@ -58,8 +58,8 @@ impl<'f> SealedSlice<'f> {
             IfErr result (λ e. (e ≡ damage_at i last)
             × IsNoChunk s.key s.salt i last (chunk_at s.file i)) }
         ensures unchanged { OnErr result (window.new ≡ window.old) }
-        ensures text { (salt text : List ℕ) → length salt ≡ 16
-            → (parts self.now).file ≡ sealed (parts self.now).key salt text
+        ensures text { let s = parts self.now in (salt text : List ℕ) → length salt ≡ 16
+            → s.file ≡ sealed s.key salt text
             → IsOkAnd result (IsPart text start window.old window.new) }
     {
         read_from(&self.key, &self.salt, self.file, start, window)
