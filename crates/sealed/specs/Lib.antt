@@ -1,3 +1,4 @@
+pub mod DamageText
 pub mod Sealed
 pub mod SealedReader
 pub mod SealedSlice

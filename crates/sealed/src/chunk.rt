@@ -1,6 +1,7 @@
 //! The parts of a sealed file.
 
 ghost use Rattle.std.specs.Prelude.{◌≡◌, ◌≢◌, ◌<◌, ◌≤◌, ◌+◌, ◌-◌, ◌^◌, ◌↔◌, ℕ, List, Bool, length, take, IsTrue, IsFalse, IsOk, IfOk, OnOk, IfErr};
+ghost use Rattle.std.specs.declared.io.Error.{Error};
 ghost use Rattle.std.specs.Io.KnownBytes.{Appends};
 ghost use Rattle.sealed.specs.declared.error.Damage.{Damage};
 ghost use Rattle.sealed.specs.Sealed.{header, chunk_nonce, chunk, HasSalt, IsHeaderDamage};
@@ -85,6 +86,8 @@ pub fn write_chunk<W: Write>(
         (chunk key.now salt.now number last text.old)) }
     ensures partly { (n : ℕ) × Appends (W.contents writer.old) (W.contents writer.new)
         (take n (chunk key.now salt.now number last text.old)) }
+    ensures failed { IfErr result (λ e. (damage : Damage) → e ≢ SealError.Damaged damage) }
+    ensures not_read { IfErr result (λ e. (error : Error) → e ≢ SealError.Read error) }
     ensures not_long { IfErr result (λ e. e ≢ SealError.TooLong) }
 {
     let nonce = chunk_nonce(salt, number, last);
@@ -101,6 +104,7 @@ pub fn write_whole<W: Write>(writer: &mut W, bytes: &[u8]) -> Result<(), SealErr
     ensures written { OnOk result
         (Appends (W.contents writer.old) (W.contents writer.new) bytes.now) }
     ensures failed { IfErr result (λ e. (damage : Damage) → e ≢ SealError.Damaged damage) }
+    ensures not_read { IfErr result (λ e. (error : Error) → e ≢ SealError.Read error) }
     ensures not_long { IfErr result (λ e. e ≢ SealError.TooLong) }
     ensures partly { (n : ℕ)
         × Appends (W.contents writer.old) (W.contents writer.new) (take n bytes.now) }

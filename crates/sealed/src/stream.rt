@@ -1,6 +1,7 @@
 //! From a reader to a writer.
 
 ghost use Rattle.std.specs.Prelude.{◌≡◌, ◌≢◌, ◌<◌, ◌≤◌, ◌+◌, ◌*◌, ◌^◌, ◌++◌, ℕ, List, length, take, Some, IfOk, OnOk, IfErr, IfSome};
+ghost use Rattle.std.specs.declared.io.Error.{Error};
 ghost use Rattle.std.specs.Io.KnownBytes.{Appends, Consumes, IsAtEnd, prepend_known};
 ghost use Rattle.sealed.specs.declared.error.Damage.{Damage};
 ghost use Rattle.sealed.specs.Sealed.{header, chunk, sealed, damage_at, IsRight, IsNoChunk, IsHeaderDamage, IsDamage};
@@ -34,6 +35,7 @@ pub fn encrypt<R: Read, W: Write>(
         (take n (sealed key.now salt.now text)) }
     ensures too_long { IfErr result (λ e. e ≡ SealError.TooLong
         → IfSome (R.remaining reader.old) (λ text. 2 ^ 72 < length text)) }
+    ensures failed { IfErr result (λ e. (damage : Damage) → e ≢ SealError.Damaged damage) }
 {
     write_whole(writer, &header(salt))?;
     let mut held = 0;
@@ -104,6 +106,7 @@ pub fn read_header<R: Read>(reader: &mut R) -> Result<Salt, SealError>
         → length salt ≡ 16 → file ≢ header salt ++ rest)) }
     ensures damaged { IfErr result (λ e. (damage : Damage) → e ≡ SealError.Damaged damage
         → IfSome (R.remaining reader.old) (λ file. IsHeaderDamage file damage)) }
+    ensures not_write { IfErr result (λ e. (error : Error) → e ≢ SealError.Write error) }
     ensures not_long { IfErr result (λ e. e ≢ SealError.TooLong) }
 {
     let mut bytes = [0; 32];
@@ -154,6 +157,7 @@ pub fn fill<R: Read>(reader: &mut R, buf: &mut [u8], held: usize) -> Result<usiz
         (take n buf.new)) }
     ensures bounds { IfOk result (λ n. (held ≤ n) × (n ≤ length buf.old)) }
     ensures failed { IfErr result (λ e. (damage : Damage) → e ≢ SealError.Damaged damage) }
+    ensures not_write { IfErr result (λ e. (error : Error) → e ≢ SealError.Write error) }
     ensures not_long { IfErr result (λ e. e ≢ SealError.TooLong) }
     ensures end { IfOk result (λ n. n < length buf.old → IsAtEnd (R.remaining reader.new)) }
 {
