@@ -19,7 +19,7 @@ header salt = codes "chacha20-seal v1" ++ salt
 abbrev pub HasSalt : List ℕ → List ℕ → Type 0
 HasSalt file salt = (rest : List ℕ) × (length salt ≡ 16) × (file ≡ header salt ++ rest)
 
--- what is wrong with a file that begins with no header
+-- what is wrong with a file that begins with no header: the magic word, the length or the version
 abbrev pub IsHeaderDamage : List ℕ → Damage → Type 0
 IsHeaderDamage file NotSealed = take 15 file ≢ codes "chacha20-seal v"
 IsHeaderDamage file CutHeader = (take 15 file ≡ codes "chacha20-seal v") × (length file < 32)
@@ -57,13 +57,13 @@ sealed key salt text =
     let n = last_number text in
     header salt ++ chunks key salt text n ++ chunk key salt n true (piece text n)
 
--- a file of which n whole chunks are right, none of them the last, and the bytes that follow them
+-- a file: a header, the n whole chunks of a text, none of them the last, and the bytes that follow them
 abbrev pub Splits : List ℕ → List ℕ → List ℕ → List ℕ → ℕ → List ℕ → Type 0
 Splits key salt file text n rest =
     (length salt ≡ 16) × (length text ≡ 65536 * n) × (0 < n → 0 < length rest)
     × (file ≡ header salt ++ chunks key salt text n ++ rest)
 
--- the text of such chunks
+-- the text of whole chunks at a file's front
 abbrev pub BeginsWith : List ℕ → List ℕ → List ℕ → Type 0
 BeginsWith key file text = (salt rest : List ℕ) × (n : ℕ) × Splits key salt file text n rest
 
