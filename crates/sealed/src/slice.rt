@@ -2,7 +2,7 @@
 
 ghost use Rattle.std.specs.Prelude.{◌≡◌, ◌≤◌, ◌-◌, ◌*◌, ◌/◌, ◌↔◌, ℕ, List, length, take, min, nat_eq, IsOk, IfOk, IfErr, OnErr};
 ghost use Rattle.std.specs.Result.{IsOkAnd};
-ghost use Rattle.sealed.specs.Sealed.{header, chunk_at, last_in, damage_at, sealed, HasSalt, IsHeaderDamage, IsNoChunk, CopiesFrom, ReadsPart, IsPart};
+ghost use Rattle.sealed.specs.Sealed.{header, chunk_at, last_in, text_of, damage_at, sealed, HasSalt, IsHeaderDamage, IsNoChunk, CopiesFrom, ReadsPart, IsPart};
 
 use crate::chunk::{CHUNK, Salt, TAG, open_chunk, salt_of};
 use crate::error::Damage;
@@ -38,10 +38,11 @@ impl<'f> SealedSlice<'f> {
         })
     }
 
-    /// How many bytes of text the file has; any number if it isn't a sealed file.
+    /// How many bytes of text the file has. If it isn't a sealed file, a number by its length alone.
     pub fn text_len(&self) -> u64
-        ensures { (key salt text : List ℕ) → length salt ≡ 16
+        ensures exact { (key salt text : List ℕ) → length salt ≡ 16
             → (parts self.now).file ≡ sealed key salt text → result ≡ length text }
+        ensures value { result ≡ text_of (length (parts self.now).file) }
     {
         text_len(self.file.len() as u64)
     }
