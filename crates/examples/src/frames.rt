@@ -208,7 +208,7 @@ pub fn nonce_of(channel: &Channel, number: u64) -> Nonce
 }
 
 /// Decrypts the frame with this number. `Err` exactly where the bytes are not that frame of any message; then nothing
-/// changes.
+/// changes. No frame has a message of more than 2^38 - 64 bytes: that error is `TooLong`, any other `WrongTag`.
 pub fn decrypt_frame(
     cipher: &ChaCha20Poly1305,
     channel: &Channel,
@@ -221,6 +221,8 @@ pub fn decrypt_frame(
     ensures accepted { let sender : Endpoint =
         record { key = cipher.now; channel = channel.now; next = number } in
         IsOk result ↔ IsFrame sender aad.now frame.now }
+    ensures too_long { IsErrOf result AeadError.TooLong
+        ↔ (274877906944 < 64 + length message.old) }
     ensures message { let sender : Endpoint =
         record { key = cipher.now; channel = channel.now; next = number } in
         (text : List ℕ) → frame.now ≡ frame_of sender aad.now text

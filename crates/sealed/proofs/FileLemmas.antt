@@ -1,10 +1,13 @@
 -- What a whole file says of its text.
-use Rattle.std.proofs.Common.{◌≡◌, ◌≢◌, ◌<◌, ◌≤◌, ◌+◌, ◌-◌, ◌*◌, ◌/◌, ◌∙◌, ℕ, zero, suc, true, false, List, [], ◌++◌, length, take, drop, arith, refl, sym, ap, ap₂, subst, append_assoc, append-nil, length-append, take_at, drop_at, take-add, take_all, inl, inr}
+use Rattle.std.proofs.Common.{◌≡◌, ◌≢◌, ◌<◌, ◌≤◌, ◌+◌, ◌-◌, ◌*◌, ◌/◌, ◌∙◌, ℕ, zero, suc, true, false, List, [], ◌++◌, length, take, drop, arith, refl, sym, ap, ap₂, subst, append_assoc, append-nil, length-append, length-drop, length-take-le, take_at, drop_at, take-add, take_all, inl, inr}
 use Rattle.std.proofs.lemmas.List.{take-append-drop}
 use Rattle.std.specs.Int.{div_ceil}
 use Rattle.std.specs.List.{slice_range}
-use Rattle.sealed.specs.Sealed.{header, chunk, chunks, piece, last_number, sealed, IsRight}
+use Rattle.sealed.specs.declared.error.Damage.{Damage}
+use Rattle.sealed.specs.declared.error.Damage.TheVariants.{NotSealed, OtherVersion, CutHeader, WrongChunk, WrongEnd}
+use Rattle.sealed.specs.Sealed.{header, chunk, chunks, piece, last_number, sealed, HasSalt, IsDamage, IsHeaderDamage, IsRight}
 use Rattle.sealed.proofs.ChunkLemmas.{body, sealed-is, length-body, chunk-at, length-chunks, length-chunk, some-chunk, full-chunk, length-piece, length-piece-le, length-last, last-piece, chunk-same}
+use Rattle.sealed.proofs.HeaderLemmas.{front-is, no-header}
 
 le-chunk : (c text : List ℕ) → length c ≡ length text + 16 → length text ≤ 65536 → length c ≤ 65552
 le-chunk c text long fits = omega (arith, long, fits)
@@ -117,7 +120,7 @@ pub right-front : (key salt text t : List ℕ) → length salt ≡ 16 → IsRigh
     → (rest : List ℕ) × (text ≡ t ++ rest)
 right-front key salt text t size (inr (salt', size', same)) =
     ([], one-text key salt salt' text t size size' same ∙ sym (append-nil t))
-right-front key salt text t size (inl (salt', rest, n, size', long, more, same)) =
+right-front key salt text t size (inl (salt', rest, n, (size', long, more, same))) =
     let (salts, bodies) = salt-same salt salt' (body key salt text) (chunks key salt' t n ++ rest) size size'
     (sym (sealed-is key salt text) ∙ same ∙ append_assoc (header salt') (chunks key salt' t n) rest) in
     let whole : chunks key salt t n ++ rest ≡ body key salt text =
@@ -139,7 +142,13 @@ right-front key salt text t size (inl (salt', rest, n, size', long, more, same))
     sym (same-front key salt t text n each) ∙ take_all (65536 * n) t (omega (arith, long)) in
     (drop (65536 * n) text, sym (take-append-drop (65536 * n) text) ∙ ap (λ f. f ++ drop (65536 * n) text) front)
 
--- a file with a wrong chunk is no sealed file
+-- a file without a header is no sealed file
+no-sealed : (key file : List ℕ) (damage : Damage) → IsHeaderDamage file damage
+    → (salt text : List ℕ) → length salt ≡ 16 → file ≢ sealed key salt text
+no-sealed key file damage wrong salt text size same =
+    no-header file damage wrong salt (body key salt text) size (same ∙ sealed-is key salt text)
+
+-- nor is one with a wrong chunk
 pub wrong-mid : (key salt salt' m c rest text : List ℕ) (i : ℕ) → length salt ≡ 16 → length salt' ≡ 16
     → length m ≡ 65536 * i → length c ≡ 65552 → 0 < length rest
     → ((t : List ℕ) → (0 < i → 0 < length t) → c ≢ chunk key salt i false t)
@@ -168,6 +177,22 @@ wrong-last key salt salt' m c text i size size' long wide some wrong same =
     ap (λ k. length (piece text k)) end ∙ length-last text ∙ ap (λ k. length text - 65536 * k) (sym end) in
     wrong (piece text i) (λ more. subst (λ k. 0 < k) (sym size) (some-left (length text) i end more)) is
 
+-- a damaged file is no sealed file
+pub damage-refuses : (key file : List ℕ) (damage : Damage) → IsDamage key file damage
+    → (salt text : List ℕ) → length salt ≡ 16 → file ≢ sealed key salt text
+damage-refuses key file (WrongChunk i) (salt, m, rest, (size, long, _, same), wide, wrong) salt' text size' is =
+    let c = take 65552 rest in
+    let others = drop 65552 rest in
+    let front = header salt ++ chunks key salt m i in
+    wrong-mid key salt salt' m c others text i size size' long
+    (length-take-le 65552 rest (omega (arith, wide))) (omega (arith, wide, length-drop 65552 rest)) wrong
+    (append_assoc front c others ∙ ap (λ xs. front ++ xs) (take-append-drop 65552 rest) ∙ sym same ∙ is)
+damage-refuses key file (WrongEnd i) (salt, m, rest, (size, long, some, same), fits, wrong) salt' text size' is =
+    wrong-last key salt salt' m rest text i size size' long fits some wrong (sym same ∙ is)
+damage-refuses key file NotSealed wrong salt text size is = no-sealed key file NotSealed wrong salt text size is
+damage-refuses key file CutHeader wrong salt text size is = no-sealed key file CutHeader wrong salt text size is
+damage-refuses key file OtherVersion wrong salt text size is = no-sealed key file OtherVersion wrong salt text size is
+
 -- the length of a text, from that of its file
 pub text-size : (key salt text : List ℕ) (file : ℕ) → length salt ≡ 16 → length (sealed key salt text) ≡ file
     → file - 32 - 16 * div_ceil (file - 32) 65552 ≡ length text
@@ -180,7 +205,17 @@ text-size key salt text file size is =
       length-body key salt text,
     )
 
--- the salt of a file
+-- a sealed file begins with its header
+pub has-salt : (key salt text file : List ℕ) → length salt ≡ 16 → file ≡ sealed key salt text → HasSalt file salt
+has-salt key salt text file size is = (body key salt text, size, is ∙ sealed-is key salt text)
+
+-- so it has one salt
+pub own-salt : (key salt salt' text file : List ℕ) → length salt' ≡ 16 → take 32 file ≡ header salt
+    → file ≡ sealed key salt' text → file ≡ sealed key salt text
+own-salt key salt salt' text file size begins is =
+    let header' = front-is file salt' (has-salt key salt' text file size is) in
+    let same : salt' ≡ salt = ap (drop 16) (sym header' ∙ begins) in is ∙ ap (λ s. sealed key s text) same
+
 pub salt-of : (key salt text : List ℕ) → length salt ≡ 16 → slice_range (sealed key salt text) 16 32 ≡ salt
 salt-of key salt text size =
     ap (λ file. slice_range file 16 32) (sealed-is key salt text) ∙ take_at salt (body key salt text) 16 size

@@ -2,6 +2,7 @@ pub mod ChunkLemmas
 pub mod FileLemmas
 pub mod FormatVectors
 pub mod FrontLemmas
+pub mod HeaderLemmas
 pub mod NonceLemmas
 pub mod OpenLemmas
 pub mod ReaderLemmas

@@ -1,5 +1,5 @@
 -- What a reader had, of which the chunks before chunk i were right.
-use Rattle.std.proofs.Common.{◌≡◌, ◌≢◌, ◌<◌, ◌≤◌, ◌+◌, ◌*◌, ◌∙◌, ℕ, zero, suc, true, false, List, [], ◌++◌, Some, None, Ok, Err, inl, inr, IfSome, IfErr, IsErrAnd, OnOk, length, take, drop, take_all, arith, sym, ap, subst, append-nil, append_assoc, length-append}
+use Rattle.std.proofs.Common.{◌≡◌, ◌≢◌, ◌<◌, ◌≤◌, ◌+◌, ◌*◌, ◌∙◌, ℕ, zero, suc, true, false, List, [], ◌++◌, Some, None, Ok, Err, inl, inr, IfSome, IfErr, IsErrAnd, OnOk, length, take, drop, take_all, take_at, arith, refl, sym, ap, subst, append-nil, append_assoc, length-append}
 use Rattle.std.proofs.lemmas.List.{take-append-drop}
 use Rattle.std.proofs.Math.Seq.{take-append-add, take-length}
 use Rattle.std.specs.declared.option.Option.{Option}
@@ -7,26 +7,29 @@ use Rattle.std.specs.declared.result.Result.{Result}
 use Rattle.std.specs.Io.KnownBytes.{Appends, Consumes, IsAtEnd, prepend_known}
 use Rattle.std.proofs.KnownBytes.{Appends-nil, Appends-trans, Consumes-whole}
 use Rattle.sealed.specs.declared.error.Damage.{Damage}
+use Rattle.sealed.specs.declared.error.Damage.TheVariants.{NotSealed, OtherVersion, CutHeader, WrongChunk, WrongEnd}
 use Rattle.sealed.specs.declared.error.SealError.{SealError}
 use Rattle.sealed.specs.declared.error.SealError.TheVariants.{Damaged}
-use Rattle.sealed.specs.Sealed.{header, chunk, chunks, sealed, IsRight}
-use Rattle.sealed.proofs.ChunkLemmas.{body, chunks-more, sealed-is, sealed-end, length-chunk}
-use Rattle.sealed.proofs.FileLemmas.{one-text, right-front, wrong-mid, wrong-last}
+use Rattle.sealed.specs.Sealed.{header, chunk, chunks, sealed, IsDamage, IsHeaderDamage, IsNoChunk, IsRight}
+use Rattle.sealed.proofs.ChunkLemmas.{chunks-more, sealed-end, length-chunk}
+use Rattle.sealed.proofs.FileLemmas.{damage-refuses, one-text, right-front}
 use Rattle.sealed.proofs.FrontLemmas.{front-more}
 use Rattle.sealed.proofs.ReaderLemmas.{Consumes-held, Consumes-some}
 
 -- what follows from each refusal
-pub refusal-weaker : {T P Q : Type 0} (r : Result T SealError) → (P → Q)
-    → IfErr r (λ e. (damage : Damage) → e ≡ Damaged damage → P)
-    → IfErr r (λ e. (damage : Damage) → e ≡ Damaged damage → Q)
-refusal-weaker (Ok x) next holds = tt
-refusal-weaker (Err e) next holds = λ damage is. next (holds damage is)
+pub refusal-weaker : {T : Type 0} (P Q : Damage → Type 0) (r : Result T SealError)
+    → ((damage : Damage) → P damage → Q damage)
+    → IfErr r (λ e. (damage : Damage) → e ≡ Damaged damage → P damage)
+    → IfErr r (λ e. (damage : Damage) → e ≡ Damaged damage → Q damage)
+refusal-weaker P Q (Ok x) next holds = tt
+refusal-weaker P Q (Err e) next holds = λ damage is. next damage (holds damage is)
 
 -- an error that is passed on
-pub passed-on : {T P : Type 0} (r : Result T SealError) (e : SealError) → IsErrAnd r (λ y. y ≡ e)
-    → ((damage : Damage) → e ≡ Damaged damage → P) → IfErr r (λ y. (damage : Damage) → y ≡ Damaged damage → P)
-passed-on (Ok x) e err holds = tt
-passed-on (Err y) e err holds = λ damage is. holds damage (sym err ∙ is)
+pub passed-on : {T : Type 0} (P : Damage → Type 0) (r : Result T SealError) (e : SealError)
+    → IsErrAnd r (λ y. y ≡ e) → ((damage : Damage) → e ≡ Damaged damage → P damage)
+    → IfErr r (λ y. (damage : Damage) → y ≡ Damaged damage → P damage)
+passed-on P (Ok x) e err holds = tt
+passed-on P (Err y) e err holds = λ damage is. holds damage (sym err ∙ is)
 
 -- nothing is said of a text then
 pub on_ok-passed : {T : Type 0} (r : Result T SealError) (e : SealError) (P : Type 0) → IsErrAnd r (λ y. y ≡ e)
@@ -34,13 +37,33 @@ pub on_ok-passed : {T : Type 0} (r : Result T SealError) (e : SealError) (P : Ty
 on_ok-passed (Ok x) e P err = absurd err
 on_ok-passed (Err y) e P err = tt
 
--- no header
-pub no-file : (a : Option (List ℕ)) (key : List ℕ)
-    → IfSome a (λ file. (salt rest : List ℕ) → length salt ≡ 16 → file ≢ header salt ++ rest)
-    → IfSome a (λ file. (salt text : List ℕ) → length salt ≡ 16 → file ≢ sealed key salt text)
-no-file None key none = tt
-no-file (Some file) key none = λ salt text size same. none salt (body key salt text) size (same
-    ∙ sealed-is key salt text)
+-- what is wrong with a reader's bytes
+abbrev pub HasDamage : Option (List ℕ) → List ℕ → Damage → Type 0
+HasDamage a key damage = IfSome a (λ file. IsDamage key file damage)
+
+-- then they are no sealed file
+pub damage-refused : {T : Type 0} (a : Option (List ℕ)) (key : List ℕ) (r : Result T SealError)
+    → IfErr r (λ e. (damage : Damage) → e ≡ Damaged damage → HasDamage a key damage)
+    → IfErr r (λ e. (damage : Damage) → e ≡ Damaged damage
+    → IfSome a (λ file. (salt text : List ℕ) → length salt ≡ 16 → file ≢ sealed key salt text))
+damage-refused a key r =
+    refusal-weaker (HasDamage a key)
+    (λ _. IfSome a (λ file. (salt text : List ℕ) → length salt ≡ 16 → file ≢ sealed key salt text)) r (each a)
+  where
+    each : (a : Option (List ℕ)) (damage : Damage) → HasDamage a key damage
+        → IfSome a (λ file. (salt text : List ℕ) → length salt ≡ 16 → file ≢ sealed key salt text)
+    each None damage wrong = tt
+    each (Some file) damage wrong = damage-refuses key file damage wrong
+
+-- a header's
+pub header-damage : (a : Option (List ℕ)) (key : List ℕ) (damage : Damage)
+    → IfSome a (λ file. IsHeaderDamage file damage) → HasDamage a key damage
+header-damage None key damage wrong = tt
+header-damage (Some file) key NotSealed wrong = wrong
+header-damage (Some file) key CutHeader wrong = wrong
+header-damage (Some file) key OtherVersion wrong = wrong
+header-damage (Some file) key (WrongChunk i) wrong = absurd wrong
+header-damage (Some file) key (WrongEnd i) wrong = absurd wrong
 
 -- one text
 pub text-of : (a w v : Option (List ℕ)) (key : List ℕ)
@@ -105,7 +128,7 @@ begins : (a b : Option (List ℕ)) (key salt moved held : List ℕ) (i : ℕ) �
 begins None b key salt moved held i size long more read = tt
 begins (Some file) None key salt moved held i size long more read = absurd read
 begins (Some file) (Some left) key salt moved held i size long more read =
-    inl (salt, held ++ left, i, size, long, λ some. omega (arith, more some, length-append held left), read)
+    inl (salt, held ++ left, i, (size, long, λ some. omega (arith, more some, length-append held left), read))
 
 -- only the text of the chunks before is written
 pub right-before : (a b w v : Option (List ℕ)) (key salt moved held : List ℕ) (i : ℕ) → length salt ≡ 16
@@ -140,27 +163,33 @@ module _ (a b : Option (List ℕ)) (key salt moved bytes : List ℕ) (i : ℕ) (
       read end (salt, moved ++ text, size, whole text fits some is, Appends-trans w v u moved text before more)
 
   -- the last chunk is wrong
-  pub refused-last : length bytes ≤ 65552 → (0 < i → 0 < length bytes)
-      → ((text : List ℕ) → (0 < i → 0 < length text) → bytes ≢ chunk key salt i true text)
-      → Consumes a b (front ++ bytes) → IsAtEnd b
-      → IfSome a (λ file. (salt' text' : List ℕ) → length salt' ≡ 16 → file ≢ sealed key salt' text')
-  refused-last fits some wrong read end =
-      Consumes-whole a b (front ++ bytes)
-      (λ file. (salt' text' : List ℕ) → length salt' ≡ 16 → file ≢ sealed key salt' text') read end
-      (λ salt' text' size' same. wrong-last key salt salt' moved bytes text' i size size' long fits some wrong same)
+  pub damaged-last : length bytes ≤ 65552 → (0 < i → 0 < length bytes) → IsNoChunk key salt i true bytes
+      → Consumes a b (front ++ bytes) → IsAtEnd b → HasDamage a key (WrongEnd i)
+  damaged-last fits some wrong read end =
+      Consumes-whole a b (front ++ bytes) (λ file. IsDamage key file (WrongEnd i)) read end
+      (salt, moved, bytes, (size, long, some, refl), fits, wrong)
 
   -- another chunk is wrong
-  pub refused-mid : (held : List ℕ) → length bytes ≡ 65552 → 0 < length held
-      → ((text : List ℕ) → (0 < i → 0 < length text) → bytes ≢ chunk key salt i false text)
-      → Consumes a b ((front ++ bytes) ++ held)
-      → IfSome a (λ file. (salt' text' : List ℕ) → length salt' ≡ 16 → file ≢ sealed key salt' text')
-  refused-mid held wide more wrong read =
-      Consumes-some a b ((front ++ bytes) ++ held)
-      (λ file. (salt' text' : List ℕ) → length salt' ≡ 16 → file ≢ sealed key salt' text') read
-      (λ rest salt' text' size' same.
-      wrong-mid key salt salt' moved bytes (held ++ rest) text' i size size' long wide
-      (omega (arith, length-append held rest, more)) wrong
-      (sym (append_assoc (front ++ bytes) held rest) ∙ same))
+  pub damaged-mid : (held : List ℕ) → length bytes ≡ 65552 → 0 < length held → IsNoChunk key salt i false bytes
+      → Consumes a b ((front ++ bytes) ++ held) → HasDamage a key (WrongChunk i)
+  damaged-mid held wide more wrong read =
+      Consumes-some a b ((front ++ bytes) ++ held) (λ file. IsDamage key file (WrongChunk i)) read
+      (λ left.
+      let rest = bytes ++ (held ++ left) in
+      let long' : 65552 < length rest =
+      omega (arith, length-append bytes (held ++ left), length-append held left, wide, more) in (
+        salt,
+        moved,
+        rest,
+        (
+          size,
+          long,
+          λ _. omega (arith, long'),
+          append_assoc (front ++ bytes) held left ∙ append_assoc front bytes (held ++ left),
+        ),
+        long',
+        subst (IsNoChunk key salt i false) (sym (take_at bytes (held ++ left) 65552 wide)) wrong,
+      ))
 
   -- a front of the last chunk's text is written
   pub right-last : (c w v u : Option (List ℕ)) (held text : List ℕ) (n : ℕ) → length bytes ≤ 65552

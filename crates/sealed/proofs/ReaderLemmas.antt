@@ -1,10 +1,9 @@
 -- What reads do to the bytes that a reader has left.
-use Rattle.std.proofs.Common.{◌≡◌, ◌≢◌, ◌<◌, ◌≤◌, ◌+◌, ◌∙◌, ◌++◌, ℕ, List, length, take, Some, None, IfSome, sym, ap, ap₂, refl, subst, append_assoc, length-take-le, take_at, drop_at, take-add, drop, set, get_or, arith, [], ◌∷◌, codes, inl, inr, eq-or-lt_of_le, take_all, length-append}
+use Rattle.std.proofs.Common.{◌≡◌, ◌≤◌, ◌+◌, ◌∙◌, ◌++◌, ℕ, List, length, take, Some, None, IfSome, sym, ap, ap₂, refl, subst, append_assoc, length-take-le, take_at, drop_at, take-add, drop, set, get_or, arith, [], ◌∷◌}
 use Rattle.std.proofs.lemmas.List.{take-append-le, drop_more, drop_all}
 use borrow.Rule.Slice.PartMut.{put_mid}
 use Rattle.std.specs.declared.option.Option.{Option}
-use Rattle.std.specs.Io.KnownBytes.{Consumes, IsAtEnd, prepend_known}
-use Rattle.sealed.specs.Sealed.{header}
+use Rattle.std.specs.Io.KnownBytes.{Consumes, prepend_known}
 
 -- of the bytes that were read the last are held
 pub Consumes-held : (a b : Option (List ℕ)) (xs held : List ℕ) → Consumes a b (xs ++ held)
@@ -41,31 +40,3 @@ first-byte xs buf k long =
     let one : drop k buf ≡ y ∷ [] =
     drop_more buf k 0 (omega (arith, long)) ∙ ap (λ ys. y ∷ ys) (drop_all (k + 1) buf (omega (arith, long))) in
     ap (λ ys. take 1 (set (xs ++ ys) 0 y)) one ∙ front-set xs y ∙ sym one
-
--- a reader that doesn't begin with a header
-pub no-header : (a b : Option (List ℕ)) (bytes : List ℕ) (n : ℕ) → Consumes (prepend_known [] a) b (take n bytes)
-    → length bytes ≡ 32 → n ≤ 32 → (n < 32 → IsAtEnd b) → (n ≡ 32 → take 16 bytes ≡ codes "chacha20-seal v1" → ⊥)
-    → IfSome a (λ file. (salt rest : List ℕ) → length salt ≡ 16 → file ≢ header salt ++ rest)
-no-header None b bytes n read size most end other = tt
-no-header (Some file) None bytes n read size most end other = absurd read
-no-header (Some file) (Some left) bytes n read size most end other = λ salt rest long same.
-    let split = ap length read ∙ length-append (take n bytes) left in
-    elim (eq-or-lt_of_le most) [
-      | inl whole ↦
-          other whole
-          (sym (ap (take 16) read ∙ ap (λ k. take 16 (take k bytes ++ left)) whole
-          ∙ ap (λ bs. take 16 (bs ++ left)) (take_all 32 bytes (omega (arith, size)))
-          ∙ take-append-le 16 bytes left (omega (arith, size)))
-          ∙ ap (take 16) same)
-      | inr short ↦
-          omega (
-            arith,
-            ap length same,
-            length-append (header salt) rest,
-            long,
-            split,
-            ap length (end short),
-            length-take-le n bytes (omega (arith, size, most)),
-            short,
-          )
-    ]

@@ -1,11 +1,53 @@
 -- A chunk of a file in memory.
-use Rattle.std.proofs.Common.{◌≡◌, ◌<◌, ◌≤◌, ◌+◌, ◌-◌, ◌*◌, ◌/◌, ◌∙◌, ℕ, Bool, true, false, subst, List, ◌++◌, append_assoc, drop_at, drop-drop, true≢false, eqb-true, eq-eqb, length, take, drop, min, nat_eq, arith, sym, ap, ap₂, inl, inr, length-drop, length-take, length-take-le, length-append, take_at, take-take, take_all, append-nil, eq-or-lt_of_le}
+use Rattle.std.proofs.Common.{◌≡◌, ◌<◌, ◌≤◌, ◌+◌, ◌-◌, ◌*◌, ◌/◌, ◌^◌, ◌∙◌, ℕ, Bool, true, false, subst, List, ◌++◌, append_assoc, drop_at, drop-drop, true≢false, eqb-true, eq-eqb, length, take, drop, min, nat_eq, arith, sym, ap, ap₂, inl, inr, length-drop, length-take, length-take-le, length-append, take_at, take-take, take_all, append-nil, eq-or-lt_of_le}
+use Rattle.std.proofs.Math.Nat.{min-le_left}
 use Rattle.std.proofs.lemmas.Bool.{cases_lt}
 use Rattle.std.proofs.lemmas.Slice.{between_is}
 use Rattle.std.specs.List.{slice_range}
 use Rattle.std.proofs.lemmas.List.{drop_all, take-append-le, take_min, nil_from_length}
 use Rattle.sealed.specs.Sealed.{header, chunk, chunk_at, last_in, piece, last_number, sealed, chunks, place, CopiesFrom, ReadsPart, IsPart}
 use Rattle.sealed.proofs.ChunkLemmas.{body, sealed-is, length-body, length-chunk, length-chunks, full-chunk, length-piece, chunk-at, length-piece-at, chunk-same}
+
+-- Numbers, apart from the lists, for speed.
+
+next-place : (i : ℕ) → 65552 * (i + 1) ≡ 65552 * i + 65552
+next-place i = omega arith
+
+fits-opened : (opened taken m : ℕ) → opened ≡ taken → taken ≡ m → m - 16 ≤ opened
+fits-opened opened taken m same all = omega (arith, same, all)
+
+some-opened : (text taken m : ℕ) → text ≡ m - 16 → taken ≡ m → 16 < taken → 0 < text
+some-opened text taken m wide all long = omega (arith, wide, all, long)
+
+-- of a chunk: its number, and the lengths of the text, of the chunk's text, and of the chunk
+piece-some : (i len text : ℕ) → i ≤ (len - 1) / 65536 → 0 < i → text ≡ min (len - 65536 * i) 65536 → 0 < text
+piece-some i len text within more size = omega (arith, within, more, size)
+
+chunk-fits : (left text here : ℕ) → text ≡ min left 65536 → here ≡ text + 16 → here ≤ 65552
+chunk-fits left text here size wide = omega (arith, size, wide)
+
+chunk-full : (i len text here : ℕ) → i < (len - 1) / 65536 → text ≡ min (len - 65536 * i) 65536 → here ≡ text + 16
+    → here ≡ 65552
+chunk-full i len text here before size wide = omega (arith, before, size, wide)
+
+nothing-left : (i len text here rest file : ℕ) → i ≡ (len - 1) / 65536 → text ≡ min (len - 65536 * i) 65536
+    → here ≡ text + 16 → here + rest ≡ file - (32 + 65552 * i) → file ≡ 32 + (len + 16 * ((len - 1) / 65536 + 1))
+    → rest ≡ 0
+nothing-left i len text here rest file last size wide all long = omega (arith, last, size, wide, all, long)
+
+-- of a read: the place, and the number of its chunk
+
+pub number-within : (start last number : ℕ) → number ≡ min (start / 65536) last → number ≤ last
+number-within start last number is = omega (arith, is)
+
+pub number-fits : (start last number : ℕ) → number ≡ min (start / 65536) last → start < 2 ^ 64 → number < 2 ^ 56
+number-fits start last number is fits = omega (arith, is, fits)
+
+pub before-start : (start last number : ℕ) → number ≡ min (start / 65536) last → 65536 * number ≤ start
+before-start start last number is = omega (arith, is)
+
+pub below-start : (start k : ℕ) → k ≤ start → start < 2 ^ 64 → k < 2 ^ 64
+below-start start k before fits = omega (arith, before, fits)
 
 -- the file from chunk i on
 abbrev from_chunk : List ℕ → List ℕ → List ℕ → ℕ → List ℕ
@@ -34,10 +76,9 @@ module _ (key salt text : List ℕ) (size : length salt ≡ 16) where
       ap (λ cs. cs ++ last) at ∙ append_assoc before (here ++ others) last
       ∙ ap (λ cs. before ++ cs) (append_assoc here others last) in
       let here_on = ap (drop (65552 * i)) split ∙ drop_at before (here ++ (others ++ last)) (65552 * i) place in
-      let next : 65552 * (i + 1) ≡ 65552 * i + 65552 = omega arith in
       from-body i ∙ here_on
       ∙ ap (λ cs. here ++ cs)
-      (sym (from-body (i + 1) ∙ ap (λ k. drop k (body key salt text)) next
+      (sym (from-body (i + 1) ∙ ap (λ k. drop k (body key salt text)) (next-place i)
       ∙ sym (drop-drop 65552 (65552 * i) (body key salt text)) ∙ ap (drop 65552) here_on
       ∙ drop_at here (others ++ last) 65552 wide))
 
@@ -89,6 +130,16 @@ pub length-copied : (file new : List ℕ) (begin size n : ℕ) → size ≡ min 
 length-copied file new begin size n long same is =
     ap length is ∙ length-take-le n (drop begin file) (omega (arith, long, same, length-drop begin file)) ∙ same
 
+pub copied-fits : (file : List ℕ) (i n : ℕ) → n ≡ length (chunk_at file i) → n ≤ 65552
+copied-fits file i n size =
+    let here = drop (place i) file in
+    subst (λ k. k ≤ 65552) (sym (size ∙ length-take 65552 here)) (min-le_left 65552 (length here))
+
+-- a chunk's text, in the front of a space
+pub text-fits : (opened rest : List ℕ) (taken m : ℕ) → length opened ≡ taken → taken ≡ m
+    → m - 16 ≤ length (opened ++ rest)
+text-fits opened rest taken m same all = omega (arith, same, all, length-append opened rest)
+
 -- what is read of a chunk that is opened in place, in the front of a space
 pub reads-part : (key salt file space opened rest old new : List ℕ) (i last m n from : ℕ)
     → take m space ≡ chunk_at file i → m ≡ length (chunk_at file i) → last ≡ last_in file
@@ -99,11 +150,12 @@ pub reads-part : (key salt file space opened rest old new : List ℕ) (i last m 
     → ReadsPart key salt file i from old new n
 reads-part key salt file space opened rest old new i last m n from bytes size end right long kept copies =
     let all : length (take m space) ≡ m = ap length bytes ∙ sym size in
+    let fits : m - 16 ≤ length opened = fits-opened (length opened) (length (take m space)) m kept all in
     let text : take (m - 16) (opened ++ rest) ≡ take (m - 16) opened =
-    take-append-le (m - 16) opened rest (omega (arith, kept, all)) in
-    let wide : length (take (m - 16) opened) ≡ m - 16 = length-take-le (m - 16) opened (omega (arith, kept, all)) in (
+    take-append-le (m - 16) opened rest fits in
+    let wide : length (take (m - 16) opened) ≡ m - 16 = length-take-le (m - 16) opened fits in (
       take (m - 16) opened,
-      λ some. omega (arith, wide, all, long.1 some),
+      λ some. some-opened (length (take (m - 16) opened)) (length (take m space)) m wide all (long.1 some),
       sym bytes ∙ right
           ∙ ap₂ (λ k b. chunk key salt i (nat_eq i k) (take (b - 16) opened)) end all,
       subst (λ t. CopiesFrom t from old new n) text copies,
@@ -150,10 +202,15 @@ module _ (key salt text file : List ℕ) (size : length salt ≡ 16) (is : file 
       ap (take 65552) parts
       ∙ elim (eq-or-lt_of_le within) [
         | inl last ↦
-            let none : length rest ≡ 0 = omega (arith, last, wide, part, all, length-file) in
+            let none : length rest ≡ 0 =
+            nothing-left i (length text) (length (piece text i)) (length here) (length rest) (length file) last part
+            wide all length-file in
             ap (λ xs. take 65552 (here ++ xs)) (nil_from_length rest none)
-            ∙ ap (take 65552) (append-nil here) ∙ take_all 65552 here (omega (arith, wide, part))
-        | inr before ↦ take_at here rest 65552 (omega (arith, before, wide, part))
+            ∙ ap (take 65552) (append-nil here) ∙ take_all 65552 here
+            (chunk-fits (length text - 65536 * i) (length (piece text i)) (length here) part wide)
+        | inr before ↦
+            take_at here rest 65552
+            (chunk-full i (length text) (length (piece text i)) (length here) before part wide)
       ]
 
   -- a part of a chunk's text is one of the whole text
@@ -172,7 +229,8 @@ module _ (key salt text file : List ℕ) (size : length salt ≡ 16) (is : file 
       (subst (λ t. CopiesFrom t from old new n) (sym (piece-is text i ∙ same)) copies)))
 
   pub some-in : (i : ℕ) → i ≤ last_number text → 0 < i → 0 < length (piece text i)
-  some-in i within more = omega (arith, within, more, length-piece-at text i)
+  some-in i within more =
+      piece-some i (length text) (length (piece text i)) within more (length-piece-at text i)
 
 -- a part that lies within a chunk
 pub part-within : (text old new : List ℕ) (start n : ℕ) → IsPart text start old new n → 0 < length old

@@ -1,3 +1,5 @@
+pub mod DamageText
 pub mod Sealed
 pub mod SealedReader
+pub mod SealedSlice
 pub mod Seeking

@@ -1,11 +1,11 @@
 -- The format of a sealed file. A key, a text and a file are lists of bytes, and a salt is 16 random bytes.
-use Rattle.std.specs.Prelude.{◌≡◌, ◌≢◌, ◌⊎◌, ℕ, zero, suc, ◌+◌, ◌<◌, min, ◌-◌, ◌*◌, ◌/◌, ◌^◌, Bool, true, false, if◌then◌else◌, nat_eq}
+use Rattle.std.specs.Prelude.{◌≡◌, ◌≢◌, ◌⊎◌, ℕ, zero, suc, ◌+◌, ◌<◌, ◌≤◌, min, ◌-◌, ◌*◌, ◌/◌, ◌^◌, Bool, true, false, if◌then◌else◌, nat_eq}
 use Rattle.std.specs.Prelude.{List, [], ◌++◌, take, drop, length, codes}
 use Rattle.std.specs.Int.{w64, to_le_bytes, div_ceil}
 use Rattle.chacha20.specs.XChaCha.{xchacha_stream}
 use Rattle.aead.specs.Aead.{sealed_message}
 use Rattle.sealed.specs.declared.error.Damage.{Damage}
-use Rattle.sealed.specs.declared.error.Damage.TheVariants.{WrongChunk, WrongEnd}
+use Rattle.sealed.specs.declared.error.Damage.TheVariants.{NotSealed, OtherVersion, CutHeader, WrongChunk, WrongEnd}
 
 -- XChaCha20-Poly1305 (draft-irtf-cfrg-xchacha, section 2): the ciphertext, and then its tag
 abbrev pub xchacha20_poly1305 : List ℕ → List ℕ → List ℕ → List ℕ → List ℕ
@@ -14,6 +14,20 @@ xchacha20_poly1305 key nonce aad text = sealed_message (xchacha_stream 10 key no
 -- the header of 32 bytes: a magic word, whose last byte is the version, and the salt
 abbrev pub header : List ℕ → List ℕ
 header salt = codes "chacha20-seal v1" ++ salt
+
+-- a file that begins with the header of this salt
+abbrev pub HasSalt : List ℕ → List ℕ → Type 0
+HasSalt file salt = (rest : List ℕ) × (length salt ≡ 16) × (file ≡ header salt ++ rest)
+
+-- what is wrong with a file that begins with no header: the magic word, the length or the version
+abbrev pub IsHeaderDamage : List ℕ → Damage → Type 0
+IsHeaderDamage file NotSealed = take 15 file ≢ codes "chacha20-seal v"
+IsHeaderDamage file CutHeader = (take 15 file ≡ codes "chacha20-seal v") × (length file < 32)
+IsHeaderDamage file OtherVersion =
+    (take 15 file ≡ codes "chacha20-seal v") × (32 ≤ length file)
+    × (take 16 file ≢ codes "chacha20-seal v1")
+IsHeaderDamage file (WrongChunk i) = ⊥
+IsHeaderDamage file (WrongEnd i) = ⊥
 
 -- the nonce of a chunk: the salt, the chunk's number in 7 bytes, and 1 for the last chunk, 0 for others
 abbrev pub chunk_nonce : List ℕ → ℕ → Bool → List ℕ
@@ -43,11 +57,15 @@ sealed key salt text =
     let n = last_number text in
     header salt ++ chunks key salt text n ++ chunk key salt n true (piece text n)
 
--- the text of n whole chunks at the file's front, none of them the last; bytes follow them
+-- a file: a header, the n whole chunks of a text, none of them the last, and the bytes that follow them
+abbrev pub Splits : List ℕ → List ℕ → List ℕ → List ℕ → ℕ → List ℕ → Type 0
+Splits key salt file text n rest =
+    (length salt ≡ 16) × (length text ≡ 65536 * n) × (0 < n → 0 < length rest)
+    × (file ≡ header salt ++ chunks key salt text n ++ rest)
+
+-- the text of whole chunks at a file's front
 abbrev pub BeginsWith : List ℕ → List ℕ → List ℕ → Type 0
-BeginsWith key file text =
-    (salt rest : List ℕ) × (n : ℕ) × (length salt ≡ 16) × (length text ≡ 65536 * n)
-    × (0 < n → 0 < length rest) × (file ≡ header salt ++ chunks key salt text n ++ rest)
+BeginsWith key file text = (salt rest : List ℕ) × (n : ℕ) × Splits key salt file text n rest
 
 -- a text whose tags are right: that of the file's first chunks, or of the whole file
 abbrev pub IsRight : List ℕ → List ℕ → List ℕ → Type 0
@@ -81,6 +99,16 @@ damage_at i last = if last then WrongEnd i else WrongChunk i
 abbrev pub IsNoChunk : List ℕ → List ℕ → ℕ → Bool → List ℕ → Type 0
 IsNoChunk key salt i last bytes =
     (text : List ℕ) → (0 < i → 0 < length text) → bytes ≢ chunk key salt i last text
+
+-- what is wrong with a file that isn't sealed under the key: its header, or the first chunk that isn't right
+abbrev pub IsDamage : List ℕ → List ℕ → Damage → Type 0
+IsDamage key file (WrongChunk i) =
+    (salt text rest : List ℕ) × Splits key salt file text i rest
+    × (65552 < length rest) × IsNoChunk key salt i false (take 65552 rest)
+IsDamage key file (WrongEnd i) =
+    (salt text rest : List ℕ) × Splits key salt file text i rest
+    × (length rest ≤ 65552) × IsNoChunk key salt i true rest
+IsDamage key file damage = IsHeaderDamage file damage
 
 -- n bytes of a text, from byte `from` on, have come to a window's front: up to the end of either
 abbrev pub CopiesFrom : List ℕ → ℕ → List ℕ → List ℕ → ℕ → Type 0

@@ -1,9 +1,10 @@
 -- What a reader gives at a place of its file. The first arguments are `remaining`, `stream_position` and `stream_bytes`
 -- of the standard library's `Read` and `Seek`.
-use Rattle.std.specs.Prelude.{◌≡◌, ◌≢◌, ◌<◌, ◌++◌, ℕ, Bool, List, length, Some, IfSome}
+use Rattle.std.specs.Prelude.{◌≡◌, ◌<◌, ℕ, Bool, List, length, Some, IfSome}
 use Rattle.std.specs.declared.option.Option.{Option}
 use Rattle.std.specs.Io.KnownBytes.{Keeps, Consumes, IsAtEnd}
-use Rattle.sealed.specs.Sealed.{header, place, IsNoChunk}
+use Rattle.sealed.specs.declared.error.Damage.{Damage}
+use Rattle.sealed.specs.Sealed.{place, IsHeaderDamage, IsNoChunk}
 
 -- a reader went to a place: that is its position, and its file is the same, where these are known
 abbrev pub GoesTo : {R : Type 0} → (R → Option ℕ) → (R → Option (List ℕ)) → R → R → ℕ → Type 0
@@ -26,7 +27,7 @@ GivesNoChunk remaining position file old new key salt i last =
 
 -- a reader went to the front of its file, which doesn't begin with a header
 abbrev pub GivesNoHeader : {R : Type 0} → (R → Option (List ℕ)) → (R → Option ℕ)
-    → (R → Option (List ℕ)) → R → Type 0
-GivesNoHeader {R} remaining position file old =
-    (there : R) × GoesTo position file old there 0 × IfSome (remaining there) (λ bytes.
-    (salt rest : List ℕ) → length salt ≡ 16 → bytes ≢ header salt ++ rest)
+    → (R → Option (List ℕ)) → R → Damage → Type 0
+GivesNoHeader {R} remaining position file old damage =
+    (there : R) × GoesTo position file old there 0
+    × IfSome (remaining there) (λ bytes. IsHeaderDamage bytes damage)

@@ -1,11 +1,12 @@
 //! The parts of a sealed file.
 
-ghost use Rattle.std.specs.Prelude.{◌≡◌, ◌≢◌, ◌<◌, ◌≤◌, ◌+◌, ◌-◌, ◌^◌, ℕ, List, Bool, length, take, IsTrue, IsFalse, OnOk, IfErr};
+ghost use Rattle.std.specs.Prelude.{◌≡◌, ◌≢◌, ◌<◌, ◌≤◌, ◌+◌, ◌-◌, ◌^◌, ◌↔◌, ℕ, List, Bool, length, take, IsTrue, IsFalse, IsOk, IfOk, OnOk, IfErr};
+ghost use Rattle.std.specs.declared.io.Error.{Error};
 ghost use Rattle.std.specs.Io.KnownBytes.{Appends};
 ghost use Rattle.sealed.specs.declared.error.Damage.{Damage};
-ghost use Rattle.sealed.specs.Sealed.{header, chunk_nonce, chunk};
+ghost use Rattle.sealed.specs.Sealed.{header, chunk_nonce, chunk, HasSalt, IsHeaderDamage};
 
-use crate::error::SealError;
+use crate::error::{Damage, SealError};
 use aead::XChaCha20Poly1305;
 use chacha20::{Key, XNonce};
 use std::io::{self, ErrorKind, Write};
@@ -33,6 +34,26 @@ pub fn header(salt: &Salt) -> [u8; 32]
     header[..16].copy_from_slice(&MAGIC);
     header[16..].copy_from_slice(salt);
     header
+}
+
+/// The salt of a file, from its header. Fails for a file that doesn't begin with a header.
+pub(crate) fn salt_of(file: &[u8]) -> Result<Salt, Damage>
+    ensures accepted { IsOk result ↔ ((salt : List ℕ) × HasSalt file.now salt) }
+    ensures salt { IfOk result (λ salt. HasSalt file.now salt) }
+    ensures damage { IfErr result (λ e. IsHeaderDamage file.now e) }
+{
+    if !file.starts_with(&MAGIC[..15]) {
+        return Err(Damage::NotSealed);
+    }
+    if file.len() < 32 {
+        return Err(Damage::CutHeader);
+    }
+    if !file.starts_with(&MAGIC) {
+        return Err(Damage::OtherVersion);
+    }
+    let mut salt = [0; 16];
+    salt.copy_from_slice(&file[16..32]);
+    Ok(salt)
 }
 
 /// The nonce of a chunk. No other chunk and no other salt has it.
@@ -65,6 +86,8 @@ pub fn write_chunk<W: Write>(
         (chunk key.now salt.now number last text.old)) }
     ensures partly { (n : ℕ) × Appends (W.contents writer.old) (W.contents writer.new)
         (take n (chunk key.now salt.now number last text.old)) }
+    ensures failed { IfErr result (λ e. (damage : Damage) → e ≢ SealError.Damaged damage) }
+    ensures not_read { IfErr result (λ e. (error : Error) → e ≢ SealError.Read error) }
     ensures not_long { IfErr result (λ e. e ≢ SealError.TooLong) }
 {
     let nonce = chunk_nonce(salt, number, last);
@@ -81,6 +104,7 @@ pub fn write_whole<W: Write>(writer: &mut W, bytes: &[u8]) -> Result<(), SealErr
     ensures written { OnOk result
         (Appends (W.contents writer.old) (W.contents writer.new) bytes.now) }
     ensures failed { IfErr result (λ e. (damage : Damage) → e ≢ SealError.Damaged damage) }
+    ensures not_read { IfErr result (λ e. (error : Error) → e ≢ SealError.Read error) }
     ensures not_long { IfErr result (λ e. e ≢ SealError.TooLong) }
     ensures partly { (n : ℕ)
         × Appends (W.contents writer.old) (W.contents writer.new) (take n bytes.now) }

@@ -50,6 +50,11 @@ pub enum SealError {
 }
 
 impl Display for Damage {
+    ghost use Rattle.std.specs.Prelude.{Some};
+    ghost use Rattle.sealed.specs.DamageText.{damage_text};
+
+    ghost output = { λ damage. Some (damage_text damage) };
+
     fn fmt<W: fmt::Write>(&self, f: &mut Formatter<W>) -> fmt::Result {
         match self {
             Damage::NotSealed => f.write_str("not a sealed file"),

@@ -7,6 +7,7 @@
 
 ghost use Rattle.std.specs.Prelude.{◌≡◌, ◌≢◌, ◌<◌, ◌≤◌, ◌^◌, ◌⊎◌, Some, None, length, take, IfOk, OnOk, IfErr, OnErr, IfSome};
 ghost use Rattle.std.specs.Option.{ForSome};
+ghost use Rattle.std.specs.declared.io.Error.{Error};
 ghost use Rattle.std.specs.Io.{ReadsAtMost};
 ghost use Rattle.std.specs.Io.Cursor.{IsSeekResult, IsSeekFromEnd};
 ghost use Rattle.std.specs.Io.KnownBytes.{Keeps, ReadConsumes};
@@ -69,7 +70,9 @@ impl<'b, R: Read + Seek> SealedReader<'b, R> {
         ensures len { IfOk result (λ r. IfSome (R.stream_position reader) (λ _.
             IfSome (R.stream_bytes reader) (λ bytes. (file r).len ≡ length bytes))) }
         ensures damaged { IfErr result (λ e. (damage : Damage) → e ≡ SealError.Damaged damage
-            → GivesNoHeader R.remaining R.stream_position R.stream_bytes reader) }
+            → GivesNoHeader R.remaining R.stream_position R.stream_bytes reader damage) }
+        ensures not_write { IfErr result (λ e. (error : Error) → e ≢ SealError.Write error) }
+        ensures not_long { IfErr result (λ e. e ≢ SealError.TooLong) }
     {
         let (salt, file_len) = read_start(&mut reader)?;
         Ok(SealedReader {
@@ -104,6 +107,8 @@ impl<'b, R: Read + Seek> SealedReader<'b, R> {
             (file self.old).key (file self.old).salt (number self.old) (is_last self.old)) }
         ensures failed { OnErr result ((window.new ≡ window.old) × (held self.new ≡ None)
             × (position self.new ≡ position self.old)) }
+        ensures not_write { IfErr result (λ e. (error : Error) → e ≢ SealError.Write error) }
+        ensures not_long { IfErr result (λ e. e ≢ SealError.TooLong) }
         ensures same_file { file self.new ≡ file self.old }
     {
         let last = last_chunk(self.file_len);
@@ -139,6 +144,8 @@ impl<'b, R: Read + Seek> SealedReader<'b, R> {
             (inner self.old) (inner self.new)
             (file self.old).key (file self.old).salt number last) }
         ensures failed { OnErr result (held self.new ≡ None) }
+        ensures not_write { IfErr result (λ e. (error : Error) → e ≢ SealError.Write error) }
+        ensures not_long { IfErr result (λ e. e ≢ SealError.TooLong) }
         ensures same { (file self.new ≡ file self.old) × (position self.new ≡ position self.old) }
     {
         match self.held {
@@ -162,6 +169,8 @@ impl<'b, R: Read + Seek> SealedReader<'b, R> {
             (inner self.old) (inner self.new)
             (file self.old).key (file self.old).salt number last) }
         ensures failed { OnErr result (held self.new ≡ None) }
+        ensures not_write { IfErr result (λ e. (error : Error) → e ≢ SealError.Write error) }
+        ensures not_long { IfErr result (λ e. e ≢ SealError.TooLong) }
         ensures same { (file self.new ≡ file self.old) × (position self.new ≡ position self.old) }
     {
         self.held = None;
@@ -183,6 +192,8 @@ fn go_to<S: Seek>(inner: &mut S, to: SeekFrom) -> Result<u64, SealError>
         (S.stream_bytes inner.old) to result }
     ensures file { Keeps (S.stream_bytes inner.old) (S.stream_bytes inner.new) }
     ensures failed { IfErr result (λ e. (damage : Damage) → e ≢ SealError.Damaged damage) }
+    ensures not_write { IfErr result (λ e. (error : Error) → e ≢ SealError.Write error) }
+    ensures not_long { IfErr result (λ e. e ≢ SealError.TooLong) }
 {
     match inner.seek(to) {
         Ok(n) => Ok(n),
@@ -197,7 +208,9 @@ fn read_start<R: Read + Seek>(reader: &mut R) -> Result<(Salt, u64), SealError>
     ensures len { IfOk result (λ r. IfSome (R.stream_position reader.old) (λ _.
         IfSome (R.stream_bytes reader.old) (λ bytes. r.1 ≡ length bytes))) }
     ensures damaged { IfErr result (λ e. (damage : Damage) → e ≡ SealError.Damaged damage
-        → GivesNoHeader R.remaining R.stream_position R.stream_bytes reader.old) }
+        → GivesNoHeader R.remaining R.stream_position R.stream_bytes reader.old damage) }
+    ensures not_write { IfErr result (λ e. (error : Error) → e ≢ SealError.Write error) }
+    ensures not_long { IfErr result (λ e. e ≢ SealError.TooLong) }
 {
     let file_len = go_to(reader, SeekFrom::End(0))?;
     go_to(reader, SeekFrom::Start(0))?;
@@ -224,6 +237,8 @@ fn load<R: Read + Seek>(
         → (damage ≡ damage_at number last)
         × GivesNoChunk R.remaining R.stream_position R.stream_bytes
         inner.old inner.new key.now salt.now number last) }
+    ensures not_write { IfErr result (λ e. (error : Error) → e ≢ SealError.Write error) }
+    ensures not_long { IfErr result (λ e. e ≢ SealError.TooLong) }
 {
     go_to(inner, SeekFrom::Start(chunk_place(number)))?;
     let bytes = fill(inner, buf, 0)?;
@@ -290,7 +305,14 @@ impl<R: Read + Seek> Seek for SealedReader<'_, R> {
 
 impl From<SealError> for io::Error {
     /// The error of the reader or writer, or one of the kind `InvalidData` for damage and `TimedOut` for `TooLong`.
-    fn from(error: SealError) -> io::Error {
+    fn from(error: SealError) -> io::Error
+        ensures read { (e : Error) → error ≡ SealError.Read e → result ≡ e }
+        ensures write { (e : Error) → error ≡ SealError.Write e → result ≡ e }
+        ensures damaged { (damage : Damage) → error ≡ SealError.Damaged damage
+            → error_kind result ≡ ErrorKind.InvalidData }
+        ensures too_long { error ≡ SealError.TooLong
+            → error_kind result ≡ ErrorKind.TimedOut }
+    {
         match error {
             SealError::Read(e) | SealError::Write(e) => e,
             SealError::Damaged(_) => io::Error::new(ErrorKind::InvalidData, "damaged sealed file"),

@@ -1,30 +1,48 @@
 //! A sealed file in memory, whose text is read from any place.
 
-ghost use Rattle.std.specs.Prelude.{◌≡◌, ◌≤◌, ◌-◌, ◌*◌, ◌/◌, ℕ, List, length, take, min, nat_eq, IfOk, IfErr, OnErr};
+ghost use Rattle.std.specs.Prelude.{◌≡◌, ◌≤◌, ◌-◌, ◌*◌, ◌/◌, ◌↔◌, ℕ, List, length, take, min, nat_eq, IsOk, IfOk, IfErr, OnErr};
 ghost use Rattle.std.specs.Result.{IsOkAnd};
-ghost use Rattle.sealed.specs.Sealed.{chunk_at, last_in, damage_at, sealed, IsNoChunk, CopiesFrom, ReadsPart, IsPart};
+ghost use Rattle.sealed.specs.Sealed.{header, chunk_at, last_in, text_of, damage_at, sealed, HasSalt, IsHeaderDamage, IsNoChunk, CopiesFrom, ReadsPart, IsPart};
 
-use crate::chunk::{CHUNK, Salt, TAG, open_chunk};
+use crate::chunk::{CHUNK, Salt, TAG, open_chunk, salt_of};
 use crate::error::Damage;
 use crate::places::{chunk_place, last_chunk, text_len};
 use chacha20::Key;
 
-/// A sealed file in memory. `read_header` gives its salt.
+/// A sealed file in memory.
 #[derive(Clone, Copy)]
 pub struct SealedSlice<'f> {
-    /// The key.
-    pub key: Key,
-    /// The salt that the file's header has.
-    pub salt: Salt,
-    /// The whole file, with its header.
-    pub file: &'f [u8],
+    key: Key,
+    salt: Salt,
+    file: &'f [u8],
+    ghost begins: { take 32 file.now ≡ header salt },
 }
 
 impl<'f> SealedSlice<'f> {
-    /// How many bytes of text the file has; any number if it isn't a sealed file.
+    ghost use Rattle.sealed.specs.SealedSlice.{parts};
+
+    /// Takes a whole file, and reads the salt from its header. Fails exactly where the file doesn't begin with a
+    /// header, and checks no chunk.
+    pub fn new(key: &Key, file: &'f [u8]) -> Result<SealedSlice<'f>, Damage>
+        ensures accepted { IsOk result ↔ ((salt : List ℕ) × HasSalt file.now salt) }
+        ensures parts { IfOk result (λ s.
+            ((parts s).key ≡ key.now) × ((parts s).file ≡ file.now)) }
+        ensures salt { IfOk result (λ s. HasSalt file.now (parts s).salt) }
+        ensures damage { IfErr result (λ e. IsHeaderDamage file.now e) }
+    {
+        let salt = salt_of(file)?;
+        Ok(SealedSlice {
+            key: *key,
+            salt,
+            file,
+        })
+    }
+
+    /// How many bytes of text the file has. If it isn't a sealed file, a number by its length alone.
     pub fn text_len(&self) -> u64
-        ensures { (key salt text : List ℕ) → length salt ≡ 16
-            → self.now.file.now ≡ sealed key salt text → result ≡ length text }
+        ensures exact { (key salt text : List ℕ) → length salt ≡ 16
+            → (parts self.now).file ≡ sealed key salt text → result ≡ length text }
+        ensures value { result ≡ text_of (length (parts self.now).file) }
     {
         text_len(self.file.len() as u64)
     }
@@ -33,16 +51,16 @@ impl<'f> SealedSlice<'f> {
     /// how many bytes that are: 0 at the end of the text and past it, where it checks the last chunk. Fails exactly
     /// where the chunk isn't right; then the window stays as it was.
     pub fn read_at(&self, start: u64, window: &mut [u8]) -> Result<usize, Damage>
-        ensures read { let i = min (start / 65536) (last_in self.now.file.now) in
-            IfOk result (ReadsPart self.now.key self.now.salt self.now.file.now i
+        ensures read { let s = parts self.now in let i = min (start / 65536) (last_in s.file) in
+            IfOk result (ReadsPart s.key s.salt s.file i
             (start - 65536 * i) window.old window.new) }
-        ensures refused { let i = min (start / 65536) (last_in self.now.file.now) in
-            let last = nat_eq i (last_in self.now.file.now) in
+        ensures refused { let s = parts self.now in
+            let i = min (start / 65536) (last_in s.file) in let last = nat_eq i (last_in s.file) in
             IfErr result (λ e. (e ≡ damage_at i last)
-            × IsNoChunk self.now.key self.now.salt i last (chunk_at self.now.file.now i)) }
+            × IsNoChunk s.key s.salt i last (chunk_at s.file i)) }
         ensures unchanged { OnErr result (window.new ≡ window.old) }
-        ensures text { (text : List ℕ)
-            → self.now.file.now ≡ sealed self.now.key self.now.salt text
+        ensures text { let s = parts self.now in (salt text : List ℕ) → length salt ≡ 16
+            → s.file ≡ sealed s.key salt text
             → IsOkAnd result (IsPart text start window.old window.new) }
     {
         read_from(&self.key, &self.salt, self.file, start, window)

@@ -1,11 +1,14 @@
 //! From a reader to a writer.
 
 ghost use Rattle.std.specs.Prelude.{◌≡◌, ◌≢◌, ◌<◌, ◌≤◌, ◌+◌, ◌*◌, ◌^◌, ◌++◌, ℕ, List, length, take, Some, IfOk, OnOk, IfErr, IfSome};
+ghost use Rattle.std.specs.declared.io.Error.{Error};
 ghost use Rattle.std.specs.Io.KnownBytes.{Appends, Consumes, IsAtEnd, prepend_known};
 ghost use Rattle.sealed.specs.declared.error.Damage.{Damage};
-ghost use Rattle.sealed.specs.Sealed.{header, chunk, sealed, IsRight};
+ghost use Rattle.sealed.specs.Sealed.{header, chunk, sealed, damage_at, IsRight, IsNoChunk, IsHeaderDamage, IsDamage};
 
-use crate::chunk::{CHUNK, CHUNKS, MAGIC, Salt, TAG, header, open_chunk, write_chunk, write_whole};
+use crate::chunk::{
+    CHUNK, CHUNKS, Salt, TAG, header, open_chunk, salt_of, write_chunk, write_whole,
+};
 use crate::error::{Damage, SealError};
 use chacha20::Key;
 use std::io::{self, ErrorKind, Read, Write};
@@ -32,6 +35,7 @@ pub fn encrypt<R: Read, W: Write>(
         (take n (sealed key.now salt.now text)) }
     ensures too_long { IfErr result (λ e. e ≡ SealError.TooLong
         → IfSome (R.remaining reader.old) (λ text. 2 ^ 72 < length text)) }
+    ensures failed { IfErr result (λ e. (damage : Damage) → e ≢ SealError.Damaged damage) }
 {
     write_whole(writer, &header(salt))?;
     let mut held = 0;
@@ -49,9 +53,9 @@ pub fn encrypt<R: Read, W: Write>(
 }
 
 /// Reads a sealed file up to the reader's end, and writes the text of each chunk after its tag was found right. If it
-/// fails, the writer has a front of the text of the chunks whose tags were right. No clause says which damage an error
-/// names. `buf` is scratch space of `CHUNK + TAG + 1` bytes. Don't read it afterwards: it may hold anything, also text
-/// whose tag is wrong.
+/// fails, the writer has a front of the text of the chunks whose tags were right. Damage is that of the header, or of
+/// the first chunk that isn't right. `buf` is scratch space of `CHUNK + TAG + 1` bytes. Don't read it afterwards: it
+/// may hold anything, also text whose tag is wrong.
 pub fn decrypt<R: Read, W: Write>(
     key: &Key,
     reader: &mut R,
@@ -65,6 +69,8 @@ pub fn decrypt<R: Read, W: Write>(
     ensures refused { IfErr result (λ e. (damage : Damage) → e ≡ SealError.Damaged damage
         → IfSome (R.remaining reader.old) (λ file. (salt text : List ℕ)
         → length salt ≡ 16 → file ≢ sealed key.now salt text)) }
+    ensures damaged { IfErr result (λ e. (damage : Damage) → e ≡ SealError.Damaged damage
+        → IfSome (R.remaining reader.old) (λ file. IsDamage key.now file damage)) }
     // Also after an error.
     ensures only_right { IfSome (R.remaining reader.old) (λ file. (text : List ℕ) × (n : ℕ)
         × (0 < n → IsRight key.now file text)
@@ -98,26 +104,16 @@ pub fn read_header<R: Read>(reader: &mut R) -> Result<Salt, SealError>
     ensures refused { IfErr result (λ e. (damage : Damage) → e ≡ SealError.Damaged damage
         → IfSome (R.remaining reader.old) (λ file. (salt rest : List ℕ)
         → length salt ≡ 16 → file ≢ header salt ++ rest)) }
+    ensures damaged { IfErr result (λ e. (damage : Damage) → e ≡ SealError.Damaged damage
+        → IfSome (R.remaining reader.old) (λ file. IsHeaderDamage file damage)) }
+    ensures not_write { IfErr result (λ e. (error : Error) → e ≢ SealError.Write error) }
     ensures not_long { IfErr result (λ e. e ≢ SealError.TooLong) }
 {
     let mut bytes = [0; 32];
     let n = fill(reader, &mut bytes, 0)?;
-    if !bytes.starts_with(&MAGIC) || n < 32 {
-        return Err(SealError::Damaged(header_damage(&bytes, n)));
-    }
-    let mut salt = [0; 16];
-    salt.copy_from_slice(&bytes[16..]);
-    Ok(salt)
-}
-
-// What is wrong with a header of which n bytes were read.
-fn header_damage(bytes: &[u8; 32], n: usize) -> Damage {
-    if !bytes.starts_with(&MAGIC[..15]) {
-        Damage::NotSealed
-    } else if n < 32 {
-        Damage::CutHeader
-    } else {
-        Damage::OtherVersion
+    match salt_of(&bytes[..n]) {
+        Ok(salt) => Ok(salt),
+        Err(damage) => Err(SealError::Damaged(damage)),
     }
 }
 
@@ -136,9 +132,9 @@ fn write_text<W: Write>(
         × (bytes.old ≡ chunk key.now salt.now number last text)
         × Appends (W.contents writer.old) (W.contents writer.new) text) }
     ensures wrong { IfErr result (λ e. (damage : Damage) → e ≡ SealError.Damaged damage
-        → (W.contents writer.new ≡ W.contents writer.old)
-        × ((text : List ℕ) → (0 < number → 0 < length text)
-        → bytes.old ≢ chunk key.now salt.now number last text)) }
+        → (damage ≡ damage_at number last)
+        × (W.contents writer.new ≡ W.contents writer.old)
+        × IsNoChunk key.now salt.now number last bytes.old) }
     ensures partly { (text : List ℕ) × (n : ℕ)
         × (0 < n → (0 < number → 0 < length text)
         × (bytes.old ≡ chunk key.now salt.now number last text))
@@ -161,6 +157,7 @@ pub fn fill<R: Read>(reader: &mut R, buf: &mut [u8], held: usize) -> Result<usiz
         (take n buf.new)) }
     ensures bounds { IfOk result (λ n. (held ≤ n) × (n ≤ length buf.old)) }
     ensures failed { IfErr result (λ e. (damage : Damage) → e ≢ SealError.Damaged damage) }
+    ensures not_write { IfErr result (λ e. (error : Error) → e ≢ SealError.Write error) }
     ensures not_long { IfErr result (λ e. e ≢ SealError.TooLong) }
     ensures end { IfOk result (λ n. n < length buf.old → IsAtEnd (R.remaining reader.new)) }
 {

@@ -4,7 +4,7 @@ use aead::{AeadError, ChaCha20Poly1305, XChaCha20Poly1305};
 use chacha20::cipher::{KeyIvInit, StreamCipher, StreamCipherError, StreamCipherSeek};
 use chacha20::{ChaCha20, ChaCha20Rng, Key, Nonce, XNonce};
 use known_answers::published::{CIPHERTEXT, COUNTING, MESSAGE, NONCE, OF_20_ROUNDS, X_NONCE};
-use sealed::{CHUNK, SealError, TAG};
+use sealed::{CHUNK, Damage, SealError, SealedSlice, TAG};
 use std::random::RandomSource;
 
 fn encrypted_and_decrypted(key: &Key, nonce: &Nonce) -> Result<[u8; 14], StreamCipherError> {
@@ -52,6 +52,12 @@ fn messages(rt: HostRuntime) {
     assert!(rt; sealed_and_opened(&COUNTING, &NONCE) == Ok(*b"attack at dawn"));
 }
 
+// Bytes 10 to 14 of a file's text.
+fn part(key: &Key, file: &[u8], window: &mut [u8; 4]) -> Result<usize, Damage> {
+    let slice = SealedSlice::new(key, file)?;
+    slice.read_at(10, window)
+}
+
 fn in_memory(rt: &HostRuntime, key: &Key, text: &[u8]) -> Result<bool, SealError> {
     let mut salt = [0; 16];
     rt.fill_bytes(&mut salt).map_err(SealError::Read)?;
@@ -61,7 +67,9 @@ fn in_memory(rt: &HostRuntime, key: &Key, text: &[u8]) -> Result<bool, SealError
     let mut opened = Vec::new(rt.alloc());
     let mut reader = file.as_slice();
     sealed::decrypt(key, &mut reader, &mut opened, &mut [0; CHUNK + TAG + 1])?;
-    Ok(opened.as_slice() == text)
+    let mut window = [0; 4];
+    let n = part(key, file.as_slice(), &mut window).map_err(SealError::Damaged)?;
+    Ok(opened.as_slice() == text && n == 4 && text.ends_with(&window))
 }
 
 #[test]

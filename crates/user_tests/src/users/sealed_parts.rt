@@ -7,31 +7,29 @@ ghost use Rattle.sealed.specs.Sealed.{sealed};
 
 use super::sealed_files::{Change, FILE, SALT, TEXT, apply, count, seals, two_files};
 use super::unsteady::Unsteady;
+use chacha20::Key;
 use known_answers::published::COUNTING as KEY;
 use sealed::{CHUNK, Damage, SealError, SealedReader, SealedSlice, TAG};
 use std::fs::{File, OpenOptions, remove_file};
 use std::io::{self, Cursor, ErrorKind, Read, Seek, SeekFrom, Write};
 
-// A file in memory.
-fn slice(file: &[u8]) -> SealedSlice<'_> {
-    SealedSlice {
-        key: KEY,
-        salt: SALT,
-        file,
-    }
+// A part of a file in memory.
+fn read_part(file: &[u8], place: u64, window: &mut [u8]) -> Result<usize, Damage> {
+    SealedSlice::new(&KEY, file)?.read_at(place, window)
 }
 
-// The same behind a reader.
+// A file behind a reader.
 fn reader(file: &[u8]) -> Unsteady<Cursor<&[u8]>> {
     Unsteady::new(Cursor::new(file), 1000, 0)
 }
 
 // Of a sealed file whose text is long enough, its bytes 1000 to 1100.
-fn hundred(slice: &SealedSlice<'_>, window: &mut [u8; 100]) -> Result<usize, Damage>
-    ensures { (text : List ℕ) → slice.now.file.now ≡ sealed slice.now.key slice.now.salt text
-        → 1100 ≤ length text
+fn hundred(key: &Key, file: &[u8], window: &mut [u8; 100]) -> Result<usize, Damage>
+    ensures { (salt text : List ℕ) → length salt ≡ 16
+        → file.now ≡ sealed key.now salt text → 1100 ≤ length text
         → IsOkAnd result (λ n. window.new ≡ slice_range text 1000 1100) }
 {
+    let slice = SealedSlice::new(key, file)?;
     slice.read_at(1000, window)
 }
 
@@ -48,9 +46,7 @@ fn is_read<R: Read + Seek>(text: &[u8], file: &[u8], reader: &mut R, place: usiz
     let mut windows = [[0; 30]; 2];
     let sought = reader.seek(SeekFrom::Start(place as u64));
     let n = reader.read(&mut windows[0]).unwrap_or(usize::MAX);
-    let m = slice(file)
-        .read_at(place as u64, &mut windows[1])
-        .unwrap_or(usize::MAX);
+    let m = read_part(file, place as u64, &mut windows[1]).unwrap_or(usize::MAX);
     sought.unwrap_or(0) == place as u64
         && is_part(text, place, n, &windows[0])
         && is_part(text, place, m, &windows[1])
@@ -110,7 +106,7 @@ fn parts(rt: HostRuntime) -> io::Result<()> {
     assert!(rt; seals(&SALT, &text, &mut file));
     assert!(rt; all_read(&text, &file, &mut reader(&file)));
     assert!(rt; all_read(&text, &file, &mut unnamed(&rt, &file)?));
-    assert!(rt; hundred(&slice(&file), &mut window).is_ok() && window[..] == text[1000..1100]);
+    assert!(rt; hundred(&KEY, &file, &mut window).is_ok() && window[..] == text[1000..1100]);
     Ok(())
 }
 
@@ -148,7 +144,13 @@ fn a_chunk_is_kept(rt: HostRuntime) {
 }
 
 // A damaged file, a place that is read, and what is wrong there.
-static DAMAGED: [(Change, u64, Option<Damage>); 15] = [
+static DAMAGED: [(Change, u64, Option<Damage>); 21] = [
+    (Change::Turned(0), 65536, Some(Damage::NotSealed)),
+    (Change::Turned(14), 65536, Some(Damage::NotSealed)),
+    (Change::Cut(14), 65536, Some(Damage::NotSealed)),
+    (Change::Cut(15), 65536, Some(Damage::CutHeader)),
+    (Change::Cut(31), 65536, Some(Damage::CutHeader)),
+    (Change::Turned(15), 65536, Some(Damage::OtherVersion)),
     (Change::Turned(32), 0, Some(Damage::WrongChunk(0))),
     (Change::Turned(32), 65536, None),
     (Change::Turned(131135), 65535, None),
@@ -166,17 +168,23 @@ static DAMAGED: [(Change, u64, Option<Damage>); 15] = [
     (Change::Cut(32), 0, Some(Damage::WrongEnd(0))),
 ];
 
+// The damage that is found, if any.
+fn damage_of<T: Drop>(done: Result<T, SealError>) -> Option<Damage> {
+    match done {
+        Err(SealError::Damaged(damage)) => Some(damage),
+        _ => None,
+    }
+}
+
 // What a reader says of a place, and the kind of its second answer.
 fn read_at(file: &[u8], place: u64, window: &mut [u8]) -> (Option<Damage>, Option<ErrorKind>) {
     let (mut inner, mut buf) = (reader(file), [0; CHUNK + TAG]);
-    let Ok(mut reader) = SealedReader::new(&KEY, &mut inner, &mut buf) else {
-        return (Some(Damage::NotSealed), None);
+    let mut reader = match SealedReader::new(&KEY, &mut inner, &mut buf) {
+        Ok(reader) => reader,
+        Err(e) => return (damage_of::<()>(Err(e)), Some(ErrorKind::InvalidData)),
     };
     let _ = reader.seek(SeekFrom::Start(place));
-    let damage = match reader.read_text(window) {
-        Err(SealError::Damaged(damage)) => Some(damage),
-        _ => None,
-    };
+    let damage = damage_of(reader.read_text(window));
     let _ = reader.seek(SeekFrom::Start(place));
     let again = match reader.read(window) {
         Ok(_) => None,
@@ -188,7 +196,7 @@ fn read_at(file: &[u8], place: u64, window: &mut [u8]) -> (Option<Damage>, Optio
 // Whether this damage is found at a place, in memory and behind a reader, and then nothing handed out.
 fn is_found(file: &[u8], place: u64, damage: Option<Damage>) -> bool {
     let (mut window, mut other) = ([0; 30], [0; 30]);
-    let in_memory = slice(file).read_at(place, &mut window);
+    let in_memory = read_part(file, place, &mut window);
     let (behind_a_reader, kind) = read_at(file, place, &mut other);
     in_memory.err() == damage
         && behind_a_reader == damage

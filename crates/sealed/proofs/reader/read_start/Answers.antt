@@ -19,12 +19,12 @@ returns-clause-len g c =
 
 pub returns-in_err-salt-clause-damaged : goal.returns-in_err-salt-clause-damaged
 returns-in_err-salt-clause-damaged g c =
-    passed-on c.from_residual-in_err-salt.result _ c.from_residual-in_err-salt.ensures.1
+    passed-on _ c.from_residual-in_err-salt.result _ c.from_residual-in_err-salt.ensures.1
     (λ damage is. (
       c.go_to-2.new.inner,
       (
         went-back _ _ _ _ _ _ c.in_ok-file_len.ensures.moves c.in_ok-go_to.ensures.moves,
         Keeps-trans _ _ _ c.in_ok-file_len.ensures.file c.in_ok-go_to.ensures.file,
       ),
-      c.in_err-salt.ensures.refused damage is,
+      c.in_err-salt.ensures.damaged damage is,
     ))

@@ -5,7 +5,7 @@ use Rattle.std.proofs.KnownBytes.{Appends-nil, Appends-trans, Consumes-trans, pr
 use Rattle.sealed.specs.Sealed.{header, chunks}
 use Rattle.sealed.proofs.ChunkLemmas.{as-chunk, no-chunk-as, chunks-more, length-chunk, length-chunks}
 use Rattle.sealed.proofs.FrontLemmas.{long-text}
-use Rattle.sealed.proofs.OpenLemmas.{refusal-weaker, passed-on, on_ok-passed, no-file, text-of, opened, refused-last, refused-mid, right-before, right-last, right-mid, split-full}
+use Rattle.sealed.proofs.OpenLemmas.{HasDamage, refusal-weaker, passed-on, on_ok-passed, damage-refused, header-damage, text-of, opened, damaged-last, damaged-mid, right-before, right-last, right-mid, split-full}
 use Rattle.sealed.proofs.ReaderLemmas.{Consumes-held, first-byte}
 use Rattle.sealed.proofs.stream.decrypt.Goals as goal
 
@@ -35,11 +35,14 @@ write_text-requires-in-chunks-clause-size g c =
     let full : length c.fill.new.buf ≡ 65553 = omega (arith, c.chunks.auto.buf, c.requires, c.fill.auto.buf) in
     le_of_eq (length-take-le 65552 c.fill.new.buf (omega (arith, full)))
 
+pub returns-in_err-salt-clause-damaged : goal.returns-in_err-salt-clause-damaged
+returns-in_err-salt-clause-damaged g c =
+    passed-on _ c.from_residual.result _ c.from_residual.ensures.1
+    (λ damage is. header-damage (g.R.Read.remaining c.args.reader.now) c.args.key.now damage
+    (c.in_err-salt.ensures.damaged damage is))
+
 pub returns-in_err-salt-clause-refused : goal.returns-in_err-salt-clause-refused
-returns-in_err-salt-clause-refused g c =
-    passed-on c.from_residual.result _ c.from_residual.ensures.1
-    (λ damage is. no-file (g.R.Read.remaining c.args.reader.now) c.args.key.now
-    (c.in_err-salt.ensures.refused damage is))
+returns-in_err-salt-clause-refused g c = damage-refused _ _ _ (returns-in_err-salt-clause-damaged g c)
 
 pub returns-then-n-clause-accepted : goal.returns-then-n-clause-accepted
 returns-then-n-clause-accepted g c =
@@ -60,23 +63,26 @@ returns-then-n-clause-accepted g c =
     written right.3)
     c.write_text.ensures.right
 
-pub returns-then-n-clause-refused : goal.returns-then-n-clause-refused
-returns-then-n-clause-refused g c =
+pub returns-then-n-clause-damaged : goal.returns-then-n-clause-damaged
+returns-then-n-clause-damaged g c =
     let (moved, most, held, long, read, written) = c.chunks.invariant in
     let n = c.in_ok-n.n in
     let got = c.in_ok-n.ensures in
+    let a = g.R.Read.remaining c.args.reader.now in
     let wide : length (take n c.fill.new.buf) ≡ n =
     length-take-le n c.fill.new.buf (omega (arith, got.bounds.1, c.fill.auto.buf)) in
     let end = got.end (omega (arith, c.if-n.true, c.chunks.auto.buf, c.requires)) in
-    refusal-weaker c.write_text.result
-    (λ wrong.
-    refused-last (g.R.Read.remaining c.args.reader.now)
-    (g.R.Read.remaining c.fill.new.reader) c.args.key.now c.in_ok-salt.salt moved
+    refusal-weaker _ (HasDamage a c.args.key.now) c.write_text.result
+    (λ damage wrong. subst (HasDamage a c.args.key.now) (sym wrong.0)
+    (damaged-last a (g.R.Read.remaining c.fill.new.reader) c.args.key.now c.in_ok-salt.salt moved
     (take n c.fill.new.buf) c.chunks.number
     c.in_ok-salt.ensures.size long (omega (arith, wide, c.if-n.true)) (λ more. omega
     (arith, wide, held more, got.bounds.0))
-    wrong.1 (Consumes-trans _ _ _ _ _ read got.read) end)
+    wrong.2 (Consumes-trans _ _ _ _ _ read got.read) end))
     c.write_text.ensures.wrong
+
+pub returns-then-n-clause-refused : goal.returns-then-n-clause-refused
+returns-then-n-clause-refused g c = damage-refused _ _ _ (returns-then-n-clause-damaged g c)
 
 pub returns-then-n-clause-only_right : goal.returns-then-n-clause-only_right
 returns-then-n-clause-only_right g c =
@@ -120,23 +126,29 @@ returns-clause-only_right g c =
     (λ more. omega (arith, held more, length-take c.chunks.held c.chunks.buf, c.chunks.auto.buf, c.requires))
     read written
 
-pub returns-in_err-write_text-clause-refused : goal.returns-in_err-write_text-clause-refused
-returns-in_err-write_text-clause-refused g c =
+pub returns-in_err-write_text-clause-damaged : goal.returns-in_err-write_text-clause-damaged
+returns-in_err-write_text-clause-damaged g c =
     let (moved, most, held, long, read, written) = c.chunks.invariant in
     let n = c.in_ok-n.n in
     let buf = c.fill.new.buf in
-    let before = header c.in_ok-salt.salt ++ chunks c.args.key.now c.in_ok-salt.salt moved c.chunks.number in
+    let key = c.args.key.now in
+    let salt = c.in_ok-salt.salt in
+    let before = header salt ++ chunks key salt moved c.chunks.number in
     let full : length buf ≡ 65553 = omega (arith, c.fill.auto.buf, c.chunks.auto.buf, c.requires) in
     let a = g.R.Read.remaining c.args.reader.now in
     let b = g.R.Read.remaining c.fill.new.reader in
-    passed-on c.from_residual-in_err-write_text.result _ c.from_residual-in_err-write_text.ensures.1
+    passed-on (HasDamage a key) c.from_residual-in_err-write_text.result _ c.from_residual-in_err-write_text.ensures.1
     (λ damage is.
-    refused-mid a b c.args.key.now c.in_ok-salt.salt moved
-    (take 65552 buf) c.chunks.number c.in_ok-salt.ensures.size long
+    let wrong = c.in_err-write_text.ensures.wrong damage is in
+    subst (HasDamage a key) (sym wrong.0)
+    (damaged-mid a b key salt moved (take 65552 buf) c.chunks.number c.in_ok-salt.ensures.size long
     (drop 65552 buf) (length-take-le 65552 buf (omega (arith, full))) (omega (arith, length-drop 65552 buf, full))
-    (no-chunk-as _ _ _ _ c.chunks.number _ (c.in_err-write_text.ensures.wrong damage is).1 refl)
+    (no-chunk-as _ _ _ _ c.chunks.number _ wrong.2 refl)
     (subst (Consumes a b) (split-full before buf n full (omega (arith, c.if-n.false)))
-    (Consumes-trans _ _ _ _ _ read c.in_ok-n.ensures.read)))
+    (Consumes-trans _ _ _ _ _ read c.in_ok-n.ensures.read))))
+
+pub returns-in_err-write_text-clause-refused : goal.returns-in_err-write_text-clause-refused
+returns-in_err-write_text-clause-refused g c = damage-refused _ _ _ (returns-in_err-write_text-clause-damaged g c)
 
 pub returns-in_err-write_text-clause-only_right : goal.returns-in_err-write_text-clause-only_right
 returns-in_err-write_text-clause-only_right g c =
@@ -194,10 +206,13 @@ chunks-preserved g c =
       Appends-trans _ _ _ _ _ written more,
     )
 
-pub returns-in_err-n-clause-refused : goal.returns-in_err-n-clause-refused
-returns-in_err-n-clause-refused g c =
-    passed-on c.from_residual-in_err-n.result _ c.from_residual-in_err-n.ensures.1
+pub returns-in_err-n-clause-damaged : goal.returns-in_err-n-clause-damaged
+returns-in_err-n-clause-damaged g c =
+    passed-on _ c.from_residual-in_err-n.result _ c.from_residual-in_err-n.ensures.1
     (λ damage is. absurd (c.in_err-n.ensures.failed damage is))
+
+pub returns-in_err-n-clause-refused : goal.returns-in_err-n-clause-refused
+returns-in_err-n-clause-refused g c = damage-refused _ _ _ (returns-in_err-n-clause-damaged g c)
 
 -- answered for speed
 pub returns-in_err-salt-clause-text : goal.returns-in_err-salt-clause-text
