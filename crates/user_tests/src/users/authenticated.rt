@@ -4,14 +4,13 @@
 ghost use Rattle.std.specs.Prelude.{◌≡◌, ◌≤◌, ◌+◌, ◌↔◌, length, IsOk, OnOk};
 ghost use Rattle.chacha20.specs.Cipher.{limit_of};
 
-use aead::{
-    AeadError, ChaCha8Poly1305, ChaCha12Poly1305, ChaCha20Poly1305, ChaChaPoly1305,
-    XChaCha8Poly1305, XChaCha12Poly1305, XChaCha20Poly1305,
-};
+use aead::{AeadError, ChaChaPoly1305};
 use chacha20::backends::Lanes16;
 use chacha20::cipher::{KeyIvInit, StreamCipher};
 use chacha20::variants::Ietf;
-use chacha20::{ChaChaCore, Key, Nonce, Rounds, StreamCipherCoreWrapper, XChaChaCore, XNonce};
+use chacha20::{
+    ChaChaCore, Key, Nonce, R8, R12, R20, Rounds, StreamCipherCoreWrapper, XChaChaCore, XNonce,
+};
 use known_answers::published::{FROM_80, MESSAGE};
 
 // Whatever the cipher and the message are: what is encrypted is decrypted, and the message is as it was.
@@ -83,16 +82,17 @@ fn decrypted<C: KeyIvInit<Key = Key> + StreamCipher + Drop>(
 // The sealed message, where both ways to encrypt agree, and both ways to decrypt give the text, and with another tag
 // fail and change nothing.
 fn sealed<C: KeyIvInit<Key = Key> + StreamCipher + Drop>(
-    aead: &ChaChaPoly1305<C>,
+    key: &Key,
     nonce: &C::Iv,
     aad: &[u8],
     text: &[u8],
 ) -> Option<[u8; SEALED]> {
-    let sealed = encrypted(aead, nonce, aad, text)?;
+    let aead = ChaChaPoly1305::<C>::new(key);
+    let sealed = encrypted(&aead, nonce, aad, text)?;
     let mut forged = sealed;
     forged[text.len().min(TEXT) + 15] ^= 1;
-    let (right, texts) = decrypted(aead, nonce, aad, &sealed, text.len());
-    let (wrong, same) = decrypted(aead, nonce, aad, &forged, text.len());
+    let (right, texts) = decrypted(&aead, nonce, aad, &sealed, text.len());
+    let (wrong, same) = decrypted(&aead, nonce, aad, &forged, text.len());
     if right == [Ok(()); 2]
         && texts[0].starts_with(text)
         && texts[1].starts_with(text)
@@ -106,64 +106,67 @@ fn sealed<C: KeyIvInit<Key = Key> + StreamCipher + Drop>(
 }
 
 // The same of an AEAD of any number of rounds: the bounds of its cipher are proved here, and not for each type anew.
+// `names.rt` has the names of these AEADs.
 
 fn by_chacha<R: Rounds>(
-    aead: &ChaChaPoly1305<StreamCipherCoreWrapper<ChaChaCore<R, Ietf, Lanes16>>>,
+    key: &Key,
     nonce: &Nonce,
     aad: &[u8],
     text: &[u8],
 ) -> Option<[u8; SEALED]> {
-    sealed(aead, nonce, aad, text)
+    sealed::<StreamCipherCoreWrapper<ChaChaCore<R, Ietf, Lanes16>>>(key, nonce, aad, text)
 }
 
 fn by_xchacha<R: Rounds>(
-    aead: &ChaChaPoly1305<StreamCipherCoreWrapper<XChaChaCore<R, Lanes16>>>,
+    key: &Key,
     nonce: &XNonce,
     aad: &[u8],
     text: &[u8],
 ) -> Option<[u8; SEALED]> {
-    sealed(aead, nonce, aad, text)
+    sealed::<StreamCipherCoreWrapper<XChaChaCore<R, Lanes16>>>(key, nonce, aad, text)
 }
 
 // RFC 8439, sections 2.8.2 and A.5, and draft-irtf-cfrg-xchacha, section A.3.1.
 #[test]
 fn published(rt: HostRuntime) {
-    let made = by_chacha(&ChaCha20Poly1305::new(&FROM_80), &NONCE, AAD, MESSAGE);
-    assert!(rt; made == Some(padded(CIPHERTEXT_AND_TAG)));
-    let made = by_chacha(&ChaCha20Poly1305::new(&A5_KEY), &A5_NONCE, A5_AAD, A5_TEXT);
-    assert!(rt; made == Some(padded(A5_CIPHERTEXT_AND_TAG)));
-    let made = by_xchacha(&XChaCha20Poly1305::new(&FROM_80), &X_NONCE, AAD, MESSAGE);
-    assert!(rt; made == Some(padded(X_CIPHERTEXT_AND_TAG)));
+    let made = [
+        by_chacha::<R20>(&FROM_80, &NONCE, AAD, MESSAGE),
+        by_chacha::<R20>(&A5_KEY, &A5_NONCE, A5_AAD, A5_TEXT),
+        by_xchacha::<R20>(&FROM_80, &X_NONCE, AAD, MESSAGE),
+    ];
+    let expected = [
+        Some(padded(CIPHERTEXT_AND_TAG)),
+        Some(padded(A5_CIPHERTEXT_AND_TAG)),
+        Some(padded(X_CIPHERTEXT_AND_TAG)),
+    ];
+    assert!(rt; made == expected);
 }
 
 // All lengths of a front, and those around its bounds.
 #[test]
 fn lengths(rt: HostRuntime) {
-    let aead = ChaCha20Poly1305::new(&FROM_80);
     for len in 0..TEXT + 1 {
-        assert!(rt; by_chacha(&aead, &NONCE, AAD, &[7; TEXT][..len]).is_some());
+        assert!(rt; by_chacha::<R20>(&FROM_80, &NONCE, AAD, &[7; TEXT][..len]).is_some());
     }
+}
+
+// Whether this number of rounds does the same.
+fn has_rounds<R: Rounds>() -> bool {
+    by_chacha::<R>(&FROM_80, &NONCE, AAD, &[7; 1000]).is_some()
+        && by_xchacha::<R>(&FROM_80, &X_NONCE, AAD, &[7; 1000]).is_some()
 }
 
 #[test]
 fn other_rounds(rt: HostRuntime) {
-    assert!(rt; by_chacha(&ChaCha8Poly1305::new(&FROM_80), &NONCE, AAD, &[7; 1000]).is_some());
-    assert!(rt; by_chacha(&ChaCha12Poly1305::new(&FROM_80), &NONCE, AAD, &[7; 1000]).is_some());
-    assert!(rt; by_xchacha(&XChaCha8Poly1305::new(&FROM_80), &X_NONCE, AAD, &[7; 1000]).is_some());
-    assert!(rt; by_xchacha(&XChaCha12Poly1305::new(&FROM_80), &X_NONCE, AAD, &[7; 1000]).is_some());
+    assert!(rt; has_rounds::<R8>() && has_rounds::<R12>());
 }
 
 // For these lengths of the message, the XOR of the tags. The data are the front of the ciphertext.
 fn all_tags(aad: usize) -> u128 {
-    let aead = ChaCha20Poly1305::new(&FROM_80);
+    let aad = &CIPHERTEXT_AND_TAG[..aad.min(130)];
     let mut all = 0;
     for len in [0usize, 1, 15, 16, 17, 63, 64, 65] {
-        let made = by_chacha(
-            &aead,
-            &NONCE,
-            &CIPHERTEXT_AND_TAG[..aad.min(130)],
-            &MESSAGE[..len],
-        );
+        let made = by_chacha::<R20>(&FROM_80, &NONCE, aad, &MESSAGE[..len]);
         all ^= tag_of(&made.unwrap_or([0; SEALED]), len);
     }
     all

@@ -239,12 +239,15 @@ fn refuses() -> bool {
 }
 
 fn checks() -> bool {
-    chacha20_check(274877906944, 1) == 1
-        && chacha20_check(274877906934, 10) == 0
-        && chacha20_check(u64::MAX, usize::MAX) == 1
-        && chacha20_legacy_check(u64::MAX, 63, 1) == 0
-        && chacha20_legacy_check(u64::MAX, 63, 2) == 1
-        && chacha20_legacy_check(u64::MAX, u64::MAX, usize::MAX) == 1
+    let answers = [
+        chacha20_check(274877906944, 1),
+        chacha20_check(274877906934, 10),
+        chacha20_check(u64::MAX, usize::MAX),
+        chacha20_legacy_check(u64::MAX, 63, 1),
+        chacha20_legacy_check(u64::MAX, 63, 2),
+        chacha20_legacy_check(u64::MAX, u64::MAX, usize::MAX),
+    ];
+    answers == [1, 0, 1, 0, 1, 1]
 }
 
 fn word(rounds: u32, state: &mut SerializedRngState) -> u32 {
@@ -412,10 +415,10 @@ fn encrypts(extended: bool, tag: &Tag) -> bool {
 fn decrypts(extended: bool, tag: &Tag) -> bool {
     let (ciphertext, _) = encrypted(extended);
     let (mut data, mut output) = (ciphertext, [0; 114]);
-    decrypt_in_place(extended, &mut data, tag) == 0
-        && decrypt_between(extended, &mut output, &ciphertext, tag) == 0
-        && data == *MESSAGE
-        && output == *MESSAGE
+    (decrypt_in_place(extended, &mut data, tag) == 0)
+        & (decrypt_between(extended, &mut output, &ciphertext, tag) == 0)
+        & (data == *MESSAGE)
+        & (output == *MESSAGE)
 }
 
 // A tag whose last bit is turned, and an output that is too short. Nothing changes.
@@ -424,14 +427,17 @@ fn refuses_forgery(extended: bool, tag: &Tag) -> bool {
     let (mut data, mut output, mut short) = (ciphertext, [7; 114], [7; 113]);
     wrong[15] ^= 128;
     let kept = wrong;
-    decrypt_in_place(extended, &mut data, &wrong) == 1
-        && decrypt_between(extended, &mut output, &ciphertext, &wrong) == 1
-        && decrypt_between(extended, &mut short, &ciphertext, tag) == 1
-        && encrypt_between(extended, &mut short, MESSAGE, &mut wrong) == 1
-        && data == ciphertext
-        && output == [7; 114]
-        && short == [7; 113]
-        && wrong == kept
+    let answers = [
+        decrypt_in_place(extended, &mut data, &wrong),
+        decrypt_between(extended, &mut output, &ciphertext, &wrong),
+        decrypt_between(extended, &mut short, &ciphertext, tag),
+        encrypt_between(extended, &mut short, MESSAGE, &mut wrong),
+    ];
+    (answers == [1; 4])
+        & (data == ciphertext)
+        & (output == [7; 114])
+        & (short == [7; 113])
+        & (wrong == kept)
 }
 
 // RFC 8439, section 2.5.2.
@@ -444,11 +450,11 @@ fn mac() -> bool {
 }
 
 fn compares() -> bool {
-    chacha_equal(b"abc", b"abc") == 1
-        && chacha_equal(b"abc", b"abd") == 0
-        && chacha_equal(b"abc", b"bbc") == 0
-        && chacha_equal(b"ab", b"abc") == 0
-        && chacha_equal(b"", b"") == 1
+    (chacha_equal(b"abc", b"abc") == 1)
+        & (chacha_equal(b"abc", b"abd") == 0)
+        & (chacha_equal(b"abc", b"bbc") == 0)
+        & (chacha_equal(b"ab", b"abc") == 0)
+        & (chacha_equal(b"", b"") == 1)
 }
 
 #[test]

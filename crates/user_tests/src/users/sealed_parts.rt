@@ -1,11 +1,11 @@
 //! Parts of sealed files: in memory, behind a reader that fails, and in a `File`.
 
-ghost use Rattle.std.specs.Prelude.{◌≡◌, ◌≤◌, ℕ, List, length};
+ghost use Rattle.std.specs.Prelude.{◌≡◌, ◌<◌, ◌≤◌, ◌^◌, ℕ, List, length};
 ghost use Rattle.std.specs.List.{slice_range};
 ghost use Rattle.std.specs.Result.{IsOkAnd};
 ghost use Rattle.sealed.specs.Sealed.{sealed};
 
-use super::sealed_files::{Change, FILE, SALT, TEXT, apply, count, seals, two_files};
+use super::sealed_files::{Change, FILE, SALT, TEXT, TWO_FILES, apply, counted, two_files};
 use super::unsteady::Unsteady;
 use known_answers::published::COUNTING as KEY;
 use sealed::{CHUNK, Damage, SealError, SealedReader, SealedSlice, TAG};
@@ -77,13 +77,15 @@ fn ends<R: Read + Seek>(text: &[u8], reader: &mut R) -> bool {
     sought.unwrap_or(0) == 199997 && n.unwrap_or(0) == 3 && text.ends_with(&end[..3])
 }
 
+fn is_right<R: Read + Seek>(text: &[u8], file: &[u8], reader: &mut R) -> bool {
+    ends(text, reader) && wrong_place(text, file, reader) == usize::MAX
+}
+
 // Whether all parts are read behind a reader.
 fn all_read<R: Read + Seek>(text: &[u8], file: &[u8], inner: &mut R) -> bool {
     let mut buf = [0; CHUNK + TAG];
     match SealedReader::new(&KEY, inner, &mut buf) {
-        Ok(mut reader) => {
-            ends(text, &mut reader) && wrong_place(text, file, &mut reader) == usize::MAX
-        }
+        Ok(mut reader) => is_right(text, file, &mut reader),
         Err(_) => false,
     }
 }
@@ -103,15 +105,36 @@ fn unnamed(rt: &HostRuntime, bytes: &[u8]) -> io::Result<File> {
     Ok(file)
 }
 
+fn reads_hundred(text: &[u8], file: &[u8]) -> bool {
+    let mut window = [0; 100];
+    hundred(&slice(file), &mut window).is_ok() && text.get(1000..1100) == Some(&window[..])
+}
+
+fn unnamed_is_read(rt: &HostRuntime, text: &[u8], file: &[u8]) -> bool {
+    match unnamed(rt, file) {
+        Ok(mut reader) => all_read(text, file, &mut reader),
+        Err(_) => false,
+    }
+}
+
+fn parts_are_read(rt: &HostRuntime, text: &mut [u8], file: &mut [u8]) -> bool {
+    counted(text, file)
+        && all_read(text, file, &mut reader(file))
+        && unnamed_is_read(rt, text, file)
+        && reads_hundred(text, file)
+}
+
+// That an array is a slice is proved fast where its length is a parameter, and once.
+fn parts_are_read_in<const N: usize, const F: usize>(rt: &HostRuntime) -> bool
+    requires text { N < 2 ^ 63 }
+    requires file { F < 2 ^ 63 }
+{
+    parts_are_read(rt, &mut [0; N], &mut [0; F])
+}
+
 #[test]
-fn parts(rt: HostRuntime) -> io::Result<()> {
-    let (mut text, mut file, mut window) = ([0; TEXT], [0; FILE], [0; 100]);
-    count(&mut text);
-    assert!(rt; seals(&SALT, &text, &mut file));
-    assert!(rt; all_read(&text, &file, &mut reader(&file)));
-    assert!(rt; all_read(&text, &file, &mut unnamed(&rt, &file)?));
-    assert!(rt; hundred(&slice(&file), &mut window).is_ok() && window[..] == text[1000..1100]);
-    Ok(())
+fn parts(rt: HostRuntime) {
+    assert!(rt; parts_are_read_in::<TEXT, FILE>(&rt));
 }
 
 // Reads a text by 32 bytes, and returns how many reads fail, unless it reads another one.
@@ -119,32 +142,44 @@ fn failed_reads<R: Read>(text: &[u8], reader: &mut R) -> Option<u32> {
     let (mut at, mut failed) = (0usize, 0u32);
     for _ in 0..text.len() / 32 + 1 {
         let mut piece = [0; 32];
-        match reader.read_exact(&mut piece) {
-            Ok(()) if text.get(at..at.saturating_add(32)) != Some(&piece[..]) => return None,
-            Ok(()) => at = at.saturating_add(32),
-            Err(_) => failed = failed.saturating_add(1),
+        if reader.read_exact(&mut piece).is_err() {
+            failed = failed.saturating_add(1);
+        } else if text.get(at..at.saturating_add(32)) == Some(&piece[..]) {
+            at = at.saturating_add(32);
+        } else {
+            return None;
         }
     }
     Some(failed)
 }
 
 // The same behind a reader, whose seeks are counted.
-fn failed_behind(text: &[u8], inner: &mut Unsteady<Cursor<&[u8]>>) -> Option<u32> {
+fn failed_behind<R: Read + Seek>(text: &[u8], inner: &mut R) -> Option<u32> {
     let mut buf = [0; CHUNK + TAG];
-    let mut reader = SealedReader::new(&KEY, inner, &mut buf).ok()?;
-    failed_reads(text, &mut reader)
+    match SealedReader::new(&KEY, inner, &mut buf) {
+        Ok(mut reader) => failed_reads(text, &mut reader),
+        Err(_) => None,
+    }
 }
 
 // Each chunk is opened once, and again after a failure. The first two seeks are those of `new`.
+fn is_kept(text: &mut [u8], file: &mut [u8]) -> bool {
+    let sealed = counted(text, file);
+    let mut inner = reader(file);
+    inner.failing_seek = 4;
+    sealed && failed_behind(text, &mut inner) == Some(1) && inner.seeks == 7
+}
+
+fn is_kept_in<const N: usize, const F: usize>() -> bool
+    requires text { N < 2 ^ 63 }
+    requires file { F < 2 ^ 63 }
+{
+    is_kept(&mut [0; N], &mut [0; F])
+}
+
 #[test]
 fn a_chunk_is_kept(rt: HostRuntime) {
-    let (mut text, mut file) = ([0; TEXT], [0; FILE]);
-    count(&mut text);
-    assert!(rt; seals(&SALT, &text, &mut file));
-    let mut inner = reader(&file);
-    inner.failing_seek = 4;
-    let failed = failed_behind(&text, &mut inner);
-    assert!(rt; failed == Some(1) && inner.seeks == 7);
+    assert!(rt; is_kept_in::<TEXT, FILE>());
 }
 
 // A damaged file, a place that is read, and what is wrong there.
@@ -166,23 +201,38 @@ static DAMAGED: [(Change, u64, Option<Damage>); 15] = [
     (Change::Cut(32), 0, Some(Damage::WrongEnd(0))),
 ];
 
-// What a reader says of a place, and the kind of its second answer.
-fn read_at(file: &[u8], place: u64, window: &mut [u8]) -> (Option<Damage>, Option<ErrorKind>) {
-    let (mut inner, mut buf) = (reader(file), [0; CHUNK + TAG]);
-    let Ok(mut reader) = SealedReader::new(&KEY, &mut inner, &mut buf) else {
-        return (Some(Damage::NotSealed), None);
-    };
-    let _ = reader.seek(SeekFrom::Start(place));
-    let damage = match reader.read_text(window) {
+fn damage_of(read: Result<usize, SealError>) -> Option<Damage> {
+    match read {
         Err(SealError::Damaged(damage)) => Some(damage),
         _ => None,
-    };
-    let _ = reader.seek(SeekFrom::Start(place));
-    let again = match reader.read(window) {
+    }
+}
+
+fn kind_of(read: io::Result<usize>) -> Option<ErrorKind> {
+    match read {
         Ok(_) => None,
         Err(e) => Some(e.kind()),
-    };
-    (damage, again)
+    }
+}
+
+// What a reader says of a place, and the kind of its second answer.
+fn said_of<R: Read + Seek>(
+    reader: &mut SealedReader<'_, R>,
+    place: u64,
+    window: &mut [u8],
+) -> (Option<Damage>, Option<ErrorKind>) {
+    let _ = reader.seek(SeekFrom::Start(place));
+    let damage = damage_of(reader.read_text(window));
+    let _ = reader.seek(SeekFrom::Start(place));
+    (damage, kind_of(reader.read(window)))
+}
+
+fn read_at(file: &[u8], place: u64, window: &mut [u8]) -> (Option<Damage>, Option<ErrorKind>) {
+    let (mut inner, mut buf) = (reader(file), [0; CHUNK + TAG]);
+    match SealedReader::new(&KEY, &mut inner, &mut buf) {
+        Ok(mut reader) => said_of(&mut reader, place, window),
+        Err(_) => (Some(Damage::NotSealed), None),
+    }
 }
 
 // Whether this damage is found at a place, in memory and behind a reader, and then nothing handed out.
@@ -196,14 +246,28 @@ fn is_found(file: &[u8], place: u64, damage: Option<Damage>) -> bool {
         && (damage.is_none() || window == [0; 30] && other == [0; 30])
 }
 
-#[test]
-fn damaged_parts_are_refused(rt: HostRuntime) {
-    let (mut text, mut files, mut bytes) = ([0; TEXT], [0; 2 * FILE], [0; 2 * FILE]);
-    count(&mut text);
-    assert!(rt; two_files(&text, &mut files));
+// The number of the first damage that is not found, or how many there are.
+fn wrong_damage(text: &mut [u8], files: &mut [u8], bytes: &mut [u8]) -> usize {
+    let sealed = two_files(text, files);
     for i in 0..DAMAGED.len() {
         let (change, place, damage) = &DAMAGED[i];
-        let len = apply(&files, *change, &mut bytes).min(FILE);
-        assert!(rt; is_found(&bytes[..len], *place, *damage), "{i}");
+        let len = apply(files, *change, bytes);
+        if !sealed || !is_found(bytes.get(..len).unwrap_or(&[]), *place, *damage) {
+            return i;
+        }
     }
+    DAMAGED.len()
+}
+
+fn wrong_damage_in<const N: usize, const B: usize>() -> usize
+    requires text { N < 2 ^ 63 }
+    requires files { B < 2 ^ 63 }
+{
+    wrong_damage(&mut [0; N], &mut [0; B], &mut [0; B])
+}
+
+#[test]
+fn damaged_parts_are_refused(rt: HostRuntime) {
+    let wrong = wrong_damage_in::<TEXT, TWO_FILES>();
+    assert!(rt; wrong == DAMAGED.len(), "{wrong}");
 }
