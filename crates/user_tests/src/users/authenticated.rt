@@ -41,46 +41,70 @@ fn padded(bytes: &[u8]) -> [u8; SEALED] {
     room
 }
 
-// The sealed message of a text, where it is the same in place and from slice to slice.
+// The sealed message of a text, from slice to slice.
 fn encrypted<C: KeyIvInit<Key = Key> + StreamCipher + Drop>(
     aead: &ChaChaPoly1305<C>,
     nonce: &C::Iv,
     aad: &[u8],
     text: &[u8],
 ) -> Option<[u8; SEALED]> {
+    let mut output = [0; SEALED];
     let text = &text[..text.len().min(TEXT)];
-    let (mut message, mut output) = (padded(text), [0; SEALED]);
-    let (front, end) = message.split_at_mut(text.len());
-    let tag = aead.encrypt_in_place_detached(nonce, aad, front);
-    end[..16].copy_from_slice(&tag.unwrap_or([0; 16]));
-    let done = aead.encrypt(nonce, aad, text, &mut output[..text.len() + 16]);
-    if tag.is_ok() && done.is_ok() && message == output {
-        Some(output)
-    } else {
-        None
+    match aead.encrypt(nonce, aad, text, &mut output[..text.len() + 16]) {
+        Ok(()) => Some(output),
+        Err(_) => None,
     }
 }
 
-// What decryption of a text of this length answers, in place and from slice to slice, and what it leaves.
-fn decrypted<C: KeyIvInit<Key = Key> + StreamCipher + Drop>(
+// The same in place.
+fn encrypted_in_place<C: KeyIvInit<Key = Key> + StreamCipher + Drop>(
     aead: &ChaChaPoly1305<C>,
     nonce: &C::Iv,
     aad: &[u8],
-    sealed: &[u8; SEALED],
-    len: usize,
-) -> ([Result<(), AeadError>; 2], [[u8; SEALED]; 2]) {
+    text: &[u8],
+) -> [u8; SEALED] {
+    let mut message = padded(text);
+    let (front, end) = message.split_at_mut(text.len().min(TEXT));
+    let tag = aead.encrypt_in_place_detached(nonce, aad, front);
+    end[..16].copy_from_slice(&tag.unwrap_or([0; 16]));
+    message
+}
+
+// Whether decryption of a text of this length gives an answer, in place and from slice to slice, and leaves these bytes
+// first.
+fn decrypts<C: KeyIvInit<Key = Key> + StreamCipher + Drop>(
+    aead: &ChaChaPoly1305<C>,
+    nonce: &C::Iv,
+    aad: &[u8],
+    (sealed, len): (&[u8; SEALED], usize),
+    (answer, text): (Result<(), AeadError>, &[u8]),
+) -> bool {
     let len = len.min(TEXT);
     let (mut message, mut output, mut tag) = (*sealed, *sealed, [0; 16]);
     tag.copy_from_slice(&sealed[len..len + 16]);
-    let answers = [
-        aead.decrypt_in_place_detached(nonce, aad, &mut message[..len], &tag),
-        aead.decrypt(nonce, aad, &sealed[..len + 16], &mut output[..len]),
-    ];
-    (answers, [message, output])
+    let in_place = aead.decrypt_in_place_detached(nonce, aad, &mut message[..len], &tag);
+    let between = aead.decrypt(nonce, aad, &sealed[..len + 16], &mut output[..len]);
+    [in_place, between] == [answer; 2] && message.starts_with(text) && output.starts_with(text)
 }
 
-// The sealed message, where both ways to encrypt agree, and both ways to decrypt give the text, and with another tag
-// fail and change nothing.
+// Whether this is the sealed message both ways, and both ways to decrypt give the text, and with another tag fail and
+// change nothing.
+fn is_sealed<C: KeyIvInit<Key = Key> + StreamCipher + Drop>(
+    aead: &ChaChaPoly1305<C>,
+    nonce: &C::Iv,
+    aad: &[u8],
+    text: &[u8],
+    sealed: &[u8; SEALED],
+) -> bool {
+    let (mut forged, len) = (*sealed, text.len().min(TEXT));
+    forged[len + 15] ^= 1;
+    let wrong = (Err(AeadError::WrongTag), forged.as_slice());
+    encrypted_in_place(aead, nonce, aad, text) == *sealed
+        && decrypts(aead, nonce, aad, (sealed, len), (Ok(()), text))
+        && decrypts(aead, nonce, aad, (&forged, len), wrong)
+}
+
+// The sealed message, where it is right.
 fn sealed<C: KeyIvInit<Key = Key> + StreamCipher + Drop>(
     key: &Key,
     nonce: &C::Iv,
@@ -88,18 +112,9 @@ fn sealed<C: KeyIvInit<Key = Key> + StreamCipher + Drop>(
     text: &[u8],
 ) -> Option<[u8; SEALED]> {
     let aead = ChaChaPoly1305::<C>::new(key);
-    let sealed = encrypted(&aead, nonce, aad, text)?;
-    let mut forged = sealed;
-    forged[text.len().min(TEXT) + 15] ^= 1;
-    let (right, texts) = decrypted(&aead, nonce, aad, &sealed, text.len());
-    let (wrong, same) = decrypted(&aead, nonce, aad, &forged, text.len());
-    if right == [Ok(()); 2]
-        && texts[0].starts_with(text)
-        && texts[1].starts_with(text)
-        && wrong == [Err(AeadError::WrongTag); 2]
-        && same == [forged; 2]
-    {
-        Some(sealed)
+    let sealed = encrypted(&aead, nonce, aad, text);
+    if is_sealed(&aead, nonce, aad, text, &sealed.unwrap_or([0; SEALED])) {
+        sealed
     } else {
         None
     }
@@ -127,27 +142,38 @@ fn by_xchacha<R: Rounds>(
 }
 
 // RFC 8439, sections 2.8.2 and A.5, and draft-irtf-cfrg-xchacha, section A.3.1.
-#[test]
-fn published(rt: HostRuntime) {
+fn are_published() -> bool {
     let made = [
         by_chacha::<R20>(&FROM_80, &NONCE, AAD, MESSAGE),
         by_chacha::<R20>(&A5_KEY, &A5_NONCE, A5_AAD, A5_TEXT),
         by_xchacha::<R20>(&FROM_80, &X_NONCE, AAD, MESSAGE),
     ];
-    let expected = [
+    made == [
         Some(padded(CIPHERTEXT_AND_TAG)),
         Some(padded(A5_CIPHERTEXT_AND_TAG)),
         Some(padded(X_CIPHERTEXT_AND_TAG)),
-    ];
-    assert!(rt; made == expected);
+    ]
+}
+
+#[test]
+fn published(rt: HostRuntime) {
+    assert!(rt; are_published());
 }
 
 // All lengths of a front, and those around its bounds.
+fn wrong_length(text: &[u8]) -> usize {
+    for len in 0..text.len() {
+        if by_chacha::<R20>(&FROM_80, &NONCE, AAD, &text[..len]).is_none() {
+            return len;
+        }
+    }
+    text.len()
+}
+
 #[test]
 fn lengths(rt: HostRuntime) {
-    for len in 0..TEXT + 1 {
-        assert!(rt; by_chacha::<R20>(&FROM_80, &NONCE, AAD, &[7; TEXT][..len]).is_some());
-    }
+    let wrong = wrong_length(&[7; TEXT + 1]);
+    assert!(rt; wrong == TEXT + 1, "{wrong}");
 }
 
 // Whether this number of rounds does the same.

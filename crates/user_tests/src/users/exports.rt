@@ -105,15 +105,13 @@ fn written(rounds: u32, before: u8, stream: &[u8; 32]) -> bool {
 }
 
 fn streams() -> bool {
+    let mut right = true;
     for (rounds, before, stream) in &STREAMS {
-        if !begins(*rounds, stream)
-            || !cancels(*rounds, *before, stream)
-            || !written(*rounds, *before, stream)
-        {
-            return false;
-        }
+        right &= begins(*rounds, stream);
+        right &= cancels(*rounds, *before, stream);
+        right &= written(*rounds, *before, stream);
     }
-    true
+    right
 }
 
 // The message of RFC 8439, section 2.4.2, from block 1 on.
@@ -140,18 +138,21 @@ fn one_time_key() -> bool {
 // The last byte of the stream, and the byte before it.
 fn legacy_ends() -> bool {
     let (mut last, mut two) = ([0; 1], [0; 2]);
-    legacy_keystream(u64::MAX, 63, &mut last) == 0
-        && legacy_in_place(u64::MAX, 62, &mut two) == 0
-        && last[0] == two[1]
+    let answers = [
+        legacy_keystream(u64::MAX, 63, &mut last),
+        legacy_in_place(u64::MAX, 62, &mut two),
+    ];
+    (answers == [0; 2]) & (last[0] == two[1])
 }
 
 // A block whose first byte has a number past 64 bits.
 fn legacy_goes_far() -> bool {
     let (mut early, mut far) = ([0; 8], [0; 8]);
-    legacy_in_place(1 << 58, 0, &mut far) == 0
-        && legacy_in_place(1, u64::MAX - 63, &mut early) == 0
-        && early == far
-        && !OF_20_ROUNDS.starts_with(&far)
+    let answers = [
+        legacy_in_place(1 << 58, 0, &mut far),
+        legacy_in_place(1, u64::MAX - 63, &mut early),
+    ];
+    (answers == [0; 2]) & (early == far) & !OF_20_ROUNDS.starts_with(&far)
 }
 
 fn extended_in_place(rounds: u32, position: u64, data: &mut [u8]) -> u32 {
@@ -189,28 +190,31 @@ fn derived(rounds: u32) -> Key {
 
 fn extends(rounds: u32) -> bool {
     let (mut bytes, mut beside) = ([0; 70], [0; 70]);
-    extended_in_place(rounds, 3, &mut bytes) == 0
-        && in_place(rounds, &derived(rounds), &DERIVED_NONCE, 3, &mut beside) == 0
-        && bytes == beside
+    let answers = [
+        extended_in_place(rounds, 3, &mut bytes),
+        in_place(rounds, &derived(rounds), &DERIVED_NONCE, 3, &mut beside),
+    ];
+    (answers == [0; 2]) & (bytes == beside)
 }
 
 // Each call has the same bytes from byte 9 on.
 fn extended_agree(rounds: u32) -> bool {
     let (mut written, mut combined, mut first) = ([b'x'; 5], [b'x'; 5], [0; 14]);
-    extended_keystream(rounds, &mut written) == 0
-        && extended_between(rounds, &mut combined, &[0; 5]) == 0
-        && extended_in_place(rounds, 0, &mut first) == 0
-        && written == combined
-        && first.ends_with(&written)
+    let answers = [
+        extended_keystream(rounds, &mut written),
+        extended_between(rounds, &mut combined, &[0; 5]),
+        extended_in_place(rounds, 0, &mut first),
+    ];
+    (answers == [0; 3]) & (written == combined) & first.ends_with(&written)
 }
 
 fn extended() -> bool {
+    let mut right = true;
     for rounds in [8, 12, 20] {
-        if !extends(rounds) || !extended_agree(rounds) {
-            return false;
-        }
+        right &= extends(rounds);
+        right &= extended_agree(rounds);
     }
-    true
+    right
 }
 
 fn subkey(rounds: u32, input: &[u8; 16]) -> Key {
@@ -225,17 +229,19 @@ fn subkey(rounds: u32, input: &[u8; 16]) -> Key {
 
 // HChaCha20 (draft-irtf-cfrg-xchacha, section 2.2.1); fewer rounds compared with the library's.
 fn subkeys() -> bool {
-    subkey(8, &X_NONCE_FRONT) == derived(8)
-        && subkey(12, &X_NONCE_FRONT) == derived(12)
-        && subkey(20, &HCHACHA_INPUT) == SUBKEY
+    (subkey(8, &X_NONCE_FRONT) == derived(8))
+        & (subkey(12, &X_NONCE_FRONT) == derived(12))
+        & (subkey(20, &HCHACHA_INPUT) == SUBKEY)
 }
 
 fn refuses() -> bool {
     let mut kept = [7; 2];
-    legacy_in_place(u64::MAX, 63, &mut kept) == 1
-        && in_place(20, &ZEROS, &[0; 12], u64::MAX, &mut kept) == 1
-        && xchacha20_xor_between(&ZEROS, &X_NONCE, 0, &mut kept, b"Hello") == 1
-        && kept == [7; 2]
+    let answers = [
+        legacy_in_place(u64::MAX, 63, &mut kept),
+        in_place(20, &ZEROS, &[0; 12], u64::MAX, &mut kept),
+        xchacha20_xor_between(&ZEROS, &X_NONCE, 0, &mut kept, b"Hello"),
+    ];
+    (answers == [1; 3]) & (kept == [7; 2])
 }
 
 fn checks() -> bool {
@@ -290,22 +296,21 @@ static READS: [(u32, u32, u64, [u8; 3]); 3] = [
 ];
 
 fn reads() -> bool {
+    let mut right = true;
     for (rounds, first, next, last) in &READS {
-        if !reads_as(*rounds, *first, *next, last) {
-            return false;
-        }
+        right &= reads_as(*rounds, *first, *next, last);
     }
-    true
+    right
 }
 
 fn reads_as(rounds: u32, first: u32, next: u64, last: &[u8; 3]) -> bool {
     let mut state = seeded();
     let mut bytes = [0; 3];
-    let right = word(rounds, &mut state) == first && two_words(rounds, &mut state) == next;
+    let right = (word(rounds, &mut state) == first) & (two_words(rounds, &mut state) == next);
     fill(rounds, &mut state, &mut bytes);
     let mut after = seeded();
     after[40] = 4;
-    right && bytes == *last && state == after
+    right & (bytes == *last) & (state == after)
 }
 
 fn word_pos_is(state: &SerializedRngState, low: u64, high: u64) -> bool {
@@ -318,12 +323,12 @@ fn word_pos_is(state: &SerializedRngState, low: u64, high: u64) -> bool {
 fn positions() -> bool {
     let mut state = [0xff; 49];
     chacha_rng_set_stream(&mut state, 0x0807_0605_0403_0201);
-    let first = word_pos_is(&state, 0, 0) && state[48] == 0;
+    let first = word_pos_is(&state, 0, 0) & (state[48] == 0);
     chacha_rng_set_block_pos(&mut state, u64::MAX);
-    let last = chacha_rng_get_block_pos(&state) == u64::MAX
-        && word_pos_is(&state, u64::MAX - 15, 15);
+    let last = (chacha_rng_get_block_pos(&state) == u64::MAX)
+        & word_pos_is(&state, u64::MAX - 15, 15);
     chacha_rng_set_word_pos(&mut state, 5, 0x1_0000_000a);
-    first && last && word_pos_is(&state, 5, 10) && stream_is_stored(&state)
+    first & last & word_pos_is(&state, 5, 10) & stream_is_stored(&state)
 }
 
 // A fill of the last word of a stream of zeros and of the first.
@@ -333,7 +338,7 @@ fn wraps() -> bool {
     let mut one_by_one = state;
     fill(20, &mut state, &mut bytes);
     let last = word(20, &mut one_by_one).to_le_bytes();
-    bytes.starts_with(&last) && bytes.ends_with(&OF_20_ROUNDS[..4]) && word_pos_is(&state, 1, 0)
+    bytes.starts_with(&last) & bytes.ends_with(&OF_20_ROUNDS[..4]) & word_pos_is(&state, 1, 0)
 }
 
 fn stream_is_stored(state: &SerializedRngState) -> bool {
@@ -406,10 +411,8 @@ fn encrypted(extended: bool) -> ([u8; 114], Tag) {
 fn encrypts(extended: bool, tag: &Tag) -> bool {
     let (ciphertext, made) = encrypted(extended);
     let (mut output, mut of_output) = ([0; 114], [0; 16]);
-    encrypt_between(extended, &mut output, MESSAGE, &mut of_output) == 0
-        && output == ciphertext
-        && of_output == *tag
-        && made == *tag
+    let answer = encrypt_between(extended, &mut output, MESSAGE, &mut of_output);
+    (answer == 0) & (output == ciphertext) & (of_output == *tag) & (made == *tag)
 }
 
 fn decrypts(extended: bool, tag: &Tag) -> bool {
@@ -457,13 +460,19 @@ fn compares() -> bool {
         & (chacha_equal(b"", b"") == 1)
 }
 
+fn aeads() -> bool {
+    let mut right = true;
+    for (extended, tag) in &AEADS {
+        right &= encrypts(*extended, tag);
+        right &= decrypts(*extended, tag);
+        right &= refuses_forgery(*extended, tag);
+    }
+    right
+}
+
 #[test]
 fn authenticate(rt: HostRuntime) {
-    for (extended, tag) in &AEADS {
-        assert!(rt; encrypts(*extended, tag) && decrypts(*extended, tag));
-        assert!(rt; refuses_forgery(*extended, tag));
-    }
-    assert!(rt; mac() && compares());
+    assert!(rt; aeads() && mac() && compares());
 }
 
 #[test]
