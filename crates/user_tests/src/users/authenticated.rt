@@ -70,21 +70,46 @@ fn encrypted_in_place<C: KeyIvInit<Key = Key> + StreamCipher + Drop>(
     message
 }
 
-// Whether decryption of a text of this length gives an answer, in place and from slice to slice, and leaves these bytes
-// first.
+// Whether decryption of a text of this length gives an answer, and leaves these bytes first.
+fn decrypts_between<C: KeyIvInit<Key = Key> + StreamCipher + Drop>(
+    aead: &ChaChaPoly1305<C>,
+    nonce: &C::Iv,
+    aad: &[u8],
+    sealed: &[u8; SEALED],
+    len: usize,
+    (answer, text): (Result<(), AeadError>, &[u8]),
+) -> bool {
+    let (mut output, len) = (*sealed, len.min(TEXT));
+    let found = aead.decrypt(nonce, aad, &sealed[..len + 16], &mut output[..len]);
+    (found == answer) & output.starts_with(text)
+}
+
+// The same in place.
+fn decrypts_in_place<C: KeyIvInit<Key = Key> + StreamCipher + Drop>(
+    aead: &ChaChaPoly1305<C>,
+    nonce: &C::Iv,
+    aad: &[u8],
+    sealed: &[u8; SEALED],
+    len: usize,
+    (answer, text): (Result<(), AeadError>, &[u8]),
+) -> bool {
+    let (mut message, tag) = (*sealed, tag_of(sealed, len).to_le_bytes());
+    let front = &mut message[..len.min(TEXT)];
+    let found = aead.decrypt_in_place_detached(nonce, aad, front, &tag);
+    (found == answer) & message.starts_with(text)
+}
+
+// The same both ways.
 fn decrypts<C: KeyIvInit<Key = Key> + StreamCipher + Drop>(
     aead: &ChaChaPoly1305<C>,
     nonce: &C::Iv,
     aad: &[u8],
-    (sealed, len): (&[u8; SEALED], usize),
-    (answer, text): (Result<(), AeadError>, &[u8]),
+    sealed: &[u8; SEALED],
+    len: usize,
+    expected: (Result<(), AeadError>, &[u8]),
 ) -> bool {
-    let len = len.min(TEXT);
-    let (mut message, mut output, mut tag) = (*sealed, *sealed, [0; 16]);
-    tag.copy_from_slice(&sealed[len..len + 16]);
-    let in_place = aead.decrypt_in_place_detached(nonce, aad, &mut message[..len], &tag);
-    let between = aead.decrypt(nonce, aad, &sealed[..len + 16], &mut output[..len]);
-    [in_place, between] == [answer; 2] && message.starts_with(text) && output.starts_with(text)
+    decrypts_between(aead, nonce, aad, sealed, len, expected)
+        & decrypts_in_place(aead, nonce, aad, sealed, len, expected)
 }
 
 // Whether this is the sealed message both ways, and both ways to decrypt give the text, and with another tag fail and
@@ -99,9 +124,9 @@ fn is_sealed<C: KeyIvInit<Key = Key> + StreamCipher + Drop>(
     let (mut forged, len) = (*sealed, text.len().min(TEXT));
     forged[len + 15] ^= 1;
     let wrong = (Err(AeadError::WrongTag), forged.as_slice());
-    encrypted_in_place(aead, nonce, aad, text) == *sealed
-        && decrypts(aead, nonce, aad, (sealed, len), (Ok(()), text))
-        && decrypts(aead, nonce, aad, (&forged, len), wrong)
+    (encrypted_in_place(aead, nonce, aad, text) == *sealed)
+        & decrypts(aead, nonce, aad, sealed, len, (Ok(()), text))
+        & decrypts(aead, nonce, aad, &forged, len, wrong)
 }
 
 // The sealed message, where it is right.
@@ -123,12 +148,7 @@ fn sealed<C: KeyIvInit<Key = Key> + StreamCipher + Drop>(
 // The same of an AEAD of any number of rounds: the bounds of its cipher are proved here, and not for each type anew.
 // `names.rt` has the names of these AEADs.
 
-fn by_chacha<R: Rounds>(
-    key: &Key,
-    nonce: &Nonce,
-    aad: &[u8],
-    text: &[u8],
-) -> Option<[u8; SEALED]> {
+fn by_chacha<R: Rounds>(key: &Key, nonce: &Nonce, aad: &[u8], text: &[u8]) -> Option<[u8; SEALED]> {
     sealed::<StreamCipherCoreWrapper<ChaChaCore<R, Ietf, Lanes16>>>(key, nonce, aad, text)
 }
 

@@ -208,12 +208,7 @@ const LAST_TWICE: &[Part] = &[HEADER, FIRST, SECOND, THIRD, LAST, LAST];
 const WHOLE_TWICE: &[Part] = &[(0, FILE), (0, FILE)];
 
 // What is said of a damaged file, and how much text is written.
-fn opened_after(
-    files: &[u8],
-    change: Change,
-    bytes: &mut [u8],
-    back: &mut [u8],
-) -> (Said, usize) {
+fn opened_after(files: &[u8], change: Change, bytes: &mut [u8], back: &mut [u8]) -> (Said, usize) {
     let len = apply(files, change, bytes);
     opened(bytes.get(..len).unwrap_or(&[]), back, 0, 0)
 }
