@@ -26,6 +26,10 @@ fn reader(file: &[u8]) -> Unsteady<Cursor<&[u8]>> {
     Unsteady::new(Cursor::new(file), 1000, 0)
 }
 
+// The scratch space of a reader. Functions have its size as a parameter, since proofs are fast with that, and slow with
+// a large number.
+const BUFFER: usize = CHUNK + TAG;
+
 // Of a sealed file whose text is long enough, its bytes 1000 to 1100.
 fn hundred(slice: &SealedSlice<'_>, window: &mut [u8; 100]) -> Result<usize, Damage>
     ensures { (text : List ℕ) → slice.now.file.now ≡ sealed slice.now.key slice.now.salt text
@@ -82,8 +86,10 @@ fn is_right<R: Read + Seek>(text: &[u8], file: &[u8], reader: &mut R) -> bool {
 }
 
 // Whether all parts are read behind a reader.
-fn all_read<R: Read + Seek>(text: &[u8], file: &[u8], inner: &mut R) -> bool {
-    let mut buf = [0; CHUNK + TAG];
+fn all_read<R: Read + Seek, const B: usize>(text: &[u8], file: &[u8], inner: &mut R) -> bool
+    requires { B ≡ 65552 }
+{
+    let mut buf = [0; B];
     match SealedReader::new(&KEY, inner, &mut buf) {
         Ok(mut reader) => is_right(text, file, &mut reader),
         Err(_) => false,
@@ -112,14 +118,14 @@ fn reads_hundred(text: &[u8], file: &[u8]) -> bool {
 
 fn unnamed_is_read(rt: &HostRuntime, text: &[u8], file: &[u8]) -> bool {
     match unnamed(rt, file) {
-        Ok(mut reader) => all_read(text, file, &mut reader),
+        Ok(mut reader) => all_read::<_, BUFFER>(text, file, &mut reader),
         Err(_) => false,
     }
 }
 
 fn parts_are_read(rt: &HostRuntime, text: &mut [u8], file: &mut [u8]) -> bool {
     counted(text, file)
-        && all_read(text, file, &mut reader(file))
+        && all_read::<_, BUFFER>(text, file, &mut reader(file))
         && unnamed_is_read(rt, text, file)
         && reads_hundred(text, file)
 }
@@ -154,8 +160,10 @@ fn failed_reads<R: Read>(text: &[u8], reader: &mut R) -> Option<u32> {
 }
 
 // The same behind a reader, whose seeks are counted.
-fn failed_behind<R: Read + Seek>(text: &[u8], inner: &mut R) -> Option<u32> {
-    let mut buf = [0; CHUNK + TAG];
+fn failed_behind<R: Read + Seek, const B: usize>(text: &[u8], inner: &mut R) -> Option<u32>
+    requires { B ≡ 65552 }
+{
+    let mut buf = [0; B];
     match SealedReader::new(&KEY, inner, &mut buf) {
         Ok(mut reader) => failed_reads(text, &mut reader),
         Err(_) => None,
@@ -167,7 +175,7 @@ fn is_kept(text: &mut [u8], file: &mut [u8]) -> bool {
     let sealed = counted(text, file);
     let mut inner = reader(file);
     inner.failing_seek = 4;
-    sealed && failed_behind(text, &mut inner) == Some(1) && inner.seeks == 7
+    sealed && failed_behind::<_, BUFFER>(text, &mut inner) == Some(1) && inner.seeks == 7
 }
 
 fn is_kept_in<const N: usize, const F: usize>() -> bool
@@ -227,9 +235,15 @@ fn said_of<R: Read + Seek>(
     (damage, kind_of(reader.read(window)))
 }
 
-fn read_at(file: &[u8], place: u64, window: &mut [u8]) -> (Option<Damage>, Option<ErrorKind>) {
-    let (mut inner, mut buf) = (reader(file), [0; CHUNK + TAG]);
-    match SealedReader::new(&KEY, &mut inner, &mut buf) {
+fn read_at<R: Read + Seek, const B: usize>(
+    inner: &mut R,
+    place: u64,
+    window: &mut [u8],
+) -> (Option<Damage>, Option<ErrorKind>)
+    requires { B ≡ 65552 }
+{
+    let mut buf = [0; B];
+    match SealedReader::new(&KEY, inner, &mut buf) {
         Ok(mut reader) => said_of(&mut reader, place, window),
         Err(_) => (Some(Damage::NotSealed), None),
     }
@@ -239,7 +253,7 @@ fn read_at(file: &[u8], place: u64, window: &mut [u8]) -> (Option<Damage>, Optio
 fn is_found(file: &[u8], place: u64, damage: Option<Damage>) -> bool {
     let (mut window, mut other) = ([0; 30], [0; 30]);
     let in_memory = slice(file).read_at(place, &mut window);
-    let (behind_a_reader, kind) = read_at(file, place, &mut other);
+    let (behind_a_reader, kind) = read_at::<_, BUFFER>(&mut reader(file), place, &mut other);
     in_memory.err() == damage
         && behind_a_reader == damage
         && kind == damage.map(|_| ErrorKind::InvalidData)
