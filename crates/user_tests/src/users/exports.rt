@@ -87,29 +87,22 @@ static STREAMS: [(u32, u8, [u8; 32]); 4] = [
     (LEGACY, 4, OF_20_ROUNDS),
 ];
 
-fn begins(rounds: u32, stream: &[u8; 32]) -> bool {
-    let mut bytes = [0; 32];
-    in_place(rounds, &ZEROS, &[0; 12], 0, &mut bytes) == 0 && bytes == *stream
-}
-
-// A stream from byte 8 on, combined with the stream, leaves zeros.
-fn cancels(rounds: u32, before: u8, stream: &[u8; 32]) -> bool {
-    let mut bytes = [before; 24];
-    between(rounds, &mut bytes, &stream[8..]) == 0 && bytes == [0; 24]
-}
-
-// The keystream goes over whatever was there.
-fn written(rounds: u32, before: u8, stream: &[u8; 32]) -> bool {
-    let mut bytes = [before; 24];
-    keystream(rounds, &mut bytes) == 0 && stream.ends_with(&bytes)
+// The first bytes; from byte 8 on, the stream combined with itself, which leaves zeros; and the keystream, which goes
+// over whatever was there.
+fn is_stream(rounds: u32, before: u8, stream: &[u8; 32]) -> bool {
+    let (mut first, mut combined, mut written) = ([0; 32], [before; 24], [before; 24]);
+    let answers = [
+        in_place(rounds, &ZEROS, &[0; 12], 0, &mut first),
+        between(rounds, &mut combined, &stream[8..]),
+        keystream(rounds, &mut written),
+    ];
+    (answers == [0; 3]) & (first == *stream) & (combined == [0; 24]) & stream.ends_with(&written)
 }
 
 fn streams() -> bool {
     let mut right = true;
     for (rounds, before, stream) in &STREAMS {
-        right &= begins(*rounds, stream);
-        right &= cancels(*rounds, *before, stream);
-        right &= written(*rounds, *before, stream);
+        right &= is_stream(*rounds, *before, stream);
     }
     right
 }

@@ -96,18 +96,13 @@ fn all_read<R: Read + Seek, const B: usize>(text: &[u8], file: &[u8], inner: &mu
     }
 }
 
-// A file with these bytes, which has no name.
-fn unnamed(rt: &HostRuntime, bytes: &[u8]) -> io::Result<File> {
+// An empty file, whose name is removed.
+fn unnamed(rt: &HostRuntime) -> io::Result<File> {
     let path = "sealed_parts.tmp";
     let mut options = OpenOptions::new();
-    let mut file = options
-        .read(true)
-        .write(true)
-        .create(true)
-        .truncate(true)
-        .open(rt, path)?;
+    options.read(true).write(true).create(true).truncate(true);
+    let file = options.open(rt, path)?;
     remove_file(rt, path)?;
-    file.write_all(bytes)?;
     Ok(file)
 }
 
@@ -117,8 +112,10 @@ fn reads_hundred(text: &[u8], file: &[u8]) -> bool {
 }
 
 fn unnamed_is_read(rt: &HostRuntime, text: &[u8], file: &[u8]) -> bool {
-    match unnamed(rt, file) {
-        Ok(mut reader) => all_read::<_, BUFFER>(text, file, &mut reader),
+    match unnamed(rt) {
+        Ok(mut inner) => {
+            inner.write_all(file).is_ok() && all_read::<_, BUFFER>(text, file, &mut inner)
+        }
         Err(_) => false,
     }
 }
