@@ -10,6 +10,12 @@ use known_answers::published::COUNTING as KEY;
 use sealed::{CHUNK, Damage, Salt, SealError, TAG, decrypt, encrypt};
 use std::io::{Read, Write};
 
+// Scratch space. Functions have its size as a parameter, since proofs are fast with that, and slow with a large number.
+
+const TO_SEAL: usize = CHUNK + 1;
+
+const TO_OPEN: usize = CHUNK + TAG + 1;
+
 pub const SALT: Salt = *b"defghijklmnopqrs";
 
 // What a call says.
@@ -33,12 +39,13 @@ fn said_by(done: Result<(), SealError>) -> Said {
 }
 
 // Of a sealed file, whatever is said, a front of its text is written.
-fn opens<R: Read, W: Write>(key: &Key, reader: &mut R, writer: &mut W) -> Said
+fn opens<R: Read, W: Write, const B: usize>(key: &Key, reader: &mut R, writer: &mut W) -> Said
+    requires { B ≡ 65553 }
     ensures { (salt text : List ℕ) → length salt ≡ 16
         → R.remaining reader.old ≡ Some (sealed key.now salt text)
         → (n : ℕ) × Appends (W.contents writer.old) (W.contents writer.new) (take n text) }
 {
-    let done = decrypt(key, reader, writer, &mut [0; CHUNK + TAG + 1]);
+    let done = decrypt(key, reader, writer, &mut [0; B]);
     said_by(done)
 }
 
@@ -47,7 +54,7 @@ fn opened(file: &[u8], text: &mut [u8], read: u32, write: u32) -> (Said, usize) 
     let most = text.len();
     let mut reader = Unsteady::new(file, 1000, read);
     let mut writer = Unsteady::new(text, 1000, write);
-    let said = opens(&KEY, &mut reader, &mut writer);
+    let said = opens::<_, _, TO_OPEN>(&KEY, &mut reader, &mut writer);
     (said, most - writer.inner.len().min(most))
 }
 
@@ -62,10 +69,12 @@ fn another_implementations_file(rt: HostRuntime) {
 }
 
 // Whether a text's file fills this one.
-pub fn seals(salt: &Salt, text: &[u8], file: &mut [u8]) -> bool {
+fn seals<const B: usize>(salt: &Salt, text: &[u8], file: &mut [u8]) -> bool
+    requires { B ≡ 65537 }
+{
     let (mut reader, mut writer) = (text, file);
-    let done = encrypt(&KEY, salt, &mut reader, &mut writer, &mut [0; CHUNK + 1]);
-    done.is_ok() && writer.is_empty()
+    let done = encrypt(&KEY, salt, &mut reader, &mut writer, &mut [0; B]);
+    done.is_ok() & writer.is_empty()
 }
 
 // Writes the numbers from 0 to 250, again and again.
@@ -78,7 +87,7 @@ pub fn count(text: &mut [u8]) {
 // Makes a text, and says whether its file fills this one.
 pub fn counted(text: &mut [u8], file: &mut [u8]) -> bool {
     count(text);
-    seals(&SALT, text, file)
+    seals::<TO_SEAL>(&SALT, text, file)
 }
 
 // Whether a text of N bytes has a file of F bytes, and comes back.
@@ -161,7 +170,7 @@ fn put_parts(files: &[u8], parts: &[Part], bytes: &mut [u8]) -> usize {
 // Files of the text under two salts, one behind the other.
 pub fn two_files(text: &mut [u8], files: &mut [u8]) -> bool {
     let (first, second) = files.split_at_mut(FILE.min(files.len()));
-    counted(text, first) && seals(&[7; 16], text, second)
+    counted(text, first) && seals::<TO_SEAL>(&[7; 16], text, second)
 }
 
 // What is wrong with a damaged file, and how much text is written.
@@ -252,7 +261,7 @@ static FAILURES: [(u32, u32, Said); 6] = [
 
 // The number of the first failure of which another thing is said, or how many there are.
 fn wrong_failure(text: &mut [u8], file: &mut [u8]) -> usize {
-    let sealed = seals(&SALT, text, file);
+    let sealed = seals::<TO_SEAL>(&SALT, text, file);
     for i in 0..FAILURES.len() {
         let (read, write, said) = &FAILURES[i];
         if !sealed || opened(file, text, *read, *write).0 != *said {

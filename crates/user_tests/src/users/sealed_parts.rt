@@ -26,8 +26,7 @@ fn reader(file: &[u8]) -> Unsteady<Cursor<&[u8]>> {
     Unsteady::new(Cursor::new(file), 1000, 0)
 }
 
-// The scratch space of a reader. Functions have its size as a parameter, since proofs are fast with that, and slow with
-// a large number.
+// The scratch space of a reader.
 const BUFFER: usize = CHUNK + TAG;
 
 // Of a sealed file whose text is long enough, its bytes 1000 to 1100.
