@@ -199,12 +199,12 @@ fn lengths(rt: HostRuntime) {
 // Whether this number of rounds does the same.
 fn has_rounds<R: Rounds>() -> bool {
     by_chacha::<R>(&FROM_80, &NONCE, AAD, &[7; 1000]).is_some()
-        && by_xchacha::<R>(&FROM_80, &X_NONCE, AAD, &[7; 1000]).is_some()
+        & by_xchacha::<R>(&FROM_80, &X_NONCE, AAD, &[7; 1000]).is_some()
 }
 
 #[test]
 fn other_rounds(rt: HostRuntime) {
-    assert!(rt; has_rounds::<R8>() && has_rounds::<R12>());
+    assert!(rt; has_rounds::<R8>() & has_rounds::<R12>());
 }
 
 // For these lengths of the message, the XOR of the tags. The data are the front of the ciphertext.

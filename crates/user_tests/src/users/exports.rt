@@ -110,22 +110,17 @@ fn streams() -> bool {
 // The message of RFC 8439, section 2.4.2, from block 1 on.
 fn message() -> bool {
     let mut text = *MESSAGE;
-    in_place(20, &COUNTING, &NONCE, 64, &mut text) == 0 && text == *CIPHERTEXT
+    (in_place(20, &COUNTING, &NONCE, 64, &mut text) == 0) & (text == *CIPHERTEXT)
 }
 
 // The key of a MAC for one message (RFC 8439, section 2.6.2), which is the front of block 0.
 fn one_time_key() -> bool {
     let mut key = [0; 32];
-    in_place(
-        20,
-        &FROM_80,
-        &[0, 0, 0, 0, 0, 1, 2, 3, 4, 5, 6, 7],
-        0,
-        &mut key,
-    ) == 0
-        && key
-            == *b"\x8a\xd5\xa0\x8b\x90\x5f\x81\xcc\x81\x50\x40\x27\x4a\xb2\x94\x71\
-            \xa8\x33\xb6\x37\xe3\xfd\x0d\xa5\x08\xdb\xb8\xe2\xfd\xd1\xa6\x46"
+    let nonce = [0, 0, 0, 0, 0, 1, 2, 3, 4, 5, 6, 7];
+    let answer = in_place(20, &FROM_80, &nonce, 0, &mut key);
+    let expected = *b"\x8a\xd5\xa0\x8b\x90\x5f\x81\xcc\x81\x50\x40\x27\x4a\xb2\x94\x71\
+        \xa8\x33\xb6\x37\xe3\xfd\x0d\xa5\x08\xdb\xb8\xe2\xfd\xd1\xa6\x46";
+    (answer == 0) & (key == expected)
 }
 
 // The last byte of the stream, and the byte before it.
@@ -309,7 +304,7 @@ fn reads_as(rounds: u32, first: u32, next: u64, last: &[u8; 3]) -> bool {
 fn word_pos_is(state: &SerializedRngState, low: u64, high: u64) -> bool {
     let (mut read_low, mut read_high) = (1, 1);
     chacha_rng_get_word_pos(state, &mut read_low, &mut read_high);
-    read_low == low && read_high == high
+    (read_low == low) & (read_high == high)
 }
 
 // The stream is set first, since that moves to its first word.
@@ -335,8 +330,8 @@ fn wraps() -> bool {
 }
 
 fn stream_is_stored(state: &SerializedRngState) -> bool {
-    chacha_rng_get_stream(state) == 0x0807_0605_0403_0201
-        && state[32..41].starts_with(b"\x01\x02\x03\x04\x05\x06\x07\x08\x05")
+    (chacha_rng_get_stream(state) == 0x0807_0605_0403_0201)
+        & state[32..41].starts_with(b"\x01\x02\x03\x04\x05\x06\x07\x08\x05")
 }
 
 // RFC 8439, section 2.8.2, and draft-irtf-cfrg-xchacha, section A.3.1: the key `FROM_80`, the text `MESSAGE`.
@@ -465,20 +460,20 @@ fn aeads() -> bool {
 
 #[test]
 fn authenticate(rt: HostRuntime) {
-    assert!(rt; aeads() && mac() && compares());
+    assert!(rt; aeads() & mac() & compares());
 }
 
 #[test]
 fn ciphers(rt: HostRuntime) {
-    assert!(rt; streams() && message() && one_time_key() && extended() && subkeys());
+    assert!(rt; streams() & message() & one_time_key() & extended() & subkeys());
 }
 
 #[test]
 fn ends(rt: HostRuntime) {
-    assert!(rt; legacy_ends() && legacy_goes_far() && refuses() && checks());
+    assert!(rt; legacy_ends() & legacy_goes_far() & refuses() & checks());
 }
 
 #[test]
 fn generators(rt: HostRuntime) {
-    assert!(rt; reads() && positions() && wraps());
+    assert!(rt; reads() & positions() & wraps());
 }

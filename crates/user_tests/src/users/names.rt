@@ -47,7 +47,7 @@ fn sizes_of_cores(rt: HostRuntime) {
         sizes::<ChaChaCore<R20, Legacy, Lanes8>>(),
         sizes::<XChaChaCore<R12, Rows8>>(),
     ];
-    assert!(rt; found == SIZES && sizes_of_type(None::<&XChaCha20>) == (32, 24));
+    assert!(rt; (found == SIZES) & (sizes_of_type(None::<&XChaCha20>) == (32, 24)));
 }
 
 static SIZES: [[usize; 4]; 3] = [[64, 32, 12, 1], [64, 32, 8, 4], [64, 32, 24, 8]];

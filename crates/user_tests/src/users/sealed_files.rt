@@ -65,7 +65,8 @@ static FILE_OF_TEXT: [u8; 52] = *b"chacha20-seal v1defghijklmnopqrs\
 #[test]
 fn another_implementations_file(rt: HostRuntime) {
     let mut text = [0; 5];
-    assert!(rt; opened(&FILE_OF_TEXT, &mut text, 0, 0) == (Said::Done, 4) && text == *b"text\0");
+    let said = opened(&FILE_OF_TEXT, &mut text, 0, 0);
+    assert!(rt; (said == (Said::Done, 4)) & (text == *b"text\0"));
 }
 
 // Whether a text's file fills this one.
@@ -99,14 +100,21 @@ fn comes_back<const N: usize, const F: usize>() -> bool
 }
 
 fn is_right(text: &mut [u8], file: &mut [u8], back: &mut [u8]) -> bool {
-    counted(text, file) && opened(file, back, 0, 0) == (Said::Done, text.len()) && *back == *text
+    let sealed = counted(text, file);
+    sealed & (opened(file, back, 0, 0) == (Said::Done, text.len())) & (*back == *text)
 }
 
 #[test]
 fn round_trips(rt: HostRuntime) {
-    assert!(rt; comes_back::<0, 48>() && comes_back::<1, 49>() && comes_back::<65535, 65583>());
-    assert!(rt; comes_back::<65536, 65584>() && comes_back::<65537, 65601>());
-    assert!(rt; comes_back::<400000, 400144>());
+    let found = [
+        comes_back::<0, 48>(),
+        comes_back::<1, 49>(),
+        comes_back::<65535, 65583>(),
+        comes_back::<65536, 65584>(),
+        comes_back::<65537, 65601>(),
+        comes_back::<400000, 400144>(),
+    ];
+    assert!(rt; found == [true; 6]);
 }
 
 // A text whose file has four chunks, and that file.
@@ -170,7 +178,7 @@ fn put_parts(files: &[u8], parts: &[Part], bytes: &mut [u8]) -> usize {
 // Files of the text under two salts, one behind the other.
 pub fn two_files(text: &mut [u8], files: &mut [u8]) -> bool {
     let (first, second) = files.split_at_mut(FILE.min(files.len()));
-    counted(text, first) && seals::<TO_SEAL>(&[7; 16], text, second)
+    counted(text, first) & seals::<TO_SEAL>(&[7; 16], text, second)
 }
 
 // What is wrong with a damaged file, and how much text is written.
@@ -228,7 +236,7 @@ fn wrong_damage(text: &mut [u8], files: &mut [u8], bytes: &mut [u8], back: &mut 
     for i in 0..DAMAGED.len() {
         let (change, damage, written) = &DAMAGED[i];
         let said = opened_after(files, *change, bytes, back);
-        if !sealed || said != (Said::Damaged(*damage), *written) {
+        if !sealed | (said != (Said::Damaged(*damage), *written)) {
             return i;
         }
     }
@@ -264,7 +272,7 @@ fn wrong_failure(text: &mut [u8], file: &mut [u8]) -> usize {
     let sealed = seals::<TO_SEAL>(&SALT, text, file);
     for i in 0..FAILURES.len() {
         let (read, write, said) = &FAILURES[i];
-        if !sealed || opened(file, text, *read, *write).0 != *said {
+        if !sealed | (opened(file, text, *read, *write).0 != *said) {
             return i;
         }
     }

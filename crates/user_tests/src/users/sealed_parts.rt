@@ -43,7 +43,7 @@ fn is_part(text: &[u8], place: usize, n: usize, window: &[u8]) -> bool {
     let from = place.min(text.len());
     let end = (place / CHUNK).saturating_add(1).saturating_mul(CHUNK);
     let size = window.len().min(end.min(text.len()) - from.min(end));
-    n == size && window.get(..n) == text.get(from..from.saturating_add(n))
+    (n == size) & (window.get(..n) == text.get(from..from.saturating_add(n)))
 }
 
 // Whether this text is read at a place, in memory and behind a reader.
@@ -54,9 +54,9 @@ fn is_read<R: Read + Seek>(text: &[u8], file: &[u8], reader: &mut R, place: usiz
     let m = slice(file)
         .read_at(place as u64, &mut windows[1])
         .unwrap_or(usize::MAX);
-    sought.unwrap_or(0) == place as u64
-        && is_part(text, place, n, &windows[0])
-        && is_part(text, place, m, &windows[1])
+    (sought.unwrap_or(0) == place as u64)
+        & is_part(text, place, n, &windows[0])
+        & is_part(text, place, m, &windows[1])
 }
 
 // The first place near the end of a chunk from which another text is read, or the greatest number.
@@ -77,11 +77,11 @@ fn ends<R: Read + Seek>(text: &[u8], reader: &mut R) -> bool {
     let mut end = [0; 4];
     let sought = reader.seek(SeekFrom::End(-3));
     let n = reader.read(&mut end);
-    sought.unwrap_or(0) == 199997 && n.unwrap_or(0) == 3 && text.ends_with(&end[..3])
+    (sought.unwrap_or(0) == 199997) & (n.unwrap_or(0) == 3) & text.ends_with(&end[..3])
 }
 
 fn is_right<R: Read + Seek>(text: &[u8], file: &[u8], reader: &mut R) -> bool {
-    ends(text, reader) && wrong_place(text, file, reader) == usize::MAX
+    ends(text, reader) & (wrong_place(text, file, reader) == usize::MAX)
 }
 
 // Whether all parts are read behind a reader.
@@ -107,13 +107,13 @@ fn unnamed(rt: &HostRuntime) -> io::Result<File> {
 
 fn reads_hundred(text: &[u8], file: &[u8]) -> bool {
     let mut window = [0; 100];
-    hundred(&slice(file), &mut window).is_ok() && text.get(1000..1100) == Some(&window[..])
+    hundred(&slice(file), &mut window).is_ok() & (text.get(1000..1100) == Some(&window[..]))
 }
 
 fn unnamed_is_read(rt: &HostRuntime, text: &[u8], file: &[u8]) -> bool {
     match unnamed(rt) {
         Ok(mut inner) => {
-            inner.write_all(file).is_ok() && all_read::<_, BUFFER>(text, file, &mut inner)
+            inner.write_all(file).is_ok() & all_read::<_, BUFFER>(text, file, &mut inner)
         }
         Err(_) => false,
     }
@@ -121,9 +121,9 @@ fn unnamed_is_read(rt: &HostRuntime, text: &[u8], file: &[u8]) -> bool {
 
 fn parts_are_read(rt: &HostRuntime, text: &mut [u8], file: &mut [u8]) -> bool {
     counted(text, file)
-        && all_read::<_, BUFFER>(text, file, &mut reader(file))
-        && unnamed_is_read(rt, text, file)
-        && reads_hundred(text, file)
+        & all_read::<_, BUFFER>(text, file, &mut reader(file))
+        & unnamed_is_read(rt, text, file)
+        & reads_hundred(text, file)
 }
 
 // That an array is a slice is proved fast where its length is a parameter, and once.
@@ -171,7 +171,8 @@ fn is_kept(text: &mut [u8], file: &mut [u8]) -> bool {
     let sealed = counted(text, file);
     let mut inner = reader(file);
     inner.failing_seek = 4;
-    sealed && failed_behind::<_, BUFFER>(text, &mut inner) == Some(1) && inner.seeks == 7
+    let failed = failed_behind::<_, BUFFER>(text, &mut inner);
+    sealed & (failed == Some(1)) & (inner.seeks == 7)
 }
 
 fn is_kept_in<const N: usize, const F: usize>() -> bool
@@ -250,10 +251,10 @@ fn is_found(file: &[u8], place: u64, damage: Option<Damage>) -> bool {
     let (mut window, mut other) = ([0; 30], [0; 30]);
     let in_memory = slice(file).read_at(place, &mut window);
     let (behind_a_reader, kind) = read_at::<_, BUFFER>(&mut reader(file), place, &mut other);
-    in_memory.err() == damage
-        && behind_a_reader == damage
-        && kind == damage.map(|_| ErrorKind::InvalidData)
-        && (damage.is_none() || window == [0; 30] && other == [0; 30])
+    (in_memory.err() == damage)
+        & (behind_a_reader == damage)
+        & (kind == damage.map(|_| ErrorKind::InvalidData))
+        & (damage.is_none() | (window == [0; 30]) & (other == [0; 30]))
 }
 
 // The number of the first damage that is not found, or how many there are.
@@ -262,7 +263,7 @@ fn wrong_damage(text: &mut [u8], files: &mut [u8], bytes: &mut [u8]) -> usize {
     for i in 0..DAMAGED.len() {
         let (change, place, damage) = &DAMAGED[i];
         let len = apply(files, *change, bytes);
-        if !sealed || !is_found(bytes.get(..len).unwrap_or(&[]), *place, *damage) {
+        if !sealed | !is_found(bytes.get(..len).unwrap_or(&[]), *place, *damage) {
             return i;
         }
     }

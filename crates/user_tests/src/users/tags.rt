@@ -8,7 +8,7 @@ fn is_right(key: &[u8; 32], text: &[u8], cut: usize, tag: &Tag) -> bool {
     let mut mac = Poly1305::new(key);
     mac.update(first);
     mac.update(rest);
-    is_equal(mac.finish(), tag) && is_equal(authenticate(key, text), tag)
+    is_equal(mac.finish(), tag) & is_equal(authenticate(key, text), tag)
 }
 
 // The first cut at which the tag is wrong.
@@ -71,9 +71,8 @@ fn wrong_length(key: &[u8; 32], text: &[u8; 700]) -> Option<usize> {
 fn long_texts(rt: HostRuntime) {
     for (key, (first, step), tags) in &LONG_TAGS {
         let (key, text) = ([*key; 32], text_of(*first, *step));
-        assert!(rt; has_tags(&key, &text, tags));
-        assert!(rt; wrong_length(&key, &text).is_none());
-        assert!(rt; wrong_cut(&key, &text, &tags[6]).is_none());
+        let wrong = [wrong_length(&key, &text), wrong_cut(&key, &text, &tags[6])];
+        assert!(rt; has_tags(&key, &text, tags) & (wrong == [None; 2]));
     }
 }
 
