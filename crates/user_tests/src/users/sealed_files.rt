@@ -10,11 +10,9 @@ use known_answers::published::COUNTING as KEY;
 use sealed::{CHUNK, Damage, Salt, SealError, TAG, decrypt, encrypt};
 use std::io::{Read, Write};
 
-// Scratch space. Functions have its size as a parameter, since proofs are fast with that, and slow with a large number.
-
+// Scratch space. Its length is a parameter of functions, and so are those of other large arrays: that a slice of them
+// has its length is proved fast with that, and slowly with a large number.
 const TO_SEAL: usize = CHUNK + 1;
-
-const TO_OPEN: usize = CHUNK + TAG + 1;
 
 pub const SALT: Salt = *b"defghijklmnopqrs";
 
@@ -39,13 +37,12 @@ fn said_by(done: Result<(), SealError>) -> Said {
 }
 
 // Of a sealed file, whatever is said, a front of its text is written.
-fn opens<R: Read, W: Write, const B: usize>(key: &Key, reader: &mut R, writer: &mut W) -> Said
-    requires { B ≡ 65553 }
+fn opens<R: Read, W: Write>(key: &Key, reader: &mut R, writer: &mut W) -> Said
     ensures { (salt text : List ℕ) → length salt ≡ 16
         → R.remaining reader.old ≡ Some (sealed key.now salt text)
         → (n : ℕ) × Appends (W.contents writer.old) (W.contents writer.new) (take n text) }
 {
-    let done = decrypt(key, reader, writer, &mut [0; B]);
+    let done = decrypt(key, reader, writer, &mut [0; CHUNK + TAG + 1]);
     said_by(done)
 }
 
@@ -54,7 +51,7 @@ fn opened(file: &[u8], text: &mut [u8], read: u32, write: u32) -> (Said, usize) 
     let most = text.len();
     let mut reader = Unsteady::new(file, 1000, read);
     let mut writer = Unsteady::new(text, 1000, write);
-    let said = opens::<_, _, TO_OPEN>(&KEY, &mut reader, &mut writer);
+    let said = opens(&KEY, &mut reader, &mut writer);
     (said, most - writer.inner.len().min(most))
 }
 

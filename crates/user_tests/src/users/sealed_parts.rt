@@ -126,7 +126,6 @@ fn parts_are_read(rt: &HostRuntime, text: &mut [u8], file: &mut [u8]) -> bool {
         & reads_hundred(text, file)
 }
 
-// That an array is a slice is proved fast where its length is a parameter, and once.
 fn parts_are_read_in<const N: usize, const F: usize>(rt: &HostRuntime) -> bool
     requires text { N < 2 ^ 63 }
     requires file { F < 2 ^ 63 }
