@@ -146,7 +146,7 @@ fn sealed<C: KeyIvInit<Key = Key> + StreamCipher + Drop>(
 }
 
 // The same of an AEAD of any number of rounds: the bounds of its cipher are proved here, and not for each type anew.
-// `names.rt` has the names of these AEADs.
+// `names.rt` of `user_tests` has the names of these AEADs.
 
 fn by_chacha<R: Rounds>(key: &Key, nonce: &Nonce, aad: &[u8], text: &[u8]) -> Option<[u8; SEALED]> {
     sealed::<StreamCipherCoreWrapper<ChaChaCore<R, Ietf, Lanes16>>>(key, nonce, aad, text)
