@@ -87,71 +87,60 @@ static STREAMS: [(u32, u8, [u8; 32]); 4] = [
     (LEGACY, 4, OF_20_ROUNDS),
 ];
 
-fn begins(rounds: u32, stream: &[u8; 32]) -> bool {
-    let mut bytes = [0; 32];
-    in_place(rounds, &ZEROS, &[0; 12], 0, &mut bytes) == 0 && bytes == *stream
-}
-
-// A stream from byte 8 on, combined with the stream, leaves zeros.
-fn cancels(rounds: u32, before: u8, stream: &[u8; 32]) -> bool {
-    let mut bytes = [before; 24];
-    between(rounds, &mut bytes, &stream[8..]) == 0 && bytes == [0; 24]
-}
-
-// The keystream goes over whatever was there.
-fn written(rounds: u32, before: u8, stream: &[u8; 32]) -> bool {
-    let mut bytes = [before; 24];
-    keystream(rounds, &mut bytes) == 0 && stream.ends_with(&bytes)
+// The first bytes; from byte 8 on, the stream combined with itself, which leaves zeros; and the keystream, which goes
+// over whatever was there.
+fn is_stream(rounds: u32, before: u8, stream: &[u8; 32]) -> bool {
+    let (mut first, mut combined, mut written) = ([0; 32], [before; 24], [before; 24]);
+    let answers = [
+        in_place(rounds, &ZEROS, &[0; 12], 0, &mut first),
+        between(rounds, &mut combined, &stream[8..]),
+        keystream(rounds, &mut written),
+    ];
+    (answers == [0; 3]) & (first == *stream) & (combined == [0; 24]) & stream.ends_with(&written)
 }
 
 fn streams() -> bool {
+    let mut right = true;
     for (rounds, before, stream) in &STREAMS {
-        if !begins(*rounds, stream)
-            || !cancels(*rounds, *before, stream)
-            || !written(*rounds, *before, stream)
-        {
-            return false;
-        }
+        right &= is_stream(*rounds, *before, stream);
     }
-    true
+    right
 }
 
 // The message of RFC 8439, section 2.4.2, from block 1 on.
 fn message() -> bool {
     let mut text = *MESSAGE;
-    in_place(20, &COUNTING, &NONCE, 64, &mut text) == 0 && text == *CIPHERTEXT
+    (in_place(20, &COUNTING, &NONCE, 64, &mut text) == 0) & (text == *CIPHERTEXT)
 }
 
 // The key of a MAC for one message (RFC 8439, section 2.6.2), which is the front of block 0.
 fn one_time_key() -> bool {
     let mut key = [0; 32];
-    in_place(
-        20,
-        &FROM_80,
-        &[0, 0, 0, 0, 0, 1, 2, 3, 4, 5, 6, 7],
-        0,
-        &mut key,
-    ) == 0
-        && key
-            == *b"\x8a\xd5\xa0\x8b\x90\x5f\x81\xcc\x81\x50\x40\x27\x4a\xb2\x94\x71\
-            \xa8\x33\xb6\x37\xe3\xfd\x0d\xa5\x08\xdb\xb8\xe2\xfd\xd1\xa6\x46"
+    let nonce = [0, 0, 0, 0, 0, 1, 2, 3, 4, 5, 6, 7];
+    let answer = in_place(20, &FROM_80, &nonce, 0, &mut key);
+    let expected = *b"\x8a\xd5\xa0\x8b\x90\x5f\x81\xcc\x81\x50\x40\x27\x4a\xb2\x94\x71\
+        \xa8\x33\xb6\x37\xe3\xfd\x0d\xa5\x08\xdb\xb8\xe2\xfd\xd1\xa6\x46";
+    (answer == 0) & (key == expected)
 }
 
 // The last byte of the stream, and the byte before it.
 fn legacy_ends() -> bool {
     let (mut last, mut two) = ([0; 1], [0; 2]);
-    legacy_keystream(u64::MAX, 63, &mut last) == 0
-        && legacy_in_place(u64::MAX, 62, &mut two) == 0
-        && last[0] == two[1]
+    let answers = [
+        legacy_keystream(u64::MAX, 63, &mut last),
+        legacy_in_place(u64::MAX, 62, &mut two),
+    ];
+    (answers == [0; 2]) & (last[0] == two[1])
 }
 
 // A block whose first byte has a number past 64 bits.
 fn legacy_goes_far() -> bool {
     let (mut early, mut far) = ([0; 8], [0; 8]);
-    legacy_in_place(1 << 58, 0, &mut far) == 0
-        && legacy_in_place(1, u64::MAX - 63, &mut early) == 0
-        && early == far
-        && !OF_20_ROUNDS.starts_with(&far)
+    let answers = [
+        legacy_in_place(1 << 58, 0, &mut far),
+        legacy_in_place(1, u64::MAX - 63, &mut early),
+    ];
+    (answers == [0; 2]) & (early == far) & !OF_20_ROUNDS.starts_with(&far)
 }
 
 fn extended_in_place(rounds: u32, position: u64, data: &mut [u8]) -> u32 {
@@ -189,28 +178,31 @@ fn derived(rounds: u32) -> Key {
 
 fn extends(rounds: u32) -> bool {
     let (mut bytes, mut beside) = ([0; 70], [0; 70]);
-    extended_in_place(rounds, 3, &mut bytes) == 0
-        && in_place(rounds, &derived(rounds), &DERIVED_NONCE, 3, &mut beside) == 0
-        && bytes == beside
+    let answers = [
+        extended_in_place(rounds, 3, &mut bytes),
+        in_place(rounds, &derived(rounds), &DERIVED_NONCE, 3, &mut beside),
+    ];
+    (answers == [0; 2]) & (bytes == beside)
 }
 
 // Each call has the same bytes from byte 9 on.
 fn extended_agree(rounds: u32) -> bool {
     let (mut written, mut combined, mut first) = ([b'x'; 5], [b'x'; 5], [0; 14]);
-    extended_keystream(rounds, &mut written) == 0
-        && extended_between(rounds, &mut combined, &[0; 5]) == 0
-        && extended_in_place(rounds, 0, &mut first) == 0
-        && written == combined
-        && first.ends_with(&written)
+    let answers = [
+        extended_keystream(rounds, &mut written),
+        extended_between(rounds, &mut combined, &[0; 5]),
+        extended_in_place(rounds, 0, &mut first),
+    ];
+    (answers == [0; 3]) & (written == combined) & first.ends_with(&written)
 }
 
 fn extended() -> bool {
+    let mut right = true;
     for rounds in [8, 12, 20] {
-        if !extends(rounds) || !extended_agree(rounds) {
-            return false;
-        }
+        right &= extends(rounds);
+        right &= extended_agree(rounds);
     }
-    true
+    right
 }
 
 fn subkey(rounds: u32, input: &[u8; 16]) -> Key {
@@ -225,26 +217,31 @@ fn subkey(rounds: u32, input: &[u8; 16]) -> Key {
 
 // HChaCha20 (draft-irtf-cfrg-xchacha, section 2.2.1); fewer rounds compared with the library's.
 fn subkeys() -> bool {
-    subkey(8, &X_NONCE_FRONT) == derived(8)
-        && subkey(12, &X_NONCE_FRONT) == derived(12)
-        && subkey(20, &HCHACHA_INPUT) == SUBKEY
+    (subkey(8, &X_NONCE_FRONT) == derived(8))
+        & (subkey(12, &X_NONCE_FRONT) == derived(12))
+        & (subkey(20, &HCHACHA_INPUT) == SUBKEY)
 }
 
 fn refuses() -> bool {
     let mut kept = [7; 2];
-    legacy_in_place(u64::MAX, 63, &mut kept) == 1
-        && in_place(20, &ZEROS, &[0; 12], u64::MAX, &mut kept) == 1
-        && xchacha20_xor_between(&ZEROS, &X_NONCE, 0, &mut kept, b"Hello") == 1
-        && kept == [7; 2]
+    let answers = [
+        legacy_in_place(u64::MAX, 63, &mut kept),
+        in_place(20, &ZEROS, &[0; 12], u64::MAX, &mut kept),
+        xchacha20_xor_between(&ZEROS, &X_NONCE, 0, &mut kept, b"Hello"),
+    ];
+    (answers == [1; 3]) & (kept == [7; 2])
 }
 
 fn checks() -> bool {
-    chacha20_check(274877906944, 1) == 1
-        && chacha20_check(274877906934, 10) == 0
-        && chacha20_check(u64::MAX, usize::MAX) == 1
-        && chacha20_legacy_check(u64::MAX, 63, 1) == 0
-        && chacha20_legacy_check(u64::MAX, 63, 2) == 1
-        && chacha20_legacy_check(u64::MAX, u64::MAX, usize::MAX) == 1
+    let answers = [
+        chacha20_check(274877906944, 1),
+        chacha20_check(274877906934, 10),
+        chacha20_check(u64::MAX, usize::MAX),
+        chacha20_legacy_check(u64::MAX, 63, 1),
+        chacha20_legacy_check(u64::MAX, 63, 2),
+        chacha20_legacy_check(u64::MAX, u64::MAX, usize::MAX),
+    ];
+    answers == [1, 0, 1, 0, 1, 1]
 }
 
 fn word(rounds: u32, state: &mut SerializedRngState) -> u32 {
@@ -287,40 +284,39 @@ static READS: [(u32, u32, u64, [u8; 3]); 3] = [
 ];
 
 fn reads() -> bool {
+    let mut right = true;
     for (rounds, first, next, last) in &READS {
-        if !reads_as(*rounds, *first, *next, last) {
-            return false;
-        }
+        right &= reads_as(*rounds, *first, *next, last);
     }
-    true
+    right
 }
 
 fn reads_as(rounds: u32, first: u32, next: u64, last: &[u8; 3]) -> bool {
     let mut state = seeded();
     let mut bytes = [0; 3];
-    let right = word(rounds, &mut state) == first && two_words(rounds, &mut state) == next;
+    let right = (word(rounds, &mut state) == first) & (two_words(rounds, &mut state) == next);
     fill(rounds, &mut state, &mut bytes);
     let mut after = seeded();
     after[40] = 4;
-    right && bytes == *last && state == after
+    right & (bytes == *last) & (state == after)
 }
 
 fn word_pos_is(state: &SerializedRngState, low: u64, high: u64) -> bool {
     let (mut read_low, mut read_high) = (1, 1);
     chacha_rng_get_word_pos(state, &mut read_low, &mut read_high);
-    read_low == low && read_high == high
+    (read_low == low) & (read_high == high)
 }
 
 // The stream is set first, since that moves to its first word.
 fn positions() -> bool {
     let mut state = [0xff; 49];
     chacha_rng_set_stream(&mut state, 0x0807_0605_0403_0201);
-    let first = word_pos_is(&state, 0, 0) && state[48] == 0;
+    let first = word_pos_is(&state, 0, 0) & (state[48] == 0);
     chacha_rng_set_block_pos(&mut state, u64::MAX);
-    let last = chacha_rng_get_block_pos(&state) == u64::MAX
-        && word_pos_is(&state, u64::MAX - 15, 15);
+    let last = (chacha_rng_get_block_pos(&state) == u64::MAX)
+        & word_pos_is(&state, u64::MAX - 15, 15);
     chacha_rng_set_word_pos(&mut state, 5, 0x1_0000_000a);
-    first && last && word_pos_is(&state, 5, 10) && stream_is_stored(&state)
+    first & last & word_pos_is(&state, 5, 10) & stream_is_stored(&state)
 }
 
 // A fill of the last word of a stream of zeros and of the first.
@@ -330,12 +326,12 @@ fn wraps() -> bool {
     let mut one_by_one = state;
     fill(20, &mut state, &mut bytes);
     let last = word(20, &mut one_by_one).to_le_bytes();
-    bytes.starts_with(&last) && bytes.ends_with(&OF_20_ROUNDS[..4]) && word_pos_is(&state, 1, 0)
+    bytes.starts_with(&last) & bytes.ends_with(&OF_20_ROUNDS[..4]) & word_pos_is(&state, 1, 0)
 }
 
 fn stream_is_stored(state: &SerializedRngState) -> bool {
-    chacha_rng_get_stream(state) == 0x0807_0605_0403_0201
-        && state[32..41].starts_with(b"\x01\x02\x03\x04\x05\x06\x07\x08\x05")
+    (chacha_rng_get_stream(state) == 0x0807_0605_0403_0201)
+        & state[32..41].starts_with(b"\x01\x02\x03\x04\x05\x06\x07\x08\x05")
 }
 
 // RFC 8439, section 2.8.2, and draft-irtf-cfrg-xchacha, section A.3.1: the key `FROM_80`, the text `MESSAGE`.
@@ -403,19 +399,17 @@ fn encrypted(extended: bool) -> ([u8; 114], Tag) {
 fn encrypts(extended: bool, tag: &Tag) -> bool {
     let (ciphertext, made) = encrypted(extended);
     let (mut output, mut of_output) = ([0; 114], [0; 16]);
-    encrypt_between(extended, &mut output, MESSAGE, &mut of_output) == 0
-        && output == ciphertext
-        && of_output == *tag
-        && made == *tag
+    let answer = encrypt_between(extended, &mut output, MESSAGE, &mut of_output);
+    (answer == 0) & (output == ciphertext) & (of_output == *tag) & (made == *tag)
 }
 
 fn decrypts(extended: bool, tag: &Tag) -> bool {
     let (ciphertext, _) = encrypted(extended);
     let (mut data, mut output) = (ciphertext, [0; 114]);
-    decrypt_in_place(extended, &mut data, tag) == 0
-        && decrypt_between(extended, &mut output, &ciphertext, tag) == 0
-        && data == *MESSAGE
-        && output == *MESSAGE
+    (decrypt_in_place(extended, &mut data, tag) == 0)
+        & (decrypt_between(extended, &mut output, &ciphertext, tag) == 0)
+        & (data == *MESSAGE)
+        & (output == *MESSAGE)
 }
 
 // A tag whose last bit is turned, and an output that is too short. Nothing changes.
@@ -424,14 +418,17 @@ fn refuses_forgery(extended: bool, tag: &Tag) -> bool {
     let (mut data, mut output, mut short) = (ciphertext, [7; 114], [7; 113]);
     wrong[15] ^= 128;
     let kept = wrong;
-    decrypt_in_place(extended, &mut data, &wrong) == 1
-        && decrypt_between(extended, &mut output, &ciphertext, &wrong) == 1
-        && decrypt_between(extended, &mut short, &ciphertext, tag) == 1
-        && encrypt_between(extended, &mut short, MESSAGE, &mut wrong) == 1
-        && data == ciphertext
-        && output == [7; 114]
-        && short == [7; 113]
-        && wrong == kept
+    let answers = [
+        decrypt_in_place(extended, &mut data, &wrong),
+        decrypt_between(extended, &mut output, &ciphertext, &wrong),
+        decrypt_between(extended, &mut short, &ciphertext, tag),
+        encrypt_between(extended, &mut short, MESSAGE, &mut wrong),
+    ];
+    (answers == [1; 4])
+        & (data == ciphertext)
+        & (output == [7; 114])
+        & (short == [7; 113])
+        & (wrong == kept)
 }
 
 // RFC 8439, section 2.5.2.
@@ -444,33 +441,39 @@ fn mac() -> bool {
 }
 
 fn compares() -> bool {
-    chacha_equal(b"abc", b"abc") == 1
-        && chacha_equal(b"abc", b"abd") == 0
-        && chacha_equal(b"abc", b"bbc") == 0
-        && chacha_equal(b"ab", b"abc") == 0
-        && chacha_equal(b"", b"") == 1
+    (chacha_equal(b"abc", b"abc") == 1)
+        & (chacha_equal(b"abc", b"abd") == 0)
+        & (chacha_equal(b"abc", b"bbc") == 0)
+        & (chacha_equal(b"ab", b"abc") == 0)
+        & (chacha_equal(b"", b"") == 1)
+}
+
+fn aeads() -> bool {
+    let mut right = true;
+    for (extended, tag) in &AEADS {
+        right &= encrypts(*extended, tag);
+        right &= decrypts(*extended, tag);
+        right &= refuses_forgery(*extended, tag);
+    }
+    right
 }
 
 #[test]
 fn authenticate(rt: HostRuntime) {
-    for (extended, tag) in &AEADS {
-        assert!(rt; encrypts(*extended, tag) && decrypts(*extended, tag));
-        assert!(rt; refuses_forgery(*extended, tag));
-    }
-    assert!(rt; mac() && compares());
+    assert!(rt; aeads() & mac() & compares());
 }
 
 #[test]
 fn ciphers(rt: HostRuntime) {
-    assert!(rt; streams() && message() && one_time_key() && extended() && subkeys());
+    assert!(rt; streams() & message() & one_time_key() & extended() & subkeys());
 }
 
 #[test]
 fn ends(rt: HostRuntime) {
-    assert!(rt; legacy_ends() && legacy_goes_far() && refuses() && checks());
+    assert!(rt; legacy_ends() & legacy_goes_far() & refuses() & checks());
 }
 
 #[test]
 fn generators(rt: HostRuntime) {
-    assert!(rt; reads() && positions() && wraps());
+    assert!(rt; reads() & positions() & wraps());
 }

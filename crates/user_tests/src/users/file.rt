@@ -24,7 +24,7 @@ fn reads(start: usize, accepted: bool, expected: &[u8]) -> bool {
     file[112..].copy_from_slice(&ciphertext[48..80]);
     let (mut window, len) = ([5; 32], expected.len().min(32));
     let done = read_at(&COUNTING, &NONCE, &file, start, &mut window[..len]);
-    done.is_ok() == accepted && window.starts_with(expected)
+    (done.is_ok() == accepted) & window.starts_with(expected)
 }
 
 #[test]

@@ -35,7 +35,7 @@ where
     let mut right = core.get_block_pos() == 0;
     for (counter, front, after) in &FRONTS {
         core.set_block_pos(*counter);
-        right &= four_blocks(core).starts_with(front) && core.get_block_pos() == *after;
+        right &= four_blocks(core).starts_with(front) & (core.get_block_pos() == *after);
     }
     right
 }

@@ -42,14 +42,14 @@ static STREAMS: [(Example, usize, &[u8]); 4] = [
 fn ends(example: Example, len: usize, end: &[u8]) -> bool {
     let mut message = [0; 368];
     let message = &mut message[..len.min(368)];
-    encrypts(example, message) && message.ends_with(end)
+    encrypts(example, message) & message.ends_with(end)
 }
 
 // Nobody has published a stream of six rounds: a second call undoes the first.
 fn is_undone(mut message: [u8; 14]) -> bool {
     let text = message;
-    let encrypted = encrypts(Example::OwnRounds, &mut message) && message != text;
-    encrypted && encrypts(Example::OwnRounds, &mut message) && message == text
+    let encrypted = encrypts(Example::OwnRounds, &mut message) & (message != text);
+    encrypted & encrypts(Example::OwnRounds, &mut message) & (message == text)
 }
 
 #[test]

@@ -1,6 +1,10 @@
 //! Every public name by the crate's root and by its module, and which types the aliases name. Most names are only
 //! imported: that they are found is the test.
 
+use aead::{
+    ChaCha8Poly1305, ChaCha12Poly1305, ChaCha20Poly1305, ChaChaPoly1305, XChaCha8Poly1305,
+    XChaCha12Poly1305, XChaCha20Poly1305,
+};
 use chacha20::{
     BlockSizeUser, ChaCha8, ChaCha8Rng, ChaCha12, ChaCha12Rng, ChaCha20, ChaCha20Legacy,
     ChaCha20LegacyCore, ChaCha20Rng, ChaChaCore, ChaChaRng, CipherAnswer, CipherCall, Columns8,
@@ -43,7 +47,7 @@ fn sizes_of_cores(rt: HostRuntime) {
         sizes::<ChaChaCore<R20, Legacy, Lanes8>>(),
         sizes::<XChaChaCore<R12, Rows8>>(),
     ];
-    assert!(rt; found == SIZES && sizes_of_type(None::<&XChaCha20>) == (32, 24));
+    assert!(rt; (found == SIZES) & (sizes_of_type(None::<&XChaCha20>) == (32, 24)));
 }
 
 static SIZES: [[usize; 4]; 3] = [[64, 32, 12, 1], [64, 32, 8, 4], [64, 32, 24, 8]];
@@ -100,6 +104,27 @@ fn in_full<'n>(
         ChaChaRng<R20, Lanes8>,
     ),
     &'n ([u8; 24], [u8; 32], [u8; 49]),
+) {
+    named
+}
+
+// The same of the AEADs.
+fn aeads_in_full<'n>(
+    named: (
+        &'n (ChaCha8Poly1305, ChaCha12Poly1305, ChaCha20Poly1305),
+        &'n (XChaCha8Poly1305, XChaCha12Poly1305, XChaCha20Poly1305),
+    ),
+) -> (
+    &'n (
+        ChaChaPoly1305<Cipher<ChaChaCore<R8, Ietf, Lanes16>>>,
+        ChaChaPoly1305<Cipher<ChaChaCore<R12, Ietf, Lanes16>>>,
+        ChaChaPoly1305<Cipher<ChaChaCore<R20, Ietf, Lanes16>>>,
+    ),
+    &'n (
+        ChaChaPoly1305<Cipher<XChaChaCore<R8, Lanes16>>>,
+        ChaChaPoly1305<Cipher<XChaChaCore<R12, Lanes16>>>,
+        ChaChaPoly1305<Cipher<XChaChaCore<R20, Lanes16>>>,
+    ),
 ) {
     named
 }

@@ -14,7 +14,7 @@ use known_answers::published::{COUNTING, KEYSTREAM, NONCE};
 // In pieces of one byte.
 fn in_pieces<C: StreamCipher>(cipher: &mut C) -> bool {
     let mut bytes = [0; 178];
-    try_apply_in_pieces(cipher, &mut bytes, 1).is_ok() && bytes.ends_with(KEYSTREAM)
+    try_apply_in_pieces(cipher, &mut bytes, 1).is_ok() & bytes.ends_with(KEYSTREAM)
 }
 
 fn in_two<C: StreamCipher>(cipher: &mut C) -> bool
@@ -22,13 +22,13 @@ fn in_two<C: StreamCipher>(cipher: &mut C) -> bool
 {
     let (mut first, mut rest) = ([0; 100], [0; 78]);
     apply_in_two(cipher, &mut first, &mut rest);
-    KEYSTREAM.starts_with(&first[64..]) && KEYSTREAM.ends_with(&rest)
+    KEYSTREAM.starts_with(&first[64..]) & KEYSTREAM.ends_with(&rest)
 }
 
 // Record 2 of 32 bytes is at the front of block 1.
 fn as_record<C: StreamCipherSeek>(cipher: &mut C) -> bool {
     let mut record = [0; 32];
-    encrypt_record(cipher, 2, &mut record).is_ok() && KEYSTREAM.starts_with(&record)
+    encrypt_record(cipher, 2, &mut record).is_ok() & KEYSTREAM.starts_with(&record)
 }
 
 fn at_block_1<C: StreamCipherSeek>(cipher: &mut C) -> bool

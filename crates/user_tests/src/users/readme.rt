@@ -44,7 +44,7 @@ fn apply_next<C: StreamCipher>(cipher: &mut C, message: &mut [u8]) {
 fn first_lines(rt: HostRuntime) {
     let mut message = *b"attack at dawn";
     encrypt_short(&KEY, &NONCE, &mut message);
-    assert!(rt; message == ENCRYPTED && encrypted(&KEY, &NONCE) == Ok(ENCRYPTED));
+    assert!(rt; (message == ENCRYPTED) & (encrypted(&KEY, &NONCE) == Ok(ENCRYPTED)));
 }
 
 static KEY: Key = [0x42; 32];

@@ -27,6 +27,7 @@ fn two_blocks<B: StreamCipherBackend<R20, Ietf>>() -> [[u8; 64]; 2]
 #[test]
 fn published(rt: HostRuntime) {
     let expected = [BLOCKS[0].3, BLOCKS[1].3];
-    assert!(rt; two_blocks::<Scalar>().as_flattened() == expected.as_flattened().as_flattened());
-    assert!(rt; ChaChaRng::<R20, Scalar>::from_seed([0; 32]).next_u32() == 0xade0_b876);
+    let right = two_blocks::<Scalar>().as_flattened() == expected.as_flattened().as_flattened();
+    let word = ChaChaRng::<R20, Scalar>::from_seed([0; 32]).next_u32();
+    assert!(rt; right & (word == 0xade0_b876));
 }

@@ -15,17 +15,17 @@ static DICE: [u8; 8] = [4, 1, 1, 5, 4, 2, 1, 4];
 fn draws<R: Rounds, B: RngBackend<R>>(rng: &mut ChaChaRng<R, B>) -> bool {
     let mut numbers = [0; 3];
     fill_below(rng, 1000, &mut numbers);
-    numbers == [563, 159, 105] && below(rng, u64::MAX) == 0xc70d_778b_ccef_36a7
+    (numbers == [563, 159, 105]) & (below(rng, u64::MAX) == 0xc70d_778b_ccef_36a7)
 }
 
 fn sums<R: Rounds, B: RngBackend<R>>(rng: &mut ChaChaRng<R, B>) -> bool {
-    total(rng, 8) == 22 && rng.get_word_pos() == 16
+    (total(rng, 8) == 22) & (rng.get_word_pos() == 16)
 }
 
 fn shuffles<R: Rounds, B: RngBackend<R>>(rng: &mut ChaChaRng<R, B>) -> bool {
     let mut items = *b"abcdefghi";
     shuffle(rng, &mut items);
-    items == *b"hgafiebdc" && rng.get_word_pos() == 16
+    (items == *b"hgafiebdc") & (rng.get_word_pos() == 16)
 }
 
 fn rolls_these<R: Rounds, B: RngBackend<R>>(rng: &mut ChaChaRng<R, B>, expected: &[u8; 8]) -> bool {
@@ -37,7 +37,7 @@ fn rolls_these<R: Rounds, B: RngBackend<R>>(rng: &mut ChaChaRng<R, B>, expected:
 fn rolls_on<R: Rounds, B: RngBackend<R>>(rng: &mut ChaChaRng<R, B>) -> bool {
     let (mut first, mut rest) = ([0; 3], [0; 5]);
     rolls_in_two(rng, &mut first, &mut rest);
-    DICE.starts_with(&first) && DICE.ends_with(&rest)
+    DICE.starts_with(&first) & DICE.ends_with(&rest)
 }
 
 fn each<R: Rounds, B: RngBackend<R>>(
@@ -59,8 +59,8 @@ fn each<R: Rounds, B: RngBackend<R>>(
 
 #[test]
 fn drawn(rt: HostRuntime) {
-    assert!(rt; each(&mut worker([0; 32], 0), &mut worker([0; 32], 1 << 57)) == [true; 6]);
-    assert!(rt; die_at([0; 32], 0) == DICE[0] && die_at([0; 32], 7) == DICE[7]);
+    let drawn = each(&mut worker([0; 32], 0), &mut worker([0; 32], 1 << 57)) == [true; 6];
+    assert!(rt; drawn & ([die_at([0; 32], 0), die_at([0; 32], 7)] == [DICE[0], DICE[7]]));
 }
 
 // From the state of the seed 0 to that at word 16.
@@ -72,5 +72,5 @@ fn resumed(rt: HostRuntime) {
     resume(&mut stored, &mut dice[3..]);
     let mut expected = [0; 49];
     expected[40] = 16;
-    assert!(rt; dice == DICE && stored == expected);
+    assert!(rt; (dice == DICE) & (stored == expected));
 }

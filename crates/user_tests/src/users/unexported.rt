@@ -40,7 +40,7 @@ fn counts_in_rows() -> bool {
     Legacy::set_block_pos(&mut row, 0x6_0000_0005);
     let after_legacy = row;
     Ietf::set_block_pos(&mut row, u32::from_u64(7));
-    positions == (1, 0x2_0000_0001) && [after_legacy, row] == [[5, 6, 3, 4], [7, 6, 3, 4]]
+    (positions == (1, 0x2_0000_0001)) & ([after_legacy, row] == [[5, 6, 3, 4], [7, 6, 3, 4]])
 }
 
 #[test]

@@ -11,12 +11,10 @@ use known_answers::published::FROM_80;
 fn known(rt: HostRuntime) {
     let mut sender = Sender::resume(&FROM_80, b"\x07\0\0\0", u64::from_le_bytes(*b"@ABCDEFG"));
     let mut packet = [0; 29];
-    assert!(rt;
-        send(&mut sender, b"hello", &mut packet) == Ok(())
-            && packet
-                == *b"@ABCDEFG\
-        \xf7\x1e\x85\x31\x6e\x61\xd0\x16\x29\xf2\x1c\x64\x52\x3c\x30\x7d\xcc\x0c\x69\xe8\xb9"
-    );
+    let sent = send(&mut sender, b"hello", &mut packet);
+    let expected = *b"@ABCDEFG\
+        \xf7\x1e\x85\x31\x6e\x61\xd0\x16\x29\xf2\x1c\x64\x52\x3c\x30\x7d\xcc\x0c\x69\xe8\xb9";
+    assert!(rt; sent.is_ok() & (packet == expected));
 }
 
 // A packet that comes twice: where the first is taken, the second is refused and writes nothing.
@@ -71,7 +69,7 @@ fn receive(
     }
     let mut message = [0; 5];
     receiver.receive(&packet, &mut message)?;
-    if sent.is_ok() && message == *b"hello" {
+    if sent.is_ok() & (message == *b"hello") {
         Ok(())
     } else {
         Err(PacketError::Forged)

@@ -18,9 +18,10 @@ fn published(rt: HostRuntime) {
     }];
     let (mut disk, mut text) = ([9; SECTOR], [1; SECTOR]);
     let written = write(&COUNTING, &mut seals, &mut disk, 0, &[0; SECTOR]);
-    assert!(rt; written == Ok(()) && disk.starts_with(KEYSTREAM) && seals[0].tag == TAG);
-    assert!(rt; read(&COUNTING, &seals, &disk, 0, &mut text) == Ok(()) && text == [0; SECTOR]);
-    assert!(rt; nonce(0x0900_0000, 0x4a00_0000) == [0, 0, 0, 9, 0, 0, 0, 0x4a, 0, 0, 0, 0]);
+    let found = read(&COUNTING, &seals, &disk, 0, &mut text);
+    let right = disk.starts_with(KEYSTREAM) & (seals[0].tag == TAG) & (text == [0; SECTOR]);
+    let of_9 = nonce(0x0900_0000, 0x4a00_0000) == [0, 0, 0, 9, 0, 0, 0, 0x4a, 0, 0, 0, 0];
+    assert!(rt; ([written, found] == [Ok(()); 2]) & right & of_9);
 }
 
 static TAG: [u8; 16] = *b"\x38\x44\xc0\x8f\x5a\xa7\x84\x16\xa1\xd5\x38\x98\x03\xc4\xde\xba";
@@ -46,62 +47,50 @@ fn refused(rt: HostRuntime) {
         read(&COUNTING, &seals, &disk, 2, &mut text),
         read(&COUNTING, &[BLANK], &disk, 0, &mut text),
     ];
-    let missing = Err(SectorError::Missing);
-    let used_up = Err(SectorError::VersionsUsedUp);
-    assert!(rt; answers == [used_up, missing, missing, missing, missing]);
-    assert!(rt; text == [6; SECTOR] && disk == [9; 2 * SECTOR - 1]);
+    let mut expected = [Err(SectorError::Missing); 5];
+    expected[0] = Err(SectorError::VersionsUsedUp);
+    let same = (text == [6; SECTOR]) & (disk == [9; 2 * SECTOR - 1]);
+    assert!(rt; (answers == expected) & same);
 }
 
-// What is done to the first of two sectors: a bit is turned, or it gets text or seal of the other one.
-#[derive(Clone, Copy)]
-enum Change {
-    LastByte,
-    Tag,
-    Version,
-    OtherText,
-    OtherSeal,
-    OtherSector,
-}
+// What is done to the first of two sectors: bits of its last byte, of its tag and of its version that are turned; and
+// by how much texts and seals are moved, so that it gets the other one.
+type Change = (u8, u8, u64, usize, usize);
 
 static CHANGES: [Change; 6] = [
-    Change::LastByte,
-    Change::Tag,
-    Change::Version,
-    Change::OtherText,
-    Change::OtherSeal,
-    Change::OtherSector,
+    (1, 0, 0, 0, 0),
+    (0, 1, 0, 0, 0),
+    (0, 0, 1 << 63, 0, 0),
+    (0, 0, 0, SECTOR, 0),
+    (0, 0, 0, 0, 1),
+    (0, 0, 0, SECTOR, 1),
 ];
 
-fn apply(change: Change, seals: &mut [Seal; 2], disk: &mut [u8; 2 * SECTOR]) {
-    match change {
-        Change::LastByte => disk[511] ^= 1,
-        Change::Tag => seals[0].tag[15] ^= 1,
-        Change::Version => seals[0].version ^= 1 << 63,
-        Change::OtherText => disk.rotate_left(SECTOR),
-        Change::OtherSeal => seals.swap(0, 1),
-        Change::OtherSector => {
-            disk.rotate_left(SECTOR);
-            seals.swap(0, 1);
-        }
-    }
+fn apply(change: &Change, seals: &mut [Seal; 2], disk: &mut [u8; 2 * SECTOR]) {
+    let (byte, tag, version, texts, places) = *change;
+    disk[511] ^= byte;
+    seals[0].tag[15] ^= tag;
+    seals[0].version ^= version;
+    disk.rotate_left(texts.min(SECTOR));
+    seals.rotate_left(places.min(1));
 }
 
 // Whether a read finds that a sector was changed, and writes nothing.
-fn is_found(it: Change) -> bool {
+fn is_found(change: &Change) -> bool {
     let (mut seals, mut disk) = ([BLANK; 2], [0; 2 * SECTOR]);
     let written = [
         write(&COUNTING, &mut seals, &mut disk, 0, &[1; SECTOR]),
         write(&COUNTING, &mut seals, &mut disk, 1, &[2; SECTOR]),
     ];
-    apply(it, &mut seals, &mut disk);
+    apply(change, &mut seals, &mut disk);
     let mut text = [9; SECTOR];
     let answer = read(&COUNTING, &seals, &disk, 0, &mut text);
-    written == [Ok(()); 2] && answer == Err(SectorError::Forged) && text == [9; SECTOR]
+    (written == [Ok(()); 2]) & (answer == Err(SectorError::Forged)) & (text == [9; SECTOR])
 }
 
 #[test]
 fn changed(rt: HostRuntime) {
-    for it in &CHANGES {
-        assert!(rt; is_found(*it));
+    for change in &CHANGES {
+        assert!(rt; is_found(change));
     }
 }

@@ -48,9 +48,9 @@ fn encrypts(reads: u32, writes: u32, expected: Said, least: usize) -> bool {
     let mut writer = Unsteady::new(output.as_mut_slice(), 5, writes);
     let done = xor_all(&mut cipher, &mut reader, &mut writer, &mut [0; 10]);
     let written = 256 - writer.inner.len().min(256);
-    said_by(done) == expected
-        && written >= least
-        && LEGACY_KEYSTREAM.starts_with(&output[..written])
+    (said_by(done) == expected)
+        & (written >= least)
+        & LEGACY_KEYSTREAM.starts_with(&output[..written])
 }
 
 #[test]

@@ -10,6 +10,10 @@ use known_answers::published::COUNTING as KEY;
 use sealed::{CHUNK, Damage, Salt, SealError, TAG, decrypt, encrypt};
 use std::io::{Read, Write};
 
+// Scratch space. Its length is a parameter of functions, and so are those of other large arrays: that a slice of them
+// has its length is proved fast with that, and slowly with a large number.
+const TO_SEAL: usize = CHUNK + 1;
+
 pub const SALT: Salt = *b"defghijklmnopqrs";
 
 // What a call says.
@@ -58,14 +62,17 @@ static FILE_OF_TEXT: [u8; 52] = *b"chacha20-seal v1defghijklmnopqrs\
 #[test]
 fn another_implementations_file(rt: HostRuntime) {
     let mut text = [0; 5];
-    assert!(rt; opened(&FILE_OF_TEXT, &mut text, 0, 0) == (Said::Done, 4) && text == *b"text\0");
+    let said = opened(&FILE_OF_TEXT, &mut text, 0, 0);
+    assert!(rt; (said == (Said::Done, 4)) & (text == *b"text\0"));
 }
 
 // Whether a text's file fills this one.
-pub fn seals(salt: &Salt, text: &[u8], file: &mut [u8]) -> bool {
+fn seals<const B: usize>(salt: &Salt, text: &[u8], file: &mut [u8]) -> bool
+    requires { B ≡ 65537 }
+{
     let (mut reader, mut writer) = (text, file);
-    let done = encrypt(&KEY, salt, &mut reader, &mut writer, &mut [0; CHUNK + 1]);
-    done.is_ok() && writer.is_empty()
+    let done = encrypt(&KEY, salt, &mut reader, &mut writer, &mut [0; B]);
+    done.is_ok() & writer.is_empty()
 }
 
 // Writes the numbers from 0 to 250, again and again.
@@ -75,29 +82,44 @@ pub fn count(text: &mut [u8]) {
     }
 }
 
+// Makes a text, and says whether its file fills this one.
+pub fn counted(text: &mut [u8], file: &mut [u8]) -> bool {
+    count(text);
+    seals::<TO_SEAL>(&SALT, text, file)
+}
+
 // Whether a text of N bytes has a file of F bytes, and comes back.
 fn comes_back<const N: usize, const F: usize>() -> bool
     requires text { N < 2 ^ 63 }
     requires file { F < 2 ^ 63 }
 {
-    let (mut text, mut file, mut back) = ([0; N], [0; F], [0; N]);
-    count(&mut text);
-    seals(&SALT, &text, &mut file)
-        && opened(&file, &mut back, 0, 0) == (Said::Done, N)
-        && back == text
+    is_right(&mut [0; N], &mut [0; F], &mut [0; N])
+}
+
+fn is_right(text: &mut [u8], file: &mut [u8], back: &mut [u8]) -> bool {
+    let sealed = counted(text, file);
+    sealed & (opened(file, back, 0, 0) == (Said::Done, text.len())) & (*back == *text)
 }
 
 #[test]
 fn round_trips(rt: HostRuntime) {
-    assert!(rt; comes_back::<0, 48>() && comes_back::<1, 49>() && comes_back::<65535, 65583>());
-    assert!(rt; comes_back::<65536, 65584>() && comes_back::<65537, 65601>());
-    assert!(rt; comes_back::<400000, 400144>());
+    let found = [
+        comes_back::<0, 48>(),
+        comes_back::<1, 49>(),
+        comes_back::<65535, 65583>(),
+        comes_back::<65536, 65584>(),
+        comes_back::<65537, 65601>(),
+        comes_back::<400000, 400144>(),
+    ];
+    assert!(rt; found == [true; 6]);
 }
 
 // A text whose file has four chunks, and that file.
 pub const TEXT: usize = 200000;
 
 pub const FILE: usize = 200096;
+
+pub const TWO_FILES: usize = 2 * FILE;
 
 // From where to where a part stands in two such files, one behind the other.
 type Part = (usize, usize);
@@ -126,13 +148,15 @@ pub enum Change {
 }
 
 // Writes the damaged file, and returns its length.
-pub fn apply(files: &[u8; 2 * FILE], change: Change, bytes: &mut [u8; 2 * FILE]) -> usize {
-    *bytes = *files;
+pub fn apply(files: &[u8], change: Change, bytes: &mut [u8]) -> usize {
     match change {
-        Change::Cut(len) => len.min(FILE),
+        Change::Cut(len) => put_parts(files, &[(0, len)], bytes),
         Change::Turned(place) => {
-            bytes[place % FILE] ^= 1;
-            FILE
+            let len = put_parts(files, &[(0, FILE)], bytes);
+            if place < bytes.len() {
+                bytes[place] ^= 1;
+            }
+            len
         }
         Change::Has(parts) => put_parts(files, parts, bytes),
     }
@@ -149,9 +173,9 @@ fn put_parts(files: &[u8], parts: &[Part], bytes: &mut [u8]) -> usize {
 }
 
 // Files of the text under two salts, one behind the other.
-pub fn two_files(text: &[u8; TEXT], files: &mut [u8; 2 * FILE]) -> bool {
-    let (first, second) = files.split_at_mut(FILE);
-    seals(&SALT, text, first) && seals(&[7; 16], text, second)
+pub fn two_files(text: &mut [u8], files: &mut [u8]) -> bool {
+    let (first, second) = files.split_at_mut(FILE.min(files.len()));
+    counted(text, first) & seals::<TO_SEAL>(&[7; 16], text, second)
 }
 
 // What is wrong with a damaged file, and how much text is written.
@@ -198,24 +222,36 @@ const LAST_TWICE: &[Part] = &[HEADER, FIRST, SECOND, THIRD, LAST, LAST];
 const WHOLE_TWICE: &[Part] = &[(0, FILE), (0, FILE)];
 
 // What is said of a damaged file, and how much text is written.
-fn opened_after(files: &[u8; 2 * FILE], change: Change) -> (Said, usize) {
-    let (mut bytes, mut back) = ([0; 2 * FILE], [0; FILE]);
-    let len = apply(files, change, &mut bytes).min(2 * FILE);
-    opened(&bytes[..len], &mut back, 0, 0)
+fn opened_after(files: &[u8], change: Change, bytes: &mut [u8], back: &mut [u8]) -> (Said, usize) {
+    let len = apply(files, change, bytes);
+    opened(bytes.get(..len).unwrap_or(&[]), back, 0, 0)
+}
+
+// The number of the first damaged file of which another thing is said, or how many there are.
+fn wrong_damage(text: &mut [u8], files: &mut [u8], bytes: &mut [u8], back: &mut [u8]) -> usize {
+    let sealed = two_files(text, files);
+    for i in 0..DAMAGED.len() {
+        let (change, damage, written) = &DAMAGED[i];
+        let said = opened_after(files, *change, bytes, back);
+        if !sealed | (said != (Said::Damaged(*damage), *written)) {
+            return i;
+        }
+    }
+    DAMAGED.len()
+}
+
+fn wrong_damage_in<const N: usize, const F: usize, const B: usize>() -> usize
+    requires text { N < 2 ^ 63 }
+    requires file { F < 2 ^ 63 }
+    requires files { B < 2 ^ 63 }
+{
+    wrong_damage(&mut [0; N], &mut [0; B], &mut [0; B], &mut [0; F])
 }
 
 #[test]
 fn damaged_files_are_refused(rt: HostRuntime) {
-    let (mut text, mut files) = ([0; TEXT], [0; 2 * FILE]);
-    count(&mut text);
-    assert!(rt; two_files(&text, &mut files));
-    for i in 0..DAMAGED.len() {
-        let (change, damage, written) = &DAMAGED[i];
-        assert!(rt;
-            opened_after(&files, *change) == (Said::Damaged(*damage), *written),
-            "{i}"
-        );
-    }
+    let wrong = wrong_damage_in::<TEXT, FILE, TWO_FILES>();
+    assert!(rt; wrong == DAMAGED.len(), "{wrong}");
 }
 
 // Calls in which a reader and a writer fail.
@@ -228,14 +264,27 @@ static FAILURES: [(u32, u32, Said); 6] = [
     (0, 100, Said::Write),
 ];
 
+// The number of the first failure of which another thing is said, or how many there are.
+fn wrong_failure(text: &mut [u8], file: &mut [u8]) -> usize {
+    let sealed = seals::<TO_SEAL>(&SALT, text, file);
+    for i in 0..FAILURES.len() {
+        let (read, write, said) = &FAILURES[i];
+        if !sealed | (opened(file, text, *read, *write).0 != *said) {
+            return i;
+        }
+    }
+    FAILURES.len()
+}
+
+fn wrong_failure_in<const N: usize, const F: usize>() -> usize
+    requires text { N < 2 ^ 63 }
+    requires file { F < 2 ^ 63 }
+{
+    wrong_failure(&mut [0; N], &mut [0; F])
+}
+
 #[test]
 fn failures_are_told(rt: HostRuntime) {
-    let (mut text, mut file) = ([0; TEXT], [0; FILE]);
-    assert!(rt; seals(&SALT, &text, &mut file));
-    for (read, write, said) in &FAILURES {
-        assert!(rt;
-            opened(&file, &mut text, *read, *write).0 == *said,
-            "{read} {write}"
-        );
-    }
+    let wrong = wrong_failure_in::<TEXT, FILE>();
+    assert!(rt; wrong == FAILURES.len(), "{wrong}");
 }

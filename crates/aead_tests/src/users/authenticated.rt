@@ -4,14 +4,13 @@
 ghost use Rattle.std.specs.Prelude.{◌≡◌, ◌≤◌, ◌+◌, ◌↔◌, length, IsOk, OnOk};
 ghost use Rattle.chacha20.specs.Cipher.{limit_of};
 
-use aead::{
-    AeadError, ChaCha8Poly1305, ChaCha12Poly1305, ChaCha20Poly1305, ChaChaPoly1305,
-    XChaCha8Poly1305, XChaCha12Poly1305, XChaCha20Poly1305,
-};
+use aead::{AeadError, ChaChaPoly1305};
 use chacha20::backends::Lanes16;
 use chacha20::cipher::{KeyIvInit, StreamCipher};
 use chacha20::variants::Ietf;
-use chacha20::{ChaChaCore, Key, Nonce, Rounds, StreamCipherCoreWrapper, XChaChaCore, XNonce};
+use chacha20::{
+    ChaChaCore, Key, Nonce, R8, R12, R20, Rounds, StreamCipherCoreWrapper, XChaChaCore, XNonce,
+};
 use known_answers::published::{FROM_80, MESSAGE};
 
 // Whatever the cipher and the message are: what is encrypted is decrypted, and the message is as it was.
@@ -42,128 +41,178 @@ fn padded(bytes: &[u8]) -> [u8; SEALED] {
     room
 }
 
-// The sealed message of a text, where it is the same in place and from slice to slice.
+// The sealed message of a text, from slice to slice.
 fn encrypted<C: KeyIvInit<Key = Key> + StreamCipher + Drop>(
     aead: &ChaChaPoly1305<C>,
     nonce: &C::Iv,
     aad: &[u8],
     text: &[u8],
 ) -> Option<[u8; SEALED]> {
+    let mut output = [0; SEALED];
     let text = &text[..text.len().min(TEXT)];
-    let (mut message, mut output) = (padded(text), [0; SEALED]);
-    let (front, end) = message.split_at_mut(text.len());
-    let tag = aead.encrypt_in_place_detached(nonce, aad, front);
-    end[..16].copy_from_slice(&tag.unwrap_or([0; 16]));
-    let done = aead.encrypt(nonce, aad, text, &mut output[..text.len() + 16]);
-    if tag.is_ok() && done.is_ok() && message == output {
-        Some(output)
-    } else {
-        None
+    match aead.encrypt(nonce, aad, text, &mut output[..text.len() + 16]) {
+        Ok(()) => Some(output),
+        Err(_) => None,
     }
 }
 
-// What decryption of a text of this length answers, in place and from slice to slice, and what it leaves.
-fn decrypted<C: KeyIvInit<Key = Key> + StreamCipher + Drop>(
+// The same in place.
+fn encrypted_in_place<C: KeyIvInit<Key = Key> + StreamCipher + Drop>(
+    aead: &ChaChaPoly1305<C>,
+    nonce: &C::Iv,
+    aad: &[u8],
+    text: &[u8],
+) -> [u8; SEALED] {
+    let mut message = padded(text);
+    let (front, end) = message.split_at_mut(text.len().min(TEXT));
+    let tag = aead.encrypt_in_place_detached(nonce, aad, front);
+    end[..16].copy_from_slice(&tag.unwrap_or([0; 16]));
+    message
+}
+
+// Whether decryption of a text of this length gives an answer, and leaves these bytes first.
+fn decrypts_between<C: KeyIvInit<Key = Key> + StreamCipher + Drop>(
     aead: &ChaChaPoly1305<C>,
     nonce: &C::Iv,
     aad: &[u8],
     sealed: &[u8; SEALED],
     len: usize,
-) -> ([Result<(), AeadError>; 2], [[u8; SEALED]; 2]) {
-    let len = len.min(TEXT);
-    let (mut message, mut output, mut tag) = (*sealed, *sealed, [0; 16]);
-    tag.copy_from_slice(&sealed[len..len + 16]);
-    let answers = [
-        aead.decrypt_in_place_detached(nonce, aad, &mut message[..len], &tag),
-        aead.decrypt(nonce, aad, &sealed[..len + 16], &mut output[..len]),
-    ];
-    (answers, [message, output])
+    (answer, text): (Result<(), AeadError>, &[u8]),
+) -> bool {
+    let (mut output, len) = (*sealed, len.min(TEXT));
+    let found = aead.decrypt(nonce, aad, &sealed[..len + 16], &mut output[..len]);
+    (found == answer) & output.starts_with(text)
 }
 
-// The sealed message, where both ways to encrypt agree, and both ways to decrypt give the text, and with another tag
-// fail and change nothing.
-fn sealed<C: KeyIvInit<Key = Key> + StreamCipher + Drop>(
+// The same in place.
+fn decrypts_in_place<C: KeyIvInit<Key = Key> + StreamCipher + Drop>(
+    aead: &ChaChaPoly1305<C>,
+    nonce: &C::Iv,
+    aad: &[u8],
+    sealed: &[u8; SEALED],
+    len: usize,
+    (answer, text): (Result<(), AeadError>, &[u8]),
+) -> bool {
+    let (mut message, tag) = (*sealed, tag_of(sealed, len).to_le_bytes());
+    let front = &mut message[..len.min(TEXT)];
+    let found = aead.decrypt_in_place_detached(nonce, aad, front, &tag);
+    (found == answer) & message.starts_with(text)
+}
+
+// The same both ways.
+fn decrypts<C: KeyIvInit<Key = Key> + StreamCipher + Drop>(
+    aead: &ChaChaPoly1305<C>,
+    nonce: &C::Iv,
+    aad: &[u8],
+    sealed: &[u8; SEALED],
+    len: usize,
+    expected: (Result<(), AeadError>, &[u8]),
+) -> bool {
+    decrypts_between(aead, nonce, aad, sealed, len, expected)
+        & decrypts_in_place(aead, nonce, aad, sealed, len, expected)
+}
+
+// Whether this is the sealed message both ways, and both ways to decrypt give the text, and with another tag fail and
+// change nothing.
+fn is_sealed<C: KeyIvInit<Key = Key> + StreamCipher + Drop>(
     aead: &ChaChaPoly1305<C>,
     nonce: &C::Iv,
     aad: &[u8],
     text: &[u8],
+    sealed: &[u8; SEALED],
+) -> bool {
+    let (mut forged, len) = (*sealed, text.len().min(TEXT));
+    forged[len + 15] ^= 1;
+    let wrong = (Err(AeadError::WrongTag), forged.as_slice());
+    (encrypted_in_place(aead, nonce, aad, text) == *sealed)
+        & decrypts(aead, nonce, aad, sealed, len, (Ok(()), text))
+        & decrypts(aead, nonce, aad, &forged, len, wrong)
+}
+
+// The sealed message, where it is right.
+fn sealed<C: KeyIvInit<Key = Key> + StreamCipher + Drop>(
+    key: &Key,
+    nonce: &C::Iv,
+    aad: &[u8],
+    text: &[u8],
 ) -> Option<[u8; SEALED]> {
-    let sealed = encrypted(aead, nonce, aad, text)?;
-    let mut forged = sealed;
-    forged[text.len().min(TEXT) + 15] ^= 1;
-    let (right, texts) = decrypted(aead, nonce, aad, &sealed, text.len());
-    let (wrong, same) = decrypted(aead, nonce, aad, &forged, text.len());
-    if right == [Ok(()); 2]
-        && texts[0].starts_with(text)
-        && texts[1].starts_with(text)
-        && wrong == [Err(AeadError::WrongTag); 2]
-        && same == [forged; 2]
-    {
-        Some(sealed)
+    let aead = ChaChaPoly1305::<C>::new(key);
+    let sealed = encrypted(&aead, nonce, aad, text);
+    if is_sealed(&aead, nonce, aad, text, &sealed.unwrap_or([0; SEALED])) {
+        sealed
     } else {
         None
     }
 }
 
 // The same of an AEAD of any number of rounds: the bounds of its cipher are proved here, and not for each type anew.
+// `names.rt` of `user_tests` has the names of these AEADs.
 
-fn by_chacha<R: Rounds>(
-    aead: &ChaChaPoly1305<StreamCipherCoreWrapper<ChaChaCore<R, Ietf, Lanes16>>>,
-    nonce: &Nonce,
-    aad: &[u8],
-    text: &[u8],
-) -> Option<[u8; SEALED]> {
-    sealed(aead, nonce, aad, text)
+fn by_chacha<R: Rounds>(key: &Key, nonce: &Nonce, aad: &[u8], text: &[u8]) -> Option<[u8; SEALED]> {
+    sealed::<StreamCipherCoreWrapper<ChaChaCore<R, Ietf, Lanes16>>>(key, nonce, aad, text)
 }
 
 fn by_xchacha<R: Rounds>(
-    aead: &ChaChaPoly1305<StreamCipherCoreWrapper<XChaChaCore<R, Lanes16>>>,
+    key: &Key,
     nonce: &XNonce,
     aad: &[u8],
     text: &[u8],
 ) -> Option<[u8; SEALED]> {
-    sealed(aead, nonce, aad, text)
+    sealed::<StreamCipherCoreWrapper<XChaChaCore<R, Lanes16>>>(key, nonce, aad, text)
 }
 
 // RFC 8439, sections 2.8.2 and A.5, and draft-irtf-cfrg-xchacha, section A.3.1.
+fn are_published() -> bool {
+    let made = [
+        by_chacha::<R20>(&FROM_80, &NONCE, AAD, MESSAGE),
+        by_chacha::<R20>(&A5_KEY, &A5_NONCE, A5_AAD, A5_TEXT),
+        by_xchacha::<R20>(&FROM_80, &X_NONCE, AAD, MESSAGE),
+    ];
+    made == [
+        Some(padded(CIPHERTEXT_AND_TAG)),
+        Some(padded(A5_CIPHERTEXT_AND_TAG)),
+        Some(padded(X_CIPHERTEXT_AND_TAG)),
+    ]
+}
+
 #[test]
 fn published(rt: HostRuntime) {
-    let made = by_chacha(&ChaCha20Poly1305::new(&FROM_80), &NONCE, AAD, MESSAGE);
-    assert!(rt; made == Some(padded(CIPHERTEXT_AND_TAG)));
-    let made = by_chacha(&ChaCha20Poly1305::new(&A5_KEY), &A5_NONCE, A5_AAD, A5_TEXT);
-    assert!(rt; made == Some(padded(A5_CIPHERTEXT_AND_TAG)));
-    let made = by_xchacha(&XChaCha20Poly1305::new(&FROM_80), &X_NONCE, AAD, MESSAGE);
-    assert!(rt; made == Some(padded(X_CIPHERTEXT_AND_TAG)));
+    assert!(rt; are_published());
 }
 
 // All lengths of a front, and those around its bounds.
+fn wrong_length(text: &[u8]) -> usize {
+    for len in 0..text.len() {
+        if by_chacha::<R20>(&FROM_80, &NONCE, AAD, &text[..len]).is_none() {
+            return len;
+        }
+    }
+    text.len()
+}
+
 #[test]
 fn lengths(rt: HostRuntime) {
-    let aead = ChaCha20Poly1305::new(&FROM_80);
-    for len in 0..TEXT + 1 {
-        assert!(rt; by_chacha(&aead, &NONCE, AAD, &[7; TEXT][..len]).is_some());
-    }
+    let wrong = wrong_length(&[7; TEXT + 1]);
+    assert!(rt; wrong == TEXT + 1, "{wrong}");
+}
+
+// Whether this number of rounds does the same.
+fn has_rounds<R: Rounds>() -> bool {
+    by_chacha::<R>(&FROM_80, &NONCE, AAD, &[7; 1000]).is_some()
+        & by_xchacha::<R>(&FROM_80, &X_NONCE, AAD, &[7; 1000]).is_some()
 }
 
 #[test]
 fn other_rounds(rt: HostRuntime) {
-    assert!(rt; by_chacha(&ChaCha8Poly1305::new(&FROM_80), &NONCE, AAD, &[7; 1000]).is_some());
-    assert!(rt; by_chacha(&ChaCha12Poly1305::new(&FROM_80), &NONCE, AAD, &[7; 1000]).is_some());
-    assert!(rt; by_xchacha(&XChaCha8Poly1305::new(&FROM_80), &X_NONCE, AAD, &[7; 1000]).is_some());
-    assert!(rt; by_xchacha(&XChaCha12Poly1305::new(&FROM_80), &X_NONCE, AAD, &[7; 1000]).is_some());
+    assert!(rt; has_rounds::<R8>() & has_rounds::<R12>());
 }
 
 // For these lengths of the message, the XOR of the tags. The data are the front of the ciphertext.
 fn all_tags(aad: usize) -> u128 {
-    let aead = ChaCha20Poly1305::new(&FROM_80);
+    let aad = &CIPHERTEXT_AND_TAG[..aad.min(130)];
     let mut all = 0;
     for len in [0usize, 1, 15, 16, 17, 63, 64, 65] {
-        let made = by_chacha(
-            &aead,
-            &NONCE,
-            &CIPHERTEXT_AND_TAG[..aad.min(130)],
-            &MESSAGE[..len],
-        );
+        let made = by_chacha::<R20>(&FROM_80, &NONCE, aad, &MESSAGE[..len]);
         all ^= tag_of(&made.unwrap_or([0; SEALED]), len);
     }
     all

@@ -1,11 +1,11 @@
 //! Parts of sealed files: in memory, behind a reader that fails, and in a `File`.
 
-ghost use Rattle.std.specs.Prelude.{◌≡◌, ◌≤◌, ℕ, List, length};
+ghost use Rattle.std.specs.Prelude.{◌≡◌, ◌<◌, ◌≤◌, ◌^◌, ℕ, List, length};
 ghost use Rattle.std.specs.List.{slice_range};
 ghost use Rattle.std.specs.Result.{IsOkAnd};
 ghost use Rattle.sealed.specs.Sealed.{sealed};
 
-use super::sealed_files::{Change, FILE, SALT, TEXT, apply, count, seals, two_files};
+use super::sealed_files::{Change, FILE, TEXT, TWO_FILES, apply, counted, two_files};
 use super::unsteady::Unsteady;
 use chacha20::Key;
 use known_answers::published::COUNTING as KEY;
@@ -23,6 +23,9 @@ fn reader(file: &[u8]) -> Unsteady<Cursor<&[u8]>> {
     Unsteady::new(Cursor::new(file), 1000, 0)
 }
 
+// The scratch space of a reader.
+const BUFFER: usize = CHUNK + TAG;
+
 // Of a sealed file whose text is long enough, its bytes 1000 to 1100.
 fn hundred(key: &Key, file: &[u8], window: &mut [u8; 100]) -> Result<usize, Damage>
     ensures { (salt text : List ℕ) → length salt ≡ 16
@@ -38,7 +41,7 @@ fn is_part(text: &[u8], place: usize, n: usize, window: &[u8]) -> bool {
     let from = place.min(text.len());
     let end = (place / CHUNK).saturating_add(1).saturating_mul(CHUNK);
     let size = window.len().min(end.min(text.len()) - from.min(end));
-    n == size && window.get(..n) == text.get(from..from.saturating_add(n))
+    (n == size) & (window.get(..n) == text.get(from..from.saturating_add(n)))
 }
 
 // Whether this text is read at a place, in memory and behind a reader.
@@ -47,9 +50,9 @@ fn is_read<R: Read + Seek>(text: &[u8], file: &[u8], reader: &mut R, place: usiz
     let sought = reader.seek(SeekFrom::Start(place as u64));
     let n = reader.read(&mut windows[0]).unwrap_or(usize::MAX);
     let m = read_part(file, place as u64, &mut windows[1]).unwrap_or(usize::MAX);
-    sought.unwrap_or(0) == place as u64
-        && is_part(text, place, n, &windows[0])
-        && is_part(text, place, m, &windows[1])
+    (sought.unwrap_or(0) == place as u64)
+        & is_part(text, place, n, &windows[0])
+        & is_part(text, place, m, &windows[1])
 }
 
 // The first place near the end of a chunk from which another text is read, or the greatest number.
@@ -70,44 +73,65 @@ fn ends<R: Read + Seek>(text: &[u8], reader: &mut R) -> bool {
     let mut end = [0; 4];
     let sought = reader.seek(SeekFrom::End(-3));
     let n = reader.read(&mut end);
-    sought.unwrap_or(0) == 199997 && n.unwrap_or(0) == 3 && text.ends_with(&end[..3])
+    (sought.unwrap_or(0) == 199997) & (n.unwrap_or(0) == 3) & text.ends_with(&end[..3])
+}
+
+fn is_right<R: Read + Seek>(text: &[u8], file: &[u8], reader: &mut R) -> bool {
+    ends(text, reader) & (wrong_place(text, file, reader) == usize::MAX)
 }
 
 // Whether all parts are read behind a reader.
-fn all_read<R: Read + Seek>(text: &[u8], file: &[u8], inner: &mut R) -> bool {
-    let mut buf = [0; CHUNK + TAG];
+fn all_read<R: Read + Seek, const B: usize>(text: &[u8], file: &[u8], inner: &mut R) -> bool
+    requires { B ≡ 65552 }
+{
+    let mut buf = [0; B];
     match SealedReader::new(&KEY, inner, &mut buf) {
-        Ok(mut reader) => {
-            ends(text, &mut reader) && wrong_place(text, file, &mut reader) == usize::MAX
+        Ok(mut reader) => is_right(text, file, &mut reader),
+        Err(_) => false,
+    }
+}
+
+// An empty file, whose name is removed.
+fn unnamed(rt: &HostRuntime) -> io::Result<File> {
+    let path = "sealed_parts.tmp";
+    let mut options = OpenOptions::new();
+    options.read(true).write(true).create(true).truncate(true);
+    let file = options.open(rt, path)?;
+    remove_file(rt, path)?;
+    Ok(file)
+}
+
+fn reads_hundred(text: &[u8], file: &[u8]) -> bool {
+    let mut window = [0; 100];
+    hundred(&KEY, file, &mut window).is_ok() & (text.get(1000..1100) == Some(&window[..]))
+}
+
+fn unnamed_is_read(rt: &HostRuntime, text: &[u8], file: &[u8]) -> bool {
+    match unnamed(rt) {
+        Ok(mut inner) => {
+            inner.write_all(file).is_ok() & all_read::<_, BUFFER>(text, file, &mut inner)
         }
         Err(_) => false,
     }
 }
 
-// A file with these bytes, which has no name.
-fn unnamed(rt: &HostRuntime, bytes: &[u8]) -> io::Result<File> {
-    let path = "sealed_parts.tmp";
-    let mut options = OpenOptions::new();
-    let mut file = options
-        .read(true)
-        .write(true)
-        .create(true)
-        .truncate(true)
-        .open(rt, path)?;
-    remove_file(rt, path)?;
-    file.write_all(bytes)?;
-    Ok(file)
+fn parts_are_read(rt: &HostRuntime, text: &mut [u8], file: &mut [u8]) -> bool {
+    counted(text, file)
+        & all_read::<_, BUFFER>(text, file, &mut reader(file))
+        & unnamed_is_read(rt, text, file)
+        & reads_hundred(text, file)
+}
+
+fn parts_are_read_in<const N: usize, const F: usize>(rt: &HostRuntime) -> bool
+    requires text { N < 2 ^ 63 }
+    requires file { F < 2 ^ 63 }
+{
+    parts_are_read(rt, &mut [0; N], &mut [0; F])
 }
 
 #[test]
-fn parts(rt: HostRuntime) -> io::Result<()> {
-    let (mut text, mut file, mut window) = ([0; TEXT], [0; FILE], [0; 100]);
-    count(&mut text);
-    assert!(rt; seals(&SALT, &text, &mut file));
-    assert!(rt; all_read(&text, &file, &mut reader(&file)));
-    assert!(rt; all_read(&text, &file, &mut unnamed(&rt, &file)?));
-    assert!(rt; hundred(&KEY, &file, &mut window).is_ok() && window[..] == text[1000..1100]);
-    Ok(())
+fn parts(rt: HostRuntime) {
+    assert!(rt; parts_are_read_in::<TEXT, FILE>(&rt));
 }
 
 // Reads a text by 32 bytes, and returns how many reads fail, unless it reads another one.
@@ -115,32 +139,47 @@ fn failed_reads<R: Read>(text: &[u8], reader: &mut R) -> Option<u32> {
     let (mut at, mut failed) = (0usize, 0u32);
     for _ in 0..text.len() / 32 + 1 {
         let mut piece = [0; 32];
-        match reader.read_exact(&mut piece) {
-            Ok(()) if text.get(at..at.saturating_add(32)) != Some(&piece[..]) => return None,
-            Ok(()) => at = at.saturating_add(32),
-            Err(_) => failed = failed.saturating_add(1),
+        if reader.read_exact(&mut piece).is_err() {
+            failed = failed.saturating_add(1);
+        } else if text.get(at..at.saturating_add(32)) == Some(&piece[..]) {
+            at = at.saturating_add(32);
+        } else {
+            return None;
         }
     }
     Some(failed)
 }
 
 // The same behind a reader, whose seeks are counted.
-fn failed_behind(text: &[u8], inner: &mut Unsteady<Cursor<&[u8]>>) -> Option<u32> {
-    let mut buf = [0; CHUNK + TAG];
-    let mut reader = SealedReader::new(&KEY, inner, &mut buf).ok()?;
-    failed_reads(text, &mut reader)
+fn failed_behind<R: Read + Seek, const B: usize>(text: &[u8], inner: &mut R) -> Option<u32>
+    requires { B ≡ 65552 }
+{
+    let mut buf = [0; B];
+    match SealedReader::new(&KEY, inner, &mut buf) {
+        Ok(mut reader) => failed_reads(text, &mut reader),
+        Err(_) => None,
+    }
 }
 
 // Each chunk is opened once, and again after a failure. The first two seeks are those of `new`.
+fn is_kept(text: &mut [u8], file: &mut [u8]) -> bool {
+    let sealed = counted(text, file);
+    let mut inner = reader(file);
+    inner.failing_seek = 4;
+    let failed = failed_behind::<_, BUFFER>(text, &mut inner);
+    sealed & (failed == Some(1)) & (inner.seeks == 7)
+}
+
+fn is_kept_in<const N: usize, const F: usize>() -> bool
+    requires text { N < 2 ^ 63 }
+    requires file { F < 2 ^ 63 }
+{
+    is_kept(&mut [0; N], &mut [0; F])
+}
+
 #[test]
 fn a_chunk_is_kept(rt: HostRuntime) {
-    let (mut text, mut file) = ([0; TEXT], [0; FILE]);
-    count(&mut text);
-    assert!(rt; seals(&SALT, &text, &mut file));
-    let mut inner = reader(&file);
-    inner.failing_seek = 4;
-    let failed = failed_behind(&text, &mut inner);
-    assert!(rt; failed == Some(1) && inner.seeks == 7);
+    assert!(rt; is_kept_in::<TEXT, FILE>());
 }
 
 // A damaged file, a place that is read, and what is wrong there.
@@ -176,42 +215,72 @@ fn damage_of<T: Drop>(done: Result<T, SealError>) -> Option<Damage> {
     }
 }
 
+fn kind_of(read: io::Result<usize>) -> Option<ErrorKind> {
+    match read {
+        Ok(_) => None,
+        Err(e) => Some(e.kind()),
+    }
+}
+
 // What a reader says of a place, and the kind of its second answer.
-fn read_at(file: &[u8], place: u64, window: &mut [u8]) -> (Option<Damage>, Option<ErrorKind>) {
-    let (mut inner, mut buf) = (reader(file), [0; CHUNK + TAG]);
-    let mut reader = match SealedReader::new(&KEY, &mut inner, &mut buf) {
-        Ok(reader) => reader,
-        Err(e) => return (damage_of::<()>(Err(e)), Some(ErrorKind::InvalidData)),
-    };
+fn said_of<R: Read + Seek>(
+    reader: &mut SealedReader<'_, R>,
+    place: u64,
+    window: &mut [u8],
+) -> (Option<Damage>, Option<ErrorKind>) {
     let _ = reader.seek(SeekFrom::Start(place));
     let damage = damage_of(reader.read_text(window));
     let _ = reader.seek(SeekFrom::Start(place));
-    let again = match reader.read(window) {
-        Ok(_) => None,
-        Err(e) => Some(e.kind()),
-    };
-    (damage, again)
+    (damage, kind_of(reader.read(window)))
+}
+
+fn read_at<R: Read + Seek, const B: usize>(
+    inner: &mut R,
+    place: u64,
+    window: &mut [u8],
+) -> (Option<Damage>, Option<ErrorKind>)
+    requires { B ≡ 65552 }
+{
+    let mut buf = [0; B];
+    match SealedReader::new(&KEY, inner, &mut buf) {
+        Ok(mut reader) => said_of(&mut reader, place, window),
+        Err(e) => (damage_of::<()>(Err(e)), Some(ErrorKind::InvalidData)),
+    }
 }
 
 // Whether this damage is found at a place, in memory and behind a reader, and then nothing handed out.
 fn is_found(file: &[u8], place: u64, damage: Option<Damage>) -> bool {
     let (mut window, mut other) = ([0; 30], [0; 30]);
     let in_memory = read_part(file, place, &mut window);
-    let (behind_a_reader, kind) = read_at(file, place, &mut other);
-    in_memory.err() == damage
-        && behind_a_reader == damage
-        && kind == damage.map(|_| ErrorKind::InvalidData)
-        && (damage.is_none() || window == [0; 30] && other == [0; 30])
+    let (behind_a_reader, kind) = read_at::<_, BUFFER>(&mut reader(file), place, &mut other);
+    (in_memory.err() == damage)
+        & (behind_a_reader == damage)
+        & (kind == damage.map(|_| ErrorKind::InvalidData))
+        & (damage.is_none() | (window == [0; 30]) & (other == [0; 30]))
+}
+
+// The number of the first damage that is not found, or how many there are.
+fn wrong_damage(text: &mut [u8], files: &mut [u8], bytes: &mut [u8]) -> usize {
+    let sealed = two_files(text, files);
+    for i in 0..DAMAGED.len() {
+        let (change, place, damage) = &DAMAGED[i];
+        let len = apply(files, *change, bytes);
+        if !sealed | !is_found(bytes.get(..len).unwrap_or(&[]), *place, *damage) {
+            return i;
+        }
+    }
+    DAMAGED.len()
+}
+
+fn wrong_damage_in<const N: usize, const B: usize>() -> usize
+    requires text { N < 2 ^ 63 }
+    requires files { B < 2 ^ 63 }
+{
+    wrong_damage(&mut [0; N], &mut [0; B], &mut [0; B])
 }
 
 #[test]
 fn damaged_parts_are_refused(rt: HostRuntime) {
-    let (mut text, mut files, mut bytes) = ([0; TEXT], [0; 2 * FILE], [0; 2 * FILE]);
-    count(&mut text);
-    assert!(rt; two_files(&text, &mut files));
-    for i in 0..DAMAGED.len() {
-        let (change, place, damage) = &DAMAGED[i];
-        let len = apply(&files, *change, &mut bytes).min(FILE);
-        assert!(rt; is_found(&bytes[..len], *place, *damage), "{i}");
-    }
+    let wrong = wrong_damage_in::<TEXT, TWO_FILES>();
+    assert!(rt; wrong == DAMAGED.len(), "{wrong}");
 }

@@ -6,7 +6,7 @@ use Rattle.std.specs.Result.{IsOkAnd}
 use Rattle.sealed.specs.Sealed.{sealed}
 use Rattle.sealed.proofs.FileLemmas.{has-salt}
 use Rattle.sealed.proofs.SliceLemmas.{part-within}
-use Rattle.user_tests.proofs.users.sealed_parts.hundred.Goals as goal
+use Rattle.aead_tests.proofs.users.sealed_parts.hundred.Goals as goal
 
 weaker : {T E : Type 0} (r : Result T E) (P Q : T → Type 0) → ((x : T) → P x → Q x) → IsOkAnd r P → IsOkAnd r Q
 weaker (Ok x) P Q then holds = then x holds

@@ -8,7 +8,7 @@ fn is_right(key: &[u8; 32], text: &[u8], cut: usize, tag: &Tag) -> bool {
     let mut mac = Poly1305::new(key);
     mac.update(first);
     mac.update(rest);
-    is_equal(mac.finish(), tag) && is_equal(authenticate(key, text), tag)
+    is_equal(mac.finish(), tag) & is_equal(authenticate(key, text), tag)
 }
 
 // The first cut at which the tag is wrong.
@@ -21,11 +21,21 @@ fn wrong_cut(key: &[u8; 32], text: &[u8], tag: &Tag) -> Option<usize> {
     None
 }
 
+// The number of the first text whose tag is wrong, or how many there are.
+fn wrong_text() -> usize {
+    for i in 0..TAGS.len() {
+        let (_, key, text, tag) = &TAGS[i];
+        if wrong_cut(key, text, tag).is_some() {
+            return i;
+        }
+    }
+    TAGS.len()
+}
+
 #[test]
 fn published(rt: HostRuntime) {
-    for (source, key, text, tag) in &TAGS {
-        assert!(rt; wrong_cut(key, text, tag).is_none(), "{source}");
-    }
+    let wrong = wrong_text();
+    assert!(rt; wrong == TAGS.len(), "{wrong}");
 }
 
 // A text whose bytes grow by this step.
@@ -61,9 +71,8 @@ fn wrong_length(key: &[u8; 32], text: &[u8; 700]) -> Option<usize> {
 fn long_texts(rt: HostRuntime) {
     for (key, (first, step), tags) in &LONG_TAGS {
         let (key, text) = ([*key; 32], text_of(*first, *step));
-        assert!(rt; has_tags(&key, &text, tags));
-        assert!(rt; wrong_length(&key, &text).is_none());
-        assert!(rt; wrong_cut(&key, &text, &tags[6]).is_none());
+        let wrong = [wrong_length(&key, &text), wrong_cut(&key, &text, &tags[6])];
+        assert!(rt; has_tags(&key, &text, tags) & (wrong == [None; 2]));
     }
 }
 
