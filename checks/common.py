@@ -18,11 +18,11 @@ TOP = os.path.dirname(os.path.dirname(os.path.abspath(__file__)))
 # by what is no equation.
 LOST = re.compile(r"has no field|is not in scope|has no `|^record `|(?:was|were) not (?:admitted|checked)|homogeneous path|settles argument"
                   r"|no occurrence of the path")
-# The crate and the path of each must-fail edit, and of each idle body, an edit that checks/cut must find.
-EDITS = [(it.split("/")[-3], it) for it in sorted(glob.glob(f"{TOP}/crates/*/must-fail/*.edit"))]
+# The crate and the path of each edit, which the gate tries or checks/edits alone, and of each idle body, an edit that checks/cut must find.
+EDITS = [(it.replace("/must-fail/", "/").split("/")[-2], it) for folder in ("crates/*/must-fail", "checks/mistakes/*")
+         for it in sorted(glob.glob(f"{TOP}/{folder}/*.edit"))]
 IDLE = [("chacha_base", it) for it in sorted(glob.glob(f"{TOP}/checks/idle/*.edit"))]
-# What a mistake may not have beyond what stands instead: a call, an operation or a branch, which changes a proof's form. `Steps::new()`
-# is a constant.
+# What a mistake may not have beyond what stands instead, since it changes a proof's form. `Steps::new()` is a constant.
 FORM = re.compile(r"\w+(?=(?:::<[^()]*>)?\()|[-+*/%?]|<<|>>|\b(?:if|match|for|while|return)\b")
 
 
