@@ -4,7 +4,7 @@ ghost use Rattle.std.specs.Prelude.{◌≤◌};
 
 use crate::calls::{Answer, Call};
 use crate::check::{Made, Subject, Way};
-use crate::text::{Data, read_array, split_keyed, split_word};
+use crate::text::{Data, read_array, split_keyed};
 use chacha20::cipher::{
     KeyIvInit, RngBackend, StreamCipherBackend, StreamCipherCounter, StreamCipherSeekCore,
 };
@@ -33,7 +33,7 @@ where
     const WAYS: &'static [Way] = &[Way::Applying];
 
     fn read(made_of: &'static str) -> Option<Self> {
-        let (_, seed) = split_word(made_of);
+        let seed = made_of.strip_prefix("seed ")?;
         Some(ChaChaCore::from_seed(read_array::<32>(seed)?))
     }
 

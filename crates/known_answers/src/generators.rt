@@ -5,7 +5,7 @@ ghost use Rattle.chacha20.specs.GeneratorRuns.{InData};
 
 use crate::calls::{Answer, Call};
 use crate::check::{Made, Subject, Way};
-use crate::text::{Data, read_array, split_word};
+use crate::text::{Data, read_array};
 use chacha20::cipher::RngBackend;
 use chacha20::rand_core::{CryptoRng, TryRng};
 use chacha20::{ChaChaRng, RngAnswer, RngCall, Rounds, run_rng};
@@ -15,11 +15,11 @@ impl<R: Rounds, B: RngBackend<R>> Subject for ChaChaRng<R, B> {
 
     // Of `seed S`, or of a stored state, `state S`.
     fn read(made_of: &'static str) -> Option<Self> {
-        let (kind, bytes) = split_word(made_of);
-        match kind {
-            "seed" => Some(ChaChaRng::from_seed(read_array::<32>(bytes)?)),
-            _ => Some(ChaChaRng::deserialize_state(&read_array::<49>(bytes)?)),
+        if let Some(seed) = made_of.strip_prefix("seed ") {
+            return Some(ChaChaRng::from_seed(read_array::<32>(seed)?));
         }
+        let state = made_of.strip_prefix("state ")?;
+        Some(ChaChaRng::deserialize_state(&read_array::<49>(state)?))
     }
 
     fn make(&mut self, way: Way, calls: &[Call], _: &Data, made: &mut Made) {
