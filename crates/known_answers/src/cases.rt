@@ -14,7 +14,7 @@
 //! | the cores `ChaCha20Core`, `ChaCha0Core` | `key K nonce N` |
 //! | the core `ChaCha0LegacyCore` | `seed S` |
 //! | the generators `ChaCha20Rng`, `ChaCha12Rng`, `ChaCha8Rng`, `ChaCha0Rng` | `seed S`, or `state S` as stored |
-//! | `hchacha`; its only line is `subkey -> S` | `key K input I` |
+//! | `hchacha`; its only line is `subkey -> S` | `key K nonce N`, of 32 bytes and of 16 |
 //!
 //! | line of a cipher | call | answer |
 //! |---|---|---|
@@ -58,7 +58,7 @@ apply 0c0d0e -> 332ea2
 apply 0f -> 0e
 
 case 3. draft-irtf-cfrg-xchacha, 2.2.1: a subkey
-hchacha key 00..1f input 000000090000004a0000000031415927
+hchacha key 00..1f nonce 000000090000004a0000000031415927
 subkey -> 82413b4227b27bfed30e42508a877d73a0f9e4d58a74a853c12ec41326d3ecdc
 
 case 4. RFC 8439, 2.4.2: a message from block 1 on (block 0: OpenSSL)

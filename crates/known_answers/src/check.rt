@@ -1,7 +1,7 @@
 //! Runs a case on its subject, in each way to make its calls.
 
-use crate::calls::{Answer, Call, Data, Memory, Range, part};
-use crate::text::{Bytes, Case, read_number};
+use crate::calls::{Answer, Call, Range, read_call};
+use crate::text::{Bytes, Case, Data, read_number};
 use std::fmt::{self, Display, Formatter};
 
 /// A way to make calls.
@@ -26,16 +26,18 @@ pub trait Subject: Drop {
     /// The ways to make its calls, beside `Directly`.
     const WAYS: &'static [Way];
 
-    /// Makes a call in any way but `AsList`. What it reads between slices is in the data before all calls.
-    fn call(&mut self, way: Way, call: Call, input: &Data, data: &mut Data) -> Answer;
+    /// A new one, made of what a case names.
+    fn read(made_of: &'static str) -> Option<Self>;
 
-    /// Makes all calls by one list, if it can.
-    fn run_list(&mut self, calls: &[Call], input: &Data, data: &mut Data, answers: &mut [Answer]);
+    /// Makes calls, at most 128. What one reads between slices is in the data before all calls.
+    fn make(&mut self, way: Way, calls: &[Call], input: &Data, made: &mut Made);
 }
 
-/// What a new subject is made of.
-pub trait Start<S>: Drop {
-    fn make(&self) -> S;
+/// What a run of calls answers, and makes of the data.
+#[derive(Clone, Copy, PartialEq, Eq)]
+pub struct Made {
+    pub answers: [Answer; 128],
+    pub data: Data,
 }
 
 /// A line that is wrong: the case's title, the line, and what is wrong with it.
@@ -59,16 +61,6 @@ pub enum Fault {
     Differs(Way),
 }
 
-impl Failure {
-    pub fn at(case: Case, line: &'static str, fault: Fault) -> Failure {
-        Failure {
-            title: case.title,
-            line,
-            fault,
-        }
-    }
-}
-
 impl Display for Failure {
     fn fmt<W: fmt::Write>(&self, f: &mut Formatter<W>) -> fmt::Result {
         write!(f, "{}, at '{}': {:?}", self.title, self.line, self.fault)
@@ -76,140 +68,155 @@ impl Display for Failure {
 }
 
 /// The first line of a case that is wrong.
-pub fn check<S: Subject, M: Start<S>>(case: Case, start: Option<M>) -> Result<(), Failure> {
-    match start {
-        Some(start) => check_lines::<S, M>(case, &start),
-        None => Err(Failure::at(case, case.made_of, Fault::Unreadable)),
-    }
-}
-
-fn check_lines<S: Subject, M: Start<S>>(case: Case, start: &M) -> Result<(), Failure> {
-    let mut memory = Memory::new();
-    for line in case.lines.lines() {
-        if let Err(fault) = check_line::<S, M>(&mut memory, start, line) {
-            return Err(Failure::at(case, line, fault));
+pub fn check<S: Subject>(case: &Case) -> Result<(), Failure> {
+    let mut script = Script::read(case);
+    for i in 0..script.count.min(128) {
+        let (line, call) = (script.lines[i], script.calls[i]);
+        let direct = run::<S>(&script, i, Way::Directly);
+        script.judge(line, call, direct.answers[i], &direct.data);
+        for way in S::WAYS {
+            let is_same = run::<S>(&script, i, *way) == direct;
+            script.note_unless(line, Some(is_same), Fault::Differs(*way));
         }
     }
-    Ok(())
+    script.verdict
 }
 
-// A call or `N times CALL`, and the answer behind the arrow, if there is one.
-fn check_line<S: Subject, M: Start<S>>(
-    memory: &mut Memory,
-    start: &M,
-    line: &'static str,
-) -> Result<(), Fault> {
-    let (text, expected) = match line.split_once(" -> ") {
-        Some((text, expected)) => (text, Some(expected)),
-        None => (line, None),
+// What a new subject makes of the calls up to one.
+fn run<S: Subject>(script: &Script, last: usize, way: Way) -> Made {
+    let mut made = Made {
+        answers: [Answer::Missing; 128],
+        data: script.data.bytes,
     };
-    let (times, text) = text.split_once(" times ").unwrap_or(("1", text));
-    for _ in 0..times.parse::<usize>().map_err(|_| Fault::Unreadable)? {
-        check_call::<S, M>(memory, start, text, expected)?;
+    let calls = script.calls.get(..=last).unwrap_or(&[]);
+    match S::read(script.case.made_of) {
+        Some(mut subject) => subject.make(way, calls, &script.data.bytes, &mut made),
+        None => {}
     }
-    Ok(())
+    made
 }
 
-fn check_call<S: Subject, M: Start<S>>(
-    memory: &mut Memory,
-    start: &M,
-    text: &'static str,
-    expected: Option<&'static str>,
-) -> Result<(), Fault> {
-    let last = memory.count;
-    let call = memory.read(text).ok_or(Fault::Unreadable)?;
-    let (answers, data) = run_calls::<S, M>(memory, start, Way::Directly);
-    let answer = *answers.get(last).ok_or(Fault::Unreadable)?;
-    fault_unless(is_answer(answer, expected), Fault::Answer)?;
-    fault_unless(
-        are_data(memory, call, &data, answer, expected),
-        Fault::Bytes,
-    )?;
-    for way in S::WAYS {
-        let same = run_calls::<S, M>(memory, start, *way) == (answers, data);
-        fault_unless(Some(same), Fault::Differs(*way))?;
-    }
-    memory.data = data;
-    Ok(())
+// A case's calls, and the line of each. It goes on where a line is wrong, and keeps the first.
+#[derive(Clone, Copy)]
+struct Script {
+    case: Case,
+    calls: [Call; 128],
+    lines: [&'static str; 128],
+    count: usize,
+    // Before all calls.
+    data: Bytes,
+    // After the calls that are judged.
+    judged: Data,
+    verdict: Result<(), Failure>,
 }
 
-// An error where a check fails, or the line can't be read.
-fn fault_unless(holds: Option<bool>, fault: Fault) -> Result<(), Fault> {
-    match holds {
-        Some(true) => Ok(()),
-        Some(false) => Err(fault),
-        None => Err(Fault::Unreadable),
+impl Script {
+    fn read(case: &Case) -> Script {
+        let mut script = Script {
+            case: *case,
+            calls: [Call::RemainingBlocks; 128],
+            lines: [""; 128],
+            count: 0,
+            data: Bytes::new(),
+            judged: [0; 1536],
+            verdict: Ok(()),
+        };
+        for line in case.lines.lines() {
+            script.read_line(line);
+        }
+        let has_calls = script.count > 0;
+        script.note_unless(case.made_of, Some(has_calls), Fault::Unreadable);
+        script.judged = script.data.bytes;
+        script
+    }
+
+    // A call or `N times CALL`, and the answer behind the arrow, if there is one.
+    fn read_line(&mut self, line: &'static str) {
+        let (text, _) = split_answer(line);
+        let (times, text) = text.split_once(" times ").unwrap_or(("1", text));
+        for _ in 0..read_number(times).unwrap_or(129usize).min(129) {
+            match read_call(text, &mut self.data) {
+                Some(call) if self.count < 128 && !self.data.is_wrong => {
+                    self.calls[self.count] = call;
+                    self.lines[self.count] = line;
+                    self.count += 1;
+                }
+                _ => self.note_unless(line, None, Fault::Unreadable),
+            }
+        }
+    }
+
+    // Notes a line where a check fails, or the line can't be read.
+    fn note_unless(&mut self, line: &'static str, holds: Option<bool>, fault: Fault) {
+        let fault = match holds {
+            Some(true) => return,
+            Some(false) => fault,
+            None => Fault::Unreadable,
+        };
+        if self.verdict.is_ok() {
+            self.verdict = Err(Failure {
+                title: self.case.title,
+                line,
+                fault,
+            });
+        }
+    }
+
+    // Judges what the direct call answers and leaves.
+    fn judge(&mut self, line: &'static str, call: Call, answer: Answer, data: &Data) {
+        let (_, expected) = split_answer(line);
+        let range = match answer {
+            Answer::Done => call.range(),
+            _ => Range { at: 0, len: 0 },
+        };
+        let is_kept = are_same_beside(range, &self.judged, data);
+        self.note_unless(line, is_answer(answer, expected), Fault::Answer);
+        self.note_unless(
+            line,
+            are_bytes(range.of(data), answer, expected),
+            Fault::Bytes,
+        );
+        self.note_unless(line, Some(is_kept), Fault::Bytes);
+        self.judged = *data;
     }
 }
 
-// The answers of a new subject to the calls so far, and what it makes of the data.
-fn run_calls<S: Subject, M: Start<S>>(
-    memory: &Memory,
-    start: &M,
-    way: Way,
-) -> ([Answer; 128], Data) {
-    let mut subject = start.make();
-    let mut data = memory.first_data;
-    let mut answers = [Answer::Missing; 128];
-    make_calls(&mut subject, memory, way, &mut data, &mut answers);
-    (answers, data)
-}
-
-fn make_calls<S: Subject>(
-    subject: &mut S,
-    memory: &Memory,
-    way: Way,
-    data: &mut Data,
-    answers: &mut [Answer; 128],
-) {
-    let count = memory.count.min(128);
-    let calls = &memory.calls[..count];
-    if way == Way::AsList {
-        subject.run_list(calls, &memory.first_data, data, &mut answers[..count]);
-        return;
-    }
-    for i in 0..count {
-        answers[i] = subject.call(way, calls[i], &memory.first_data, data);
-    }
+// A call's text, and the answer behind the arrow.
+fn split_answer(line: &'static str) -> (&'static str, &'static str) {
+    line.split_once(" -> ").unwrap_or((line, ""))
 }
 
 // Whether an answer is the one that a line gives. Without one, the call must succeed.
-fn is_answer(answer: Answer, expected: Option<&str>) -> Option<bool> {
-    let Some(text) = expected else {
-        return match answer {
-            Answer::Missing => None,
-            Answer::Refused | Answer::Overflow => Some(false),
-            _ => Some(true),
-        };
-    };
+fn is_answer(answer: Answer, expected: &str) -> Option<bool> {
     Some(match answer {
         Answer::Missing => return None,
-        Answer::Done => text != "refused" && text != "overflow",
-        Answer::Refused => text == "refused",
-        Answer::Overflow => text == "overflow",
-        Answer::Number(found) => text != "overflow" && found == read_number(text)?,
-        Answer::Equal(found) => found == text.parse::<bool>().ok()?,
-        Answer::Seed(found) => Bytes::read(text)?.are(&found),
-        Answer::State(found) => Bytes::read(text)?.are(&found),
+        Answer::Refused => expected == "refused",
+        Answer::Overflow => expected == "overflow",
+        _ if expected == "refused" || expected == "overflow" => false,
+        _ if expected.is_empty() => true,
+        Answer::Done => true,
+        Answer::Number(found) => found == read_number(expected)?,
+        Answer::Equal(found) => found == expected.parse::<bool>().ok()?,
+        Answer::Seed(found) => Bytes::read(expected)?.are(&found),
+        Answer::State(found) => Bytes::read(expected)?.are(&found),
     })
 }
 
-// Whether a call has left the bytes that a line gives, and the others as they were.
-fn are_data(
-    memory: &Memory,
-    call: Call,
-    data: &Data,
-    answer: Answer,
-    expected: Option<&str>,
-) -> Option<bool> {
-    let Range { at, len } = call.range();
-    let may_change = if answer == Answer::Done { len } else { 0 };
-    let end = at.checked_add(may_change)?;
-    let others = data.get(..at)? == memory.data.get(..at)?
-        && data.get(end..)? == memory.data.get(end..)?;
-    let is_value = match (answer, expected) {
-        (Answer::Done, Some(text)) => Bytes::read(text)?.are(part(data, call.range())),
-        _ => true,
-    };
-    Some(others && is_value)
+// Whether a call that is done has left the bytes that a line gives.
+fn are_bytes(bytes: &[u8], answer: Answer, expected: &str) -> Option<bool> {
+    match answer {
+        Answer::Done if !expected.is_empty() => Some(Bytes::read(expected)?.are(bytes)),
+        _ => Some(true),
+    }
+}
+
+// Whether the data is the same but in a range.
+fn are_same_beside(range: Range, before: &Data, after: &Data) -> bool {
+    for i in 0..1536usize {
+        let is_in_range = i >= range.at && i - range.at < range.len;
+        if before[i] != after[i] && !is_in_range {
+            return false;
+        }
+    }
+    true
 }

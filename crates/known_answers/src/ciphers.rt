@@ -3,64 +3,142 @@
 ghost use Rattle.std.specs.Prelude.{◌↔◌, ◌≤◌, ◌+◌, IsTrue, All};
 ghost use Rattle.chacha20.specs.Runs.{InSlices};
 
-use crate::calls::{Answer, Call, Data, Range, Type, part, part_mut};
-use crate::check::{Start, Subject, Way};
+use crate::calls::{Answer, Call, Range};
+use crate::check::{Made, Subject, Way};
+use crate::text::{Data, read_array, split_keyed};
 use chacha20::cipher::{
     KeyIvInit, SeekNum, StreamCipher, StreamCipherError, StreamCipherSeek, StreamCipherSeekCore,
 };
 use chacha20::{CipherAnswer, CipherCall, Key, StreamCipherCoreWrapper, run_cipher};
 
-impl<N: Drop, K> Start<StreamCipherCoreWrapper<K>> for (Key, N)
+impl<const N: usize, K> Subject for StreamCipherCoreWrapper<K>
 where
-    K: KeyIvInit<Key = Key, Iv = N> + StreamCipherSeekCore + Drop,
+    K: KeyIvInit<Key = Key, Iv = [u8; N]> + StreamCipherSeekCore + Drop,
 {
-    fn make(&self) -> StreamCipherCoreWrapper<K> {
-        StreamCipherCoreWrapper::new(&self.0, &self.1)
-    }
-}
-
-impl<K: StreamCipherSeekCore + Drop> Subject for StreamCipherCoreWrapper<K> {
     const WAYS: &'static [Way] = &[Way::WithoutTry, Way::AsList];
 
-    fn call(&mut self, way: Way, call: Call, input: &Data, data: &mut Data) -> Answer {
-        let changed = part_mut(data, call.range());
-        match call {
-            Call::Cipher(call, of_type) => {
-                make_call(self, way == Way::WithoutTry, call, of_type, input, changed)
-            }
-            _ => Answer::Missing,
+    fn read(made_of: &'static str) -> Option<Self> {
+        if N > 24 {
+            return None;
         }
+        let (key, nonce) = split_keyed(made_of)?;
+        Some(StreamCipherCoreWrapper::new(&read_array::<32>(key)?, &read_array::<N>(nonce)?))
     }
 
-    fn run_list(&mut self, calls: &[Call], input: &Data, data: &mut Data, answers: &mut [Answer]) {
-        let mut made = [CipherCall::Pos; 128];
-        let mut given = [CipherAnswer::Overflow; 128];
-        let count = calls.len().min(128);
-        for i in 0..count {
-            if let Call::Cipher(call, _) = calls[i] {
-                made[i] = call;
-            }
-        }
-        if !all_in_slices(&made[..count], 1536, 1536) {
-            return;
-        }
-        run_cipher(self, input, data, &made[..count], &mut given[..count]);
-        for i in 0..count.min(answers.len()) {
-            answers[i] = of_listed(calls[i], given[i]);
-        }
+    fn make(&mut self, way: Way, calls: &[Call], input: &Data, made: &mut Made) {
+        make_calls(self, way, calls, input, made);
     }
 }
 
-// A list's answer, in the type that the call names.
-fn of_listed(call: Call, answer: CipherAnswer) -> Answer {
-    match (answer, call) {
-        (CipherAnswer::Done, _) => Answer::Done,
-        (CipherAnswer::Refused, _) => Answer::Refused,
-        (CipherAnswer::PositionI32(position), _) => of_position(position),
-        (CipherAnswer::Position(position), Call::Cipher(_, of_type)) if of_type.has(position) => {
-            Answer::Number(position)
+/// Makes calls on a cipher.
+pub fn make_calls<K: StreamCipherSeekCore>(
+    cipher: &mut StreamCipherCoreWrapper<K>,
+    way: Way,
+    calls: &[Call],
+    input: &Data,
+    made: &mut Made,
+) {
+    if way == Way::AsList {
+        make_list(cipher, calls, input, made);
+        return;
+    }
+    for i in 0..calls.len().min(128) {
+        let changed = calls[i].range().of_mut(&mut made.data);
+        made.answers[i] = match calls[i] {
+            Call::Cipher(call) => make_call(cipher, way == Way::Directly, call, input, changed),
+            call => make_in_type(cipher, way == Way::Directly, call),
+        };
+    }
+}
+
+fn make_in_type<C: StreamCipherSeek>(cipher: &mut C, tries: bool, call: Call) -> Answer {
+    match call {
+        Call::SeekU32(position) => seek_in::<u32, C>(cipher, tries, position),
+        Call::SeekU64(position) => seek_in::<u64, C>(cipher, tries, position),
+        Call::SeekUsize(position) => seek_in::<usize, C>(cipher, tries, position),
+        Call::PosU32 => position::<u32, C>(cipher, tries),
+        Call::PosU64 => position::<u64, C>(cipher, tries),
+        Call::PosUsize => position::<usize, C>(cipher, tries),
+        _ => Answer::Missing,
+    }
+}
+
+fn make_call<C: StreamCipherSeek>(
+    cipher: &mut C,
+    tries: bool,
+    call: CipherCall,
+    input: &Data,
+    data: &mut [u8],
+) -> Answer {
+    let input = from(call).of(input);
+    if !tries && is_made_without_try(cipher, call, input, data) {
+        return Answer::Done;
+    }
+    match call {
+        CipherCall::CheckRemaining(len) => of_outcome(cipher.check_remaining(len)),
+        CipherCall::Apply { .. } => of_outcome(cipher.try_apply_keystream(data)),
+        CipherCall::Write { .. } => of_outcome(cipher.try_write_keystream(data)),
+        CipherCall::ApplyFrom { .. } => of_outcome(cipher.try_apply_keystream_b2b(input, data)),
+        CipherCall::Seek(position) => seek(cipher, tries, position),
+        CipherCall::SeekI32(position) => seek(cipher, tries, position),
+        CipherCall::Pos => position::<u128, C>(cipher, tries),
+        CipherCall::PosI32 => position::<i32, C>(cipher, tries),
+    }
+}
+
+// The range that a call reads.
+fn from(call: CipherCall) -> Range {
+    match call {
+        CipherCall::ApplyFrom { from, from_len, .. } => Range {
+            at: from,
+            len: from_len,
+        },
+        _ => Range { at: 0, len: 0 },
+    }
+}
+
+// The forms without `try_` may be called where the `try_` forms succeed.
+fn is_made_without_try<C: StreamCipher>(
+    cipher: &mut C,
+    call: CipherCall,
+    input: &[u8],
+    data: &mut [u8],
+) -> bool {
+    if cipher.check_remaining(data.len()).is_err() {
+        return false;
+    }
+    match call {
+        CipherCall::Apply { .. } => cipher.apply_keystream(data),
+        CipherCall::Write { .. } => cipher.write_keystream(data),
+        CipherCall::ApplyFrom { .. } if input.len() == data.len() => {
+            cipher.apply_keystream_b2b(input, data);
         }
-        _ => Answer::Overflow,
+        _ => return false,
+    }
+    true
+}
+
+// The first `try_seek` shows that the position may be sought, the second takes the cipher elsewhere.
+fn seek<T: SeekNum, C: StreamCipherSeek>(cipher: &mut C, tries: bool, position: T) -> Answer {
+    let outcome = cipher.try_seek(position);
+    if !tries && outcome.is_ok() && cipher.try_seek(0u32).is_ok() {
+        cipher.seek(position);
+    }
+    of_outcome(outcome)
+}
+
+fn seek_in<T: SeekNum, C: StreamCipherSeek>(cipher: &mut C, tries: bool, position: u128) -> Answer {
+    match T::from_position(position) {
+        Ok(position) => seek(cipher, tries, position),
+        Err(_) => Answer::Missing,
+    }
+}
+
+fn position<T: SeekNum, C: StreamCipherSeek>(cipher: &C, tries: bool) -> Answer {
+    match cipher.try_current_pos::<T>() {
+        Ok(_) if !tries => of_position(cipher.current_pos::<T>()),
+        Ok(position) => of_position(position),
+        Err(_) => Answer::Overflow,
     }
 }
 
@@ -78,95 +156,60 @@ fn of_position<T: SeekNum>(position: T) -> Answer {
     }
 }
 
-fn make_call<C: StreamCipherSeek>(
-    cipher: &mut C,
-    without_try: bool,
-    call: CipherCall,
-    of_type: Type,
+// Makes all calls by one list.
+fn make_list<K: StreamCipherSeekCore>(
+    cipher: &mut StreamCipherCoreWrapper<K>,
+    calls: &[Call],
     input: &Data,
-    data: &mut [u8],
-) -> Answer {
+    made: &mut Made,
+) {
+    let mut list = [CipherCall::Pos; 128];
+    let mut answers = [CipherAnswer::Overflow; 128];
+    let count = calls.len().min(128);
+    for i in 0..count {
+        list[i] = listed(calls[i]);
+    }
+    if all_in_slices(&list[..count], 1536, 1536) {
+        run_cipher(
+            cipher,
+            input,
+            &mut made.data,
+            &list[..count],
+            &mut answers[..count],
+        );
+        for i in 0..count {
+            made.answers[i] = of_listed(calls[i], answers[i]);
+        }
+    }
+}
+
+// A list has positions in `i32` and `u128` only.
+fn listed(call: Call) -> CipherCall {
     match call {
-        CipherCall::CheckRemaining(len) => of_outcome(cipher.check_remaining(len)),
-        CipherCall::Apply { .. } => apply(cipher, without_try, data),
-        CipherCall::Write { .. } => write(cipher, without_try, data),
-        CipherCall::ApplyFrom {
-            from: at,
-            from_len: len,
-            ..
-        } => apply_from(cipher, without_try, part(input, Range { at, len }), data),
-        CipherCall::SeekI32(position) => seek(cipher, without_try, position),
-        CipherCall::Seek(position) => match of_type {
-            Type::U32 => seek_in::<u32, C>(cipher, without_try, position),
-            Type::U64 => seek_in::<u64, C>(cipher, without_try, position),
-            Type::U128 => seek(cipher, without_try, position),
-            Type::Usize => seek_in::<usize, C>(cipher, without_try, position),
-        },
-        CipherCall::PosI32 => position::<i32, C>(cipher, without_try),
-        CipherCall::Pos => match of_type {
-            Type::U32 => position::<u32, C>(cipher, without_try),
-            Type::U64 => position::<u64, C>(cipher, without_try),
-            Type::U128 => position::<u128, C>(cipher, without_try),
-            Type::Usize => position::<usize, C>(cipher, without_try),
-        },
+        Call::Cipher(call) => call,
+        Call::SeekU32(position) | Call::SeekU64(position) | Call::SeekUsize(position) => {
+            CipherCall::Seek(position)
+        }
+        _ => CipherCall::Pos,
     }
 }
 
-// The forms without `try_` may be called where the `try_` forms succeed.
-
-fn apply<C: StreamCipher>(cipher: &mut C, without_try: bool, data: &mut [u8]) -> Answer {
-    if without_try && cipher.check_remaining(data.len()).is_ok() {
-        cipher.apply_keystream(data);
-        return Answer::Done;
+fn of_listed(call: Call, answer: CipherAnswer) -> Answer {
+    match (answer, call) {
+        (CipherAnswer::Done, _) => Answer::Done,
+        (CipherAnswer::Refused, _) => Answer::Refused,
+        (CipherAnswer::Overflow, _) => Answer::Overflow,
+        (CipherAnswer::PositionI32(position), _) => of_position(position),
+        (CipherAnswer::Position(position), Call::PosU32) => in_type::<u32>(position),
+        (CipherAnswer::Position(position), Call::PosU64) => in_type::<u64>(position),
+        (CipherAnswer::Position(position), Call::PosUsize) => in_type::<usize>(position),
+        (CipherAnswer::Position(position), _) => Answer::Number(position),
     }
-    of_outcome(cipher.try_apply_keystream(data))
 }
 
-fn write<C: StreamCipher>(cipher: &mut C, without_try: bool, data: &mut [u8]) -> Answer {
-    if without_try && cipher.check_remaining(data.len()).is_ok() {
-        cipher.write_keystream(data);
-        return Answer::Done;
-    }
-    of_outcome(cipher.try_write_keystream(data))
-}
-
-fn apply_from<C: StreamCipher>(
-    cipher: &mut C,
-    without_try: bool,
-    input: &[u8],
-    data: &mut [u8],
-) -> Answer {
-    if without_try && input.len() == data.len() && cipher.check_remaining(data.len()).is_ok() {
-        cipher.apply_keystream_b2b(input, data);
-        return Answer::Done;
-    }
-    of_outcome(cipher.try_apply_keystream_b2b(input, data))
-}
-
-// The first `try_seek` shows that the position may be sought, the second takes the cipher elsewhere.
-fn seek<T: SeekNum, C: StreamCipherSeek>(cipher: &mut C, without_try: bool, position: T) -> Answer {
-    let outcome = cipher.try_seek(position);
-    if without_try && outcome.is_ok() && cipher.try_seek(0u32).is_ok() {
-        cipher.seek(position);
-    }
-    of_outcome(outcome)
-}
-
-fn seek_in<T: SeekNum, C: StreamCipherSeek>(
-    cipher: &mut C,
-    without_try: bool,
-    position: u128,
-) -> Answer {
+fn in_type<T: SeekNum>(position: u128) -> Answer {
     match T::from_position(position) {
-        Ok(position) => seek(cipher, without_try, position),
-        Err(_) => Answer::Missing,
-    }
-}
-
-fn position<T: SeekNum, C: StreamCipherSeek>(cipher: &C, without_try: bool) -> Answer {
-    match cipher.try_current_pos::<T>() {
-        Ok(_) if without_try => of_position(cipher.current_pos::<T>()),
-        Ok(position) => of_position(position),
+        Ok(_) => Answer::Number(position),
         Err(_) => Answer::Overflow,
     }
 }

@@ -2,58 +2,56 @@
 
 ghost use Rattle.std.specs.Prelude.{◌≤◌};
 
-use crate::calls::{Answer, Call, Data, part_mut};
-use crate::check::{Start, Subject, Way};
-use chacha20::cipher::{KeyIvInit, StreamCipherCounter, StreamCipherSeekCore};
+use crate::calls::{Answer, Call};
+use crate::check::{Made, Subject, Way};
+use crate::text::{Data, read_array, split_keyed};
+use chacha20::cipher::{
+    KeyIvInit, RngBackend, StreamCipherBackend, StreamCipherCounter, StreamCipherSeekCore,
+};
 use chacha20::rand_core::SeedableRng;
-use chacha20::{Key, RngCall, Seed};
+use chacha20::variants::{Ietf, Legacy};
+use chacha20::{ChaChaCore, RngCall, Rounds};
 
-/// A core, as a subject of its own.
-#[derive(Drop)]
-pub struct Core<K> {
-    core: K,
-}
-
-impl<N: Drop, K> Start<Core<K>> for (Key, N)
-where
-    K: KeyIvInit<Key = Key, Iv = N> + StreamCipherSeekCore + Drop,
-{
-    fn make(&self) -> Core<K> {
-        Core {
-            core: K::new(&self.0, &self.1),
-        }
-    }
-}
-
-impl<K> Start<Core<K>> for Seed
-where
-    K: SeedableRng<Seed = Seed> + StreamCipherSeekCore + Drop,
-{
-    fn make(&self) -> Core<K> {
-        Core {
-            core: K::from_seed(*self),
-        }
-    }
-}
-
-impl<K: StreamCipherSeekCore + Drop> Subject for Core<K> {
+impl<R: Rounds, B: StreamCipherBackend<R, Ietf>> Subject for ChaChaCore<R, Ietf, B> {
     const WAYS: &'static [Way] = &[Way::Applying];
 
-    fn call(&mut self, way: Way, call: Call, _: &Data, data: &mut Data) -> Answer {
-        make_call(
-            &mut self.core,
-            way == Way::Applying,
-            call,
-            part_mut(data, call.range()),
-        )
+    fn read(made_of: &'static str) -> Option<Self> {
+        let (key, nonce) = split_keyed(made_of)?;
+        Some(ChaChaCore::new(&read_array::<32>(key)?, &read_array::<12>(nonce)?))
     }
 
-    fn run_list(&mut self, _: &[Call], _: &Data, _: &mut Data, _: &mut [Answer]) {}
+    fn make(&mut self, way: Way, calls: &[Call], _: &Data, made: &mut Made) {
+        make_calls(self, way, calls, made);
+    }
+}
+
+impl<R, B> Subject for ChaChaCore<R, Legacy, B>
+where
+    R: Rounds,
+    B: StreamCipherBackend<R, Legacy> + RngBackend<R>,
+{
+    const WAYS: &'static [Way] = &[Way::Applying];
+
+    fn read(made_of: &'static str) -> Option<Self> {
+        let seed = made_of.strip_prefix("seed ")?;
+        Some(ChaChaCore::from_seed(read_array::<32>(seed)?))
+    }
+
+    fn make(&mut self, way: Way, calls: &[Call], _: &Data, made: &mut Made) {
+        make_calls(self, way, calls, made);
+    }
+}
+
+fn make_calls<K: StreamCipherSeekCore>(core: &mut K, way: Way, calls: &[Call], made: &mut Made) {
+    for i in 0..calls.len().min(128) {
+        let changed = calls[i].range().of_mut(&mut made.data);
+        made.answers[i] = make_call(core, way, calls[i], changed);
+    }
 }
 
 fn make_call<K: StreamCipherSeekCore>(
     core: &mut K,
-    applies: bool,
+    way: Way,
     call: Call,
     data: &mut [u8],
 ) -> Answer {
@@ -69,37 +67,31 @@ fn make_call<K: StreamCipherSeekCore>(
             Some(count) => Answer::Number(count as u128),
             None => Answer::Overflow,
         },
-        Call::WriteBlock(_) => make_block(core, applies, data),
-        Call::WriteBlocks(_) => make_blocks(core, applies, data),
+        Call::WriteBlock(_) => make_block(core, way, data),
+        Call::WriteBlocks(_) => make_blocks(core, way, data),
         _ => Answer::Missing,
     }
 }
 
-fn make_block<K: StreamCipherSeekCore>(core: &mut K, applies: bool, data: &mut [u8]) -> Answer {
-    let mut block = [0; 64];
-    if applies {
-        core.apply_keystream_block(&mut block);
-    } else {
-        core.write_keystream_block(&mut block);
+fn make_block<K: StreamCipherSeekCore>(core: &mut K, way: Way, data: &mut [u8]) -> Answer {
+    match (data.first_chunk_mut::<64>(), way) {
+        (Some(block), Way::Applying) => {
+            *block = [0; 64];
+            core.apply_keystream_block(block);
+        }
+        (Some(block), _) => core.write_keystream_block(block),
+        _ => return Answer::Missing,
     }
-    copied(&block, data)
+    Answer::Done
 }
 
-fn make_blocks<K: StreamCipherSeekCore>(core: &mut K, applies: bool, data: &mut [u8]) -> Answer {
-    let mut blocks = [[0; 64]; 24];
-    let blocks = &mut blocks[..(data.len() / 64).min(24)];
-    if applies {
+fn make_blocks<K: StreamCipherSeekCore>(core: &mut K, way: Way, data: &mut [u8]) -> Answer {
+    let (blocks, _) = data.as_chunks_mut::<64>();
+    if way == Way::Applying {
+        blocks.fill([0; 64]);
         core.apply_keystream_blocks(blocks);
     } else {
         core.write_keystream_blocks(blocks);
     }
-    copied(blocks.as_flattened(), data)
-}
-
-fn copied(bytes: &[u8], data: &mut [u8]) -> Answer {
-    if bytes.len() != data.len() {
-        return Answer::Missing;
-    }
-    data.copy_from_slice(bytes);
     Answer::Done
 }

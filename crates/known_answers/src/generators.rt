@@ -3,78 +3,86 @@
 ghost use Rattle.std.specs.Prelude.{◌↔◌, ◌≤◌, ◌+◌, IsTrue, All};
 ghost use Rattle.chacha20.specs.GeneratorRuns.{InData};
 
-use crate::calls::{Answer, Call, Data, part_mut};
-use crate::check::{Start, Subject, Way};
-use crate::text::read_array;
+use crate::calls::{Answer, Call};
+use crate::check::{Made, Subject, Way};
+use crate::text::{Data, read_array};
 use chacha20::cipher::RngBackend;
 use chacha20::rand_core::{CryptoRng, TryRng};
-use chacha20::{ChaChaRng, RngAnswer, RngCall, Rounds, Seed, SerializedRngState, run_rng};
-
-/// A seed, or a stored state.
-#[derive(Clone, Copy)]
-pub enum Seeded {
-    Seed(Seed),
-    State(SerializedRngState),
-}
-
-impl Seeded {
-    /// Reads `seed S` or `state S`.
-    pub fn read(text: &str) -> Option<Seeded> {
-        if let Some(seed) = text.strip_prefix("seed ") {
-            return Some(Seeded::Seed(read_array::<32>(seed)?));
-        }
-        Some(Seeded::State(read_array::<49>(text.strip_prefix("state ")?)?))
-    }
-}
-
-impl<R: Rounds, B: RngBackend<R>> Start<ChaChaRng<R, B>> for Seeded {
-    fn make(&self) -> ChaChaRng<R, B> {
-        match self {
-            Seeded::Seed(seed) => ChaChaRng::from_seed(*seed),
-            Seeded::State(state) => ChaChaRng::deserialize_state(state),
-        }
-    }
-}
+use chacha20::{ChaChaRng, RngAnswer, RngCall, Rounds, run_rng};
 
 impl<R: Rounds, B: RngBackend<R>> Subject for ChaChaRng<R, B> {
     const WAYS: &'static [Way] = &[Way::ThroughRng, Way::ThroughTryRng, Way::AsList];
 
-    fn call(&mut self, way: Way, call: Call, _: &Data, data: &mut Data) -> Answer {
-        let changed = part_mut(data, call.range());
-        let call = match call {
-            Call::Rng(call) => call,
-            Call::Equals(state) => {
-                return Answer::Equal(*self == ChaChaRng::deserialize_state(&state));
-            }
-            _ => return Answer::Missing,
-        };
-        of_answer(match way {
-            Way::ThroughRng if is_read(call) => read(self, call, changed),
-            Way::ThroughTryRng if is_read(call) => try_read(self, call, changed),
-            _ => call_own(self, call, changed),
-        })
+    // Of `seed S`, or of a stored state, `state S`.
+    fn read(made_of: &'static str) -> Option<Self> {
+        if let Some(seed) = made_of.strip_prefix("seed ") {
+            return Some(ChaChaRng::from_seed(read_array::<32>(seed)?));
+        }
+        let state = made_of.strip_prefix("state ")?;
+        Some(ChaChaRng::deserialize_state(&read_array::<49>(state)?))
     }
 
-    // A list has no `==`: it compares the stored states.
-    fn run_list(&mut self, calls: &[Call], _: &Data, data: &mut Data, answers: &mut [Answer]) {
-        let mut made = [RngCall::Serialize; 128];
-        let mut given = [RngAnswer::Done; 128];
-        let count = calls.len().min(128);
-        for i in 0..count {
-            if let Call::Rng(call) = calls[i] {
-                made[i] = call;
-            }
-        }
-        if !all_in_data(&made[..count], 1536) {
+    fn make(&mut self, way: Way, calls: &[Call], _: &Data, made: &mut Made) {
+        if way == Way::AsList {
+            make_list(self, calls, made);
             return;
         }
-        run_rng(self, data, &made[..count], &mut given[..count]);
-        for i in 0..count.min(answers.len()) {
-            answers[i] = match (calls[i], given[i]) {
-                (Call::Equals(state), RngAnswer::State(found)) => Answer::Equal(found == state),
-                (_, answer) => of_answer(answer),
-            };
+        for i in 0..calls.len().min(128) {
+            made.answers[i] = make_call(self, way, calls[i], &mut made.data);
         }
+    }
+}
+
+// Makes all calls by one list. It has no `==`: the stored states are compared.
+fn make_list<R: Rounds, B: RngBackend<R>>(
+    rng: &mut ChaChaRng<R, B>,
+    calls: &[Call],
+    made: &mut Made,
+) {
+    let mut list = [RngCall::Serialize; 128];
+    let mut answers = [RngAnswer::Done; 128];
+    let count = calls.len().min(128);
+    for i in 0..count {
+        if let Call::Rng(call) = calls[i] {
+            list[i] = call;
+        }
+    }
+    if all_in_data(&list[..count], 1536) {
+        run_rng(rng, &mut made.data, &list[..count], &mut answers[..count]);
+        for i in 0..count {
+            made.answers[i] = of_listed(calls[i], answers[i]);
+        }
+    }
+}
+
+fn of_listed(call: Call, answer: RngAnswer) -> Answer {
+    match (call, answer) {
+        (Call::Equals(state), RngAnswer::State(found)) => Answer::Equal(found == state),
+        _ => of_answer(answer),
+    }
+}
+
+fn make_call<R: Rounds, B: RngBackend<R>>(
+    rng: &mut ChaChaRng<R, B>,
+    way: Way,
+    call: Call,
+    data: &mut Data,
+) -> Answer {
+    let changed = call.range().of_mut(data);
+    match call {
+        Call::Rng(call) => {
+            let through = match way {
+                Way::ThroughRng => read(rng, call, changed),
+                Way::ThroughTryRng => try_read(rng, call, changed),
+                _ => None,
+            };
+            of_answer(match through {
+                Some(answer) => answer,
+                None => call_own(rng, call, changed),
+            })
+        }
+        Call::Equals(state) => Answer::Equal(*rng == ChaChaRng::deserialize_state(&state)),
+        _ => Answer::Missing,
     }
 }
 
@@ -111,33 +119,28 @@ fn call_own<R: Rounds, B: RngBackend<R>>(
     RngAnswer::Done
 }
 
-fn is_read(call: RngCall) -> bool {
-    matches!(
-        call,
-        RngCall::NextU32 | RngCall::NextU64 | RngCall::Fill { .. }
-    )
-}
-
 // A read of any generator that is fit for keys.
-fn read<G: CryptoRng>(rng: &mut G, call: RngCall, data: &mut [u8]) -> RngAnswer {
-    match call {
+fn read<G: CryptoRng>(rng: &mut G, call: RngCall, data: &mut [u8]) -> Option<RngAnswer> {
+    Some(match call {
         RngCall::NextU32 => RngAnswer::U32(rng.next_u32()),
         RngCall::NextU64 => RngAnswer::U64(rng.next_u64()),
-        _ => {
+        RngCall::Fill { .. } => {
             rng.fill_bytes(data);
             RngAnswer::Done
         }
-    }
+        _ => return None,
+    })
 }
 
 // A read that may fail. One that fails gives the seed ff, which no read gives.
-fn try_read<G: TryRng>(rng: &mut G, call: RngCall, data: &mut [u8]) -> RngAnswer {
+fn try_read<G: TryRng>(rng: &mut G, call: RngCall, data: &mut [u8]) -> Option<RngAnswer> {
     let read = match call {
         RngCall::NextU32 => rng.try_next_u32().map(RngAnswer::U32),
         RngCall::NextU64 => rng.try_next_u64().map(RngAnswer::U64),
-        _ => rng.try_fill_bytes(data).map(|()| RngAnswer::Done),
+        RngCall::Fill { .. } => rng.try_fill_bytes(data).map(|()| RngAnswer::Done),
+        _ => return None,
     };
-    read.unwrap_or(RngAnswer::Seed([0xff; 32]))
+    Some(read.unwrap_or(RngAnswer::Seed([0xff; 32])))
 }
 
 fn all_in_data(calls: &[RngCall], bytes: usize) -> bool

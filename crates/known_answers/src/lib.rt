@@ -5,7 +5,7 @@
 pub mod calls;
 pub mod cases;
 pub mod check;
-mod ciphers;
+pub mod ciphers;
 mod cores;
 mod generators;
 pub mod more_cases;

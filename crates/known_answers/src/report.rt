@@ -1,40 +1,35 @@
 //! What the program `vectors` prints, and how it ends.
 
-ghost use Rattle.std.specs.Prelude.{◌≡◌, ◌↔◌, All, IfSome, IsTrue};
+ghost use Rattle.std.specs.Prelude.{◌≡◌, ◌↔◌, ◌<◌, All, IfSome, IsOk, IsTrue};
 ghost use Rattle.std.specs.Process.{exit_status};
 
-use crate::Backend;
-use crate::cases::CASES;
-use crate::subjects::check_case;
-use crate::text::Case;
+use crate::check::Failure;
 use std::fmt::{self, Display, Formatter};
 use std::marker::Model;
 use std::process::{ExitCode, Termination};
 
-/// Whether all cases of each number are right; nothing for a number without cases.
-pub type Verdicts = [Option<bool>; 32];
+/// What the cases of each number came to: the first line that is wrong, or none; nothing for a number without cases. At
+/// 0 are those without a number.
+pub type Verdicts = [Option<Result<(), Failure>>; 32];
 
-// The number behind `case`; 0 where there is none below 32.
-fn number_of(title: &str) -> usize {
-    let title = title.strip_prefix("case ").unwrap_or("");
-    let (number, _) = title.split_once('.').unwrap_or(("", ""));
-    match number.parse::<usize>() {
-        Ok(number) if number < 32 => number,
-        _ => 0,
+/// Notes what a case came to.
+pub fn note(verdicts: &mut Verdicts, title: &str, outcome: Result<(), Failure>) {
+    let number = number_of(title);
+    match verdicts[number] {
+        Some(Err(_)) => {}
+        _ => verdicts[number] = Some(outcome),
     }
 }
 
-/// Runs the cases that have a number: ciphers and cores over a backend, and generators over another.
-pub fn run_cases<B: Backend, G: Backend>() -> Verdicts {
-    let mut verdicts = [None; 32];
-    for paragraph in CASES.split("\n\n") {
-        let case = Case::read(paragraph.trim());
-        let is_right = check_case::<B, G>(case).is_ok();
-        if let Some(verdict) = verdicts.get_mut(number_of(case.title)) {
-            *verdict = Some(verdict.unwrap_or(true) && is_right);
-        }
+// The number behind `case`; 0 where there is none below 32.
+fn number_of(title: &str) -> usize
+    ensures { result < 32 }
+{
+    let (name, _) = title.split_once('.').unwrap_or((title, ""));
+    match name.strip_prefix("case ").unwrap_or("").parse::<usize>() {
+        Ok(number) if number < 32 => number,
+        _ => 0,
     }
-    verdicts
 }
 
 // The lines that the program prints.
@@ -48,10 +43,9 @@ impl Display for Lines<'_> {
     fn fmt<W: fmt::Write>(&self, f: &mut Formatter<W>) -> fmt::Result {
         writeln!(f, "{:032x}", u128::from_be_bytes(*self.ciphertext))?;
         for number in 0..32usize {
-            match self.verdicts[number] {
-                Some(true) => writeln!(f, "row {number} ok")?,
-                Some(false) => writeln!(f, "row {number} bad")?,
-                None => {}
+            if let Some(outcome) = self.verdicts[number] {
+                let word = if outcome.is_ok() { "ok" } else { "bad" };
+                writeln!(f, "row {number} {word}")?;
             }
         }
         Ok(())
@@ -83,13 +77,11 @@ impl Termination for Outcome {
 }
 
 fn all_right(verdicts: &Verdicts) -> bool
-    ensures { IsTrue result ↔ All (λ verdict. IfSome verdict IsTrue) verdicts.now }
+    ensures { IsTrue result ↔ All (λ verdict. IfSome verdict IsOk) verdicts.now }
 {
     'each: for i in 0..verdicts.len() {
-        if let Some(is_right) = verdicts[i] {
-            if !is_right {
-                return false;
-            }
+        if let Some(Err(_)) = verdicts[i] {
+            return false;
         }
     }
     true
@@ -97,7 +89,7 @@ fn all_right(verdicts: &Verdicts) -> bool
 
 // Success exactly where the lines could be printed and each verdict is right.
 fn outcome_of(printed: bool, verdicts: &Verdicts) -> Outcome
-    ensures { result ≡ 0 ↔ (IsTrue printed × All (λ verdict. IfSome verdict IsTrue) verdicts.now) }
+    ensures { result ≡ 0 ↔ (IsTrue printed × All (λ verdict. IfSome verdict IsOk) verdicts.now) }
 {
     let status = if printed && all_right(verdicts) {
         ExitCode::SUCCESS
@@ -110,7 +102,7 @@ fn outcome_of(printed: bool, verdicts: &Verdicts) -> Outcome
 /// Prints the ciphertext of case 1, then a line for each verdict: `row N ok` or `row N bad`. The outcome is success
 /// where the lines could be printed and none is bad.
 pub fn report(rt: &impl Print, ciphertext: &[u8; 16], verdicts: &Verdicts) -> Outcome
-    ensures { result ≡ 0 → All (λ verdict. IfSome verdict IsTrue) verdicts.now }
+    ensures { result ≡ 0 → All (λ verdict. IfSome verdict IsOk) verdicts.now }
 {
     let lines = Lines {
         ciphertext,

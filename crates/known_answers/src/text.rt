@@ -30,16 +30,22 @@ pub fn split_word(text: &'static str) -> (&'static str, &'static str) {
     text.split_once(' ').unwrap_or((text, ""))
 }
 
+/// The key and the nonce of `key K nonce N`.
+pub fn split_keyed(text: &'static str) -> Option<(&'static str, &'static str)> {
+    text.strip_prefix("key ")?.split_once(" nonce ")
+}
+
 /// A number of this type: decimal, or `0x` and hexadecimal digits, or `2^68`; and sums and differences, as `2^68-1`.
 pub fn read_number<T: SeekNum>(text: &str) -> Option<T> {
-    let number = if let Some((first, more)) = text.split_once('+') {
-        read_term(first)?.checked_add(read_term(more)?)?
-    } else if let Some((first, less)) = text.split_once('-') {
-        read_term(first)?.checked_sub(read_term(less)?)?
-    } else {
-        read_term(text)?
-    };
-    T::from_position(number).ok()
+    T::from_position(read_sum(text)?).ok()
+}
+
+fn read_sum(text: &str) -> Option<u128> {
+    let (text, more) = text.split_once('+').unwrap_or((text, "0"));
+    let (text, less) = text.split_once('-').unwrap_or((text, "0"));
+    read_term(text)?
+        .checked_add(read_term(more)?)?
+        .checked_sub(read_term(less)?)
 }
 
 fn read_term(text: &str) -> Option<u128> {
@@ -52,31 +58,33 @@ fn read_term(text: &str) -> Option<u128> {
     }
 }
 
-/// Bytes that a text gives, at most 1536.
-#[derive(Drop)]
+/// A case's data: the bytes that its calls read and write.
+pub type Data = [u8; 1536];
+
+/// Bytes that texts give, one after another.
+#[derive(Clone, Copy)]
 pub struct Bytes {
-    bytes: [u8; 1536],
+    pub bytes: Data,
     is_any: [bool; 1536],
-    len: usize,
+    pub len: usize,
+    /// Whether a text could not be read, or there are more than 1536 bytes.
+    pub is_wrong: bool,
 }
 
 impl Bytes {
-    /// Reads bytes: pairs of hexadecimal digits, `00*12` for twelve times 00, `..*12` for any twelve bytes, and
-    /// `00..1f` for all from 00 to 1f, with spaces between such parts.
-    pub fn read(text: &str) -> Option<Bytes> {
-        let mut bytes = Bytes {
+    pub fn new() -> Bytes {
+        Bytes {
             bytes: [0; 1536],
             is_any: [false; 1536],
             len: 0,
-        };
-        for part in text.split_whitespace() {
-            bytes.read_part(part)?;
+            is_wrong: false,
         }
-        Some(bytes)
     }
 
-    pub fn as_slice(&self) -> &[u8] {
-        self.bytes.get(..self.len).unwrap_or(&[])
+    pub fn read(text: &str) -> Option<Bytes> {
+        let mut bytes = Bytes::new();
+        bytes.append(text);
+        if bytes.is_wrong { None } else { Some(bytes) }
     }
 
     /// Whether bytes are these.
@@ -89,41 +97,54 @@ impl Bytes {
         bytes.len() == self.len
     }
 
-    fn push(&mut self, byte: u8, is_any: bool) -> Option<()> {
-        *self.bytes.get_mut(self.len)? = byte;
-        *self.is_any.get_mut(self.len)? = is_any;
-        self.len = self.len.checked_add(1)?;
-        Some(())
+    /// Reads bytes: pairs of hexadecimal digits, `00*12` for twelve times 00, `..*12` for any twelve bytes, and
+    /// `00..1f` for all from 00 to 1f, with spaces between such parts.
+    pub fn append(&mut self, text: &str) {
+        for part in text.split_whitespace() {
+            let (bytes, times) = part.split_once('*').unwrap_or((part, "1"));
+            self.repeat(bytes, read_number(times));
+        }
     }
 
-    fn read_part(&mut self, part: &str) -> Option<()> {
-        if let Some(times) = part.strip_prefix("..*") {
-            return self.repeat(0, true, times);
+    /// Reads a part so many times. A number that can't be read is too many.
+    pub fn repeat(&mut self, part: &str, times: Option<usize>) {
+        for _ in 0..times.unwrap_or(1537).min(1537) {
+            self.push_part(part);
         }
-        if let Some((byte, times)) = part.split_once('*') {
-            return self.repeat(read_byte(byte)?, false, times);
-        }
-        if let Some((first, last)) = part.split_once("..") {
-            return self.count(read_byte(first)?, read_byte(last)?);
-        }
-        for pair in part.as_bytes().chunks(2) {
-            self.push(read_byte(str::from_utf8(pair).ok()?)?, false)?;
-        }
-        Some(())
     }
 
-    fn repeat(&mut self, byte: u8, is_any: bool, times: &str) -> Option<()> {
-        for _ in 0..times.parse::<usize>().ok()? {
-            self.push(byte, is_any)?;
+    fn push_part(&mut self, part: &str) {
+        match part.split_once("..") {
+            Some(("", "")) => self.push(0, true),
+            Some((first, last)) => self.push_all(read_byte(first), read_byte(last)),
+            None => {
+                for pair in part.as_bytes().chunks(2) {
+                    let byte = read_byte(str::from_utf8(pair).unwrap_or(""));
+                    self.push_all(byte, byte);
+                }
+            }
         }
-        Some(())
     }
 
-    fn count(&mut self, first: u8, last: u8) -> Option<()> {
-        for byte in first..=last {
-            self.push(byte, false)?;
+    fn push_all(&mut self, first: Option<u8>, last: Option<u8>) {
+        match (first, last) {
+            (Some(first), Some(last)) => {
+                for byte in first..=last {
+                    self.push(byte, false);
+                }
+            }
+            _ => self.is_wrong = true,
         }
-        Some(())
+    }
+
+    fn push(&mut self, byte: u8, is_any: bool) {
+        if self.len >= 1536 {
+            self.is_wrong = true;
+            return;
+        }
+        self.bytes[self.len] = byte;
+        self.is_any[self.len] = is_any;
+        self.len += 1;
     }
 }
 
@@ -138,11 +159,10 @@ fn read_byte(digits: &str) -> Option<u8> {
 /// Reads as many bytes as an array has.
 pub fn read_array<const N: usize>(text: &str) -> Option<[u8; N]> {
     let read = Bytes::read(text)?;
-    let bytes = read.as_slice();
     let mut array = [0; N];
-    if bytes.len() != N {
+    if read.len != N || N > 1536 {
         return None;
     }
-    array.copy_from_slice(bytes);
+    array.copy_from_slice(&read.bytes[..N]);
     Some(array)
 }

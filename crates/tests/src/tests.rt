@@ -13,7 +13,7 @@ use chacha20::variants::Legacy;
 use chacha20::{ChaChaCore, R8, R12, R20};
 use known_answers::cases::CASES;
 use known_answers::more_cases::MORE_CASES;
-use known_answers::subjects::check_text;
+use known_answers::subjects::run_text;
 use known_answers::{Backend, R0};
 use loops::Broken;
 use std::process::Abort;
@@ -46,8 +46,10 @@ fn stop_if_broken(rt: &impl Abort, backend: &str, kind: &str, outcome: Result<()
 // Stops the test at the first line that is wrong.
 fn run_cases<B: Backend>(rt: &impl Abort, backend: &str) {
     for text in [CASES, MORE_CASES] {
-        if let Err(failure) = check_text::<B, B>(text) {
-            panic!(rt; "{backend}: {failure}");
+        for verdict in run_text::<B, B>(text) {
+            if let Some(Err(failure)) = verdict {
+                panic!(rt; "{backend}: {failure}");
+            }
         }
     }
 }

@@ -1,5 +1,6 @@
 //! What the program prints, and its status: 0 only if all cases are right and the lines could be printed.
 
+use known_answers::check::{Failure, Fault};
 use known_answers::report::report;
 use std::alloc::Global;
 use std::cell::Cell;
@@ -47,10 +48,18 @@ fn page_of(alloc: Global, is_full: bool, expected: &'static str) -> Page {
 
 // Whether this status follows from three verdicts, of which the first and the last are as found.
 fn ends(rt: &impl Eprint, page: &Page, found: bool, status: ExitCode) -> bool {
+    let outcome = match found {
+        true => Ok(()),
+        false => Err(Failure {
+            title: "",
+            line: "",
+            fault: Fault::Answer,
+        }),
+    };
     let mut verdicts = [None; 32];
-    verdicts[1] = Some(found);
-    verdicts[12] = Some(true);
-    verdicts[23] = Some(found);
+    verdicts[1] = Some(outcome);
+    verdicts[12] = Some(Ok(()));
+    verdicts[23] = Some(outcome);
     let mut ciphertext = [0; 16];
     ciphertext[0] = 0xe4;
     ciphertext[15] = 0x0e;

@@ -3,8 +3,10 @@
 use chacha20::StreamCipherCoreWrapper;
 use chacha20::cipher::{KeyIvInit, StreamCipherSeekCore};
 use examples::own_core::Toy;
-use known_answers::check::{Failure, Start, check};
-use known_answers::text::Case;
+use known_answers::calls::Call;
+use known_answers::check::{Failure, Made, Subject, Way, check};
+use known_answers::ciphers::make_calls;
+use known_answers::text::{Case, Data};
 
 // Under the toy core of seed 7 byte p of the keystream is (7 + 100 * (p / 64) + p % 64) mod 256: the first block begins
 // with 7, the second with 107, the third with 207 and the last with 163. A cipher takes 64 bytes of each of the 2^32
@@ -42,20 +44,27 @@ write 1 -> 07
 pos u32 -> 1
 ";
 
-// The toy's seed.
 #[derive(Drop)]
-struct Seven {}
+struct ToyCipher {
+    cipher: StreamCipherCoreWrapper<Toy>,
+}
 
-impl Start<StreamCipherCoreWrapper<Toy>> for Seven {
-    fn make(&self) -> StreamCipherCoreWrapper<Toy> {
-        StreamCipherCoreWrapper::new(&7, &())
+impl Subject for ToyCipher {
+    const WAYS: &'static [Way] = &[Way::WithoutTry, Way::AsList];
+
+    fn read(_: &'static str) -> Option<Self> {
+        let cipher = StreamCipherCoreWrapper::new(&7, &());
+        Some(ToyCipher { cipher })
+    }
+
+    fn make(&mut self, way: Way, calls: &[Call], input: &Data, made: &mut Made) {
+        make_calls(&mut self.cipher, way, calls, input, made);
     }
 }
 
 fn check_toy() -> Result<(), Failure> {
     for paragraph in CASES.split("\n\n") {
-        let case = Case::read(paragraph.trim());
-        check::<StreamCipherCoreWrapper<Toy>, Seven>(case, Some(Seven {}))?;
+        check::<ToyCipher>(&Case::read(paragraph.trim()))?;
     }
     Ok(())
 }

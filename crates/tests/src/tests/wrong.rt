@@ -96,7 +96,7 @@ write_keystream_blocks 2 -> ca ..*126 01",
         "set_block_pos 2^32",
     ),
     (
-        "hchacha key 00..1f input 00*16",
+        "hchacha key 00..1f nonce 00*16",
         Fault::Answer,
         "subkey -> 00*32",
     ),
@@ -113,7 +113,7 @@ fn faults_are_found(rt: HostRuntime) {
                 made_of,
                 lines: line,
             };
-            let found = check_case::<Soft, Soft>(case).err();
+            let found = check_case::<Soft, Soft>(&case).err();
             assert!(rt;
                 found.is_some_and(|failure| failure.fault == *fault),
                 "{line}"
