@@ -66,9 +66,9 @@ pub(crate) struct Wide;
 impl ParBlocksSizeUser for Wide {
     ghost use Rattle.std.proofs.Common.{lit≤};
 
-    ghost PAR_BLOCKS = { 16 };
+    ghost PAR_BLOCKS = { ⟦<Sixteen as ParBlocksSizeUser>⟧.PAR_BLOCKS };
 
-    const PAR_BLOCKS: usize = 16;
+    const PAR_BLOCKS: usize = <Sixteen as ParBlocksSizeUser>::PAR_BLOCKS;
 
     ghost par_blocks_at_least = { lit≤ tt };
 
