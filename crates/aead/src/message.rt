@@ -16,7 +16,8 @@ use poly1305::{Tag, is_equal};
 pub const FRONT: usize = 512;
 
 /// The bytes of a message's front: those of block 0, and of all blocks of a short message. Of a longer one, of so many
-/// that a multiple of four or eight whole blocks is left, since ciphers make four, eight or sixteen at once.
+/// that a multiple of four or eight whole blocks is left, since ciphers make four, eight or sixteen at once. Of `APART`
+/// bytes it is block 0 alone.
 pub fn front_len(len: usize) -> usize
     ensures whole { result % 64 ≡ 0 }
     ensures bounds { (64 ≤ result) × (result ≤ 512) }

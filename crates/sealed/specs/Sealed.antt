@@ -81,10 +81,11 @@ place i = 32 + 65552 * i
 abbrev pub chunk_at : List ℕ → ℕ → List ℕ
 chunk_at file i = take 65552 (drop (place i) file)
 
--- of a file of so many bytes: the number of its last chunk, and the bytes of its text
+-- the number of the last chunk of a file of so many bytes: 32 of the header, and at least one more
 abbrev pub last_of : ℕ → ℕ
 last_of bytes = (bytes - 33) / 65552
 
+-- how many bytes of text such a file has
 abbrev pub text_of : ℕ → ℕ
 text_of bytes = bytes - 32 - 16 * div_ceil (bytes - 32) 65552
 
@@ -122,7 +123,7 @@ ReadsPart key salt file i from old new n =
     × (chunk_at file i ≡ chunk key salt i (nat_eq i (last_in file)) text)
     × CopiesFrom text from old new n
 
--- n bytes of a text, from byte `start` on, have come to a window's front: up to its end, or that of the chunk
+-- n bytes of a text, from byte `start` on, have come to a window's front: up to the window's end, or that of the chunk
 abbrev pub IsPart : List ℕ → ℕ → List ℕ → List ℕ → ℕ → Type 0
 IsPart text start old new n =
     let i = min (start / 65536) (last_number text) in

@@ -3,8 +3,8 @@
 ghost use Rattle.std.specs.Prelude.{◌≡◌, ◌<◌, ◌≤◌, ◌^◌, ℕ, List, length};
 ghost use Rattle.sealed.specs.Sealed.{place, last_of, text_of, sealed};
 
-/// How many bytes of text a sealed file of `file` bytes has. If no sealed file has this length, the result is
-/// unspecified, and at most `file`.
+/// How many bytes of text a sealed file of `file` bytes has. Also where no sealed file has this length, the result is
+/// at most `file`.
 pub fn text_len(file: u64) -> u64
     ensures exact { (key salt text : List ℕ) → length salt ≡ 16
         → length (sealed key salt text) ≡ file → result ≡ length text }

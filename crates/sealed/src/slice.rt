@@ -21,8 +21,8 @@ pub struct SealedSlice<'f> {
 impl<'f> SealedSlice<'f> {
     ghost use Rattle.sealed.specs.SealedSlice.{parts};
 
-    /// Takes a whole file, and reads the salt from its header. Fails exactly where the file doesn't begin with a
-    /// header, and checks no chunk.
+    /// Takes a whole file, and reads the salt from its header. Fails if and only if the file doesn't begin with a
+    /// header. Checks no chunk.
     pub fn new(key: &Key, file: &'f [u8]) -> Result<SealedSlice<'f>, Damage>
         ensures accepted { IsOk result ↔ ((salt : List ℕ) × HasSalt file.now salt) }
         ensures parts { IfOk result (λ s.
@@ -38,7 +38,7 @@ impl<'f> SealedSlice<'f> {
         })
     }
 
-    /// How many bytes of text the file has. If it isn't a sealed file, a number by its length alone.
+    /// How many bytes of text the file has. If it isn't sealed, the number follows from its length alone.
     pub fn text_len(&self) -> u64
         ensures exact { (key salt text : List ℕ) → length salt ≡ 16
             → (parts self.now).file ≡ sealed key salt text → result ≡ length text }
@@ -47,9 +47,9 @@ impl<'f> SealedSlice<'f> {
         text_len(self.file.len() as u64)
     }
 
-    /// Reads text from byte `start` on to the window's front, up to the window's end or that of the chunk, and returns
-    /// how many bytes that are: 0 at the end of the text and past it, where it checks the last chunk. Fails exactly
-    /// where the chunk isn't right; then the window stays as it was.
+    /// Copies text from byte `start` to the front of the window, until the window or the chunk that holds `start`
+    /// ends, and returns the number of bytes: 0 at or past the end of the text, where it checks the last chunk. Fails
+    /// if and only if that chunk isn't right. The window is then unchanged.
     pub fn read_at(&self, start: u64, window: &mut [u8]) -> Result<usize, Damage>
         ensures read { let s = parts self.now in let i = min (start / 65536) (last_in s.file) in
             IfOk result (ReadsPart s.key s.salt s.file i

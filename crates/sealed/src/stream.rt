@@ -54,8 +54,8 @@ pub fn encrypt<R: Read, W: Write>(
 
 /// Reads a sealed file up to the reader's end, and writes the text of each chunk after its tag was found right. If it
 /// fails, the writer has a front of the text of the chunks whose tags were right. Damage is that of the header, or of
-/// the first chunk that isn't right. `buf` is scratch space of `CHUNK + TAG + 1` bytes. Don't read it afterwards: it
-/// may hold anything, also text whose tag is wrong.
+/// the first chunk that isn't right. `buf` is scratch space of `CHUNK + TAG + 1` bytes. Don't read it afterwards: no
+/// clause says what it holds.
 pub fn decrypt<R: Read, W: Write>(
     key: &Key,
     reader: &mut R,
