@@ -13,9 +13,13 @@ use chacha20::cipher::{KeyIvInit, StreamCipherSeekCore};
 use chacha20::{ChaChaCore, Ietf, Key, Nonce, R20, StreamCipherCoreWrapper, XChaChaCore, XNonce};
 use poly1305::{Tag, authenticate};
 
+// The cores for nonces of 12 and of 24 bytes, and the AEAD over a core.
+
 type Short = ChaChaCore<R20, Ietf, Chosen>;
 
 type Long = XChaChaCore<R20, Chosen>;
+
+type Aead<K> = ChaChaPoly1305<StreamCipherCoreWrapper<K>>;
 
 fn encrypt_in_place<K: KeyIvInit<Key = Key> + StreamCipherSeekCore + Drop>(
     key: &Key,
@@ -27,9 +31,7 @@ fn encrypt_in_place<K: KeyIvInit<Key = Key> + StreamCipherSeekCore + Drop>(
     ensures { Encrypted (limit_of K.modulus) (keystream K.modulus (K.blocks_of key.now nonce.now))
         aad.now result «data».old «data».new tag.old tag.new }
 {
-    let made = ChaChaPoly1305::<StreamCipherCoreWrapper<K>>::new(key).encrypt_in_place_detached(
-        nonce, aad, data,
-    );
+    let made = Aead::<K>::new(key).encrypt_in_place_detached(nonce, aad, data);
     answer_with(made, tag)
 }
 
@@ -48,9 +50,7 @@ fn encrypt_between<K: KeyIvInit<Key = Key> + StreamCipherSeekCore + Drop>(
     if output.len() != input.len() {
         return 1;
     }
-    let made = ChaChaPoly1305::<StreamCipherCoreWrapper<K>>::new(key).encrypt_detached(
-        nonce, aad, input, output,
-    );
+    let made = Aead::<K>::new(key).encrypt_detached(nonce, aad, input, output);
     answer_with(made, tag)
 }
 
@@ -64,9 +64,7 @@ fn decrypt_in_place<K: KeyIvInit<Key = Key> + StreamCipherSeekCore + Drop>(
     ensures { Decrypted (limit_of K.modulus) (keystream K.modulus (K.blocks_of key.now nonce.now))
         aad.now tag.now result «data».old «data».new }
 {
-    answer(ChaChaPoly1305::<StreamCipherCoreWrapper<K>>::new(key).decrypt_in_place_detached(
-        nonce, aad, data, tag,
-    ))
+    answer(Aead::<K>::new(key).decrypt_in_place_detached(nonce, aad, data, tag))
 }
 
 fn decrypt_between<K: KeyIvInit<Key = Key> + StreamCipherSeekCore + Drop>(
@@ -84,9 +82,7 @@ fn decrypt_between<K: KeyIvInit<Key = Key> + StreamCipherSeekCore + Drop>(
     if output.len() != input.len() {
         return 1;
     }
-    answer(ChaChaPoly1305::<StreamCipherCoreWrapper<K>>::new(key).decrypt_detached(
-        nonce, aad, input, output, tag,
-    ))
+    answer(Aead::<K>::new(key).decrypt_detached(nonce, aad, input, output, tag))
 }
 
 // 0 and the tag for a message that was encrypted, and else 1.
