@@ -1,3 +1,4 @@
 pub mod AeadLemmas
 pub mod AeadVectors
+pub mod MacLemmas
 pub mod MessageLemmas

@@ -81,14 +81,14 @@ four_more f a xs ys four room is before =
     ∙ below_four (λ j. slice_get (f a ∷ f (a + 1) ∷ f (a + 2) ∷ f (a + 3) ∷ []) j ≡ Some (f (a + j)))
     (ap (λ j. Some (f j)) here) refl refl refl i (omega (arith, less, four)))
 
--- two lists of n elements, one after the other
-pub halves_written : {X Y : Type 0} (f : Y → X) (n : ℕ) (xs ys : List X) (p q : ℕ → Y) → length xs ≡ n
-    → length ys ≡ n → Written (λ j. f (p j)) n xs → Written (λ j. f (q j)) n ys
-    → Written (λ i. f (if nat_lt i n then p i else q (i - n))) (n + n) (xs ++ ys)
-halves_written f n xs ys p q lx ly first second =
+-- two lists, of n and m elements, one after the other
+pub parts_written : {X Y : Type 0} (f : Y → X) (n m : ℕ) (xs ys : List X) (p q : ℕ → Y) → length xs ≡ n
+    → length ys ≡ m → Written (λ j. f (p j)) n xs → Written (λ j. f (q j)) m ys
+    → Written (λ i. f (if nat_lt i n then p i else q (i - n))) (n + m) (xs ++ ys)
+parts_written f n m xs ys p q lx ly first second =
     let either = λ (b : Bool) (j : ℕ). Some (f (if b then p j else q (j - n))) in
-    subst (Written (λ i. f (if nat_lt i n then p i else q (i - n))) (n + n)) (ap (λ t. xs ++ t) (append-nil ys))
-    (written_behind (λ i. f (if nat_lt i n then p i else q (i - n))) n n xs ys [] lx (omega arith)
+    subst (Written (λ i. f (if nat_lt i n then p i else q (i - n))) (n + m)) (ap (λ t. xs ++ t) (append-nil ys))
+    (written_behind (λ i. f (if nat_lt i n then p i else q (i - n))) n m xs ys [] lx (omega arith)
     (λ j less. first j less ∙ ap (λ b. either b j) (sym (lt-ltb j n less)))
     (λ j less.
     let place : j ≡ n + j - n = omega arith in

@@ -44,18 +44,20 @@ for_last_part one n = for_call 0 (min 1 n) (min 1 n * one)
 abbrev pub for_tail : (one k : ℕ) → Bounds
 for_tail one k = record { par = 0; other = k; least = min 1 k * one; most = k * one }
 
--- quarter rounds, for each double round, of a tail of k blocks: up to four blocks take two, five to
--- eight take `up_to_8`, and more take eight
+-- quarter rounds, for each double round, of a tail of k blocks: up to four blocks take two, five and
+-- six take four, seven and eight take `up_to_8`, and more take eight
 abbrev pub tail_rounds : (up_to_8 k : ℕ) → ℕ
 tail_rounds up_to_8 k =
-    if nat_lt k 1 then 0 else (if nat_lt k 5 then 2 else (if nat_lt k 9 then up_to_8 else 8))
+    if nat_lt k 1 then 0 else (if nat_lt k 5 then 2 else
+    (if nat_lt k 7 then 4 else (if nat_lt k 9 then up_to_8 else 8)))
 
 -- where the width is sixteen: four blocks fit in one vector for each row, eight in two, and more in
 -- four
 abbrev pub tail_of_16 : ℕ → ℕ
 tail_of_16 k = tail_rounds 4 k
 
--- where the width is eight: four blocks fit in one vector for each row, and more are in columns
+-- where the width is eight: four blocks fit in one vector for each row, six in two, and seven are in
+-- columns
 abbrev pub tail_of_8 : ℕ → ℕ
 tail_of_8 k = tail_rounds 8 k
 

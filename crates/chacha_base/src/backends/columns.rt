@@ -136,6 +136,11 @@ impl<V: ColumnVector> Group for Columns<V> {
     ghost words_of = { block_in_columns V.lane };
 
     #[inline(always)]
+    fn blocks(_: usize) -> usize {
+        4 * V::QUADS
+    }
+
+    #[inline(always)]
     fn column_round(self, steps: &mut Steps) -> Columns<V> {
         Columns(
             quarter_round::<V, ByBytes>(self.0, steps),

@@ -5,6 +5,7 @@ ghost use Rattle.chacha_base.specs.Counts.{Grows, for_tail, tail_of_8};
 ghost use Rattle.chacha_base.specs.State.{state_after, AreNextBlocks};
 
 use crate::backends::columns::Columns;
+use crate::backends::group::Interleaved;
 use crate::backends::kernel::{write_buffer, write_group, write_narrow_tail, write_one};
 use crate::backends::rows::Rows;
 use crate::cipher::{ParBlocksSizeUser, RngBackend, StreamCipherBackend};
@@ -13,18 +14,19 @@ use crate::variants::Variant;
 use std::simd::prelude::*;
 
 /// Eight blocks in a parallel call, in columns, with a vector of eight words for each word of a state. A
-/// tail of five blocks or more makes eight as well. The other calls are in rows, by the narrowest group that holds the
-/// blocks.
+/// tail of seven makes eight as well. The other calls are in rows, by the narrowest group that holds the blocks.
 #[derive(Clone, Copy, Debug)]
 pub struct Columns8;
 
-// Groups by their number of blocks: one to four in rows, in vectors of four, eight and sixteen words, and eight in
+// Groups by their number of blocks: one to six in rows, in vectors of four, eight and sixteen words, and eight in
 // columns.
 type One = Rows<u32x4, 1>;
 
 type Two = Rows<u32x8, 1>;
 
 type Four = Rows<u32x16, 1>;
+
+type Six = Interleaved<Four, Two>;
 
 type Eight = Columns<u32x8>;
 
@@ -69,6 +71,7 @@ impl<R: Rounds, V: Variant> StreamCipherBackend<R, V> for Columns8 {
             0 | 1 => write_narrow_tail::<R, V, One, 1, 8>(state, blocks, steps),
             2 => write_narrow_tail::<R, V, Two, 2, 8>(state, blocks, steps),
             3 | 4 => write_narrow_tail::<R, V, Four, 4, 8>(state, blocks, steps),
+            5 | 6 => write_narrow_tail::<R, V, Six, 6, 8>(state, blocks, steps),
             _ => write_narrow_tail::<R, V, Eight, 8, 8>(state, blocks, steps),
         }
     }

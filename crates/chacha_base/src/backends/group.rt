@@ -1,6 +1,6 @@
 //! What the kernel needs of a group of blocks, in rows or in columns, and groups of two halves.
 
-ghost use Rattle.std.specs.Prelude.{◌≡◌, ◌<◌, ℕ, ◌+◌, ◌-◌, ◌*◌, ⊤, nat_lt, if◌then◌else◌, List, [], length, slice_get, slice_index, slice_index_or, Some};
+ghost use Rattle.std.specs.Prelude.{◌≡◌, ◌≤◌, ◌<◌, ℕ, ◌+◌, ◌-◌, ◌*◌, ⊤, nat_lt, if◌then◌else◌, List, [], length, slice_get, slice_index, slice_index_or, Some};
 ghost use Rattle.chacha_base.specs.ChaCha.{bytes, columns, diagonals, rounds, add_states};
 ghost use Rattle.chacha_base.specs.Lanes.{quad, with_last_row, block_in_rows};
 
@@ -18,6 +18,11 @@ pub trait Group: Copy {
 
     // The sixteen words of state g.
     ghost words_of: { Self → ℕ → List ℕ };
+
+    /// How many blocks, which the caller proves to be at most `most`.
+    fn blocks(most: usize) -> usize
+        requires { BLOCKS ≤ most }
+        ensures { result ≡ BLOCKS };
 
     /// A round of the columns of each state.
     fn column_round(self, steps: &mut Steps) -> Self
@@ -63,53 +68,58 @@ pub trait Group: Copy {
 }
 
 /// Two groups whose rounds alternate. The blocks of the second come after those of the first.
-pub struct Interleaved<G>(G, G);
+pub struct Interleaved<G, H>(G, H);
 
 // By hand, as a copy: what a derive writes clones each field.
-impl<G: Copy> Clone for Interleaved<G> {
+impl<G: Copy, H: Copy> Clone for Interleaved<G, H> {
     ghost is_clone = { λ x y. y ≡ x };
 
     ghost is_infallible = { λ _. ⊤ };
 
-    fn clone(&self) -> Result<Interleaved<G>, AllocError> {
+    fn clone(&self) -> Result<Interleaved<G, H>, AllocError> {
         Ok(*self)
     }
 }
 
-impl<G: Copy> Copy for Interleaved<G> {}
+impl<G: Copy, H: Copy> Copy for Interleaved<G, H> {}
 
-impl<G: Group> Group for Interleaved<G> {
-    ghost BLOCKS = { G.BLOCKS + G.BLOCKS };
+impl<G: Group, H: Group> Group for Interleaved<G, H> {
+    ghost BLOCKS = { G.BLOCKS + H.BLOCKS };
 
-    ghost ROUND_STEPS = { G.ROUND_STEPS + G.ROUND_STEPS };
+    ghost ROUND_STEPS = { G.ROUND_STEPS + H.ROUND_STEPS };
 
     ghost words_of = { λ x g.
-        if nat_lt g G.BLOCKS then G.words_of x.0 g else G.words_of x.1 (g - G.BLOCKS) };
+        if nat_lt g G.BLOCKS then G.words_of x.0 g else H.words_of x.1 (g - G.BLOCKS) };
 
     #[inline(always)]
-    fn column_round(self, steps: &mut Steps) -> Interleaved<G> {
+    fn blocks(most: usize) -> usize {
+        G::blocks(most) + H::blocks(most)
+    }
+
+    #[inline(always)]
+    fn column_round(self, steps: &mut Steps) -> Interleaved<G, H> {
         Interleaved(self.0.column_round(steps), self.1.column_round(steps))
     }
 
     #[inline(always)]
-    fn diagonal_round(self, steps: &mut Steps) -> Interleaved<G> {
+    fn diagonal_round(self, steps: &mut Steps) -> Interleaved<G, H> {
         Interleaved(self.0.diagonal_round(steps), self.1.diagonal_round(steps))
     }
 
     #[inline(always)]
-    fn start(state: &[u32; 16], last_rows: &[[u32; 4]]) -> Interleaved<G> {
-        let (front, back) = last_rows.split_at(last_rows.len() / 2);
-        Interleaved(G::start(state, front), G::start(state, back))
+    fn start(state: &[u32; 16], last_rows: &[[u32; 4]]) -> Interleaved<G, H> {
+        let (front, back) = last_rows.split_at(G::blocks(last_rows.len()));
+        Interleaved(G::start(state, front), H::start(state, back))
     }
 
     #[inline(always)]
-    fn sums(self, other: Interleaved<G>) -> Interleaved<G> {
+    fn sums(self, other: Interleaved<G, H>) -> Interleaved<G, H> {
         Interleaved(self.0.sums(other.0), self.1.sums(other.1))
     }
 
     #[inline(always)]
     fn store<B: BlockBuffer>(self, buffers: &mut [B]) {
-        let (front, back) = buffers.split_at_mut(buffers.len() / 2);
+        let (front, back) = buffers.split_at_mut(G::blocks(buffers.len()));
         self.0.store(front);
         self.1.store(back);
     }

@@ -140,8 +140,8 @@ pub fn write_tail<R: Rounds, V: Variant, G: Group, const W: usize>(
     }
 }
 
-/// As `write_tail`, for a backend whose single block takes two quarter rounds in a double round. Its tails of five to
-/// eight blocks take `UP_TO_8`.
+/// As `write_tail`, for a backend whose single block takes two quarter rounds in a double round. Its tails of seven
+/// and eight blocks take `UP_TO_8`.
 #[inline(always)]
 pub fn write_narrow_tail<R: Rounds, V: Variant, G: Group, const W: usize, const UP_TO_8: usize>(
     state: &mut [u32; 16],

@@ -27,9 +27,9 @@ type Two = Rows<u32x8, 1>;
 
 type Four = Rows<u32x16, 1>;
 
-type Eight = Interleaved<Four>;
+type Eight = Interleaved<Four, Four>;
 
-type Sixteen = Interleaved<Eight>;
+type Sixteen = Interleaved<Eight, Eight>;
 
 impl ParBlocksSizeUser for Lanes16 {
     ghost use Rattle.std.proofs.Common.{lit≤};

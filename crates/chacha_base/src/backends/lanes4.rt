@@ -19,8 +19,12 @@ use std::simd::prelude::*;
 #[derive(Clone, Copy, Debug)]
 pub struct Lanes4;
 
-// Four blocks in rows, each in vectors of its own.
-type Four = Interleaved<Interleaved<Rows<u32x4, 1>>>;
+// One, two and four blocks in rows, each block in vectors of its own.
+type One = Rows<u32x4, 1>;
+
+type Two = Interleaved<One, One>;
+
+type Four = Interleaved<Two, Two>;
 
 impl ParBlocksSizeUser for Lanes4 {
     ghost use Rattle.std.proofs.Common.{lit≤};

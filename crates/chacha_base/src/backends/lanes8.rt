@@ -18,7 +18,9 @@ use std::simd::prelude::*;
 pub struct Lanes8;
 
 // Four blocks in rows, the same row of two in each vector.
-type Four = Interleaved<Rows<u32x8, 1>>;
+type Two = Rows<u32x8, 1>;
+
+type Four = Interleaved<Two, Two>;
 
 impl ParBlocksSizeUser for Lanes8 {
     ghost use Rattle.std.proofs.Common.{lit≤};

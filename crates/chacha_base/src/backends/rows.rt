@@ -86,6 +86,11 @@ impl<V: Vector, const FIXED_ROW: usize> Group for Rows<V, FIXED_ROW> {
     ghost words_of = { λ x g. block_in_rows V.lane x.0 g };
 
     #[inline(always)]
+    fn blocks(_: usize) -> usize {
+        V::QUADS
+    }
+
+    #[inline(always)]
     fn column_round(self, steps: &mut Steps) -> Rows<V, FIXED_ROW> {
         Rows(quarter_round::<V, ByShifts>(self.0, steps))
     }

@@ -18,9 +18,13 @@ use std::simd::prelude::*;
 pub struct Rows8;
 
 // Four blocks in rows, each in vectors of its own, and eight. Row 0 stays, as in the Rust crate's code for NEON.
-type Four = Interleaved<Interleaved<Rows<u32x4, 0>>>;
+type One = Rows<u32x4, 0>;
 
-type Eight = Interleaved<Four>;
+type Two = Interleaved<One, One>;
+
+type Four = Interleaved<Two, Two>;
+
+type Eight = Interleaved<Four, Four>;
 
 impl ParBlocksSizeUser for Rows8 {
     ghost use Rattle.std.proofs.Common.{lit≤};
