@@ -17,5 +17,6 @@ pub mod chacha;
 mod chosen;
 pub mod generators;
 pub mod legacy;
+mod level;
 mod stateless;
 pub mod xchacha;
