@@ -86,7 +86,7 @@ pub fn write_chunk<W: Write>(
         (chunk key.now salt.now number last text.old)) }
     ensures partly { (n : ℕ) × Appends (W.contents writer.old) (W.contents writer.new)
         (take n (chunk key.now salt.now number last text.old)) }
-    ensures failed { IfErr result (λ e. (damage : Damage) → e ≢ SealError.Damaged damage) }
+    ensures not_damaged { IfErr result (λ e. (damage : Damage) → e ≢ SealError.Damaged damage) }
     ensures not_read { IfErr result (λ e. (error : Error) → e ≢ SealError.Read error) }
     ensures not_long { IfErr result (λ e. e ≢ SealError.TooLong) }
 {
@@ -103,7 +103,7 @@ pub fn write_chunk<W: Write>(
 pub fn write_whole<W: Write>(writer: &mut W, bytes: &[u8]) -> Result<(), SealError>
     ensures written { OnOk result
         (Appends (W.contents writer.old) (W.contents writer.new) bytes.now) }
-    ensures failed { IfErr result (λ e. (damage : Damage) → e ≢ SealError.Damaged damage) }
+    ensures not_damaged { IfErr result (λ e. (damage : Damage) → e ≢ SealError.Damaged damage) }
     ensures not_read { IfErr result (λ e. (error : Error) → e ≢ SealError.Read error) }
     ensures not_long { IfErr result (λ e. e ≢ SealError.TooLong) }
     ensures partly { (n : ℕ)

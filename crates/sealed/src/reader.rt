@@ -191,7 +191,7 @@ fn go_to<S: Seek>(inner: &mut S, to: SeekFrom) -> Result<u64, SealError>
     ensures moves { SeekMoves (S.stream_position inner.old) (S.stream_position inner.new)
         (S.stream_bytes inner.old) to result }
     ensures file { Keeps (S.stream_bytes inner.old) (S.stream_bytes inner.new) }
-    ensures failed { IfErr result (λ e. (damage : Damage) → e ≢ SealError.Damaged damage) }
+    ensures not_damaged { IfErr result (λ e. (damage : Damage) → e ≢ SealError.Damaged damage) }
     ensures not_write { IfErr result (λ e. (error : Error) → e ≢ SealError.Write error) }
     ensures not_long { IfErr result (λ e. e ≢ SealError.TooLong) }
 {

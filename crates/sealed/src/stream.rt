@@ -35,7 +35,7 @@ pub fn encrypt<R: Read, W: Write>(
         (take n (sealed key.now salt.now text)) }
     ensures too_long { IfErr result (λ e. e ≡ SealError.TooLong
         → IfSome (R.remaining reader.old) (λ text. 2 ^ 72 < length text)) }
-    ensures failed { IfErr result (λ e. (damage : Damage) → e ≢ SealError.Damaged damage) }
+    ensures not_damaged { IfErr result (λ e. (damage : Damage) → e ≢ SealError.Damaged damage) }
 {
     write_whole(writer, &header(salt))?;
     let mut held = 0;
@@ -156,7 +156,7 @@ pub fn fill<R: Read>(reader: &mut R, buf: &mut [u8], held: usize) -> Result<usiz
         (prepend_known (take held buf.old) (R.remaining reader.old)) (R.remaining reader.new)
         (take n buf.new)) }
     ensures bounds { IfOk result (λ n. (held ≤ n) × (n ≤ length buf.old)) }
-    ensures failed { IfErr result (λ e. (damage : Damage) → e ≢ SealError.Damaged damage) }
+    ensures not_damaged { IfErr result (λ e. (damage : Damage) → e ≢ SealError.Damaged damage) }
     ensures not_write { IfErr result (λ e. (error : Error) → e ≢ SealError.Write error) }
     ensures not_long { IfErr result (λ e. e ≢ SealError.TooLong) }
     ensures end { IfOk result (λ n. n < length buf.old → IsAtEnd (R.remaining reader.new)) }

@@ -49,7 +49,7 @@ returns g c =
       partly = front-more _ _ _ ciphertext tag []
           (chunk key c.args.salt.now c.args.number c.args.last text) n (sym whole ∙ sym (append-nil _))
           c.in_ok-write_whole.ensures.written written;
-      failed = c.write_whole-2.ensures.failed;
+      not_damaged = c.write_whole-2.ensures.not_damaged;
       not_read = c.write_whole-2.ensures.not_read;
       not_long = c.write_whole-2.ensures.not_long;
     }

@@ -209,7 +209,7 @@ chunks-preserved g c =
 pub returns-in_err-n-clause-damaged : goal.returns-in_err-n-clause-damaged
 returns-in_err-n-clause-damaged g c =
     passed-on _ c.from_residual-in_err-n.result _ c.from_residual-in_err-n.ensures.1
-    (λ damage is. absurd (c.in_err-n.ensures.failed damage is))
+    (λ damage is. absurd (c.in_err-n.ensures.not_damaged damage is))
 
 pub returns-in_err-n-clause-refused : goal.returns-in_err-n-clause-refused
 returns-in_err-n-clause-refused g c = damage-refused _ _ _ (returns-in_err-n-clause-damaged g c)

@@ -70,7 +70,7 @@ returns-then-n-le-CHUNK g c =
           (Consumes-whole _ _ _ (λ all. all ≡ moved ++ take n buf) (Consumes-trans _ _ _ _ _ read got.read) end refl)
           written front;
       too_long = never-long c.write_chunk.result _ c.write_chunk.ensures.not_long;
-      failed = c.write_chunk.ensures.failed;
+      not_damaged = c.write_chunk.ensures.not_damaged;
     }
 
 pub returns-in_err-write_whole-clause-only_sealed : goal.returns-in_err-write_whole-clause-only_sealed
