@@ -19,13 +19,15 @@ use std::simd::prelude::*;
 #[derive(Clone, Copy, Debug)]
 pub struct Lanes16;
 
-// Groups in rows, by their number of blocks: one in vectors of four words, two in vectors of eight, and the others in
-// vectors of sixteen.
+// Groups in rows, by their number of blocks: one in vectors of four words, two in vectors of eight, four in vectors of
+// sixteen, and more side by side.
 type One = Rows<u32x4, 1>;
 
 type Two = Rows<u32x8, 1>;
 
 type Four = Rows<u32x16, 1>;
+
+type Six = Interleaved<Four, Two>;
 
 type Eight = Interleaved<Four, Four>;
 
@@ -72,7 +74,8 @@ impl<R: Rounds, V: Variant> StreamCipherBackend<R, V> for Lanes16 {
             0 | 1 => write_narrow_tail::<R, V, One, 1, 4>(state, blocks, steps),
             2 => write_narrow_tail::<R, V, Two, 2, 4>(state, blocks, steps),
             3 | 4 => write_narrow_tail::<R, V, Four, 4, 4>(state, blocks, steps),
-            5..=8 => write_narrow_tail::<R, V, Eight, 8, 4>(state, blocks, steps),
+            5 | 6 => write_narrow_tail::<R, V, Six, 6, 4>(state, blocks, steps),
+            7 | 8 => write_narrow_tail::<R, V, Eight, 8, 4>(state, blocks, steps),
             _ => write_narrow_tail::<R, V, Sixteen, 16, 4>(state, blocks, steps),
         }
     }
