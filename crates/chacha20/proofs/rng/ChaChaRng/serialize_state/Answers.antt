@@ -30,5 +30,5 @@ slice_bounds-state-end-3 g c =
     omega (
       arith,
       two_written_length c.copy_from_slice.new.self _ c.copy_from_slice.ensures.len
-      (ap length (c.copy_from_slice-2.ensures.after ∙ c.to_le_bytes-stream.ensures)),
+          (ap length (c.copy_from_slice-2.ensures.after ∙ c.to_le_bytes-stream.ensures)),
     )
