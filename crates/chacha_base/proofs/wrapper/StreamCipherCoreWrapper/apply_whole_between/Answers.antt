@@ -30,7 +30,8 @@ returns-then-not-is_empty-clause-position g c = omega (arith, ap (λ v. v.positi
 
 pub returns-else-not-is_empty-clause-bytes : goal.returns-else-not-is_empty-clause-bytes
 returns-else-not-is_empty-clause-bytes g c =
-    xor_stream-is_empty _ _ c.args.input.now c.args.blocks.now c.requires.same c.is_empty.ensures c.if-not-is_empty.false
+    xor_stream-is_empty _ _ c.args.input.now c.args.blocks.now c.requires.same c.is_empty.ensures
+    c.if-not-is_empty.false
 
 pub returns-else-not-is_empty-clause-position : goal.returns-else-not-is_empty-clause-position
 returns-else-not-is_empty-clause-position g c =
