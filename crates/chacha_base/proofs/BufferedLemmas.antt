@@ -1,7 +1,9 @@
 -- A core and the block in its buffer, as a byte stream keeps them: at which position they are, and at which after more
 -- bytes or a seek. The proofs of the byte stream alone cite these. Read `IsBuffered` first.
-use Rattle.std.proofs.Common.{◌≡◌, ◌+◌, ◌-◌, ◌*◌, ◌/◌, ◌%◌, ◌<◌, ◌≤◌, ◌∙◌, ℕ, min, zero, suc, Bool, false, nat_eq, List, length, take, drop, slice_index, arith, sym, ap, get_or-take, get_or-drop, mod-eq_of_lt}
+use Rattle.std.proofs.Common.{◌≡◌, ◌+◌, ◌-◌, ◌*◌, ◌/◌, ◌%◌, ◌<◌, ◌≤◌, ◌∙◌, ℕ, min, zero, suc, Bool, false, true, nat_eq, List, length, refl, take, drop, slice_index, arith, sym, ap, get_or-take, get_or-drop, mod-eq_of_lt}
 use Rattle.std.proofs.lemmas.Bool.{false≢true}
+use Rattle.std.proofs.lemmas.Bool.Decides.{Decides-eqb}
+use Rattle.std.proofs.lemmas.List.{nil_from_length}
 use Rattle.std.proofs.Math.Nat.{mod-add-mod}
 use Rattle.chacha_base.specs.ChaCha.{keystream, xor_stream}
 use Rattle.chacha_base.specs.Cipher.{limit_of}
@@ -19,6 +21,16 @@ pub begins-not_empty : {empty : Bool} {limit : ℕ} (p n : ℕ) → empty ≡ na
     → (0 < n → p % 64 ≡ 0) → p + n ≤ limit → Begins p n limit
 begins-not_empty p zero is not front fits = absurd (false≢true (sym not ∙ is))
 begins-not_empty p (suc n) is not front fits = record { front = front (omega arith); some = omega arith; fits = fits }
+
+-- the same where it is true: there are no bytes, and XORing them with a stream leaves none
+pub none-is_empty : {empty : Bool} (n : ℕ) → empty ≡ nat_eq n 0 → empty ≡ true → n ≡ 0
+none-is_empty n is ends = (Decides-eqb n 0).0 (sym is ∙ ends)
+
+pub xor_stream-is_empty : {empty : Bool} (f : ℕ → ℕ) (p : ℕ) (xs ys : List ℕ) → length xs ≡ length ys
+    → empty ≡ nat_eq (length ys) 0 → empty ≡ true → ys ≡ xor_stream f p xs
+xor_stream-is_empty f p xs ys same is ends =
+    let none = none-is_empty (length ys) is ends in
+    rw (nil_from_length ys none, nil_from_length xs (same ∙ none)) refl
 
 -- len bytes from p on: the rest of a block, up to q; `whole` bytes of whole blocks; `last` bytes of one more
 pub record Parts (p len whole last q limit : ℕ) : Type 0 where

@@ -1,6 +1,6 @@
-use Rattle.std.proofs.Common.{length, sym, ap, arith, ◌∙◌}
+use Rattle.std.proofs.Common.{length, length-append, sym, ap, arith, ◌∙◌}
 use Rattle.chacha20.specs.Generator.{of_state_bytes}
-use Rattle.chacha20.proofs.StateBytesLemmas.{IsWritten, state_is, of_state_bytes-state_bytes}
+use Rattle.chacha20.proofs.StateBytesLemmas.{two_written_length, IsWritten, state_is, of_state_bytes-state_bytes}
 use Rattle.chacha20.proofs.rng.ChaChaRng.serialize_state.Goals as goal
 
 pub returns : goal.returns
@@ -20,3 +20,15 @@ returns g c =
           ∙ of_state_bytes-state_bytes c.args.self.now (sym (ap length is.seed) ∙ is.long) (omega arith) (omega arith);
       within = omega (arith, c.get_word_pos-word_pos.ensures.value);
     }
+
+-- answered for speed, as the next one
+pub slice_bounds-state-end-2 : goal.slice_bounds-state-end-2
+slice_bounds-state-end-2 g c = simp length-append (omega (arith, c.copy_from_slice.ensures.len))
+
+pub slice_bounds-state-end-3 : goal.slice_bounds-state-end-3
+slice_bounds-state-end-3 g c =
+    omega (
+      arith,
+      two_written_length c.copy_from_slice.new.self _ c.copy_from_slice.ensures.len
+          (ap length (c.copy_from_slice-2.ensures.after ∙ c.to_le_bytes-stream.ensures)),
+    )

@@ -1,6 +1,6 @@
-use Rattle.std.proofs.Common.{length, ap, sym, ◌∙◌, arith}
+use Rattle.std.proofs.Common.{length, ap, sym, ◌∙◌, arith, refl}
 use Rattle.chacha_base.specs.ChaCha.{keystream, xor_stream}
-use Rattle.chacha_base.proofs.BufferedLemmas.{at-last, begins-not_empty, xor_stream-front}
+use Rattle.chacha_base.proofs.BufferedLemmas.{none-is_empty, xor_stream-is_empty, at-last, begins-not_empty, xor_stream-front}
 use Rattle.chacha_base.proofs.CountsLemmas.{grows-last}
 use Rattle.chacha_base.proofs.wrapper.StreamCipherCoreWrapper.apply_last.Goals as goal
 
@@ -33,3 +33,15 @@ invariant_of-self g c =
 -- answered for speed
 pub returns-then-not-is_empty-clause-fixed : goal.returns-then-not-is_empty-clause-fixed
 returns-then-not-is_empty-clause-fixed g c = c.write_block_counted.ensures.fixed ∙ ap (λ v. v.fixed) c.self.view_is
+
+-- answered for speed, as the next ones
+pub returns-then-not-is_empty-clause-position : goal.returns-then-not-is_empty-clause-position
+returns-then-not-is_empty-clause-position g c = omega (arith, ap (λ v. v.position) c.self.view_is)
+
+pub returns-else-not-is_empty-clause-bytes : goal.returns-else-not-is_empty-clause-bytes
+returns-else-not-is_empty-clause-bytes g c =
+    xor_stream-is_empty _ _ c.args.bytes.now c.args.bytes.now refl c.is_empty.ensures c.if-not-is_empty.false
+
+pub returns-else-not-is_empty-clause-position : goal.returns-else-not-is_empty-clause-position
+returns-else-not-is_empty-clause-position g c =
+    omega (arith, none-is_empty (length c.args.bytes.now) c.is_empty.ensures c.if-not-is_empty.false)

@@ -1,6 +1,6 @@
-use Rattle.std.proofs.Common.{length, ap, ap₂, ◌∙◌}
+use Rattle.std.proofs.Common.{length, ap, ap₂, ◌∙◌, arith}
 use Rattle.chacha_base.specs.ChaCha.{keystream, xor_stream}
-use Rattle.chacha_base.proofs.BufferedLemmas.{at-whole, counter-at_front, begins-not_empty}
+use Rattle.chacha_base.proofs.BufferedLemmas.{none-is_empty, xor_stream-is_empty, at-whole, counter-at_front, begins-not_empty}
 use Rattle.chacha_base.proofs.wrapper.StreamCipherCoreWrapper.apply_whole_between.Goals as goal
 
 pub returns-then-not-is_empty-clause-bytes : goal.returns-then-not-is_empty-clause-bytes
@@ -23,3 +23,16 @@ invariant_of-self g c =
 pub returns-then-not-is_empty-clause-fixed : goal.returns-then-not-is_empty-clause-fixed
 returns-then-not-is_empty-clause-fixed g c =
     c.apply_blocks_between_counted.ensures.fixed ∙ ap (λ v. v.fixed) c.self.view_is
+
+-- answered for speed, as the next ones
+pub returns-then-not-is_empty-clause-position : goal.returns-then-not-is_empty-clause-position
+returns-then-not-is_empty-clause-position g c = omega (arith, ap (λ v. v.position) c.self.view_is)
+
+pub returns-else-not-is_empty-clause-bytes : goal.returns-else-not-is_empty-clause-bytes
+returns-else-not-is_empty-clause-bytes g c =
+    xor_stream-is_empty _ _ c.args.input.now c.args.blocks.now c.requires.same c.is_empty.ensures
+    c.if-not-is_empty.false
+
+pub returns-else-not-is_empty-clause-position : goal.returns-else-not-is_empty-clause-position
+returns-else-not-is_empty-clause-position g c =
+    omega (arith, none-is_empty (length c.args.blocks.now) c.is_empty.ensures c.if-not-is_empty.false)

@@ -1,6 +1,6 @@
-use Rattle.std.proofs.Common.{◌≡◌, ℕ, ap, ◌+◌, ◌-◌, ◌≤◌, length, take, arith, replicate, sym, subst, ◌∙◌}
+use Rattle.std.proofs.Common.{◌≡◌, ℕ, ap, ◌+◌, ◌-◌, ◌≤◌, length, take, take_all, arith, refl, replicate, sym, subst, ◌∙◌}
 use Rattle.std.proofs.lemmas.List.{take-replicate, length-replicate}
-use Rattle.chacha_base.specs.ChaCha.{keystream}
+use Rattle.chacha_base.specs.ChaCha.{keystream, stream_part}
 use Rattle.chacha_base.proofs.CipherLemmas.{moved_on}
 use Rattle.chacha_base.proofs.KeystreamLemmas.{xor_stream-zeros}
 use Rattle.chacha_base.proofs.PieceLemmas.{stream_part-written, piece-within, piece-long}
@@ -30,3 +30,18 @@ pieces-preserved g c =
           (c.apply_keystream_b2b.auto.output ∙ piece-long done n c.pieces.buf inside) before.bytes
           (rw (before.fixed, before.position, zeros, xor_stream-zeros) at c.apply_keystream_b2b.ensures.bytes);
     }
+
+-- answered for speed, as the next ones
+pub returns-clause-accepted : goal.returns-clause-accepted
+returns-clause-accepted g c = (λ ok. c.in_default.ensures.accepted.0 refl, λ fits. refl)
+
+pub returns-clause-bytes : goal.returns-clause-bytes
+returns-clause-bytes g c =
+    let cipher = g.Self.Keystream in
+    let old = c.args.self.now in
+    let all : c.pieces.done ≡ length c.args.buf.now = omega (arith, c.pieces.invariant.within) in
+    sym (take_all c.pieces.done c.pieces.buf (omega arith)) ∙ c.pieces.invariant.bytes
+    ∙ ap (stream_part (keystream cipher.modulus (cipher.block_at (cipher.fixed old))) (cipher.position old)) all
+
+pub returns-clause-position : goal.returns-clause-position
+returns-clause-position g c = omega (arith, c.pieces.invariant.within, c.pieces.invariant.position)
