@@ -1,150 +1,139 @@
 //! The loops, for each kind of cipher, core and generator over a backend.
 
 use super::loops::{
-    Broken, Direct, Listed, blocks, check, cuts, fronts, generator_fronts, last_bytes, parts,
+    Applies, Called, Verdict, blocks, cuts, fronts, generator_fronts, last_bytes, parts,
     words_around_the_wrap,
 };
 use chacha20::backends::Soft;
 use chacha20::cipher::{
-    KeyIvInit, RngBackend, StreamCipher, StreamCipherBackend, StreamCipherCore, StreamCipherSeek,
-    StreamCipherSeekCore,
+    KeyIvInit, RngBackend, StreamCipherBackend, StreamCipherCore, StreamCipherSeekCore,
 };
 use chacha20::rand_core::SeedableRng;
 use chacha20::variants::{Ietf, Legacy, Variant};
 use chacha20::{
-    ChaChaCore, ChaChaRng, Key, LegacyNonce, Nonce, R8, R12, R20, Rounds, Seed,
-    StreamCipherCoreWrapper, XChaChaCore, XNonce, hchacha,
+    ChaChaCore, ChaChaRng, Key, LegacyNonce, Nonce, R20, Rounds, Seed, StreamCipherCoreWrapper,
+    XChaChaCore, XNonce, hchacha,
 };
 use known_answers::R0;
 use known_answers::published::{FROM_1, LEGACY_KEYSTREAM, LEGACY_NONCE};
 
-type Cipher<K> = StreamCipherCoreWrapper<K>;
-
 const KEY: Key = [0x42; 32];
 
-/// The kinds with a nonce of 12 or of 24 bytes and so many rounds.
-pub fn ietf<R: Rounds, B: StreamCipherBackend<R, Ietf>>() -> Result<(), Broken> {
-    ietf_over::<ChaChaCore<R, Ietf, B>, XChaChaCore<R, B>>()?;
-    derived::<R, Cipher<ChaChaCore<R, Ietf, B>>, Cipher<XChaChaCore<R, B>>>()
+// A new cipher over a core, which is called directly or by lists.
+fn called<K>(key: &Key, nonce: &K::Iv, by_lists: bool) -> Called<K>
+where
+    K: KeyIvInit<Key = Key> + StreamCipherSeekCore + Drop,
+{
+    Called {
+        cipher: StreamCipherCoreWrapper::new(key, nonce),
+        by_lists,
+    }
 }
 
-fn ietf_over<K, X>() -> Result<(), Broken>
+/// The kinds with a nonce of 12 or of 24 bytes and so many rounds.
+pub fn ietf<R: Rounds, B: StreamCipherBackend<R, Ietf>>(verdict: &mut Verdict) {
+    ietf_over::<R, ChaChaCore<R, Ietf, B>, XChaChaCore<R, B>>(verdict);
+}
+
+fn ietf_over<R, K, X>(verdict: &mut Verdict)
 where
+    R: Rounds,
     K: KeyIvInit<Key = Key, Iv = Nonce> + StreamCipherSeekCore + Drop,
     X: KeyIvInit<Key = Key, Iv = XNonce> + StreamCipherSeekCore + Drop,
 {
-    cuts_both_ways(
-        &mut Cipher::<K>::new(&KEY, &[7; 12]),
-        &mut Cipher::<K>::new(&KEY, &[7; 12]),
-    )?;
-    cuts_both_ways(
-        &mut Cipher::<X>::new(&KEY, &[7; 24]),
-        &mut Cipher::<X>::new(&KEY, &[7; 24]),
-    )
+    cuts_both_ways::<Nonce, K>(&[7; 12], verdict);
+    cuts_both_ways::<XNonce, X>(&[7; 24], verdict);
+    let subkey = hchacha::<R>(&KEY, &[7; 16]);
+    let mut there = called::<K>(&subkey, b"\0\0\0\0\x07\x07\x07\x07\x07\x07\x07\x07", false);
+    let is_undone = undoes(&mut there, &mut called::<X>(&KEY, &[7; 24], false));
+    verdict.note_unless(is_undone, "130 bytes of XChaCha", 0);
 }
 
-fn cuts_both_ways<K: StreamCipherSeekCore>(
-    called: &mut Cipher<K>,
-    listed: &mut Cipher<K>,
-) -> Result<(), Broken> {
-    cuts(&mut Direct { cipher: called })?;
-    cuts(&mut Listed { cipher: listed })
+fn cuts_both_ways<N, K>(nonce: &N, verdict: &mut Verdict)
+where
+    K: KeyIvInit<Key = Key, Iv = N> + StreamCipherSeekCore + Drop,
+{
+    cuts(&mut called::<K>(&KEY, nonce, false), verdict);
+    cuts(&mut called::<K>(&KEY, nonce, true), verdict);
 }
 
 // XChaCha is ChaCha under the key that `hchacha` derives (draft-irtf-cfrg-xchacha, 2.3).
-fn derived<R, C, X>() -> Result<(), Broken>
-where
-    R: Rounds,
-    C: KeyIvInit<Key = Key, Iv = Nonce> + StreamCipher + Drop,
-    X: KeyIvInit<Key = Key, Iv = XNonce> + StreamCipher + Drop,
-{
-    let subkey = hchacha::<R>(&KEY, &[7; 16]);
+fn undoes<C: Applies, X: Applies>(there: &mut C, back: &mut X) -> bool {
     let mut bytes = [0; 130];
-    let there = C::new(&subkey, b"\0\0\0\0\x07\x07\x07\x07\x07\x07\x07\x07")
-        .try_apply_keystream(&mut bytes)
-        .is_ok();
-    let back = X::new(&KEY, &[7; 24])
-        .try_apply_keystream(&mut bytes)
-        .is_ok();
-    check(
-        there && back && bytes == [0; 130],
-        "130 bytes of XChaCha",
-        0,
-    )
+    there.apply(&mut bytes) & back.apply(&mut bytes) & (bytes == [0; 130])
 }
 
 /// The legacy cipher: all cuts, and two parts of its published stream.
-pub fn legacy<K>(step: usize) -> Result<(), Broken>
+pub fn legacy<K>(step: usize, verdict: &mut Verdict)
 where
     K: KeyIvInit<Key = Key, Iv = LegacyNonce> + StreamCipherSeekCore + Drop,
 {
-    let mut called = Cipher::<K>::new(&FROM_1, &LEGACY_NONCE);
-    let mut listed = Cipher::<K>::new(&FROM_1, &LEGACY_NONCE);
-    legacy_both_ways(&mut called, &mut listed, step)
+    parts_and_cuts(
+        &mut called::<K>(&FROM_1, &LEGACY_NONCE, false),
+        step,
+        verdict,
+    );
+    parts_and_cuts(
+        &mut called::<K>(&FROM_1, &LEGACY_NONCE, true),
+        step,
+        verdict,
+    );
 }
 
-fn legacy_both_ways<K: StreamCipherSeekCore>(
-    called: &mut Cipher<K>,
-    listed: &mut Cipher<K>,
-    step: usize,
-) -> Result<(), Broken> {
-    parts(&mut Direct { cipher: called }, LEGACY_KEYSTREAM, step)?;
-    parts(&mut Listed { cipher: listed }, LEGACY_KEYSTREAM, step)?;
-    check(called.try_seek(0u32).is_ok(), "a seek to the start", 0)?;
-    check(listed.try_seek(0u32).is_ok(), "a seek to the start", 0)?;
-    cuts_both_ways(called, listed)
+fn parts_and_cuts<C: Applies>(cipher: &mut C, step: usize, verdict: &mut Verdict) {
+    parts(cipher, LEGACY_KEYSTREAM, step, verdict);
+    verdict.note_unless(cipher.seek_to(0), "a seek to the start", 0);
+    cuts(cipher, verdict);
 }
 
 /// Cores in both layouts, beside those over `Soft`, from five blocks before 2^32 on.
-pub fn beside_soft<R, B>() -> Result<(), Broken>
+pub fn beside_soft<R, B>(verdict: &mut Verdict)
 where
     R: Rounds,
     B: StreamCipherBackend<R, Ietf> + StreamCipherBackend<R, Legacy> + RngBackend<R>,
 {
-    ietf_beside::<ChaChaCore<R, Ietf, B>, ChaChaCore<R, Ietf, Soft>>()?;
-    legacy_beside::<ChaChaCore<R, Legacy, B>, ChaChaCore<R, Legacy, Soft>>()
+    ietf_beside::<ChaChaCore<R, Ietf, B>, ChaChaCore<R, Ietf, Soft>>(verdict);
+    legacy_beside::<ChaChaCore<R, Legacy, B>, ChaChaCore<R, Legacy, Soft>>(verdict);
 }
 
-fn ietf_beside<K, S>() -> Result<(), Broken>
+fn ietf_beside<K, S>(verdict: &mut Verdict)
 where
     K: KeyIvInit<Key = Key, Iv = Nonce> + StreamCipherSeekCore<Counter = u32> + Drop,
     S: KeyIvInit<Key = Key, Iv = Nonce> + StreamCipherSeekCore<Counter = u32> + Drop,
 {
-    blocks(
-        &mut K::new(&KEY, &[7; 12]),
-        &mut S::new(&KEY, &[7; 12]),
-        0xffff_fffb,
-    )?;
-    fronts_of::<Nonce, K, S>(&[7; 12])
+    let (mut core, mut plain) = (K::new(&KEY, &[7; 12]), S::new(&KEY, &[7; 12]));
+    blocks(&mut core, &mut plain, 0xffff_fffb, verdict);
+    fronts_of::<Nonce, K, S>(&[7; 12], verdict);
 }
 
-fn legacy_beside<K, S>() -> Result<(), Broken>
+fn legacy_beside<K, S>(verdict: &mut Verdict)
 where
     K: SeedableRng<Seed = Seed> + StreamCipherSeekCore<Counter = u64> + Drop,
     S: SeedableRng<Seed = Seed> + StreamCipherSeekCore<Counter = u64> + Drop,
 {
-    blocks(&mut K::from_seed(KEY), &mut S::from_seed(KEY), 0xffff_fffb)
+    let (mut core, mut plain) = (K::from_seed(KEY), S::from_seed(KEY));
+    blocks(&mut core, &mut plain, 0xffff_fffb, verdict);
 }
 
 /// Fronts of the kinds with 20 rounds, beside those over `Soft`.
-pub fn fronts_beside_soft<B>() -> Result<(), Broken>
+pub fn fronts_beside_soft<B>(verdict: &mut Verdict)
 where
     B: StreamCipherBackend<R20, Ietf> + StreamCipherBackend<R20, Legacy> + RngBackend<R20>,
 {
-    fronts_of::<XNonce, XChaChaCore<R20, B>, XChaChaCore<R20, Soft>>(&[7; 24])?;
-    fronts_of::<LegacyNonce, ChaChaCore<R20, Legacy, B>, ChaChaCore<R20, Legacy, Soft>>(&[7; 8])?;
-    generator_fronts::<R20, B, Soft>(KEY)
+    fronts_of::<XNonce, XChaChaCore<R20, B>, XChaChaCore<R20, Soft>>(&[7; 24], verdict);
+    fronts_of::<LegacyNonce, ChaChaCore<R20, Legacy, B>, ChaChaCore<R20, Legacy, Soft>>(
+        &[7; 8], verdict,
+    );
+    generator_fronts::<R20, B, Soft>(KEY, verdict);
 }
 
-fn fronts_of<N, K, S>(nonce: &N) -> Result<(), Broken>
+fn fronts_of<N, K, S>(nonce: &N, verdict: &mut Verdict)
 where
     K: KeyIvInit<Key = Key, Iv = N> + StreamCipherSeekCore + Drop,
     S: KeyIvInit<Key = Key, Iv = N> + StreamCipherSeekCore + Drop,
 {
-    fronts(
-        &mut Cipher::<K>::new(&KEY, nonce),
-        &mut Cipher::<S>::new(&KEY, nonce),
-    )
+    let mut cipher = called::<K>(&KEY, nonce, false);
+    fronts(&mut cipher, &mut called::<S>(&KEY, nonce, false), verdict);
 }
 
 // The block with the greatest counter is one of those that are left. A `usize` can't hold 2^64.
@@ -165,23 +154,20 @@ fn before_the_wrap<B: RngBackend<R0>>() -> ChaChaRng<R0, B> {
 }
 
 /// A core of zeros makes blocks of zeros and the counter.
-pub fn zeroized<B: StreamCipherBackend<R0, Ietf>>() -> Result<(), Broken> {
+pub fn zeroized<B: StreamCipherBackend<R0, Ietf>>(verdict: &mut Verdict) {
     let mut core = ChaChaCore::<R0, Ietf, B>::new(&KEY, &[7; 12]);
     core.zeroize();
     let mut blocks = [[1; 64]; 2];
     core.write_keystream_blocks(&mut blocks);
-    let position = core.get_block_pos();
     let mut second = [0; 64];
     second[48] = 2;
-    check(
-        blocks == [[0; 64], second] && position == 2,
-        "two blocks",
-        0,
-    )
+    let right = (blocks == [[0; 64], second]) & (core.get_block_pos() == 2);
+    verdict.note_unless(right, "two blocks", 0);
 }
 
 /// Generators.
-pub fn generators<B: RngBackend<R0>>() -> Result<(), Broken> {
-    words_around_the_wrap(&mut before_the_wrap::<B>(), &mut before_the_wrap::<B>())?;
-    last_bytes::<R0, B>()
+pub fn generators<B: RngBackend<R0>>(verdict: &mut Verdict) {
+    let (mut asked, mut unasked) = (before_the_wrap::<B>(), before_the_wrap::<B>());
+    words_around_the_wrap(&mut asked, &mut unasked, verdict);
+    last_bytes::<R0, B>(verdict);
 }

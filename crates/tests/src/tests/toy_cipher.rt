@@ -1,11 +1,13 @@
 //! The wrapper over a user's own core.
 
+use super::stop_at_failure;
 use chacha20::StreamCipherCoreWrapper;
 use chacha20::cipher::{KeyIvInit, StreamCipherSeekCore};
 use examples::own_core::Toy;
 use known_answers::calls::Call;
-use known_answers::check::{Failure, Made, Subject, Way, check};
+use known_answers::check::{Made, Subject, Way, check};
 use known_answers::ciphers::make_calls;
+use known_answers::report::{Verdicts, note};
 use known_answers::text::{Case, Data};
 
 // Under the toy core of seed 7 byte p of the keystream is (7 + 100 * (p / 64) + p % 64) mod 256: the first block begins
@@ -62,18 +64,18 @@ impl Subject for ToyCipher {
     }
 }
 
-fn check_toy() -> Result<(), Failure> {
+fn check_toy() -> Verdicts {
+    let mut verdicts = [None; 32];
     for paragraph in CASES.split("\n\n") {
-        check::<ToyCipher>(&Case::read(paragraph.trim()))?;
+        let case = Case::read(paragraph.trim());
+        note(&mut verdicts, case.title, check::<ToyCipher>(&case));
     }
-    Ok(())
+    verdicts
 }
 
 // A new core is at block 5, and a cipher over it begins at block 0.
 #[test]
 fn toy_calls(rt: HostRuntime) {
     assert!(rt; Toy::new(&7, &()).get_block_pos() == 5);
-    if let Err(failure) = check_toy() {
-        panic!(rt; "Toy: {failure}");
-    }
+    stop_at_failure(&rt, "Toy", &check_toy());
 }

@@ -102,22 +102,34 @@ write_keystream_blocks 2 -> ca ..*126 01",
     ),
 ];
 
+// The first line in which another fault is found, or nothing.
+fn wrong_line(subject: &'static str, fault: Fault, lines: &'static str) -> &'static str {
+    for line in lines.lines() {
+        if !is_found(subject, fault, line) {
+            return line;
+        }
+    }
+    ""
+}
+
+fn is_found(subject: &'static str, fault: Fault, line: &'static str) -> bool {
+    let (subject, made_of) = split_word(subject);
+    let case = Case {
+        title: "",
+        subject,
+        made_of,
+        lines: line,
+    };
+    match check_case::<Soft, Soft>(&case) {
+        Ok(()) => false,
+        Err(failure) => failure.fault == fault,
+    }
+}
+
 #[test]
 fn faults_are_found(rt: HostRuntime) {
     for (subject, fault, lines) in &WRONG {
-        let (subject, made_of) = split_word(subject);
-        for line in lines.lines() {
-            let case = Case {
-                title: "",
-                subject,
-                made_of,
-                lines: line,
-            };
-            let found = check_case::<Soft, Soft>(&case).err();
-            assert!(rt;
-                found.is_some_and(|failure| failure.fault == *fault),
-                "{line}"
-            );
-        }
+        let line = wrong_line(subject, *fault, lines);
+        assert!(rt; line.is_empty(), "{line}");
     }
 }

@@ -61,6 +61,13 @@ fn part(key: &Key, file: &[u8], window: &mut [u8; 4]) -> Result<usize, Damage> {
     slice.read_at(10, window)
 }
 
+// Whether these are the text's file, read by its end, and the text that was opened.
+fn are_right(key: &Key, text: &[u8], file: &[u8], opened: &[u8]) -> bool {
+    let mut window = [0; 4];
+    let read = part(key, file, &mut window);
+    (opened == text) & (read == Ok(4)) & text.ends_with(&window)
+}
+
 fn in_memory(rt: &HostRuntime, key: &Key, text: &[u8]) -> Result<bool, SealError> {
     let mut salt = [0; 16];
     rt.fill_bytes(&mut salt).map_err(SealError::Read)?;
@@ -70,9 +77,7 @@ fn in_memory(rt: &HostRuntime, key: &Key, text: &[u8]) -> Result<bool, SealError
     let mut opened = Vec::new(rt.alloc());
     let mut reader = file.as_slice();
     sealed::decrypt(key, &mut reader, &mut opened, &mut [0; CHUNK + TAG + 1])?;
-    let mut window = [0; 4];
-    let n = part(key, file.as_slice(), &mut window).map_err(SealError::Damaged)?;
-    Ok(opened.as_slice() == text && n == 4 && text.ends_with(&window))
+    Ok(are_right(key, text, file.as_slice(), opened.as_slice()))
 }
 
 #[test]
