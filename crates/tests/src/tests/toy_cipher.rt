@@ -3,9 +3,9 @@
 use chacha20::StreamCipherCoreWrapper;
 use chacha20::cipher::{KeyIvInit, StreamCipherSeekCore};
 use examples::own_core::Toy;
-use known_answers::calls::Call;
+use known_answers::calls::{Answer, Call};
 use known_answers::check::{Failure, Made, Subject, Way, check};
-use known_answers::ciphers::make_calls;
+use known_answers::ciphers::{make, make_list};
 use known_answers::text::{Case, Data};
 
 // Under the toy core of seed 7 byte p of the keystream is (7 + 100 * (p / 64) + p % 64) mod 256: the first block begins
@@ -57,8 +57,12 @@ impl Subject for ToyCipher {
         Some(ToyCipher { cipher })
     }
 
-    fn make(&mut self, way: Way, calls: &[Call], input: &Data, made: &mut Made) {
-        make_calls(&mut self.cipher, way, calls, input, made);
+    fn make(&mut self, way: Way, call: Call, input: &Data, data: &mut [u8]) -> Answer {
+        make(&mut self.cipher, way == Way::Directly, call, input, data)
+    }
+
+    fn make_list(&mut self, calls: &[Call], input: &Data, made: &mut Made) {
+        make_list(&mut self.cipher, calls, input, made);
     }
 }
 
