@@ -74,25 +74,28 @@ impl Call {
 /// Reads a call. What it reads and writes is put behind the data so far.
 pub fn read_call(text: &'static str, data: &mut Bytes) -> Option<Call> {
     let (name, operand) = split_word(text);
-    Some(match name {
+    match name {
         "apply" => {
             let Range { at, len } = bytes(operand, data);
-            Call::Cipher(CipherCall::Apply { at, len })
+            Some(Call::Cipher(CipherCall::Apply { at, len }))
         }
         "write" => {
             let Range { at, len } = room(operand, 1, data);
-            Call::Cipher(CipherCall::Write { at, len })
+            Some(Call::Cipher(CipherCall::Write { at, len }))
         }
-        "b2b" => Call::Cipher(read_b2b(operand, data)),
         "fill_bytes" => {
             let Range { at, len } = room(operand, 1, data);
-            Call::Rng(RngCall::Fill { at, len })
+            Some(Call::Rng(RngCall::Fill { at, len }))
         }
-        "write_keystream_block" => Call::WriteBlock(room("1", 64, data)),
-        "write_keystream_blocks" => Call::WriteBlocks(room(operand, 64, data)),
-        "equals" => Call::Equals(read_array::<49>(operand)?),
-        _ => return read_call_without_data(text),
-    })
+        "b2b" => Some(Call::Cipher(read_b2b(operand, data))),
+        "write_keystream_block" => Some(Call::WriteBlock(room("1", 64, data))),
+        "write_keystream_blocks" => Some(Call::WriteBlocks(room(operand, 64, data))),
+        "equals" => match read_array(operand) {
+            Some(state) => Some(Call::Equals(state)),
+            None => None,
+        },
+        _ => read_call_without_data(text),
+    }
 }
 
 fn read_b2b(operands: &'static str, data: &mut Bytes) -> CipherCall {
@@ -116,17 +119,14 @@ fn bytes(text: &'static str, data: &mut Bytes) -> Range {
 // New data of a length in units. The bytes are no zeros, so that it shows where one isn't written.
 fn room(len: &'static str, unit: usize, data: &mut Bytes) -> Range {
     let at = data.len;
-    for _ in 0..unit {
-        data.repeat("5a", read_number(len));
-    }
+    let len = read_number::<usize>(len).unwrap_or(1537);
+    data.repeat("5a", len.saturating_mul(unit));
     range_from(at, data)
 }
 
 fn range_from(at: usize, data: &Bytes) -> Range {
-    Range {
-        at,
-        len: data.len.saturating_sub(at),
-    }
+    let len = data.len.saturating_sub(at);
+    Range { at, len }
 }
 
 static WITHOUT_OPERAND: [(&str, Call); 15] = [
@@ -153,31 +153,40 @@ fn read_call_without_data(text: &'static str) -> Option<Call> {
             return Some(*call);
         }
     }
-    let (name, operand) = text.rsplit_once(' ')?;
-    match name {
-        "seek i32" => read_seek_i32(operand),
-        _ => read_call_with_number(name, read_number(operand)?),
+    let (name, operand) = text.rsplit_once(' ').unwrap_or((text, ""));
+    match read_number::<u128>(operand) {
+        _ if name == "seek i32" => read_seek_i32(operand),
+        Some(number) => read_call_with_number(name, number),
+        None => None,
     }
 }
 
 fn read_seek_i32(text: &str) -> Option<Call> {
-    let position = match text.parse::<i32>() {
-        Ok(position) => position,
-        Err(_) => read_number(text)?,
-    };
-    Some(Call::Cipher(CipherCall::SeekI32(position)))
+    match text.parse::<i32>().ok().or(read_number(text)) {
+        Some(position) => Some(Call::Cipher(CipherCall::SeekI32(position))),
+        None => None,
+    }
 }
 
 fn read_call_with_number(name: &str, number: u128) -> Option<Call> {
-    Some(match name {
-        "room" => Call::Cipher(CipherCall::CheckRemaining(usize::try_from(number).ok()?)),
-        "seek u32" => Call::SeekU32(number),
-        "seek u64" => Call::SeekU64(number),
-        "seek u128" => Call::Cipher(CipherCall::Seek(number)),
-        "seek usize" => Call::SeekUsize(number),
-        "set_word_pos" => Call::Rng(RngCall::SetWordPos(number)),
-        "set_block_pos" => Call::Rng(RngCall::SetBlockPos(u64::try_from(number).ok()?)),
-        "set_stream" => Call::Rng(RngCall::SetStream(u64::try_from(number).ok()?)),
-        _ => return None,
-    })
+    match name {
+        "seek u32" => Some(Call::SeekU32(number)),
+        "seek u64" => Some(Call::SeekU64(number)),
+        "seek u128" => Some(Call::Cipher(CipherCall::Seek(number))),
+        "seek usize" => Some(Call::SeekUsize(number)),
+        "set_word_pos" => Some(Call::Rng(RngCall::SetWordPos(number))),
+        _ => match u64::try_from(number) {
+            Ok(number) => read_call_with_u64(name, number),
+            Err(_) => None,
+        },
+    }
+}
+
+fn read_call_with_u64(name: &str, number: u64) -> Option<Call> {
+    match name {
+        "room" => Some(Call::Cipher(CipherCall::CheckRemaining(number as usize))),
+        "set_block_pos" => Some(Call::Rng(RngCall::SetBlockPos(number))),
+        "set_stream" => Some(Call::Rng(RngCall::SetStream(number))),
+        _ => None,
+    }
 }

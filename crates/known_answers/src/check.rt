@@ -29,8 +29,11 @@ pub trait Subject: Drop {
     /// A new one, made of what a case names.
     fn read(made_of: &'static str) -> Option<Self>;
 
-    /// Makes calls, at most 128. What one reads between slices is in the data before all calls.
-    fn make(&mut self, way: Way, calls: &[Call], input: &Data, made: &mut Made);
+    /// Makes a call, but not as a list. `data` is what it may change.
+    fn make(&mut self, way: Way, call: Call, input: &Data, data: &mut [u8]) -> Answer;
+
+    /// Makes calls, at most 128, by one list.
+    fn make_list(&mut self, _: &[Call], _: &Data, _: &mut Made) {}
 }
 
 /// What a run of calls answers, and makes of the data.
@@ -90,10 +93,21 @@ fn run<S: Subject>(script: &Script, last: usize, way: Way) -> Made {
     };
     let calls = script.calls.get(..=last).unwrap_or(&[]);
     match S::read(script.case.made_of) {
-        Some(mut subject) => subject.make(way, calls, &script.data.bytes, &mut made),
+        Some(mut subject) => make_all(&mut subject, way, calls, &script.data.bytes, &mut made),
         None => {}
     }
     made
+}
+
+fn make_all<S: Subject>(subject: &mut S, way: Way, calls: &[Call], input: &Data, made: &mut Made) {
+    if let Way::AsList = way {
+        subject.make_list(calls, input, made);
+        return;
+    }
+    for i in 0..calls.len().min(128) {
+        let changed = calls[i].range().of_mut(&mut made.data);
+        made.answers[i] = subject.make(way, calls[i], input, changed);
+    }
 }
 
 // A case's calls, and the line of each. It goes on where a line is wrong, and keeps the first.
@@ -117,7 +131,7 @@ impl Script {
             calls: [Call::RemainingBlocks; 128],
             lines: [""; 128],
             count: 0,
-            data: Bytes::new(),
+            data: Bytes::read(""),
             judged: [0; 1536],
             verdict: Ok(()),
         };
@@ -135,47 +149,48 @@ impl Script {
         let (text, _) = split_answer(line);
         let (times, text) = text.split_once(" times ").unwrap_or(("1", text));
         for _ in 0..read_number(times).unwrap_or(129usize).min(129) {
-            match read_call(text, &mut self.data) {
-                Some(call) if self.count < 128 && !self.data.is_wrong => {
-                    self.calls[self.count] = call;
-                    self.lines[self.count] = line;
-                    self.count += 1;
-                }
-                _ => self.note_unless(line, None, Fault::Unreadable),
-            }
+            self.add_call(line, text);
+        }
+    }
+
+    fn add_call(&mut self, line: &'static str, text: &'static str) {
+        let call = read_call(text, &mut self.data);
+        if let Some(call) = call
+            && (self.count < 128) & !self.data.is_wrong
+        {
+            self.calls[self.count] = call;
+            self.lines[self.count] = line;
+            self.count += 1;
+        } else {
+            self.note_unless(line, None, Fault::Unreadable);
         }
     }
 
     // Notes a line where a check fails, or the line can't be read.
     fn note_unless(&mut self, line: &'static str, holds: Option<bool>, fault: Fault) {
-        let fault = match holds {
-            Some(true) => return,
-            Some(false) => fault,
-            None => Fault::Unreadable,
-        };
-        if self.verdict.is_ok() {
-            self.verdict = Err(Failure {
-                title: self.case.title,
-                line,
-                fault,
-            });
+        if holds.unwrap_or(false) | self.verdict.is_err() {
+            return;
         }
+        let fault = if holds.is_some() {
+            fault
+        } else {
+            Fault::Unreadable
+        };
+        let title = self.case.title;
+        self.verdict = Err(Failure { title, line, fault });
     }
 
     // Judges what the direct call answers and leaves.
     fn judge(&mut self, line: &'static str, call: Call, answer: Answer, data: &Data) {
         let (_, expected) = split_answer(line);
-        let range = match answer {
-            Answer::Done => call.range(),
-            _ => Range { at: 0, len: 0 },
-        };
-        let is_kept = are_same_beside(range, &self.judged, data);
+        let is_done = matches!(answer, Answer::Done);
+        let range = call.range();
+        let is_kept = are_same_beside(range, is_done, &self.judged, data);
         self.note_unless(line, is_answer(answer, expected), Fault::Answer);
-        self.note_unless(
-            line,
-            are_bytes(range.of(data), answer, expected),
-            Fault::Bytes,
-        );
+        if is_done & !expected.is_empty() {
+            let are_right = Bytes::read(expected).are(range.of(data));
+            self.note_unless(line, are_right, Fault::Bytes);
+        }
         self.note_unless(line, Some(is_kept), Fault::Bytes);
         self.judged = *data;
     }
@@ -188,35 +203,39 @@ fn split_answer(line: &'static str) -> (&'static str, &'static str) {
 
 // Whether an answer is the one that a line gives. Without one, the call must succeed.
 fn is_answer(answer: Answer, expected: &str) -> Option<bool> {
-    Some(match answer {
-        Answer::Missing => return None,
-        Answer::Refused => expected == "refused",
-        Answer::Overflow => expected == "overflow",
-        _ if expected == "refused" || expected == "overflow" => false,
-        _ if expected.is_empty() => true,
-        Answer::Done => true,
-        Answer::Number(found) => found == read_number(expected)?,
-        Answer::Equal(found) => found == expected.parse::<bool>().ok()?,
-        Answer::Seed(found) => Bytes::read(expected)?.are(&found),
-        Answer::State(found) => Bytes::read(expected)?.are(&found),
-    })
+    match answer {
+        Answer::Missing => None,
+        Answer::Refused => Some(expected == "refused"),
+        Answer::Overflow => Some(expected == "overflow"),
+        _ if (expected == "refused") | (expected == "overflow") => Some(false),
+        _ if expected.is_empty() => Some(true),
+        _ => is_value(answer, expected),
+    }
 }
 
-// Whether a call that is done has left the bytes that a line gives.
-fn are_bytes(bytes: &[u8], answer: Answer, expected: &str) -> Option<bool> {
+fn is_value(answer: Answer, expected: &str) -> Option<bool> {
     match answer {
-        Answer::Done if !expected.is_empty() => Some(Bytes::read(expected)?.are(bytes)),
+        Answer::Number(found) => match read_number::<u128>(expected) {
+            Some(number) => Some(found == number),
+            None => None,
+        },
+        Answer::Equal(found) => match expected {
+            "true" => Some(found),
+            "false" => Some(!found),
+            _ => None,
+        },
+        Answer::Seed(found) => Bytes::read(expected).are(&found),
+        Answer::State(found) => Bytes::read(expected).are(&found),
         _ => Some(true),
     }
 }
 
-// Whether the data is the same but in a range.
-fn are_same_beside(range: Range, before: &Data, after: &Data) -> bool {
+// Whether the data is the same but in a range, which a call that is done may change.
+fn are_same_beside(range: Range, is_done: bool, before: &Data, after: &Data) -> bool {
+    let mut are_same = true;
     for i in 0..1536usize {
-        let is_in_range = i >= range.at && i - range.at < range.len;
-        if before[i] != after[i] && !is_in_range {
-            return false;
-        }
+        let is_in_range = (i >= range.at) & (i.saturating_sub(range.at) < range.len);
+        are_same &= (before[i] == after[i]) | (is_in_range & is_done);
     }
-    true
+    are_same
 }

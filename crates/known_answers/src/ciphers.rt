@@ -18,36 +18,36 @@ where
     const WAYS: &'static [Way] = &[Way::WithoutTry, Way::AsList];
 
     fn read(made_of: &'static str) -> Option<Self> {
-        if N > 24 {
-            return None;
+        let (key, nonce) = split_keyed(made_of);
+        if N <= 24
+            && let Some(key) = read_array::<32>(key)
+            && let Some(nonce) = read_array::<N>(nonce)
+        {
+            return Some(StreamCipherCoreWrapper::new(&key, &nonce));
         }
-        let (key, nonce) = split_keyed(made_of)?;
-        Some(StreamCipherCoreWrapper::new(&read_array::<32>(key)?, &read_array::<N>(nonce)?))
+        None
     }
 
-    fn make(&mut self, way: Way, calls: &[Call], input: &Data, made: &mut Made) {
-        make_calls(self, way, calls, input, made);
+    fn make(&mut self, way: Way, call: Call, input: &Data, data: &mut [u8]) -> Answer {
+        make(self, matches!(way, Way::Directly), call, input, data)
+    }
+
+    fn make_list(&mut self, calls: &[Call], input: &Data, made: &mut Made) {
+        make_list(self, calls, input, made);
     }
 }
 
-/// Makes calls on a cipher.
-pub fn make_calls<K: StreamCipherSeekCore>(
-    cipher: &mut StreamCipherCoreWrapper<K>,
-    way: Way,
-    calls: &[Call],
+/// Makes a call on a cipher by a `try_` form, or by the form without where it may be called.
+pub fn make<C: StreamCipherSeek>(
+    cipher: &mut C,
+    tries: bool,
+    call: Call,
     input: &Data,
-    made: &mut Made,
-) {
-    if way == Way::AsList {
-        make_list(cipher, calls, input, made);
-        return;
-    }
-    for i in 0..calls.len().min(128) {
-        let changed = calls[i].range().of_mut(&mut made.data);
-        made.answers[i] = match calls[i] {
-            Call::Cipher(call) => make_call(cipher, way == Way::Directly, call, input, changed),
-            call => make_in_type(cipher, way == Way::Directly, call),
-        };
+    data: &mut [u8],
+) -> Answer {
+    match call {
+        Call::Cipher(call) => make_call(cipher, tries, call, input, data),
+        call => make_in_type(cipher, tries, call),
     }
 }
 
@@ -156,41 +156,51 @@ fn of_position<T: SeekNum>(position: T) -> Answer {
     }
 }
 
-// Makes all calls by one list.
-fn make_list<K: StreamCipherSeekCore>(
+/// Makes calls, at most 128, by one list.
+pub fn make_list<K: StreamCipherSeekCore>(
     cipher: &mut StreamCipherCoreWrapper<K>,
     calls: &[Call],
     input: &Data,
     made: &mut Made,
 ) {
-    let mut list = [CipherCall::Pos; 128];
     let mut answers = [CipherAnswer::Overflow; 128];
     let count = calls.len().min(128);
-    for i in 0..count {
-        list[i] = listed(calls[i]);
-    }
-    if all_in_slices(&list[..count], 1536, 1536) {
-        run_cipher(
-            cipher,
-            input,
-            &mut made.data,
-            &list[..count],
-            &mut answers[..count],
-        );
-        for i in 0..count {
-            made.answers[i] = of_listed(calls[i], answers[i]);
-        }
-    }
+    run_cipher(
+        cipher,
+        input,
+        &mut made.data,
+        &list_of(calls)[..count],
+        &mut answers[..count],
+    );
+    note_listed(calls, &answers, made);
 }
 
-// A list has positions in `i32` and `u128` only.
-fn listed(call: Call) -> CipherCall {
+fn list_of(calls: &[Call]) -> [CipherCall; 128]
+    ensures { All (InSlices 1536 1536) result }
+{
+    let mut list = [CipherCall::Pos; 128];
+    'each: for i in 0..calls.len().min(128) {
+        list[i] = listed(calls[i]);
+    }
+    list
+}
+
+// A list has positions in `i32` and `u128` only. All ranges lie in the data.
+fn listed(call: Call) -> CipherCall
+    ensures { InSlices 1536 1536 result }
+{
     match call {
-        Call::Cipher(call) => call,
+        Call::Cipher(call) if in_slices(call, 1536, 1536) => call,
         Call::SeekU32(position) | Call::SeekU64(position) | Call::SeekUsize(position) => {
             CipherCall::Seek(position)
         }
         _ => CipherCall::Pos,
+    }
+}
+
+fn note_listed(calls: &[Call], answers: &[CipherAnswer; 128], made: &mut Made) {
+    for i in 0..calls.len().min(128) {
+        made.answers[i] = of_listed(calls[i], answers[i]);
     }
 }
 
@@ -212,17 +222,6 @@ fn in_type<T: SeekNum>(position: u128) -> Answer {
         Ok(_) => Answer::Number(position),
         Err(_) => Answer::Overflow,
     }
-}
-
-fn all_in_slices(calls: &[CipherCall], input: usize, bytes: usize) -> bool
-    ensures { IsTrue result ↔ All (InSlices input bytes) calls.now }
-{
-    'each: for i in 0..calls.len() {
-        if !in_slices(calls[i], input, bytes) {
-            return false;
-        }
-    }
-    true
 }
 
 // Whether the ranges of a call lie in slices of these lengths.

@@ -2,12 +2,11 @@
 
 ghost use Rattle.std.specs.Prelude.{◌≤◌};
 
+use crate::Makes;
 use crate::calls::{Answer, Call};
-use crate::check::{Made, Subject, Way};
+use crate::check::{Subject, Way};
 use crate::text::{Data, read_array, split_keyed};
-use chacha20::cipher::{
-    KeyIvInit, RngBackend, StreamCipherBackend, StreamCipherCounter, StreamCipherSeekCore,
-};
+use chacha20::cipher::{KeyIvInit, StreamCipherBackend, StreamCipherCounter, StreamCipherSeekCore};
 use chacha20::rand_core::SeedableRng;
 use chacha20::variants::{Ietf, Legacy};
 use chacha20::{ChaChaCore, RngCall, Rounds};
@@ -16,36 +15,30 @@ impl<R: Rounds, B: StreamCipherBackend<R, Ietf>> Subject for ChaChaCore<R, Ietf,
     const WAYS: &'static [Way] = &[Way::Applying];
 
     fn read(made_of: &'static str) -> Option<Self> {
-        let (key, nonce) = split_keyed(made_of)?;
-        Some(ChaChaCore::new(&read_array::<32>(key)?, &read_array::<12>(nonce)?))
+        let (key, nonce) = split_keyed(made_of);
+        match (read_array(key), read_array(nonce)) {
+            (Some(key), Some(nonce)) => Some(ChaChaCore::new(&key, &nonce)),
+            _ => None,
+        }
     }
 
-    fn make(&mut self, way: Way, calls: &[Call], _: &Data, made: &mut Made) {
-        make_calls(self, way, calls, made);
+    fn make(&mut self, way: Way, call: Call, _: &Data, data: &mut [u8]) -> Answer {
+        make_call(self, way, call, data)
     }
 }
 
-impl<R, B> Subject for ChaChaCore<R, Legacy, B>
-where
-    R: Rounds,
-    B: StreamCipherBackend<R, Legacy> + RngBackend<R>,
-{
+impl<R: Rounds, B: Makes<R>> Subject for ChaChaCore<R, Legacy, B> {
     const WAYS: &'static [Way] = &[Way::Applying];
 
     fn read(made_of: &'static str) -> Option<Self> {
-        let seed = made_of.strip_prefix("seed ")?;
-        Some(ChaChaCore::from_seed(read_array::<32>(seed)?))
+        match read_array(made_of.strip_prefix("seed ").unwrap_or("")) {
+            Some(seed) => Some(ChaChaCore::from_seed(seed)),
+            None => None,
+        }
     }
 
-    fn make(&mut self, way: Way, calls: &[Call], _: &Data, made: &mut Made) {
-        make_calls(self, way, calls, made);
-    }
-}
-
-fn make_calls<K: StreamCipherSeekCore>(core: &mut K, way: Way, calls: &[Call], made: &mut Made) {
-    for i in 0..calls.len().min(128) {
-        let changed = calls[i].range().of_mut(&mut made.data);
-        made.answers[i] = make_call(core, way, calls[i], changed);
+    fn make(&mut self, way: Way, call: Call, _: &Data, data: &mut [u8]) -> Answer {
+        make_call(self, way, call, data)
     }
 }
 
@@ -74,13 +67,13 @@ fn make_call<K: StreamCipherSeekCore>(
 }
 
 fn make_block<K: StreamCipherSeekCore>(core: &mut K, way: Way, data: &mut [u8]) -> Answer {
-    match (data.first_chunk_mut::<64>(), way) {
-        (Some(block), Way::Applying) => {
+    match data.first_chunk_mut::<64>() {
+        Some(block) if way == Way::Applying => {
             *block = [0; 64];
             core.apply_keystream_block(block);
         }
-        (Some(block), _) => core.write_keystream_block(block),
-        _ => return Answer::Missing,
+        Some(block) => core.write_keystream_block(block),
+        None => return Answer::Missing,
     }
     Answer::Done
 }

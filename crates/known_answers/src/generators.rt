@@ -15,43 +15,59 @@ impl<R: Rounds, B: RngBackend<R>> Subject for ChaChaRng<R, B> {
 
     // Of `seed S`, or of a stored state, `state S`.
     fn read(made_of: &'static str) -> Option<Self> {
-        if let Some(seed) = made_of.strip_prefix("seed ") {
-            return Some(ChaChaRng::from_seed(read_array::<32>(seed)?));
+        if let Some(seed) = read_array(made_of.strip_prefix("seed ").unwrap_or("")) {
+            return Some(ChaChaRng::from_seed(seed));
         }
-        let state = made_of.strip_prefix("state ")?;
-        Some(ChaChaRng::deserialize_state(&read_array::<49>(state)?))
+        match read_array(made_of.strip_prefix("state ").unwrap_or("")) {
+            Some(state) => Some(ChaChaRng::deserialize_state(&state)),
+            None => None,
+        }
     }
 
-    fn make(&mut self, way: Way, calls: &[Call], _: &Data, made: &mut Made) {
-        if way == Way::AsList {
-            make_list(self, calls, made);
-            return;
+    fn make(&mut self, way: Way, call: Call, _: &Data, data: &mut [u8]) -> Answer {
+        match call {
+            Call::Rng(call) => of_answer(make_call(self, way, call, data)),
+            Call::Equals(state) => Answer::Equal(*self == ChaChaRng::deserialize_state(&state)),
+            _ => Answer::Missing,
         }
-        for i in 0..calls.len().min(128) {
-            made.answers[i] = make_call(self, way, calls[i], &mut made.data);
-        }
+    }
+
+    fn make_list(&mut self, calls: &[Call], _: &Data, made: &mut Made) {
+        let mut answers = [RngAnswer::Done; 128];
+        let count = calls.len().min(128);
+        run_rng(
+            self,
+            &mut made.data,
+            &list_of(calls)[..count],
+            &mut answers[..count],
+        );
+        note_listed(calls, &answers, made);
     }
 }
 
-// Makes all calls by one list. It has no `==`: the stored states are compared.
-fn make_list<R: Rounds, B: RngBackend<R>>(
-    rng: &mut ChaChaRng<R, B>,
-    calls: &[Call],
-    made: &mut Made,
-) {
+fn list_of(calls: &[Call]) -> [RngCall; 128]
+    ensures { All (InData 1536) result }
+{
     let mut list = [RngCall::Serialize; 128];
-    let mut answers = [RngAnswer::Done; 128];
-    let count = calls.len().min(128);
-    for i in 0..count {
-        if let Call::Rng(call) = calls[i] {
-            list[i] = call;
-        }
+    'each: for i in 0..calls.len().min(128) {
+        list[i] = listed(calls[i]);
     }
-    if all_in_data(&list[..count], 1536) {
-        run_rng(rng, &mut made.data, &list[..count], &mut answers[..count]);
-        for i in 0..count {
-            made.answers[i] = of_listed(calls[i], answers[i]);
-        }
+    list
+}
+
+// A list has no `==`: the stored states are compared. All ranges lie in the data.
+fn listed(call: Call) -> RngCall
+    ensures { InData 1536 result }
+{
+    match call {
+        Call::Rng(call) if in_data(call, 1536) => call,
+        _ => RngCall::Serialize,
+    }
+}
+
+fn note_listed(calls: &[Call], answers: &[RngAnswer; 128], made: &mut Made) {
+    for i in 0..calls.len().min(128) {
+        made.answers[i] = of_listed(calls[i], answers[i]);
     }
 }
 
@@ -65,24 +81,17 @@ fn of_listed(call: Call, answer: RngAnswer) -> Answer {
 fn make_call<R: Rounds, B: RngBackend<R>>(
     rng: &mut ChaChaRng<R, B>,
     way: Way,
-    call: Call,
-    data: &mut Data,
-) -> Answer {
-    let changed = call.range().of_mut(data);
-    match call {
-        Call::Rng(call) => {
-            let through = match way {
-                Way::ThroughRng => read(rng, call, changed),
-                Way::ThroughTryRng => try_read(rng, call, changed),
-                _ => None,
-            };
-            of_answer(match through {
-                Some(answer) => answer,
-                None => call_own(rng, call, changed),
-            })
-        }
-        Call::Equals(state) => Answer::Equal(*rng == ChaChaRng::deserialize_state(&state)),
-        _ => Answer::Missing,
+    call: RngCall,
+    data: &mut [u8],
+) -> RngAnswer {
+    let through = match way {
+        Way::ThroughRng => read(rng, call, data),
+        Way::ThroughTryRng => try_read(rng, call, data),
+        _ => None,
+    };
+    match through {
+        Some(answer) => answer,
+        None => call_own(rng, call, data),
     }
 }
 
@@ -121,15 +130,15 @@ fn call_own<R: Rounds, B: RngBackend<R>>(
 
 // A read of any generator that is fit for keys.
 fn read<G: CryptoRng>(rng: &mut G, call: RngCall, data: &mut [u8]) -> Option<RngAnswer> {
-    Some(match call {
-        RngCall::NextU32 => RngAnswer::U32(rng.next_u32()),
-        RngCall::NextU64 => RngAnswer::U64(rng.next_u64()),
+    match call {
+        RngCall::NextU32 => Some(RngAnswer::U32(rng.next_u32())),
+        RngCall::NextU64 => Some(RngAnswer::U64(rng.next_u64())),
         RngCall::Fill { .. } => {
             rng.fill_bytes(data);
-            RngAnswer::Done
+            Some(RngAnswer::Done)
         }
-        _ => return None,
-    })
+        _ => None,
+    }
 }
 
 // A read that may fail. One that fails gives the seed ff, which no read gives.
@@ -141,17 +150,6 @@ fn try_read<G: TryRng>(rng: &mut G, call: RngCall, data: &mut [u8]) -> Option<Rn
         _ => return None,
     };
     Some(read.unwrap_or(RngAnswer::Seed([0xff; 32])))
-}
-
-fn all_in_data(calls: &[RngCall], bytes: usize) -> bool
-    ensures { IsTrue result ↔ All (InData bytes) calls.now }
-{
-    'each: for i in 0..calls.len() {
-        if !in_data(calls[i], bytes) {
-            return false;
-        }
-    }
-    true
 }
 
 fn in_data(call: RngCall, bytes: usize) -> bool

@@ -19,29 +19,18 @@ use chacha20::variants::{Ietf, Legacy};
 use chacha20::{R8, R12, R20, Rounds};
 
 /// A backend that can make each cipher, generator and core that a case names.
-pub trait Backend: StreamCipherBackend<R0, Ietf>
-    + StreamCipherBackend<R0, Legacy>
-    + StreamCipherBackend<R8, Ietf>
-    + StreamCipherBackend<R12, Ietf>
-    + StreamCipherBackend<R20, Ietf>
-    + StreamCipherBackend<R20, Legacy>
-    + RngBackend<R0>
-    + RngBackend<R8>
-    + RngBackend<R12>
-    + RngBackend<R20> {}
+pub trait Backend: Makes<R0> + Makes<R8> + Makes<R12> + Makes<R20> {}
 
-impl<B> Backend for B
+impl<B: Makes<R0> + Makes<R8> + Makes<R12> + Makes<R20>> Backend for B {}
+
+/// A backend that can make each with so many rounds.
+pub trait Makes<R: Rounds>: StreamCipherBackend<R, Ietf>
+    + StreamCipherBackend<R, Legacy>
+    + RngBackend<R> {}
+
+impl<R: Rounds, B> Makes<R> for B
 where
-    B: StreamCipherBackend<R0, Ietf>
-        + StreamCipherBackend<R0, Legacy>
-        + StreamCipherBackend<R8, Ietf>
-        + StreamCipherBackend<R12, Ietf>
-        + StreamCipherBackend<R20, Ietf>
-        + StreamCipherBackend<R20, Legacy>
-        + RngBackend<R0>
-        + RngBackend<R8>
-        + RngBackend<R12>
-        + RngBackend<R20>,
+    B: StreamCipherBackend<R, Ietf> + StreamCipherBackend<R, Legacy> + RngBackend<R>,
 {}
 
 /// No rounds: a block is its start state, each word doubled.

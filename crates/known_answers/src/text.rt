@@ -31,31 +31,40 @@ pub fn split_word(text: &'static str) -> (&'static str, &'static str) {
 }
 
 /// The key and the nonce of `key K nonce N`.
-pub fn split_keyed(text: &'static str) -> Option<(&'static str, &'static str)> {
-    text.strip_prefix("key ")?.split_once(" nonce ")
+pub fn split_keyed(text: &'static str) -> (&'static str, &'static str) {
+    let text = text.strip_prefix("key ").unwrap_or("");
+    text.split_once(" nonce ").unwrap_or(("", ""))
 }
 
 /// A number of this type: decimal, or `0x` and hexadecimal digits, or `2^68`; and sums and differences, as `2^68-1`.
 pub fn read_number<T: SeekNum>(text: &str) -> Option<T> {
-    T::from_position(read_sum(text)?).ok()
+    match read_sum(text) {
+        Some(number) => T::from_position(number).ok(),
+        None => None,
+    }
 }
 
 fn read_sum(text: &str) -> Option<u128> {
     let (text, more) = text.split_once('+').unwrap_or((text, "0"));
     let (text, less) = text.split_once('-').unwrap_or((text, "0"));
-    read_term(text)?
-        .checked_add(read_term(more)?)?
-        .checked_sub(read_term(less)?)
+    if let Some(number) = read_term(text)
+        && let Some(more) = read_term(more)
+        && let Some(less) = read_term(less)
+        && let Some(sum) = number.checked_add(more)
+    {
+        return sum.checked_sub(less);
+    }
+    None
 }
 
 fn read_term(text: &str) -> Option<u128> {
     if let Some(digits) = text.strip_prefix("0x") {
         return u128::from_str_radix(digits, 16).ok();
     }
-    match text.strip_prefix("2^") {
-        Some(exponent) => 1u128.checked_shl(exponent.parse::<u32>().ok()?),
-        None => text.parse::<u128>().ok(),
+    if let Some(exponent) = text.strip_prefix("2^") {
+        return 1u128.checked_shl(exponent.parse().unwrap_or(128));
     }
+    text.parse().ok()
 }
 
 /// A case's data: the bytes that its calls read and write.
@@ -72,79 +81,70 @@ pub struct Bytes {
 }
 
 impl Bytes {
-    pub fn new() -> Bytes {
-        Bytes {
+    pub fn read(text: &str) -> Bytes {
+        let mut bytes = Bytes {
             bytes: [0; 1536],
             is_any: [false; 1536],
             len: 0,
             is_wrong: false,
-        }
-    }
-
-    pub fn read(text: &str) -> Option<Bytes> {
-        let mut bytes = Bytes::new();
+        };
         bytes.append(text);
-        if bytes.is_wrong { None } else { Some(bytes) }
+        bytes
     }
 
-    /// Whether bytes are these.
-    pub fn are(&self, bytes: &[u8]) -> bool {
+    /// Whether bytes are these; nothing where these could not be read.
+    pub fn are(&self, bytes: &[u8]) -> Option<bool> {
+        let mut are = bytes.len() == self.len;
         for i in 0..bytes.len().min(1536) {
-            if self.bytes[i] != bytes[i] && !self.is_any[i] {
-                return false;
-            }
+            are &= self.is_any[i] | (self.bytes[i] == bytes[i]);
         }
-        bytes.len() == self.len
+        if self.is_wrong { None } else { Some(are) }
     }
 
     /// Reads bytes: pairs of hexadecimal digits, `00*12` for twelve times 00, `..*12` for any twelve bytes, and
-    /// `00..1f` for all from 00 to 1f, with spaces between such parts.
+    /// `00..1f` for all from 00 to 1f, with spaces between such parts. A number that can't be read is too many.
     pub fn append(&mut self, text: &str) {
         for part in text.split_whitespace() {
             let (bytes, times) = part.split_once('*').unwrap_or((part, "1"));
-            self.repeat(bytes, read_number(times));
+            self.repeat(bytes, read_number(times).unwrap_or(1537));
         }
     }
 
-    /// Reads a part so many times. A number that can't be read is too many.
-    pub fn repeat(&mut self, part: &str, times: Option<usize>) {
-        for _ in 0..times.unwrap_or(1537).min(1537) {
+    /// Reads a part so many times.
+    pub fn repeat(&mut self, part: &str, times: usize) {
+        for _ in 0..times.min(1537) {
             self.push_part(part);
         }
     }
 
     fn push_part(&mut self, part: &str) {
-        match part.split_once("..") {
-            Some(("", "")) => self.push(0, true),
-            Some((first, last)) => self.push_all(read_byte(first), read_byte(last)),
-            None => {
-                for pair in part.as_bytes().chunks(2) {
-                    let byte = read_byte(str::from_utf8(pair).unwrap_or(""));
-                    self.push_all(byte, byte);
-                }
+        if part == ".." {
+            self.push(Some(0), true);
+        } else if let Some((first, last)) = part.split_once("..") {
+            self.push_range(read_byte(first), read_byte(last));
+        } else {
+            for pair in part.as_bytes().chunks(2) {
+                self.push(read_byte(str::from_utf8(pair).unwrap_or("")), false);
             }
         }
     }
 
-    fn push_all(&mut self, first: Option<u8>, last: Option<u8>) {
-        match (first, last) {
-            (Some(first), Some(last)) => {
-                for byte in first..=last {
-                    self.push(byte, false);
-                }
+    fn push_range(&mut self, first: Option<u8>, last: Option<u8>) {
+        for byte in first.unwrap_or(0)..=last.unwrap_or(0) {
+            self.push(Some(byte), false);
+        }
+        self.is_wrong |= first.is_none() | last.is_none();
+    }
+
+    fn push(&mut self, byte: Option<u8>, is_any: bool) {
+        match byte {
+            Some(byte) if self.len < 1536 => {
+                self.bytes[self.len] = byte;
+                self.is_any[self.len] = is_any;
+                self.len += 1;
             }
             _ => self.is_wrong = true,
         }
-    }
-
-    fn push(&mut self, byte: u8, is_any: bool) {
-        if self.len >= 1536 {
-            self.is_wrong = true;
-            return;
-        }
-        self.bytes[self.len] = byte;
-        self.is_any[self.len] = is_any;
-        self.len += 1;
     }
 }
 
@@ -158,9 +158,9 @@ fn read_byte(digits: &str) -> Option<u8> {
 
 /// Reads as many bytes as an array has.
 pub fn read_array<const N: usize>(text: &str) -> Option<[u8; N]> {
-    let read = Bytes::read(text)?;
+    let read = Bytes::read(text);
     let mut array = [0; N];
-    if read.len != N || N > 1536 {
+    if read.is_wrong | (read.len != N) | (N > 1536) {
         return None;
     }
     array.copy_from_slice(&read.bytes[..N]);

@@ -4,9 +4,9 @@ use super::stop_at_failure;
 use chacha20::StreamCipherCoreWrapper;
 use chacha20::cipher::{KeyIvInit, StreamCipherSeekCore};
 use examples::own_core::Toy;
-use known_answers::calls::Call;
+use known_answers::calls::{Answer, Call};
 use known_answers::check::{Made, Subject, Way, check};
-use known_answers::ciphers::make_calls;
+use known_answers::ciphers::{make, make_list};
 use known_answers::report::{Verdicts, note};
 use known_answers::text::{Case, Data};
 
@@ -59,8 +59,12 @@ impl Subject for ToyCipher {
         Some(ToyCipher { cipher })
     }
 
-    fn make(&mut self, way: Way, calls: &[Call], input: &Data, made: &mut Made) {
-        make_calls(&mut self.cipher, way, calls, input, made);
+    fn make(&mut self, way: Way, call: Call, input: &Data, data: &mut [u8]) -> Answer {
+        make(&mut self.cipher, way == Way::Directly, call, input, data)
+    }
+
+    fn make_list(&mut self, calls: &[Call], input: &Data, made: &mut Made) {
+        make_list(&mut self.cipher, calls, input, made);
     }
 }
 
