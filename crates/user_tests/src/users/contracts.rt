@@ -228,9 +228,9 @@ fn tail_of_nine_lanes16(state: &mut [u32; 16], blocks: &mut [[u8; 64]; 9], steps
     <Lanes16 as StreamCipherBackend<R20, Ietf>>::gen_tail_blocks(state, blocks, steps);
 }
 
-// A tail of five blocks, in columns.
+// A tail of five blocks, as six in rows: four quarter rounds for each double round.
 fn tail_of_five_columns8(state: &mut [u32; 16], blocks: &mut [[u8; 64]; 5], steps: &mut Steps)
-    ensures { steps.new.rounds ≡ steps.old.rounds + 80 }
+    ensures { steps.new.rounds ≡ steps.old.rounds + 40 }
 {
     <Columns8 as StreamCipherBackend<R20, Ietf>>::gen_tail_blocks(state, blocks, steps);
 }
