@@ -154,15 +154,13 @@ impl Script {
     }
 
     fn add_call(&mut self, line: &'static str, text: &'static str) {
-        let call = read_call(text, &mut self.data);
-        if let Some(call) = call
-            && (self.count < 128) & !self.data.is_wrong
-        {
-            self.calls[self.count] = call;
-            self.lines[self.count] = line;
-            self.count += 1;
-        } else {
-            self.note_unless(line, None, Fault::Unreadable);
+        match read_call(text, &mut self.data) {
+            Some(call) if (self.count < 128) & !self.data.is_wrong => {
+                self.calls[self.count] = call;
+                self.lines[self.count] = line;
+                self.count += 1;
+            }
+            _ => self.note_unless(line, None, Fault::Unreadable),
         }
     }
 

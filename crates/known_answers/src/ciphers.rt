@@ -18,14 +18,14 @@ where
     const WAYS: &'static [Way] = &[Way::WithoutTry, Way::AsList];
 
     fn read(made_of: &'static str) -> Option<Self> {
-        let (key, nonce) = split_keyed(made_of);
-        if N <= 24
-            && let Some(key) = read_array::<32>(key)
-            && let Some(nonce) = read_array::<N>(nonce)
-        {
-            return Some(StreamCipherCoreWrapper::new(&key, &nonce));
+        if N > 24 {
+            return None;
         }
-        None
+        let (key, nonce) = split_keyed(made_of);
+        match (read_array::<32>(key), read_array::<N>(nonce)) {
+            (Some(key), Some(nonce)) => Some(StreamCipherCoreWrapper::new(&key, &nonce)),
+            _ => None,
+        }
     }
 
     fn make(&mut self, way: Way, call: Call, input: &Data, data: &mut [u8]) -> Answer {

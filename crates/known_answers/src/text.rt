@@ -47,14 +47,13 @@ pub fn read_number<T: SeekNum>(text: &str) -> Option<T> {
 fn read_sum(text: &str) -> Option<u128> {
     let (text, more) = text.split_once('+').unwrap_or((text, "0"));
     let (text, less) = text.split_once('-').unwrap_or((text, "0"));
-    if let Some(number) = read_term(text)
-        && let Some(more) = read_term(more)
-        && let Some(less) = read_term(less)
-        && let Some(sum) = number.checked_add(more)
-    {
-        return sum.checked_sub(less);
+    match (read_term(text), read_term(more), read_term(less)) {
+        (Some(number), Some(more), Some(less)) => match number.checked_add(more) {
+            Some(sum) => sum.checked_sub(less),
+            None => None,
+        },
+        _ => None,
     }
-    None
 }
 
 fn read_term(text: &str) -> Option<u128> {
