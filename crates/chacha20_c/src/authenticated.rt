@@ -7,7 +7,7 @@ ghost use Rattle.chacha20.specs.XChaCha.{xchacha_stream};
 ghost use Rattle.poly1305.specs.Poly1305.{poly1305};
 ghost use Rattle.chacha20_c.specs.Results.{Decrypted, DecryptedInto, Encrypted, EncryptedInto};
 
-use crate::chosen::Chosen;
+use crate::backend::Backend;
 use aead::{AeadError, ChaChaPoly1305};
 use chacha20::cipher::{KeyIvInit, StreamCipherSeekCore};
 use chacha20::{ChaChaCore, Ietf, Key, Nonce, R20, StreamCipherCoreWrapper, XChaChaCore, XNonce};
@@ -15,9 +15,9 @@ use poly1305::{Tag, authenticate};
 
 // The cores for nonces of 12 and of 24 bytes, and the AEAD over a core.
 
-type Short = ChaChaCore<R20, Ietf, Chosen>;
+type Short = ChaChaCore<R20, Ietf, Backend>;
 
-type Long = XChaChaCore<R20, Chosen>;
+type Long = XChaChaCore<R20, Backend>;
 
 type Aead<K> = ChaChaPoly1305<StreamCipherCoreWrapper<K>>;
 

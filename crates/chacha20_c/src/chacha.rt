@@ -4,7 +4,7 @@ ghost use Rattle.chacha20.specs.ChaCha.{block, keystream, ietf, modulus};
 ghost use Rattle.chacha20.specs.Cipher.{limit_of};
 ghost use Rattle.chacha20_c.specs.Results.{Checked, Written, Xored, XoredInto};
 
-use crate::chosen::Chosen;
+use crate::backend::Backend;
 use crate::stateless;
 use chacha20::{ChaChaCore, Ietf, Key, Nonce, R8, R12, R20, Rounds};
 
@@ -12,7 +12,7 @@ use chacha20::{ChaChaCore, Ietf, Key, Nonce, R8, R12, R20, Rounds};
 const LIMIT: u128 = 64 << 32;
 
 // The core of `ChaCha8`, `ChaCha12` and `ChaCha20`. The calls are proved once, for any number of rounds.
-type Core<R> = ChaChaCore<R, Ietf, Chosen>;
+type Core<R> = ChaChaCore<R, Ietf, Backend>;
 
 fn xor_in_place<R: Rounds>(key: &Key, nonce: &Nonce, position: u64, data: &mut [u8]) -> u32
     ensures { Xored (limit_of (modulus ietf)) (keystream (modulus ietf)

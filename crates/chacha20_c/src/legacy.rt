@@ -6,12 +6,12 @@ ghost use Rattle.chacha20.specs.ChaCha.{block, keystream, legacy, modulus};
 ghost use Rattle.chacha20.specs.Cipher.{limit_of};
 ghost use Rattle.chacha20_c.specs.Results.{Checked, Written, Xored, XoredInto};
 
-use crate::chosen::Chosen;
+use crate::backend::Backend;
 use crate::stateless;
 use chacha20::{ChaChaCore, Key, Legacy, LegacyNonce, R20};
 
 // The core of `ChaCha20Legacy`.
-pub(crate) type Core = ChaChaCore<R20, Legacy, Chosen>;
+pub(crate) type Core = ChaChaCore<R20, Legacy, Backend>;
 
 // Where the stream of 2^64 blocks ends.
 const LIMIT: u128 = 64 << 64;

@@ -1,3 +1,3 @@
-//! The backend for a level's vectors. For those of 256 bits, `c/Makefile` replaces this file.
+//! The backend of a group, for a level with vectors of 128 bits. `c/Makefile` replaces this file for those of 256.
 
-pub(crate) type OfLevel = crate::backend::Narrow;
+pub(crate) type Group = chacha20::backends::Lanes4;

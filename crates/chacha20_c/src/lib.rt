@@ -14,7 +14,6 @@
 pub mod authenticated;
 mod backend;
 pub mod chacha;
-mod chosen;
 pub mod generators;
 pub mod legacy;
 mod level;

@@ -6,12 +6,12 @@ ghost use Rattle.chacha20.specs.Cipher.{limit_of};
 ghost use Rattle.chacha20.specs.XChaCha.{hchacha, subkey, subnonce};
 ghost use Rattle.chacha20_c.specs.Results.{Written, Xored, XoredInto};
 
-use crate::chosen::Chosen;
+use crate::backend::Backend;
 use crate::stateless;
 use chacha20::{Key, R8, R12, R20, Rounds, XChaChaCore, XNonce, hchacha};
 
 // The core of `XChaCha8`, `XChaCha12` and `XChaCha20`. The calls are proved once, for any number of rounds.
-type Core<R> = XChaChaCore<R, Chosen>;
+type Core<R> = XChaChaCore<R, Backend>;
 
 fn xor_in_place<R: Rounds>(key: &Key, nonce: &XNonce, position: u64, data: &mut [u8]) -> u32
     ensures { Xored (limit_of (modulus ietf)) (keystream (modulus ietf)

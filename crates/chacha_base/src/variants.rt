@@ -12,7 +12,7 @@ mod sealed {
 use sealed::Sealed;
 
 /// A counter of blocks: `u32` or `u64`. It is sealed.
-pub trait StreamCipherCounter: Sealed + Copy {
+pub trait StreamCipherCounter: Sealed + Sized {
     // How many counters there are, and the number of one.
     ghost M: { ℕ };
 

@@ -1,13 +1,12 @@
 //! Groups of blocks in columns: a vector for each word of a state, and a lane for each block.
 
-ghost use Rattle.std.specs.Prelude.{◌≡◌, ◌<◌, ℕ, ◌+◌, ◌*◌, ⊤, [], ◌∷◌, length, slice_index, slice_index_or};
+ghost use Rattle.std.specs.Prelude.{◌≡◌, ◌<◌, ℕ, ◌+◌, ◌*◌, [], ◌∷◌, length, slice_index, slice_index_or};
 ghost use Rattle.chacha_base.specs.ChaCha.{columns, diagonals, rounds};
 ghost use Rattle.chacha_base.specs.Lanes.{block_in_columns, quad, words_at, block_in_rows};
 
 use crate::backends::group::{BlockBuffer, Group, write_block};
 use crate::backends::vector::{ByBytes, ColumnVector, FourVectors, Vector, quarter_round, sums};
 use crate::rounds::Steps;
-use std::alloc::AllocError;
 
 /// States in columns, one in each lane: vector r of column k has word 4 r + k of each state.
 pub struct Columns<V>(
@@ -16,19 +15,6 @@ pub struct Columns<V>(
     pub FourVectors<V>,
     pub FourVectors<V>,
 );
-
-// By hand, as a copy: what a derive writes clones each field.
-impl<V: Copy> Clone for Columns<V> {
-    ghost is_clone = { λ x y. y ≡ x };
-
-    ghost is_infallible = { λ _. ⊤ };
-
-    fn clone(&self) -> Result<Columns<V>, AllocError> {
-        Ok(*self)
-    }
-}
-
-impl<V: Copy> Copy for Columns<V> {}
 
 // Column k of each start state. Its first three words are the same for all blocks; the last is that of the block's own
 // last row.
@@ -142,11 +128,12 @@ impl<V: ColumnVector> Group for Columns<V> {
 
     #[inline(always)]
     fn column_round(self, steps: &mut Steps) -> Columns<V> {
+        let Columns(k, l, m, n) = self;
         Columns(
-            quarter_round::<V, ByBytes>(self.0, steps),
-            quarter_round::<V, ByBytes>(self.1, steps),
-            quarter_round::<V, ByBytes>(self.2, steps),
-            quarter_round::<V, ByBytes>(self.3, steps),
+            quarter_round::<V, ByBytes>(k, steps),
+            quarter_round::<V, ByBytes>(l, steps),
+            quarter_round::<V, ByBytes>(m, steps),
+            quarter_round::<V, ByBytes>(n, steps),
         )
     }
 
@@ -177,13 +164,15 @@ impl<V: ColumnVector> Group for Columns<V> {
     }
 
     #[inline(always)]
+    fn copied(&self) -> Columns<V> {
+        Columns(self.0, self.1, self.2, self.3)
+    }
+
+    #[inline(always)]
     fn sums(self, other: Columns<V>) -> Columns<V> {
-        Columns(
-            sums(self.0, other.0),
-            sums(self.1, other.1),
-            sums(self.2, other.2),
-            sums(self.3, other.3),
-        )
+        let Columns(k, l, m, n) = self;
+        let Columns(p, q, r, s) = other;
+        Columns(sums(k, p), sums(l, q), sums(m, r), sums(n, s))
     }
 
     #[inline(always)]

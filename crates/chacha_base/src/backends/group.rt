@@ -1,16 +1,15 @@
-//! What the kernel needs of a group of blocks, in rows or in columns, and groups of two halves.
+//! What the kernel needs of a group of blocks, in rows or in columns, and groups of two parts.
 
-ghost use Rattle.std.specs.Prelude.{◌≡◌, ◌≤◌, ◌<◌, ℕ, ◌+◌, ◌-◌, ◌*◌, ⊤, nat_lt, if◌then◌else◌, List, [], length, slice_get, slice_index, slice_index_or, Some};
+ghost use Rattle.std.specs.Prelude.{◌≡◌, ◌≤◌, ◌<◌, ℕ, ◌+◌, ◌-◌, ◌*◌, nat_lt, if◌then◌else◌, List, [], length, slice_get, slice_index, slice_index_or, Some};
 ghost use Rattle.chacha_base.specs.ChaCha.{bytes, columns, diagonals, rounds, add_states};
 ghost use Rattle.chacha_base.specs.Lanes.{quad, with_last_row, block_in_rows};
 
 use crate::backends::vector::{FourVectors, Vector};
 use crate::rounds::Steps;
-use std::alloc::AllocError;
 use std::simd::prelude::*;
 
 /// The states of consecutive blocks. They go through the rounds together, and become the blocks.
-pub trait Group: Copy {
+pub trait Group: Sized {
     ghost BLOCKS: { ℕ };
 
     // How many quarter rounds a column round counts. A diagonal round counts as many.
@@ -55,6 +54,10 @@ pub trait Group: Copy {
         ensures { (g : ℕ) → g < BLOCKS → words_of result g
             ≡ with_last_row state.now (slice_index_or last_rows.now g []) };
 
+    /// A copy. `Copy` instead would make the bounds of nested groups many times as long, and so their proofs.
+    fn copied(&self) -> Self
+        ensures { result ≡ self.now };
+
     /// The sums of the states of two groups, word by word.
     fn sums(self, other: Self) -> Self
         ensures { (g : ℕ) → g < BLOCKS → words_of result g
@@ -69,19 +72,6 @@ pub trait Group: Copy {
 
 /// Two groups whose rounds alternate. The blocks of the second come after those of the first.
 pub struct Interleaved<G, H>(G, H);
-
-// By hand, as a copy: what a derive writes clones each field.
-impl<G: Copy, H: Copy> Clone for Interleaved<G, H> {
-    ghost is_clone = { λ x y. y ≡ x };
-
-    ghost is_infallible = { λ _. ⊤ };
-
-    fn clone(&self) -> Result<Interleaved<G, H>, AllocError> {
-        Ok(*self)
-    }
-}
-
-impl<G: Copy, H: Copy> Copy for Interleaved<G, H> {}
 
 impl<G: Group, H: Group> Group for Interleaved<G, H> {
     ghost BLOCKS = { G.BLOCKS + H.BLOCKS };
@@ -98,12 +88,14 @@ impl<G: Group, H: Group> Group for Interleaved<G, H> {
 
     #[inline(always)]
     fn column_round(self, steps: &mut Steps) -> Interleaved<G, H> {
-        Interleaved(self.0.column_round(steps), self.1.column_round(steps))
+        let Interleaved(front, back) = self;
+        Interleaved(front.column_round(steps), back.column_round(steps))
     }
 
     #[inline(always)]
     fn diagonal_round(self, steps: &mut Steps) -> Interleaved<G, H> {
-        Interleaved(self.0.diagonal_round(steps), self.1.diagonal_round(steps))
+        let Interleaved(front, back) = self;
+        Interleaved(front.diagonal_round(steps), back.diagonal_round(steps))
     }
 
     #[inline(always)]
@@ -113,15 +105,23 @@ impl<G: Group, H: Group> Group for Interleaved<G, H> {
     }
 
     #[inline(always)]
+    fn copied(&self) -> Interleaved<G, H> {
+        Interleaved(self.0.copied(), self.1.copied())
+    }
+
+    #[inline(always)]
     fn sums(self, other: Interleaved<G, H>) -> Interleaved<G, H> {
-        Interleaved(self.0.sums(other.0), self.1.sums(other.1))
+        let Interleaved(front, back) = self;
+        let Interleaved(other_front, other_back) = other;
+        Interleaved(front.sums(other_front), back.sums(other_back))
     }
 
     #[inline(always)]
     fn store<B: BlockBuffer>(self, buffers: &mut [B]) {
-        let (front, back) = buffers.split_at_mut(G::blocks(buffers.len()));
-        self.0.store(front);
-        self.1.store(back);
+        let Interleaved(front, back) = self;
+        let (front_buffers, back_buffers) = buffers.split_at_mut(G::blocks(buffers.len()));
+        front.store(front_buffers);
+        back.store(back_buffers);
     }
 }
 

@@ -17,10 +17,9 @@ fn write_last_rows<V: Variant>(state: &[u32; 16], rows: &mut [[u32; 4]])
     ensures { (g : ℕ) → g < length rows.old
         → slice_index_or rows.new g [] ≡ drop 12 (state_after V.layout g state.now) }
 {
-    let first = counter::<V>(state);
     'each: for g in 0..rows.len() {
         let mut row = [state[12], state[13], state[14], state[15]];
-        V::set_block_pos(&mut row, first.advanced_by(g));
+        V::set_block_pos(&mut row, counter::<V>(state).advanced_by(g));
         rows[g] = row;
     }
 }
@@ -41,7 +40,7 @@ fn mixed_group<R: Rounds, V: Variant, G: Group, const W: usize>(
     let mut rows = [[0; 4]; W];
     write_last_rows::<V>(state, &mut rows);
     let start = G::start(state, &rows);
-    start.double_rounds(R::COUNT, steps).sums(start)
+    start.copied().double_rounds(R::COUNT, steps).sums(start)
 }
 
 // The words of the next blocks, as many as a group has. The state stays.

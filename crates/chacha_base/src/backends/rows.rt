@@ -1,12 +1,11 @@
 //! Groups of blocks in rows: a vector for each row of a state, and a quad for each block.
 
-ghost use Rattle.std.specs.Prelude.{◌≡◌, ◌<◌, ℕ, ◌*◌, ⊤, [], ◌∷◌, slice_index};
+ghost use Rattle.std.specs.Prelude.{◌≡◌, ◌<◌, ℕ, ◌*◌, [], ◌∷◌, slice_index};
 ghost use Rattle.chacha_base.specs.Lanes.{quad, state_row, rows_rotated, block_in_rows};
 
 use crate::backends::group::{BlockBuffer, Group, write_block};
 use crate::backends::vector::{ByShifts, FourVectors, Vector, quarter_round, sums};
 use crate::rounds::Steps;
-use std::alloc::AllocError;
 
 /// States in rows, one in each quad. A round of the diagonals first rotates the rows, so that each diagonal becomes a
 /// column, and then rotates them back. Row `FIXED_ROW` stays in place. With row 0 fixed:
@@ -20,19 +19,6 @@ use std::alloc::AllocError;
 ///
 /// A quarter round reads row 1 (b) first and writes it last, so if that row is fixed, the others rotate meanwhile.
 pub struct Rows<V, const FIXED_ROW: usize>(FourVectors<V>);
-
-// By hand, as a copy: what a derive writes clones each field.
-impl<V: Copy, const FIXED_ROW: usize> Clone for Rows<V, FIXED_ROW> {
-    ghost is_clone = { λ x y. y ≡ x };
-
-    ghost is_infallible = { λ _. ⊤ };
-
-    fn clone(&self) -> Result<Rows<V, FIXED_ROW>, AllocError> {
-        Ok(*self)
-    }
-}
-
-impl<V: Copy, const FIXED_ROW: usize> Copy for Rows<V, FIXED_ROW> {}
 
 // The vector that has these four words in each quad.
 #[inline(always)]
@@ -92,13 +78,15 @@ impl<V: Vector, const FIXED_ROW: usize> Group for Rows<V, FIXED_ROW> {
 
     #[inline(always)]
     fn column_round(self, steps: &mut Steps) -> Rows<V, FIXED_ROW> {
-        Rows(quarter_round::<V, ByShifts>(self.0, steps))
+        let Rows(rows) = self;
+        Rows(quarter_round::<V, ByShifts>(rows, steps))
     }
 
     #[inline(always)]
     fn diagonal_round(self, steps: &mut Steps) -> Rows<V, FIXED_ROW> {
+        let Rows(rows) = self;
         let left = 4 - FIXED_ROW % 4;
-        let diagonalized = rows_rotated(self.0, left, left + 1, left + 2, left + 3);
+        let diagonalized = rows_rotated(rows, left, left + 1, left + 2, left + 3);
         let mixed = quarter_round::<V, ByShifts>(diagonalized, steps);
         let right = 4 + FIXED_ROW % 4;
         Rows(rows_rotated(mixed, right, right - 1, right - 2, right - 3))
@@ -120,14 +108,22 @@ impl<V: Vector, const FIXED_ROW: usize> Group for Rows<V, FIXED_ROW> {
     }
 
     #[inline(always)]
+    fn copied(&self) -> Rows<V, FIXED_ROW> {
+        Rows(self.0)
+    }
+
+    #[inline(always)]
     fn sums(self, other: Rows<V, FIXED_ROW>) -> Rows<V, FIXED_ROW> {
-        Rows(sums(self.0, other.0))
+        let Rows(rows) = self;
+        let Rows(others) = other;
+        Rows(sums(rows, others))
     }
 
     #[inline(always)]
     fn store<B: BlockBuffer>(self, buffers: &mut [B]) {
+        let Rows(rows) = self;
         'each: for g in 0..V::QUADS {
-            write_block(self.0, g, &mut buffers[g]);
+            write_block(rows, g, &mut buffers[g]);
         }
     }
 }

@@ -14,4 +14,4 @@ each-preserved g c =
     ∙ last_row-state_at layout _ s _ c.told-state c.set_block_pos.ensures.row
     ∙ ap (λ n. drop 12 (state_at layout n s))
     (c.advanced_by.ensures
-    ∙ ap₂ (λ v m. (v + i) % m) c.counter-first.ensures.value g.met.V.Variant.counters))
+    ∙ ap₂ (λ v m. (v + i) % m) c.counter.ensures.value g.met.V.Variant.counters))

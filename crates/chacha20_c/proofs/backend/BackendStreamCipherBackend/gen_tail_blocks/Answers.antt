@@ -1,8 +1,8 @@
 use Rattle.std.proofs.Common.{◌-◌, length, arith, sym, refl, rules}
 use Rattle.chacha20.proofs.BackendLaws.{state_after-zero}
 use Rattle.chacha20.proofs.BlocksLemmas.{AreMade, made-more}
-use Rattle.chacha20_c.proofs.backend.WideStreamCipherBackend.gen_tail_blocks.Goals as goal
-use Rattle.chacha20_c.proofs.backend.WideStreamCipherBackend.gen_tail_blocks.Goals.{then-blocks-ge8, else-blocks-ge8}
+use Rattle.chacha20_c.proofs.backend.BackendStreamCipherBackend.gen_tail_blocks.Goals as goal
+use Rattle.chacha20_c.proofs.backend.BackendStreamCipherBackend.gen_tail_blocks.Goals.{then-blocks-ge8, else-blocks-ge8}
 
 pub returns : goal.returns
 returns g c =
