@@ -1,6 +1,6 @@
 //! The backend of the ciphers. No contract of an export names it.
 
-use crate::level::Group;
+use crate::level::{Group, THREE_BY_GROUP};
 use chacha20::backends::Columns8;
 use chacha20::cipher::{ParBlocksSizeUser, StreamCipherBackend};
 use chacha20::{Rounds, Steps, Variant};
@@ -49,6 +49,11 @@ impl<R: Rounds, V: Variant> StreamCipherBackend<R, V> for Backend {
             <Eight as StreamCipherBackend<R, V>>::gen_par_ks_blocks(state, &mut blocks[..8], steps);
             done = 8;
         }
-        <Eight as StreamCipherBackend<R, V>>::gen_tail_blocks(state, &mut blocks[done..], steps);
+        let rest = &mut blocks[done..];
+        if THREE_BY_GROUP && rest.len() == 3 {
+            <Group as StreamCipherBackend<R, V>>::gen_tail_blocks(state, rest, steps);
+        } else {
+            <Eight as StreamCipherBackend<R, V>>::gen_tail_blocks(state, rest, steps);
+        }
     }
 }

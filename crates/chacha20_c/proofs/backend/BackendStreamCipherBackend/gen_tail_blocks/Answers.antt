@@ -21,7 +21,7 @@ returns g c =
           w.gen_par_ks_blocks.auto.blocks w.gen_par_ks_blocks.ensures.blocks w.gen_par_ks_blocks.ensures.state)
       | else-blocks-ge8 w ↦ rw (w.state-is, w.blocks-is, w.done-is) none
     ] in
-    let made = c.gen_tail_blocks.ensures in
+    let made = c.gen_tail_blocks-else-this.ensures in
     let end = made-more (length c.if-blocks-ge8.blocks - c.if-blocks-ge8.done) (length c.args.blocks.now) _ c.told-state
-    held (omega arith) (omega arith) c.gen_tail_blocks.auto.blocks made.blocks made.state in
+    held (omega arith) (omega arith) c.gen_tail_blocks-else-this.auto.blocks made.blocks made.state in
     record { blocks = end.done; state = end.state; steps = search rules }
