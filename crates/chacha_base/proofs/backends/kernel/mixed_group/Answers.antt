@@ -11,6 +11,6 @@ returns-clause-blocks g c b h =
     let start = c.start-start.ensures b inside
     ∙ ap (with_last_row s) (c.write_last_rows.ensures b (omega arith))
     ∙ with_last_row-state_after g.V.Variant.layout b s c.told-state in
-    let copied = ap (λ group. g.G.Group.words_of group b) c.copied.ensures in
     c.sums.ensures b inside
-    ∙ ap₂ add_states (c.double_rounds.ensures.blocks b inside ∙ ap₂ rounds c.COUNT.ensures (copied ∙ start)) start
+    ∙ ap₂ add_states (c.double_rounds.ensures.blocks b inside
+    ∙ ap₂ rounds c.COUNT.ensures (ap (λ group. g.G.Group.words_of group b) c.copied.ensures ∙ start)) start
