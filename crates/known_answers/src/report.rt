@@ -4,7 +4,6 @@ ghost use Rattle.std.specs.Prelude.{◌≡◌, ◌↔◌, ◌<◌, All, IfSome, 
 ghost use Rattle.std.specs.Process.{exit_status};
 
 use crate::check::Failure;
-use std::fmt::{self, Display, Formatter};
 use std::marker::Model;
 use std::process::{ExitCode, Termination};
 
@@ -29,26 +28,6 @@ fn number_of(title: &str) -> usize
     match name.strip_prefix("case ").unwrap_or("").parse::<usize>() {
         Ok(number) if number < 32 => number,
         _ => 0,
-    }
-}
-
-// The lines that the program prints.
-#[derive(Drop)]
-struct Lines<'a> {
-    ciphertext: &'a [u8; 16],
-    verdicts: &'a Verdicts,
-}
-
-impl Display for Lines<'_> {
-    fn fmt<W: fmt::Write>(&self, f: &mut Formatter<W>) -> fmt::Result {
-        writeln!(f, "{:032x}", u128::from_be_bytes(*self.ciphertext))?;
-        for number in 0..32usize {
-            if let Some(outcome) = self.verdicts[number] {
-                let word = if outcome.is_ok() { "ok" } else { "bad" };
-                writeln!(f, "row {number} {word}")?;
-            }
-        }
-        Ok(())
     }
 }
 
@@ -104,9 +83,13 @@ fn outcome_of(printed: bool, verdicts: &Verdicts) -> Outcome
 pub fn report(rt: &impl Print, ciphertext: &[u8; 16], verdicts: &Verdicts) -> Outcome
     ensures { result ≡ 0 → All (λ verdict. IfSome verdict IsOk) verdicts.now }
 {
-    let lines = Lines {
-        ciphertext,
-        verdicts,
-    };
-    outcome_of(print!(rt; "{lines}").is_ok(), verdicts)
+    let number = u128::from_be_bytes(*ciphertext);
+    let mut printed = println!(rt; "{number:032x}").is_ok();
+    for number in 0..32usize {
+        if let Some(outcome) = verdicts[number] {
+            let word = if outcome.is_ok() { "ok" } else { "bad" };
+            printed &= println!(rt; "row {number} {word}").is_ok();
+        }
+    }
+    outcome_of(printed, verdicts)
 }

@@ -8,28 +8,33 @@ use std::fmt::Display;
 use std::io;
 use std::process::{ExitCode, Termination};
 
-// In the place of the standard output: whether what is printed last is the expected text. A full page takes no text.
+// In the place of the standard output: whether the lines that are printed are those of a text, of which `rest` is left.
+// A full page takes no line.
 #[derive(Drop)]
 struct Page {
     alloc: Global,
     is_full: bool,
-    expected: &'static str,
-    is_expected: Cell<bool>,
+    rest: Cell<&'static str>,
+    are_expected: Cell<bool>,
 }
 
 impl Print for Page {
-    fn print<D: Display + Drop>(&self, value: D) -> io::Result<()> {
-        let text = format!(in self.alloc; "{value}")?;
-        self.is_expected.set(text.as_str() == self.expected);
+    fn print<D: Display + Drop>(&self, _: D) -> io::Result<()> {
+        self.are_expected.set(false);
+        Ok(())
+    }
+
+    fn println<D: Display + Drop>(&self, value: D) -> io::Result<()> {
+        let line = format!(in self.alloc; "{value}")?;
+        let (expected, rest) = self.rest.get().split_once('\n').unwrap_or(("", ""));
+        self.are_expected
+            .set(self.are_expected.get() & (line.as_str() == expected));
+        self.rest.set(rest);
         if self.is_full {
             Err(io::ErrorKind::StorageFull.into())
         } else {
             Ok(())
         }
-    }
-
-    fn println<D: Display + Drop>(&self, _: D) -> io::Result<()> {
-        Ok(())
     }
 
     fn write_all(&self, _: &[u8]) -> io::Result<()> {
@@ -41,8 +46,8 @@ fn page_of(alloc: Global, is_full: bool, expected: &'static str) -> Page {
     Page {
         alloc,
         is_full,
-        expected,
-        is_expected: Cell::new(false),
+        rest: Cell::new(expected),
+        are_expected: Cell::new(true),
     }
 }
 
@@ -63,7 +68,8 @@ fn ends(rt: &impl Eprint, page: &Page, found: bool, status: ExitCode) -> bool {
     let mut ciphertext = [0; 16];
     ciphertext[0] = 0xe4;
     ciphertext[15] = 0x0e;
-    report(page, &ciphertext, &verdicts).report(rt) == status && page.is_expected.get()
+    let ends_so = report(page, &ciphertext, &verdicts).report(rt) == status;
+    ends_so & page.are_expected.get() & page.rest.get().is_empty()
 }
 
 const BAD_ROWS: &str = "e400000000000000000000000000000e\nrow 1 bad\nrow 12 ok\nrow 23 bad\n";
