@@ -61,26 +61,27 @@ le-outcome-is m n = outcome-is _ (leb-true m n, le-leb m n)
 abbrev answered : CipherAnswer → Cipher → List ℕ → CipherOutcome
 answered a c old = record { answer = a; cipher = c; bytes = old }
 
--- what the contracts of the private `answer`, of a seek and of a call that writes say
+-- what the contracts of the private `answer`, of a seek and of a call that writes say, of a cipher of any type that is
+-- seen as a `Cipher`
 abbrev pub Answers : {E : Type 0} → Result (Unit {0}) E → CipherAnswer → Type 0
 Answers r a = record { done : OnOk r (a ≡ Done); refused : OnErr r (a ≡ Refused) }
 
-abbrev pub Seeks : {E : Type 0} → Result (Unit {0}) E → Type 0 → Type 0 → Cipher → Cipher → Type 0
-Seeks r Accepted There c d = record {
+abbrev pub Seeks : {E S : Type 0} → Result (Unit {0}) E → Type 0 → Type 0 → (S → Cipher) → S → S → Type 0
+Seeks r Accepted There see x y = record {
   accepted : IsOk r ↔ Accepted;
-  fixed : OnOk r (d.fixed ≡ c.fixed);
+  fixed : OnOk r ((see y).fixed ≡ (see x).fixed);
   position : OnOk r There;
-  refused : OnErr r (d ≡ c);
+  refused : OnErr r (y ≡ x);
 }
 
-abbrev pub Writes : {E : Type 0} → Result (Unit {0}) E → Type 0 → Type 0 → Cipher → Cipher → List ℕ → List ℕ → List ℕ
-    → Type 0
-Writes r Accepted There c d old new made = record {
+abbrev pub Writes : {E S : Type 0} → Result (Unit {0}) E → Type 0 → Type 0 → (S → Cipher) → S → S → List ℕ → List ℕ
+    → List ℕ → Type 0
+Writes r Accepted There see x y old new made = record {
   accepted : IsOk r ↔ Accepted;
   bytes : OnOk r (new ≡ made);
-  fixed : OnOk r (d.fixed ≡ c.fixed);
+  fixed : OnOk r ((see y).fixed ≡ (see x).fixed);
   position : OnOk r There;
-  refused : OnErr r ((new ≡ old) × (d ≡ c));
+  refused : OnErr r ((new ≡ old) × (y ≡ x));
 }
 
 -- what a check, a seek and a write leave
@@ -89,21 +90,21 @@ pub check-leaves : {E : Type 0} {r : Result (Unit {0}) E} {c : Cipher} {old : Li
 check-leaves {r = Ok x} {c} {old} told = record { done = ap (λ a. answered a c old) told.done; refused = tt }
 check-leaves {r = Err e} {c} {old} told = record { done = tt; refused = ap (λ a. answered a c old) told.refused }
 
-pub seek-leaves : {E : Type 0} {r : Result (Unit {0}) E} {c d : Cipher} {old : List ℕ} {p : ℕ} {a : CipherAnswer}
-    (Accepted : Type 0) → Seeks r Accepted (d.position ≡ p) c d → Answers r a
-    → Leaves r c old p old (answered a d old)
-seek-leaves {r = Ok x} {old = old} Accepted said told = record {
+pub seek-leaves : {E S : Type 0} {r : Result (Unit {0}) E} {x y : S} {old : List ℕ} {p : ℕ} {a : CipherAnswer}
+    (see : S → Cipher) (Accepted : Type 0) → Seeks r Accepted ((see y).position ≡ p) see x y → Answers r a
+    → Leaves r (see x) old p old (answered a (see y) old)
+seek-leaves {r = Ok u} {old = old} see Accepted said told = record {
   done = λ i. answered (told.done i) (record { fixed = said.fixed i; position = said.position i }) old;
   refused = tt;
 }
-seek-leaves {r = Err e} {old = old} Accepted said told =
-    record { done = tt; refused = λ i. answered (told.refused i) (said.refused i) old }
+seek-leaves {r = Err e} {old = old} see Accepted said told =
+    record { done = tt; refused = λ i. answered (told.refused i) (see (said.refused i)) old }
 
-put-leaves : {E : Type 0} {r : Result (Unit {0}) E} {c d : Cipher} {old : List ℕ} {a : CipherAnswer} {p : ℕ}
-    (at len : ℕ) (new made : List ℕ) (Accepted : Type 0)
-    → Writes r Accepted (d.position ≡ p) c d (part at len old) new made → Answers r a
-    → Leaves r c old p (put at len made old) (record { answer = a; cipher = d; bytes = put at len new old })
-put-leaves {r = Ok x} {old = old} at len new made Accepted said told =
+put-leaves : {E S : Type 0} {r : Result (Unit {0}) E} {x y : S} {old : List ℕ} {a : CipherAnswer} {p : ℕ}
+    (see : S → Cipher) (at len : ℕ) (new made : List ℕ) (Accepted : Type 0)
+    → Writes r Accepted ((see y).position ≡ p) see x y (part at len old) new made → Answers r a
+    → Leaves r (see x) old p (put at len made old) (record { answer = a; cipher = see y; bytes = put at len new old })
+put-leaves {r = Ok u} {old = old} see at len new made Accepted said told =
     record {
       done = λ i. record {
         answer = told.done i;
@@ -112,20 +113,21 @@ put-leaves {r = Ok x} {old = old} at len new made Accepted said told =
       };
       refused = tt;
     }
-put-leaves {r = Err e} {old = old} at len new made Accepted said told =
+put-leaves {r = Err e} {old = old} see at len new made Accepted said told =
     let same = ap (λ ys. put at len ys old) said.refused.0 ∙ put_same at len old in
     record {
       done = tt;
-      refused = λ i. record { answer = told.refused i; cipher = said.refused.1 i; bytes = same i };
+      refused = λ i. record { answer = told.refused i; cipher = see (said.refused.1 i); bytes = same i };
     }
 
-pub seek_i32-is : {E : Type 0} {d : Cipher} {a : CipherAnswer} (s : Setting) (c : Cipher) (old : List ℕ) (z : ℤ)
-    (r : Result (Unit {0}) E)
-    → Seeks r (IsSomeAnd (signed_position z) (λ p. p ≤ s.limit)) (IfSome (signed_position z) (λ p. d.position ≡ p)) c d
-    → Answers r a → cipher_outcome s c old (SeekI32 z) ≡ answered a d old
-seek_i32-is s c old (pos p) r said told = le-outcome-is p s.limit said.accepted (seek-leaves _ said told)
-seek_i32-is s c old (negsuc p) (Ok x) said told = absurd (said.accepted.0 refl)
-seek_i32-is s c old (negsuc p) (Err e) said told = λ i. answered (sym told.refused i) (sym said.refused i) old
+pub seek_i32-is : {E S : Type 0} {y : S} {a : CipherAnswer} (s : Setting) (see : S → Cipher) (x : S) (old : List ℕ)
+    (z : ℤ) (r : Result (Unit {0}) E)
+    → Seeks r (IsSomeAnd (signed_position z) (λ p. p ≤ s.limit))
+    (IfSome (signed_position z) (λ p. (see y).position ≡ p)) see x y
+    → Answers r a → cipher_outcome s (see x) old (SeekI32 z) ≡ answered a (see y) old
+seek_i32-is s see x old (pos p) r said told = le-outcome-is p s.limit said.accepted (seek-leaves see _ said told)
+seek_i32-is s see x old (negsuc p) (Ok u) said told = absurd (said.accepted.0 refl)
+seek_i32-is s see x old (negsuc p) (Err e) said told = λ i. answered (sym told.refused i) (see (sym said.refused i)) old
 
 both-Decides : (a b p limit : ℕ) → Decides ((a == b) && nat_le (p + b) limit) ((a ≡ b) × (p + a ≤ limit))
 both-Decides a b p limit =
@@ -134,40 +136,43 @@ both-Decides a b p limit =
 
 -- the outcome of a write of data[at..at + len], which has at + len - at bytes: `made` makes them of the old ones and
 -- their number
-pub wrote-is : {E : Type 0} {d : Cipher} {a : CipherAnswer} (r : Result (Unit {0}) E) (c : Cipher) (old new : List ℕ)
-    (at len limit : ℕ) (made : List ℕ → ℕ → List ℕ) → at + len ≤ length old
+pub wrote-is : {E S : Type 0} {y : S} {a : CipherAnswer} (r : Result (Unit {0}) E) (see : S → Cipher) (x : S)
+    (old new : List ℕ) (at len limit : ℕ) (made : List ℕ → ℕ → List ℕ) → at + len ≤ length old
     → (let bytes = part at (at + len - at) old in
-    Writes r (c.position + length bytes ≤ limit) (d.position ≡ c.position + length bytes) c d bytes new
-    (made bytes (length bytes)))
+    let end = (see x).position + length bytes in
+    Writes r (end ≤ limit) ((see y).position ≡ end) see x y bytes new (made bytes (length bytes)))
     → Answers r a
-    → done_if (nat_le (c.position + len) limit) c old (c.position + len) (put at len (made (part at len old) len) old)
-    ≡ record { answer = a; cipher = d; bytes = put at (at + len - at) new old }
-wrote-is r c old new at len limit made inside given told =
+    → (let end = (see x).position + len in
+    done_if (nat_le end limit) (see x) old end (put at len (made (part at len old) len) old)
+    ≡ record { answer = a; cipher = see y; bytes = put at (at + len - at) new old })
+wrote-is r see x old new at len limit made inside given told =
     let width : at + len - at ≡ len = omega arith in
     let said = rw (width, part_long at len old inside) at given in
-    rw width (le-outcome-is _ _ said.accepted (put-leaves at len _ _ _ said told))
+    rw width (le-outcome-is _ _ said.accepted (put-leaves see at len _ _ _ said told))
 
 -- the same of a write that also reads input[from..from + from_len]
-pub wrote_from-is : {E : Type 0} {d : Cipher} {a : CipherAnswer} (r : Result (Unit {0}) E) (c : Cipher)
+pub wrote_from-is : {E S : Type 0} {y : S} {a : CipherAnswer} (r : Result (Unit {0}) E) (see : S → Cipher) (x : S)
     (old new input : List ℕ) (from from_len at len limit : ℕ) (stream : ℕ → ℕ)
     → (from + from_len ≤ length input) × (at + len ≤ length old)
     → (let bytes = part at (at + len - at) old in
     let read = part from (from + from_len - from) input in
-    Writes r ((length read ≡ length bytes) × (c.position + length read ≤ limit))
-    (d.position ≡ c.position + length read) c d bytes new (xor_stream stream c.position read))
+    let start = (see x).position in
+    Writes r ((length read ≡ length bytes) × (start + length read ≤ limit)) ((see y).position ≡ start + length read)
+    see x y bytes new (xor_stream stream start read))
     → Answers r a
-    → done_if ((from_len == len) && nat_le (c.position + len) limit) c old (c.position + len)
-    (put at len (xor_stream stream c.position (part from from_len input)) old)
-    ≡ record { answer = a; cipher = d; bytes = put at (at + len - at) new old }
-wrote_from-is r c old new input from from_len at len limit stream inside given told =
+    → (let start = (see x).position in
+    done_if ((from_len == len) && nat_le (start + len) limit) (see x) old (start + len)
+    (put at len (xor_stream stream start (part from from_len input)) old)
+    ≡ record { answer = a; cipher = see y; bytes = put at (at + len - at) new old })
+wrote_from-is r see x old new input from from_len at len limit stream inside given told =
     let width : at + len - at ≡ len = omega arith in
     let from_width : from + from_len - from ≡ from_len = omega arith in
     let size = part_long at len old inside.1 in
     let from_size = part_long from from_len input inside.0 in
     let said = rw (width, from_width, size, from_size) at given in
-    let there = λ (ok : IsOk r). ap (λ n. c.position + n) (said.accepted.0 ok).0 in
+    let there = λ (ok : IsOk r). ap (λ n. (see x).position + n) (said.accepted.0 ok).0 in
     rw width (outcome-is _ (both-Decides from_len len _ _) said.accepted
-    (put-leaves at len _ _ _ (record {
+    (put-leaves see at len _ _ _ (record {
       accepted = said.accepted;
       bytes = said.bytes;
       fixed = said.fixed;

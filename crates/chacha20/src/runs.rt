@@ -1,7 +1,7 @@
 //! Lists of calls: one contract that speaks of any list of calls on a cipher, from any state on, and one
 //! that speaks of any list of calls on a generator.
 
-ghost use Rattle.std.specs.Prelude.{◌≡◌, ◌≤◌, ◌+◌, ℕ, List, [], ◌∷◌, All, length, sum, OnOk, OnErr};
+ghost use Rattle.std.specs.Prelude.{◌≡◌, ◌≤◌, ◌<◌, ◌+◌, ◌^◌, ℕ, List, [], ◌∷◌, All, length, sum, OnOk, OnErr};
 ghost use Rattle.chacha_base.specs.ChaCha.{keystream};
 ghost use Rattle.chacha_base.specs.Cipher.{limit_of};
 ghost use Rattle.chacha20.specs.declared.runs.CipherCall.TheVariants.{Apply, Seek};
@@ -75,15 +75,22 @@ fn answer(outcome: Result<(), StreamCipherError>) -> CipherAnswer
     }
 }
 
-fn call_cipher<C: StreamCipherSeekCore>(
-    cipher: &mut StreamCipherCoreWrapper<C>,
+// For a cipher of any type: at the type of `run_cipher` each call here would prove the bounds of its trait.
+fn call_cipher<S: StreamCipherSeek>(
+    cipher: &mut S,
     input: &[u8],
     data: &mut [u8],
     call: CipherCall,
 ) -> CipherAnswer
-    requires { InSlices (length input.now) (length «data».old) call }
-    ensures { cipher_outcome (setting C.modulus C.block_at input.now) cipher.old «data».old call
-        ≡ record { answer = result; cipher = cipher.new; bytes = «data».new } }
+    requires ranges { InSlices (length input.now) (length «data».old) call }
+    requires limit { limit_of S.modulus < 2 ^ 128 }
+    ensures { cipher_outcome (setting S.modulus S.block_at input.now)
+        (record { fixed = S.fixed cipher.old; position = S.position cipher.old }) «data».old call
+        ≡ record {
+          answer = result;
+          cipher = record { fixed = S.fixed cipher.new; position = S.position cipher.new };
+          bytes = «data».new;
+        } }
 {
     match call {
         CipherCall::CheckRemaining(len) => answer(cipher.check_remaining(len)),

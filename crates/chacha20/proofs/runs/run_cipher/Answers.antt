@@ -1,4 +1,4 @@
-use Rattle.std.proofs.Common.{◌∷◌, [], ◌+◌, take, drop, length, refl, ap, arith}
+use Rattle.std.proofs.Common.{◌∷◌, [], ◌+◌, take, drop, length, refl, ap, arith, inl, inr}
 use Rattle.std.proofs.lemmas.List.{take_all, take_more_set, drop_all, drop_more}
 use Rattle.std.proofs.lemmas.List.Elements.{All-get_or, recursion_from_All}
 use Rattle.chacha20.specs.Runs.{CipherOutcome, setting, cipher_run, InSlices}
@@ -27,7 +27,13 @@ returns g c =
     record { run = run; ranges = recursion_from_All _ c.args.calls.now c.requires.ranges } in
     record { run = run; seek_back = law-seek_back ran; cut_anywhere = law-cut_anywhere ran }
 
-pub call_cipher-requires : goal.call_cipher-requires
-call_cipher-requires g c =
+pub call_cipher-requires-clause-ranges : goal.call_cipher-requires-clause-ranges
+call_cipher-requires-clause-ranges g c =
     let within = InSlices (length c.args.input.now) (length c.args.data.now) in
     rw c.calls.auto.data (All-get_or within c.args.calls.now c.calls.i _ c.calls-test.true c.requires.ranges)
+
+-- a position fits 128 bits, since there are at most 2 ^ 64 counters
+pub call_cipher-requires-clause-limit : goal.call_cipher-requires-clause-limit
+call_cipher-requires-clause-limit g c =
+    let same = g.met.C.StreamCipherSeekCore.counters in
+    elim g.met.C.Counter.StreamCipherCounter.sizes [ inl e ↦ omega (arith, same) | inr e ↦ omega (arith, same) ]
