@@ -184,11 +184,11 @@ fn apply_blocks<R: Rounds, V: Variant, B: StreamCipherBackend<R, V>, T: Target>(
         (for_whole_blocks B.PAR_BLOCKS (B.PAR_STEPS * R.COUNT) (B.ONE_STEPS * R.COUNT)
         (length «data».old / 64)) steps.old steps.new }
 {
-    if B::PAR_BLOCKS == 1 || data.len() == 64 {
+    if (B::PAR_BLOCKS == 1) | (data.len() == 64) {
         apply_through::<R, V, B, T>(state, &mut [[0; 64]; 1], input, data, steps);
-    } else if B::PAR_BLOCKS <= 4 || data.len() <= 256 {
+    } else if (B::PAR_BLOCKS <= 4) | (data.len() <= 256) {
         apply_through::<R, V, B, T>(state, &mut [[0; 64]; 4], input, data, steps);
-    } else if B::PAR_BLOCKS <= 8 || data.len() <= 512 {
+    } else if (B::PAR_BLOCKS <= 8) | (data.len() <= 512) {
         apply_through::<R, V, B, T>(state, &mut [[0; 64]; 8], input, data, steps);
     } else {
         apply_through::<R, V, B, T>(state, &mut [[0; 64]; 16], input, data, steps);
