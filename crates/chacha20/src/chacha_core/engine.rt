@@ -1,7 +1,6 @@
 //! The engine of a core: it calls the backend for whole blocks, and XORs bytes with them.
 
-ghost use Rattle.std.specs.Prelude.{◌≡◌, ◌≤◌, ◌<◌, ⊤, ℕ, ◌+◌, ◌*◌, ◌/◌, ◌%◌, List, ◌++◌, length, slice_index, take, drop, min};
-ghost use Rattle.chacha_base.specs.ChaCha.{xor_stream};
+ghost use Rattle.std.specs.Prelude.{◌≡◌, ◌≤◌, ◌<◌, ⊤, ℕ, ◌+◌, ◌*◌, ◌/◌, ◌%◌, List, ◌++◌, length, take, drop, min};
 ghost use Rattle.chacha_base.specs.State.{state_counter, state_after, AreNextBlocks};
 ghost use Rattle.chacha_base.specs.Counts.{Grows, for_tail, for_whole_blocks};
 ghost use Rattle.chacha20.specs.Blocks.{xored_at, applied};
@@ -77,18 +76,6 @@ impl Target for InPlace {
     }
 }
 
-// Writes 64 bytes of an input XORed with a block, as one vector: a loop over three slices would first compare their
-// addresses.
-#[inline(always)]
-fn xor_block(input: &[u8], block: &[u8; 64], output: &mut [u8])
-    requires input { length input.now ≡ 64 }
-    requires output { length output.old ≡ 64 }
-    ensures { output.new ≡ xor_stream (slice_index block.now) 0 input.now }
-{
-    let bytes: u8x64 = Simd::from_slice(input) ^ Simd::from_slice(block);
-    bytes.copy_to_slice(output);
-}
-
 // From `input` into `data`.
 struct Between;
 
@@ -109,11 +96,10 @@ impl Target for Between {
         let from = &input[64 * first..64 * first + 64 * blocks.len()];
         let part = &mut data[64 * first..64 * first + 64 * blocks.len()];
         for i in 0..blocks.len() {
-            xor_block(
-                &from[64 * i..64 * i + 64],
-                &blocks[i],
-                &mut part[64 * i..64 * i + 64],
-            );
+            // As one vector: a loop over three slices would first compare their addresses.
+            let at = 64 * i;
+            let bytes: u8x64 = Simd::from_slice(&from[at..at + 64]) ^ Simd::from_slice(&blocks[i]);
+            bytes.copy_to_slice(&mut part[at..at + 64]);
         }
     }
 }
