@@ -1,12 +1,12 @@
--- Blocks written, and bytes XORed with blocks, group by group, as the engine does it. The proofs of `write_blocks`,
+-- Blocks written, and bytes XORed with blocks, group by group, as the engine does it. The proofs of `write_keystream_blocks`,
 -- `apply_through` and `xor_blocks` cite these. Read `xored_at` and `applied` of `Blocks` first.
 use Rattle.std.proofs.Common.{◌≡◌, ℕ, ◌+◌, ◌*◌, ◌/◌, ◌%◌, ◌<◌, ◌≤◌, Some, List, [], ◌++◌, length, take, drop, slice_get, slice_index, slice_index_or, arith, refl, sym, ap, ap₂, ◌∙◌, append_assoc, length-drop, length-take-le, take_at, drop_at, drop-drop}
 use borrow.Rule.Slice.PartMut.{put_mid, same_len_mid}
 use Rattle.std.proofs.lemmas.Option.{get_or_from_slice_get}
 use Rattle.std.proofs.lemmas.Slice.{take-put_mid}
-use Rattle.chacha_base.specs.ChaCha.{Layout, modulus, keystream, xor_stream}
+use Rattle.chacha_base.specs.ChaCha.{Layout, modulus, keystream, xor_stream, bytes, mix}
 use Rattle.chacha_base.specs.State.{state_counter, fixed_words, state_block, state_after, AreNextBlocks}
-use Rattle.chacha_base.proofs.StateLemmas.{fixed_words-state_after, state_counter-state_after, state_after-more, next_blocks-more}
+use Rattle.chacha_base.proofs.StateLemmas.{fixed_words-state_after, state_counter-state_after, state_after-state_after, state_after-more, next_blocks-more}
 use Rattle.chacha_base.proofs.KeystreamLemmas.{xor_stream-same, xor_stream-more, keystream-wrapped, length-xor_stream}
 use Rattle.chacha_base.proofs.ListLemmas.{part_long}
 use Rattle.chacha20.specs.Blocks.{byte_of, xored_at, state_stream, applied}
@@ -34,7 +34,41 @@ xor_stream-blocks modulus block c blocks xs whole made =
     rw (which, part, here)
     (ap (λ b. slice_index b (i % 64)) (get_or_from_slice_get blocks (i / 64) _ [] (made (i / 64) (omega arith)))))
 
--- blocks that are written: the first `a` from the state s on, and the state behind them
+-- blocks that are written: the first `a` from the state s on, and a state t that goes on behind them
+pub record AreMadeBefore (n : ℕ) (layout : Layout) (s : List ℕ) (a : ℕ) (t : List ℕ) (now : List (List ℕ)) : Type 0 where
+  pub within : a ≤ length now
+  pub goes_on : (j : ℕ) → state_after layout j t ≡ state_after layout (a + j) s
+  pub done : AreNextBlocks n layout s a now
+
+pub none-made : {n : ℕ} {layout : Layout} (s : List ℕ) (now : List (List ℕ)) → AreMadeBefore n layout s 0 s now
+none-made {layout = layout} s now = record {
+  within = omega arith;
+  goes_on = λ j. let all : j ≡ 0 + j = omega arith in ap (λ i. state_after layout i s) all;
+  done = λ i none. absurd (omega arith);
+}
+
+-- and the next k, as a call made them: then the state is the one behind them
+pub made-before-more : {n : ℕ} {layout : Layout} {s t u : List ℕ} {a : ℕ} {now : List (List ℕ)} (k e : ℕ)
+    (part : List (List ℕ)) → length s ≡ 16 → AreMadeBefore n layout s a t now → a + k ≡ e → e ≤ length now
+    → (let l = length (take k (drop a now)) in
+    length part ≡ l → AreNextBlocks n layout t l part → u ≡ state_after layout l t
+    → AreMadeBefore n layout s e u (put_mid a k now part) × (u ≡ state_after layout e s))
+made-before-more {n} {layout} {s} {t} {u} {a} {now} k e part sixteen held all room count made moved =
+    let long = part_long a k now (omega arith) in
+    let behind : u ≡ state_after layout e s =
+    let sum : a + length (take k (drop a now)) ≡ e = omega (arith, long) in
+    moved ∙ held.goes_on _ ∙ ap (λ i. state_after layout i s) sum in (
+      record {
+        within = omega (arith, same_len_mid a k now part count);
+        goes_on = λ j. ap (state_after layout j) behind ∙ state_after-state_after layout e j s sixteen;
+        done = rw (← all) (next_blocks-more n layout s (state_after layout a s) a k now part sixteen refl held.within
+            (count ∙ long) held.done (λ j less. made j (omega (arith, long))
+            ∙ ap (λ w. Some (bytes (mix n w))) (held.goes_on j ∙ sym (state_after-state_after layout a j s sixteen))));
+      },
+      behind,
+    )
+
+-- the same with a state that is known to be the one behind the blocks, as the exports for C have it
 pub record AreMade (n : ℕ) (layout : Layout) (s : List ℕ) (a : ℕ) (t : List ℕ) (now : List (List ℕ)) : Type 0 where
   pub within : a ≤ length now
   pub state : t ≡ state_after layout a s
@@ -46,14 +80,14 @@ pub made-more : {n : ℕ} {layout : Layout} {s t u : List ℕ} {a : ℕ} {now : 
     → (let l = length (take k (drop a now)) in
     length part ≡ l → AreNextBlocks n layout t l part → u ≡ state_after layout l t
     → AreMade n layout s e u (put_mid a k now part))
-made-more {n} {layout} {s} {t} {u} {a} {now} k e part sixteen held all room count made moved =
-    let long = part_long a k now (omega arith) in
-    record {
-      within = omega (arith, same_len_mid a k now part count);
-      state = state_after-more layout s t u a _ e sixteen held.state moved (omega (arith, long));
-      done = rw (← all) (next_blocks-more n layout s t a k now part sixteen held.state held.within (count ∙ long)
-          held.done (λ j less. made j (omega (arith, long))));
-    }
+made-more {n} {layout} {s} {t} {a = a} {now = now} k e part sixteen held all room count made moved =
+    let before : AreMadeBefore n layout s a t now = record {
+      within = held.within;
+      goes_on = λ j. ap (state_after layout j) held.state ∙ state_after-state_after layout a j s sixteen;
+      done = held.done;
+    } in
+    let more = made-before-more k e part sixteen before all room count made moved in
+    record { within = more.0.within; state = more.1; done = more.0.done }
 
 -- bytes that are combined, k of them: i blocks on from the state s and the bytes old
 pub record IsAt (n : ℕ) (layout : Layout) (k : ℕ) (s old : List ℕ) (i : ℕ) (t now : List ℕ) : Type 0 where

@@ -13,24 +13,6 @@ use chacha_base::state::counter;
 use chacha_base::variants::Variant;
 use std::simd::prelude::*;
 
-// Writes the blocks of a state, and moves its counter.
-fn write_blocks<R: Rounds, V: Variant, B: StreamCipherBackend<R, V>>(
-    state: &mut [u32; 16],
-    blocks: &mut [[u8; 64]],
-)
-    ensures blocks { AreNextBlocks R.COUNT V.layout state.old (length blocks.old) blocks.new }
-    ensures state { state.new ≡ state_after V.layout (length blocks.old) state.old }
-{
-    let mut steps = Steps::new();
-    let width = B::PAR_BLOCKS;
-    let mut done = 0;
-    'groups: while blocks.len() - done >= width {
-        B::gen_par_ks_blocks(state, &mut blocks[done..done + width], &mut steps);
-        done += width;
-    }
-    B::gen_tail_blocks(state, &mut blocks[done..], &mut steps);
-}
-
 // What the blocks are XORed into: a slice in place, or an output of the same length as its input.
 trait Target {
     // The bytes so far: in place, the data; between, the first `done` bytes of the output and the rest of the input.
@@ -199,7 +181,14 @@ impl<R: Rounds, V: Variant, B: StreamCipherBackend<R, V>> StreamCipherCore for C
     }
 
     fn write_keystream_blocks(&mut self, blocks: &mut [[u8; 64]]) {
-        write_blocks::<R, V, B>(&mut self.state, blocks);
+        let mut steps = Steps::new();
+        let width = B::PAR_BLOCKS;
+        let mut done = 0;
+        'groups: while blocks.len() - done >= width {
+            B::gen_par_ks_blocks(&mut self.state, &mut blocks[done..done + width], &mut steps);
+            done += width;
+        }
+        B::gen_tail_blocks(&mut self.state, &mut blocks[done..], &mut steps);
     }
 
     fn write_block_counted(&mut self, block: &mut [u8; 64], steps: &mut Steps) {

@@ -1,10 +1,29 @@
+use Rattle.std.proofs.Common.{◌+◌, ◌-◌, length, arith}
 use Rattle.chacha_base.proofs.StateLemmas.{fixed_words-state_after, state_counter-state_after}
+use Rattle.chacha20.proofs.BlocksLemmas.{none-made, made-before-more}
 use Rattle.chacha20.proofs.chacha_core.engine.ChaChaCoreStreamCipherCore.write_keystream_blocks.Goals as goal
 
-pub returns-clause-fixed : goal.returns-clause-fixed
-returns-clause-fixed g c =
-    rw (← c.self.view_is) (fixed_words-state_after g.V.Variant.layout _ _ _ c.self.told c.write_blocks.ensures.state)
+pub groups-init : goal.groups-init
+groups-init g c = rw (← c.self.view_is) (none-made c.self.inside.state c.args.blocks.now)
 
-pub returns-clause-counter : goal.returns-clause-counter
-returns-clause-counter g c =
-    rw (← c.self.view_is) (state_counter-state_after g.V.Variant.layout _ _ _ c.self.told c.write_blocks.ensures.state)
+pub groups-preserved : goal.groups-preserved
+groups-preserved g c =
+    let a = c.groups.done in
+    let e = a + c.PAR_BLOCKS-width.result in
+    let made = c.gen_par_ks_blocks.ensures in
+    rw (← c.self.view_is) (made-before-more (e - a) e _ c.self.told
+    (rw (← c.self.view_is) at c.groups.invariant) (omega arith) (omega arith)
+    c.gen_par_ks_blocks.auto.blocks made.blocks made.state).0
+
+pub returns : goal.returns
+returns g c =
+    let layout = g.V.Variant.layout in
+    let made = c.gen_tail_blocks.ensures in
+    let end = made-before-more (length c.groups.blocks - c.groups.done) (length c.args.blocks.now) _ c.self.told
+    (rw (← c.self.view_is) at c.groups.invariant) (omega arith) (omega arith) c.gen_tail_blocks.auto.blocks made.blocks
+    made.state in
+    rw (← c.self.view_is) record {
+      blocks = end.0.done;
+      fixed = fixed_words-state_after layout _ _ _ c.self.told end.1;
+      counter = state_counter-state_after layout _ _ _ c.self.told end.1;
+    }
