@@ -1,8 +1,8 @@
 //! Calls that each make a cipher of their own, over any core. They return what C gets: 0 where a call is accepted, and
 //! 1 where it is refused. A position has 128 bits, so that it reaches the end of each stream.
 
-ghost use Rattle.std.specs.Prelude.{◌≡◌, ◌↔◌, ◌≤◌, ◌+◌, cond, length, is_ok, IsOk, OnOk, OnErr};
-ghost use Rattle.chacha20.specs.ChaCha.{keystream, stream_part, xor_stream};
+ghost use Rattle.std.specs.Prelude.{◌≡◌, cond, is_ok};
+ghost use Rattle.chacha20.specs.ChaCha.{keystream};
 ghost use Rattle.chacha20.specs.Cipher.{limit_of};
 ghost use Rattle.chacha20_c.specs.Results.{Checked, Written, Xored, XoredInto};
 
@@ -21,23 +21,12 @@ pub(crate) fn xor_in_place<K: KeyIvInit + StreamCipherSeekCore + Drop>(
     ensures { Xored (limit_of K.modulus) (keystream K.modulus (K.blocks_of key.now nonce.now))
         position result «data».old «data».new }
 {
-    answer(try_xor_in_place::<K>(key, nonce, position, data))
-}
-
-fn try_xor_in_place<K: KeyIvInit + StreamCipherSeekCore + Drop>(
-    key: &K::Key,
-    nonce: &K::Iv,
-    position: u128,
-    data: &mut [u8],
-) -> Result<(), StreamCipherError>
-    ensures accepted { IsOk result ↔ (position + length «data».old ≤ limit_of K.modulus) }
-    ensures bytes { OnOk result («data».new
-        ≡ xor_stream (keystream K.modulus (K.blocks_of key.now nonce.now)) position «data».old) }
-    ensures refused { OnErr result («data».new ≡ «data».old) }
-{
     let mut cipher = StreamCipherCoreWrapper::<K>::new(key, nonce);
-    cipher.try_seek(position)?;
-    cipher.try_apply_keystream(data)
+    let outcome = match cipher.try_seek(position) {
+        Ok(()) => cipher.try_apply_keystream(data),
+        Err(error) => Err(error),
+    };
+    answer(outcome)
 }
 
 /// Writes an input, XORed with the keystream from a position on, into an output.
@@ -51,25 +40,12 @@ pub(crate) fn xor_between<K: KeyIvInit + StreamCipherSeekCore + Drop>(
     ensures { XoredInto (limit_of K.modulus) (keystream K.modulus (K.blocks_of key.now nonce.now))
         position result input.now output.old output.new }
 {
-    answer(try_xor_between::<K>(key, nonce, position, output, input))
-}
-
-fn try_xor_between<K: KeyIvInit + StreamCipherSeekCore + Drop>(
-    key: &K::Key,
-    nonce: &K::Iv,
-    position: u128,
-    output: &mut [u8],
-    input: &[u8],
-) -> Result<(), StreamCipherError>
-    ensures accepted { IsOk result ↔ ((length input.now ≡ length output.old)
-        × (position + length input.now ≤ limit_of K.modulus)) }
-    ensures bytes { OnOk result (output.new
-        ≡ xor_stream (keystream K.modulus (K.blocks_of key.now nonce.now)) position input.now) }
-    ensures refused { OnErr result (output.new ≡ output.old) }
-{
     let mut cipher = StreamCipherCoreWrapper::<K>::new(key, nonce);
-    cipher.try_seek(position)?;
-    cipher.try_apply_keystream_b2b(input, output)
+    let outcome = match cipher.try_seek(position) {
+        Ok(()) => cipher.try_apply_keystream_b2b(input, output),
+        Err(error) => Err(error),
+    };
+    answer(outcome)
 }
 
 /// Writes the keystream from a position on.
@@ -82,24 +58,12 @@ pub(crate) fn write_keystream<K: KeyIvInit + StreamCipherSeekCore + Drop>(
     ensures { Written (limit_of K.modulus) (keystream K.modulus (K.blocks_of key.now nonce.now))
         position result output.old output.new }
 {
-    answer(try_write_keystream::<K>(key, nonce, position, output))
-}
-
-fn try_write_keystream<K: KeyIvInit + StreamCipherSeekCore + Drop>(
-    key: &K::Key,
-    nonce: &K::Iv,
-    position: u128,
-    output: &mut [u8],
-) -> Result<(), StreamCipherError>
-    ensures accepted { IsOk result ↔ (position + length output.old ≤ limit_of K.modulus) }
-    ensures bytes { OnOk result (output.new
-        ≡ stream_part (keystream K.modulus (K.blocks_of key.now nonce.now)) position
-        (length output.old)) }
-    ensures refused { OnErr result (output.new ≡ output.old) }
-{
     let mut cipher = StreamCipherCoreWrapper::<K>::new(key, nonce);
-    cipher.try_seek(position)?;
-    cipher.try_write_keystream(output)
+    let outcome = match cipher.try_seek(position) {
+        Ok(()) => cipher.try_write_keystream(output),
+        Err(error) => Err(error),
+    };
+    answer(outcome)
 }
 
 // 0 for a call that was accepted, and 1 for one that was refused.
