@@ -82,9 +82,13 @@ impl<C: KeyIvInit<Key = Key> + StreamCipher + Drop> ChaChaPoly1305<C> {
         let mut space = [0; FRONT];
         let front = &mut space[..front_len(message.len())];
         let mut cipher = C::new(&self.key, nonce);
-        begin(&mut cipher, message, front)?;
-        apply(&mut cipher, front, message);
-        Ok(tag_of(&mac_key(front), aad, message))
+        match begin(&mut cipher, message, front) {
+            Ok(()) => {
+                apply(&mut cipher, front, message);
+                Ok(tag_of(&mac_key(front), aad, message))
+            }
+            Err(error) => Err(error),
+        }
     }
 
     /// Checks the tag, and decrypts the message in place. Fails if the message is too long or the tag isn't that of
@@ -114,9 +118,13 @@ impl<C: KeyIvInit<Key = Key> + StreamCipher + Drop> ChaChaPoly1305<C> {
         let mut space = [0; FRONT];
         let front = &mut space[..front_len(message.len())];
         let mut cipher = C::new(&self.key, nonce);
-        begin_verified(&mut cipher, aad, message, tag, front)?;
-        apply(&mut cipher, front, message);
-        Ok(())
+        match begin_verified(&mut cipher, aad, message, tag, front) {
+            Ok(()) => {
+                apply(&mut cipher, front, message);
+                Ok(())
+            }
+            Err(error) => Err(error),
+        }
     }
 
     /// `encrypt_in_place_detached` from a text into an output as long.
@@ -140,9 +148,13 @@ impl<C: KeyIvInit<Key = Key> + StreamCipher + Drop> ChaChaPoly1305<C> {
         let mut space = [0; FRONT];
         let front = &mut space[..front_len(text.len())];
         let mut cipher = C::new(&self.key, nonce);
-        begin(&mut cipher, text, front)?;
-        apply_between(&mut cipher, front, text, output);
-        Ok(tag_of(&mac_key(front), aad, output))
+        match begin(&mut cipher, text, front) {
+            Ok(()) => {
+                apply_between(&mut cipher, front, text, output);
+                Ok(tag_of(&mac_key(front), aad, output))
+            }
+            Err(error) => Err(error),
+        }
     }
 
     /// `decrypt_in_place_detached` from a ciphertext into an output as long.
@@ -173,9 +185,13 @@ impl<C: KeyIvInit<Key = Key> + StreamCipher + Drop> ChaChaPoly1305<C> {
         let mut space = [0; FRONT];
         let front = &mut space[..front_len(ciphertext.len())];
         let mut cipher = C::new(&self.key, nonce);
-        begin_verified(&mut cipher, aad, ciphertext, tag, front)?;
-        apply_between(&mut cipher, front, ciphertext, output);
-        Ok(())
+        match begin_verified(&mut cipher, aad, ciphertext, tag, front) {
+            Ok(()) => {
+                apply_between(&mut cipher, front, ciphertext, output);
+                Ok(())
+            }
+            Err(error) => Err(error),
+        }
     }
 
     /// Writes the sealed message of a text: the ciphertext, and behind it the tag, 16 bytes. Fails if the text has more
@@ -202,9 +218,13 @@ impl<C: KeyIvInit<Key = Key> + StreamCipher + Drop> ChaChaPoly1305<C> {
         ensures refused { OnErr result (output.new ≡ output.old) }
     {
         let (ciphertext, place) = output.split_at_mut(text.len());
-        let tag = self.encrypt_detached(nonce, aad, text, ciphertext)?;
-        place.copy_from_slice(&tag);
-        Ok(())
+        match self.encrypt_detached(nonce, aad, text, ciphertext) {
+            Ok(tag) => {
+                place.copy_from_slice(&tag);
+                Ok(())
+            }
+            Err(error) => Err(error),
+        }
     }
 
     /// Checks the tag, the last 16 bytes of a sealed message, and writes its text. Fails if the text is too long or the

@@ -55,15 +55,17 @@ pub fn begin<C: StreamCipher>(
     ensures fixed { OnOk result (C.fixed cipher.new ≡ C.fixed cipher.old) }
     ensures position { OnOk result (C.position cipher.new ≡ length front.old) }
 {
-    if cipher.check_remaining(64 + text.len()).is_err() {
-        return Err(AeadError::TooLong);
+    match cipher.check_remaining(64 + text.len()) {
+        Ok(()) => {
+            let (block_0, made) = front.split_at_mut(64);
+            block_0.copy_from_slice(&[0; 64]);
+            let (place, _) = made.split_at_mut(text.len().min(made.len()));
+            place.copy_from_slice(&text[..place.len()]);
+            cipher.apply_keystream(front);
+            Ok(())
+        }
+        Err(_) => Err(AeadError::TooLong),
     }
-    let (block_0, made) = front.split_at_mut(64);
-    block_0.copy_from_slice(&[0; 64]);
-    let (place, _) = made.split_at_mut(text.len().min(made.len()));
-    place.copy_from_slice(&text[..place.len()]);
-    cipher.apply_keystream(front);
-    Ok(())
 }
 
 /// `begin` of a ciphertext. Also fails if the tag isn't that of `aad` and the ciphertext.
@@ -91,12 +93,17 @@ pub fn begin_verified<C: StreamCipher>(
     ensures fixed { OnOk result (C.fixed cipher.new ≡ C.fixed cipher.old) }
     ensures position { OnOk result (C.position cipher.new ≡ length front.old) }
 {
-    begin(cipher, ciphertext, front)?;
-    let expected = tag_of(&mac_key(front), aad, ciphertext);
-    if !is_equal(expected, tag) {
-        return Err(AeadError::WrongTag);
+    match begin(cipher, ciphertext, front) {
+        Ok(()) => {
+            let expected = tag_of(&mac_key(front), aad, ciphertext);
+            if !is_equal(expected, tag) {
+                Err(AeadError::WrongTag)
+            } else {
+                Ok(())
+            }
+        }
+        Err(error) => Err(error),
     }
-    Ok(())
 }
 
 /// The MAC's key (RFC 8439, section 2.6): the first half of block 0.
