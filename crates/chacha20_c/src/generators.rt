@@ -11,8 +11,10 @@ ghost use Rattle.chacha20.specs.Generator.{of_seed, at_word_pos, next_u32, next_
 
 use crate::legacy::Core;
 use crate::stateless;
-use chacha20::cipher::RngBackend;
-use chacha20::{ChaCha8Rng, ChaCha12Rng, ChaCha20Rng, ChaChaRng, Rounds, Seed, SerializedRngState};
+use chacha20::{ChaChaRng, Lanes8, R8, R12, R20, Rounds, Seed, SerializedRngState};
+
+// `ChaCha8Rng`, `ChaCha12Rng` and `ChaCha20Rng`. The reads are proved once, for any number of rounds.
+type Generator<R> = ChaChaRng<R, Lanes8>;
 
 // How many word positions there are: sixteen words for each of 2^64 blocks.
 const POSITIONS: u128 = 1 << 68;
@@ -101,7 +103,7 @@ pub extern "C" fn chacha8_rng_next_u32(state: &mut SerializedRngState) -> u32
     ensures moved { of_state_bytes state.new ≡ (next_u32 4 (of_state_bytes state.old)).1 }
     ensures stored { state.new ≡ state_bytes (of_state_bytes state.new) }
 {
-    next_u32(ChaCha8Rng::deserialize_state(state), state)
+    next_u32::<R8>(state)
 }
 
 /// Takes the next two words of the generator with 8 rounds; the first is the low half of the result.
@@ -111,7 +113,7 @@ pub extern "C" fn chacha8_rng_next_u64(state: &mut SerializedRngState) -> u64
     ensures moved { of_state_bytes state.new ≡ (next_u64 4 (of_state_bytes state.old)).1 }
     ensures stored { state.new ≡ state_bytes (of_state_bytes state.new) }
 {
-    next_u64(ChaCha8Rng::deserialize_state(state), state)
+    next_u64::<R8>(state)
 }
 
 /// Fills `output` with the bytes of the next words of the generator with 8 rounds, each little-endian (this
@@ -124,7 +126,7 @@ pub extern "C" fn chacha8_rng_fill(state: &mut SerializedRngState, output: &mut 
         ≡ (fill 4 (of_state_bytes state.old) (length output.old)).1 }
     ensures stored { state.new ≡ state_bytes (of_state_bytes state.new) }
 {
-    fill_bytes(ChaCha8Rng::deserialize_state(state), state, output);
+    fill_bytes::<R8>(state, output);
 }
 
 /// Takes the next word of the generator with 12 rounds (this crate).
@@ -134,7 +136,7 @@ pub extern "C" fn chacha12_rng_next_u32(state: &mut SerializedRngState) -> u32
     ensures moved { of_state_bytes state.new ≡ (next_u32 6 (of_state_bytes state.old)).1 }
     ensures stored { state.new ≡ state_bytes (of_state_bytes state.new) }
 {
-    next_u32(ChaCha12Rng::deserialize_state(state), state)
+    next_u32::<R12>(state)
 }
 
 /// Takes the next two words of the generator with 12 rounds; the first is the low half of the result.
@@ -144,7 +146,7 @@ pub extern "C" fn chacha12_rng_next_u64(state: &mut SerializedRngState) -> u64
     ensures moved { of_state_bytes state.new ≡ (next_u64 6 (of_state_bytes state.old)).1 }
     ensures stored { state.new ≡ state_bytes (of_state_bytes state.new) }
 {
-    next_u64(ChaCha12Rng::deserialize_state(state), state)
+    next_u64::<R12>(state)
 }
 
 /// Fills `output` with the bytes of the next words of the generator with 12 rounds, each little-endian (this
@@ -157,7 +159,7 @@ pub extern "C" fn chacha12_rng_fill(state: &mut SerializedRngState, output: &mut
         ≡ (fill 6 (of_state_bytes state.old) (length output.old)).1 }
     ensures stored { state.new ≡ state_bytes (of_state_bytes state.new) }
 {
-    fill_bytes(ChaCha12Rng::deserialize_state(state), state, output);
+    fill_bytes::<R12>(state, output);
 }
 
 /// Takes the next word of the generator with 20 rounds (this crate).
@@ -167,7 +169,7 @@ pub extern "C" fn chacha20_rng_next_u32(state: &mut SerializedRngState) -> u32
     ensures moved { of_state_bytes state.new ≡ (next_u32 10 (of_state_bytes state.old)).1 }
     ensures stored { state.new ≡ state_bytes (of_state_bytes state.new) }
 {
-    next_u32(ChaCha20Rng::deserialize_state(state), state)
+    next_u32::<R20>(state)
 }
 
 /// Takes the next two words of the generator with 20 rounds; the first is the low half of the result.
@@ -177,7 +179,7 @@ pub extern "C" fn chacha20_rng_next_u64(state: &mut SerializedRngState) -> u64
     ensures moved { of_state_bytes state.new ≡ (next_u64 10 (of_state_bytes state.old)).1 }
     ensures stored { state.new ≡ state_bytes (of_state_bytes state.new) }
 {
-    next_u64(ChaCha20Rng::deserialize_state(state), state)
+    next_u64::<R20>(state)
 }
 
 /// Fills `output` with the bytes of the next words of the generator with 20 rounds, each little-endian (this
@@ -197,48 +199,41 @@ pub extern "C" fn chacha20_rng_fill(state: &mut SerializedRngState, output: &mut
     if stateless::write_keystream::<Core>(&seed, &nonce, 4 * position, output) == 0 {
         *state = stored(&seed, stream, position + output.len().div_ceil(4) as u128);
     } else {
-        fill_bytes(ChaCha20Rng::deserialize_state(state), state, output);
+        fill_bytes::<R20>(state, output);
     }
 }
 
 // The reads of a generator, which is then stored.
 
-fn next_u32<R: Rounds, B: RngBackend<R>>(
-    mut rng: ChaChaRng<R, B>,
-    state: &mut SerializedRngState,
-) -> u32
-    ensures word { result ≡ (next_u32 R.COUNT rng).0 }
-    ensures moved { of_state_bytes state.new ≡ (next_u32 R.COUNT rng).1 }
+fn next_u32<R: Rounds>(state: &mut SerializedRngState) -> u32
+    ensures word { result ≡ (next_u32 R.COUNT (of_state_bytes state.old)).0 }
+    ensures moved { of_state_bytes state.new ≡ (next_u32 R.COUNT (of_state_bytes state.old)).1 }
     ensures stored { state.new ≡ state_bytes (of_state_bytes state.new) }
 {
+    let mut rng = Generator::<R>::deserialize_state(state);
     let word = rng.next_u32();
     *state = rng.serialize_state();
     word
 }
 
-fn next_u64<R: Rounds, B: RngBackend<R>>(
-    mut rng: ChaChaRng<R, B>,
-    state: &mut SerializedRngState,
-) -> u64
-    ensures words { result ≡ (next_u64 R.COUNT rng).0 }
-    ensures moved { of_state_bytes state.new ≡ (next_u64 R.COUNT rng).1 }
+fn next_u64<R: Rounds>(state: &mut SerializedRngState) -> u64
+    ensures words { result ≡ (next_u64 R.COUNT (of_state_bytes state.old)).0 }
+    ensures moved { of_state_bytes state.new ≡ (next_u64 R.COUNT (of_state_bytes state.old)).1 }
     ensures stored { state.new ≡ state_bytes (of_state_bytes state.new) }
 {
+    let mut rng = Generator::<R>::deserialize_state(state);
     let words = rng.next_u64();
     *state = rng.serialize_state();
     words
 }
 
-fn fill_bytes<R: Rounds, B: RngBackend<R>>(
-    mut rng: ChaChaRng<R, B>,
-    state: &mut SerializedRngState,
-    output: &mut [u8],
-)
-    ensures bytes { output.new ≡ (fill R.COUNT rng (length output.old)).0 }
+fn fill_bytes<R: Rounds>(state: &mut SerializedRngState, output: &mut [u8])
+    ensures bytes { output.new ≡ (fill R.COUNT (of_state_bytes state.old) (length output.old)).0 }
     ensures moved { of_state_bytes state.new
-        ≡ (fill R.COUNT rng (length output.old)).1 }
+        ≡ (fill R.COUNT (of_state_bytes state.old) (length output.old)).1 }
     ensures stored { state.new ≡ state_bytes (of_state_bytes state.new) }
 {
+    let mut rng = Generator::<R>::deserialize_state(state);
     rng.fill_bytes(output);
     *state = rng.serialize_state();
 }
