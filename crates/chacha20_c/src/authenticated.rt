@@ -1,89 +1,20 @@
 //! ChaCha20-Poly1305 (RFC 8439, section 2.8), XChaCha20-Poly1305 (draft-irtf-cfrg-xchacha, section 2), and the MAC.
 
 ghost use Rattle.std.specs.Prelude.{◌≡◌, ◌↔◌, ◌⊎◌, cond, is_ok, IfOk, OnErr};
-ghost use Rattle.chacha20.specs.ChaCha.{chacha_stream, keystream, ietf, modulus};
+ghost use Rattle.chacha20.specs.ChaCha.{chacha_stream, ietf, modulus};
 ghost use Rattle.chacha20.specs.Cipher.{limit_of};
 ghost use Rattle.chacha20.specs.XChaCha.{xchacha_stream};
 ghost use Rattle.poly1305.specs.Poly1305.{poly1305};
 ghost use Rattle.chacha20_c.specs.Results.{Decrypted, DecryptedInto, Encrypted, EncryptedInto};
 
 use crate::backend::Backend;
+use crate::xchacha::{subkey, subnonce};
 use aead::{AeadError, ChaChaPoly1305};
-use chacha20::cipher::{KeyIvInit, StreamCipherSeekCore};
-use chacha20::{ChaChaCore, Ietf, Key, Nonce, R20, StreamCipherCoreWrapper, XChaChaCore, XNonce};
+use chacha20::{ChaChaCore, Ietf, Key, Nonce, R20, StreamCipherCoreWrapper, XNonce};
 use poly1305::{Tag, authenticate};
 
-// The cores for nonces of 12 and of 24 bytes, and the AEAD over a core.
-
-type Short = ChaChaCore<R20, Ietf, Backend>;
-
-type Long = XChaChaCore<R20, Backend>;
-
-type Aead<K> = ChaChaPoly1305<StreamCipherCoreWrapper<K>>;
-
-fn encrypt_in_place<K: KeyIvInit<Key = Key> + StreamCipherSeekCore + Drop>(
-    key: &Key,
-    nonce: &K::Iv,
-    aad: &[u8],
-    data: &mut [u8],
-    tag: &mut Tag,
-) -> u32
-    ensures { Encrypted (limit_of K.modulus) (keystream K.modulus (K.blocks_of key.now nonce.now))
-        aad.now result «data».old «data».new tag.old tag.new }
-{
-    let made = Aead::<K>::new(key).encrypt_in_place_detached(nonce, aad, data);
-    answer_with(made, tag)
-}
-
-fn encrypt_between<K: KeyIvInit<Key = Key> + StreamCipherSeekCore + Drop>(
-    key: &Key,
-    nonce: &K::Iv,
-    aad: &[u8],
-    output: &mut [u8],
-    input: &[u8],
-    tag: &mut Tag,
-) -> u32
-    ensures { EncryptedInto (limit_of K.modulus)
-        (keystream K.modulus (K.blocks_of key.now nonce.now))
-        aad.now result input.now output.old output.new tag.old tag.new }
-{
-    if output.len() != input.len() {
-        return 1;
-    }
-    let made = Aead::<K>::new(key).encrypt_detached(nonce, aad, input, output);
-    answer_with(made, tag)
-}
-
-fn decrypt_in_place<K: KeyIvInit<Key = Key> + StreamCipherSeekCore + Drop>(
-    key: &Key,
-    nonce: &K::Iv,
-    aad: &[u8],
-    data: &mut [u8],
-    tag: &Tag,
-) -> u32
-    ensures { Decrypted (limit_of K.modulus) (keystream K.modulus (K.blocks_of key.now nonce.now))
-        aad.now tag.now result «data».old «data».new }
-{
-    answer(Aead::<K>::new(key).decrypt_in_place_detached(nonce, aad, data, tag))
-}
-
-fn decrypt_between<K: KeyIvInit<Key = Key> + StreamCipherSeekCore + Drop>(
-    key: &Key,
-    nonce: &K::Iv,
-    aad: &[u8],
-    output: &mut [u8],
-    input: &[u8],
-    tag: &Tag,
-) -> u32
-    ensures { DecryptedInto (limit_of K.modulus)
-        (keystream K.modulus (K.blocks_of key.now nonce.now))
-        aad.now tag.now result input.now output.old output.new }
-{
-    if output.len() != input.len() {
-        return 1;
-    }
-    answer(Aead::<K>::new(key).decrypt_detached(nonce, aad, input, output, tag))
-}
+// The AEAD for nonces of 12 bytes.
+type Aead = ChaChaPoly1305<StreamCipherCoreWrapper<ChaChaCore<R20, Ietf, Backend>>>;
 
 // 0 and the tag for a message that was encrypted, and else 1.
 fn answer_with(made: Result<Tag, AeadError>, tag: &mut Tag) -> u32
@@ -124,7 +55,8 @@ pub extern "C" fn chacha20_aead_encrypt_in_place(
     ensures { Encrypted (limit_of (modulus ietf)) (chacha_stream 10 ietf key.now nonce.now)
         aad.now result «data».old «data».new tag.old tag.new }
 {
-    encrypt_in_place::<Short>(key, nonce, aad, data, tag)
+    let made = Aead::new(key).encrypt_in_place_detached(nonce, aad, data);
+    answer_with(made, tag)
 }
 
 /// `chacha20_aead_encrypt_in_place` from `input` to `output`, which overlaps no other argument.
@@ -141,7 +73,12 @@ pub extern "C" fn chacha20_aead_encrypt_between(
     ensures { EncryptedInto (limit_of (modulus ietf)) (chacha_stream 10 ietf key.now nonce.now)
         aad.now result input.now output.old output.new tag.old tag.new }
 {
-    encrypt_between::<Short>(key, nonce, aad, output, input, tag)
+    if output.len() == input.len() {
+        let made = Aead::new(key).encrypt_detached(nonce, aad, input, output);
+        answer_with(made, tag)
+    } else {
+        1
+    }
 }
 
 /// ChaCha20-Poly1305: decrypts `data` in place, after it has checked that `tag` is that of `aad` and `data`.
@@ -158,7 +95,7 @@ pub extern "C" fn chacha20_aead_decrypt_in_place(
     ensures { Decrypted (limit_of (modulus ietf)) (chacha_stream 10 ietf key.now nonce.now)
         aad.now tag.now result «data».old «data».new }
 {
-    decrypt_in_place::<Short>(key, nonce, aad, data, tag)
+    answer(Aead::new(key).decrypt_in_place_detached(nonce, aad, data, tag))
 }
 
 /// `chacha20_aead_decrypt_in_place` from `input` to `output`, which overlaps no other argument.
@@ -175,7 +112,11 @@ pub extern "C" fn chacha20_aead_decrypt_between(
     ensures { DecryptedInto (limit_of (modulus ietf)) (chacha_stream 10 ietf key.now nonce.now)
         aad.now tag.now result input.now output.old output.new }
 {
-    decrypt_between::<Short>(key, nonce, aad, output, input, tag)
+    if output.len() == input.len() {
+        answer(Aead::new(key).decrypt_detached(nonce, aad, input, output, tag))
+    } else {
+        1
+    }
 }
 
 /// XChaCha20-Poly1305: `chacha20_aead_encrypt_in_place` with a nonce of 24 bytes.
@@ -190,7 +131,7 @@ pub extern "C" fn xchacha20_aead_encrypt_in_place(
     ensures { Encrypted (limit_of (modulus ietf)) (xchacha_stream 10 key.now nonce.now)
         aad.now result «data».old «data».new tag.old tag.new }
 {
-    encrypt_in_place::<Long>(key, nonce, aad, data, tag)
+    chacha20_aead_encrypt_in_place(&subkey::<R20>(key, nonce), &subnonce(nonce), aad, data, tag)
 }
 
 /// XChaCha20-Poly1305: `chacha20_aead_encrypt_between` with a nonce of 24 bytes.
@@ -206,7 +147,14 @@ pub extern "C" fn xchacha20_aead_encrypt_between(
     ensures { EncryptedInto (limit_of (modulus ietf)) (xchacha_stream 10 key.now nonce.now)
         aad.now result input.now output.old output.new tag.old tag.new }
 {
-    encrypt_between::<Long>(key, nonce, aad, output, input, tag)
+    chacha20_aead_encrypt_between(
+        &subkey::<R20>(key, nonce),
+        &subnonce(nonce),
+        aad,
+        output,
+        input,
+        tag,
+    )
 }
 
 /// XChaCha20-Poly1305: `chacha20_aead_decrypt_in_place` with a nonce of 24 bytes.
@@ -221,7 +169,7 @@ pub extern "C" fn xchacha20_aead_decrypt_in_place(
     ensures { Decrypted (limit_of (modulus ietf)) (xchacha_stream 10 key.now nonce.now)
         aad.now tag.now result «data».old «data».new }
 {
-    decrypt_in_place::<Long>(key, nonce, aad, data, tag)
+    chacha20_aead_decrypt_in_place(&subkey::<R20>(key, nonce), &subnonce(nonce), aad, data, tag)
 }
 
 /// XChaCha20-Poly1305: `chacha20_aead_decrypt_between` with a nonce of 24 bytes.
@@ -237,7 +185,14 @@ pub extern "C" fn xchacha20_aead_decrypt_between(
     ensures { DecryptedInto (limit_of (modulus ietf)) (xchacha_stream 10 key.now nonce.now)
         aad.now tag.now result input.now output.old output.new }
 {
-    decrypt_between::<Long>(key, nonce, aad, output, input, tag)
+    chacha20_aead_decrypt_between(
+        &subkey::<R20>(key, nonce),
+        &subnonce(nonce),
+        aad,
+        output,
+        input,
+        tag,
+    )
 }
 
 /// Poly1305 (RFC 8439, section 2.5): writes the tag of `input` under a key for one message. `tag` overlaps no other

@@ -14,14 +14,19 @@ const LIMIT: u128 = 64 << 32;
 // The core of `ChaCha8`, `ChaCha12` and `ChaCha20`. The calls are proved once, for any number of rounds.
 type Core<R> = ChaChaCore<R, Ietf, Backend>;
 
-fn xor_in_place<R: Rounds>(key: &Key, nonce: &Nonce, position: u64, data: &mut [u8]) -> u32
+pub(crate) fn xor_in_place<R: Rounds>(
+    key: &Key,
+    nonce: &Nonce,
+    position: u64,
+    data: &mut [u8],
+) -> u32
     ensures { Xored (limit_of (modulus ietf)) (keystream (modulus ietf)
         (block R.COUNT ietf key.now nonce.now)) position result «data».old «data».new }
 {
     stateless::xor_in_place::<Core<R>>(key, nonce, u128::from(position), data)
 }
 
-fn xor_between<R: Rounds>(
+pub(crate) fn xor_between<R: Rounds>(
     key: &Key,
     nonce: &Nonce,
     position: u64,
@@ -34,7 +39,12 @@ fn xor_between<R: Rounds>(
     stateless::xor_between::<Core<R>>(key, nonce, u128::from(position), output, input)
 }
 
-fn write_keystream<R: Rounds>(key: &Key, nonce: &Nonce, position: u64, output: &mut [u8]) -> u32
+pub(crate) fn write_keystream<R: Rounds>(
+    key: &Key,
+    nonce: &Nonce,
+    position: u64,
+    output: &mut [u8],
+) -> u32
     ensures { Written (limit_of (modulus ietf)) (keystream (modulus ietf)
         (block R.COUNT ietf key.now nonce.now)) position result output.old output.new }
 {

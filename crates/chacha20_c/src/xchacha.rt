@@ -6,19 +6,33 @@ ghost use Rattle.chacha20.specs.Cipher.{limit_of};
 ghost use Rattle.chacha20.specs.XChaCha.{hchacha, subkey, subnonce};
 ghost use Rattle.chacha20_c.specs.Results.{Written, Xored, XoredInto};
 
-use crate::backend::Backend;
-use crate::stateless;
-use chacha20::{Key, R8, R12, R20, Rounds, XChaChaCore, XNonce, hchacha};
+use crate::chacha;
+use chacha20::{Key, Nonce, R8, R12, R20, Rounds, XNonce, hchacha};
 
-// The core of `XChaCha8`, `XChaCha12` and `XChaCha20`. The calls are proved once, for any number of rounds.
-type Core<R> = XChaChaCore<R, Backend>;
+// XChaCha is ChaCha under a derived key and nonce (draft-irtf-cfrg-xchacha, section 2.3): these two.
+
+pub(crate) fn subkey<R: Rounds>(key: &Key, nonce: &XNonce) -> Key
+    ensures { result ≡ subkey R.COUNT key.now nonce.now }
+{
+    let mut input = [0; 16];
+    input.copy_from_slice(&nonce[..16]);
+    hchacha::<R>(key, &input)
+}
+
+pub(crate) fn subnonce(nonce: &XNonce) -> Nonce
+    ensures { result ≡ subnonce nonce.now }
+{
+    let mut short = [0; 12];
+    short[4..].copy_from_slice(&nonce[16..]);
+    short
+}
 
 fn xor_in_place<R: Rounds>(key: &Key, nonce: &XNonce, position: u64, data: &mut [u8]) -> u32
     ensures { Xored (limit_of (modulus ietf)) (keystream (modulus ietf)
         (block R.COUNT ietf (subkey R.COUNT key.now nonce.now) (subnonce nonce.now)))
         position result «data».old «data».new }
 {
-    stateless::xor_in_place::<Core<R>>(key, nonce, u128::from(position), data)
+    chacha::xor_in_place::<R>(&subkey::<R>(key, nonce), &subnonce(nonce), position, data)
 }
 
 fn xor_between<R: Rounds>(
@@ -32,7 +46,13 @@ fn xor_between<R: Rounds>(
         (block R.COUNT ietf (subkey R.COUNT key.now nonce.now) (subnonce nonce.now)))
         position result input.now output.old output.new }
 {
-    stateless::xor_between::<Core<R>>(key, nonce, u128::from(position), output, input)
+    chacha::xor_between::<R>(
+        &subkey::<R>(key, nonce),
+        &subnonce(nonce),
+        position,
+        output,
+        input,
+    )
 }
 
 fn write_keystream<R: Rounds>(key: &Key, nonce: &XNonce, position: u64, output: &mut [u8]) -> u32
@@ -40,7 +60,7 @@ fn write_keystream<R: Rounds>(key: &Key, nonce: &XNonce, position: u64, output: 
         (block R.COUNT ietf (subkey R.COUNT key.now nonce.now) (subnonce nonce.now)))
         position result output.old output.new }
 {
-    stateless::write_keystream::<Core<R>>(key, nonce, u128::from(position), output)
+    chacha::write_keystream::<R>(&subkey::<R>(key, nonce), &subnonce(nonce), position, output)
 }
 
 /// XChaCha with 8 rounds (this crate):
