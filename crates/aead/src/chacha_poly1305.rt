@@ -7,7 +7,7 @@ ghost use Rattle.aead.specs.Aead.{encrypted, poly1305_tag, sealed_message};
 
 use crate::error::AeadError;
 use crate::mac::tag_of;
-use crate::message::{FRONT, apply, apply_between, begin, begin_verified, front_len, mac_key};
+use crate::message::{FRONT, apply, apply_between, begin, begin_verified, mac_key};
 use chacha20::Key;
 use chacha20::cipher::{KeyIvInit, StreamCipher};
 use poly1305::Tag;
@@ -80,10 +80,9 @@ impl<C: KeyIvInit<Key = Key> + StreamCipher + Drop> ChaChaPoly1305<C> {
         ensures refused { OnErr result (message.new ≡ message.old) }
     {
         let mut space = [0; FRONT];
-        let front = &mut space[..front_len(message.len())];
         let mut cipher = C::new(&self.key, nonce);
-        match begin(&mut cipher, message, front) {
-            Ok(()) => {
+        match begin(&mut cipher, message, &mut space) {
+            Ok(front) => {
                 apply(&mut cipher, front, message);
                 Ok(tag_of(&mac_key(front), aad, message))
             }
@@ -116,10 +115,9 @@ impl<C: KeyIvInit<Key = Key> + StreamCipher + Drop> ChaChaPoly1305<C> {
         ensures refused { OnErr result (message.new ≡ message.old) }
     {
         let mut space = [0; FRONT];
-        let front = &mut space[..front_len(message.len())];
         let mut cipher = C::new(&self.key, nonce);
-        match begin_verified(&mut cipher, aad, message, tag, front) {
-            Ok(()) => {
+        match begin_verified(&mut cipher, aad, message, tag, &mut space) {
+            Ok(front) => {
                 apply(&mut cipher, front, message);
                 Ok(())
             }
@@ -146,10 +144,9 @@ impl<C: KeyIvInit<Key = Key> + StreamCipher + Drop> ChaChaPoly1305<C> {
         ensures refused { OnErr result (output.new ≡ output.old) }
     {
         let mut space = [0; FRONT];
-        let front = &mut space[..front_len(text.len())];
         let mut cipher = C::new(&self.key, nonce);
-        match begin(&mut cipher, text, front) {
-            Ok(()) => {
+        match begin(&mut cipher, text, &mut space) {
+            Ok(front) => {
                 apply_between(&mut cipher, front, text, output);
                 Ok(tag_of(&mac_key(front), aad, output))
             }
@@ -183,10 +180,9 @@ impl<C: KeyIvInit<Key = Key> + StreamCipher + Drop> ChaChaPoly1305<C> {
         ensures refused { OnErr result (output.new ≡ output.old) }
     {
         let mut space = [0; FRONT];
-        let front = &mut space[..front_len(ciphertext.len())];
         let mut cipher = C::new(&self.key, nonce);
-        match begin_verified(&mut cipher, aad, ciphertext, tag, front) {
-            Ok(()) => {
+        match begin_verified(&mut cipher, aad, ciphertext, tag, &mut space) {
+            Ok(front) => {
                 apply_between(&mut cipher, front, ciphertext, output);
                 Ok(())
             }
