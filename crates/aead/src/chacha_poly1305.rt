@@ -92,6 +92,7 @@ impl<C: KeyIvInit<Key = Key> + StreamCipher + Drop> ChaChaPoly1305<C> {
 
     /// Checks the tag, and decrypts the message in place. Fails if the message is too long or the tag isn't that of
     /// `aad` and the message, and then leaves the message as it was.
+    #[tactic(auto, using(crate::proofs::MessageLemmas::encrypted_twice))]
     pub fn decrypt_in_place_detached(
         &self,
         nonce: &C::Iv,
@@ -155,6 +156,7 @@ impl<C: KeyIvInit<Key = Key> + StreamCipher + Drop> ChaChaPoly1305<C> {
     }
 
     /// `decrypt_in_place_detached` from a ciphertext into an output as long.
+    #[tactic(auto, using(crate::proofs::MessageLemmas::encrypted_twice))]
     pub fn decrypt_detached(
         &self,
         nonce: &C::Iv,
