@@ -19,6 +19,7 @@ pub(crate) fn subkey<R: Rounds>(key: &Key, nonce: &XNonce) -> Key
     hchacha::<R>(key, &input)
 }
 
+#[tactic(auto, using(chacha20::proofs::StartLemmas::subnonce_written))]
 pub(crate) fn subnonce(nonce: &XNonce) -> Nonce
     ensures { result ≡ subnonce nonce.now }
 {
