@@ -11,7 +11,8 @@ ghost use Rattle.chacha20.specs.Generator.{of_seed, at_word_pos, next_u32, next_
 
 use crate::legacy::Core;
 use crate::stateless;
-use chacha20::{ChaChaRng, Lanes8, R8, R12, R20, Rounds, Seed, SerializedRngState};
+use chacha20::backends::Lanes8;
+use chacha20::{ChaChaRng, R8, R12, R20, Rounds, Seed, SerializedRngState};
 
 // `ChaCha8Rng`, `ChaCha12Rng` and `ChaCha20Rng`. The reads are proved once, for any number of rounds.
 type Generator<R> = ChaChaRng<R, Lanes8>;
