@@ -7,7 +7,7 @@ use Rattle.std.proofs.lemmas.List.{nil_from_length}
 use Rattle.std.proofs.Math.Nat.{mod-add-mod}
 use Rattle.chacha_base.specs.ChaCha.{keystream, xor_stream}
 use Rattle.chacha_base.specs.Cipher.{limit_of}
-use Rattle.chacha_base.specs.Buffered.{IsBuffered, left_at}
+use Rattle.chacha_base.specs.Buffered.{IsBuffered, left_at, Follow}
 use Rattle.chacha_base.proofs.KeystreamLemmas.{xor_stream-same, xor_stream-part, xor_stream-block}
 
 -- n bytes from position p on: p is the front of a block, there is at least one byte, and they end within the limit
@@ -18,9 +18,10 @@ pub record Begins (p n limit : ℕ) : Type 0 where
 
 -- the bytes of a slice are such bytes, if its `is_empty` is false, p is the front of a block, and they fit
 pub begins-not_empty : {empty : Bool} {limit : ℕ} (p n : ℕ) → empty ≡ nat_eq n 0 → empty ≡ false
-    → (0 < n → p % 64 ≡ 0) → p + n ≤ limit → Begins p n limit
-begins-not_empty p zero is not front fits = absurd (false≢true (sym not ∙ is))
-begins-not_empty p (suc n) is not front fits = record { front = front (omega arith); some = omega arith; fits = fits }
+    → Follow p n limit → Begins p n limit
+begins-not_empty p zero is not follow = absurd (false≢true (sym not ∙ is))
+begins-not_empty p (suc n) is not follow =
+    record { front = follow.front (omega arith); some = omega arith; fits = follow.fits }
 
 -- the same where it is true: there are no bytes, and XORing them with a stream leaves none
 pub none-is_empty : {empty : Bool} (n : ℕ) → empty ≡ nat_eq n 0 → empty ≡ true → n ≡ 0
@@ -34,12 +35,8 @@ xor_stream-is_empty f p xs ys same is ends =
 
 -- len bytes from p on: the rest of a block, up to q; `whole` bytes of whole blocks; `last` bytes of one more
 pub record Parts (p len whole last q limit : ℕ) : Type 0 where
-  pub in_blocks : whole % 64 ≡ 0
-  pub front : 0 < whole → q % 64 ≡ 0
-  pub fits : q + whole ≤ limit
-  pub part : last < 64
-  pub last_front : {r : ℕ} → r ≡ q + whole → 0 < last → r % 64 ≡ 0
-  pub last_fits : {r : ℕ} → r ≡ q + whole → r + last ≤ limit
+  pub blocks : (whole % 64 ≡ 0) × Follow q whole limit
+  pub part : {r : ℕ} → r ≡ q + whole → (last < 64) × Follow r last limit
   pub end : {r s : ℕ} → r ≡ q + whole → s ≡ r + last → s ≡ p + len
 
 -- `Parts` of a slice that was split; `first` and `last` are the lengths of `begun` and `end` after calls changed them
@@ -50,12 +47,9 @@ parts {p} {n = n} {rest = rest} {q = q} same cut size all blocks behind kept mov
     let left : rest ≡ n - left_at p = omega arith in
     let front : 0 < rest → q % 64 ≡ 0 = λ some. omega arith in
     record {
-      in_blocks = omega arith;
-      front = λ some. front (omega arith);
-      fits = omega arith;
-      part = omega arith;
-      last_front = λ next some. let at = front (omega arith) in omega arith;
-      last_fits = λ next. omega arith;
+      blocks = (omega arith, record { front = λ some. front (omega arith); fits = omega arith });
+      part = λ next.
+          (omega arith, record { front = λ some. let at = front (omega arith) in omega arith; fits = omega arith });
       end = λ next then. omega arith;
     }
 

@@ -6,6 +6,11 @@ use Rattle.chacha_base.specs.Cipher.{limit_of}
 abbrev pub left_at : ℕ → ℕ
 left_at p = (64 - p % 64) % 64
 
+-- n bytes from position p on, which is the front of a block if there are any; they end within the limit
+pub record Follow (p n limit : ℕ) : Type 0 where
+  pub front : 0 < n → p % 64 ≡ 0
+  pub fits : p + n ≤ limit
+
 -- The counter of the core is the number of blocks that begin before the position, or 0 again after
 -- the last one. If the position is inside a block, the buffer holds that block.
 pub record IsBuffered (modulus : ℕ) (block : ℕ → List ℕ) (counter : ℕ) (buffer : List ℕ)

@@ -18,6 +18,7 @@ mod kernel;
 mod lanes16;
 mod lanes4;
 mod lanes8;
+mod narrow;
 mod rows;
 mod rows8;
 mod soft;

@@ -3,7 +3,7 @@
 ghost use Rattle.std.specs.Prelude.{◌≡◌, ◌+◌, ◌/◌, ◌%◌, ◌≤◌, ◌<◌, length, min};
 ghost use Rattle.chacha_base.specs.ChaCha.{keystream, xor_stream};
 ghost use Rattle.chacha_base.specs.Cipher.{limit_of};
-ghost use Rattle.chacha_base.specs.Buffered.{left_at};
+ghost use Rattle.chacha_base.specs.Buffered.{left_at, Follow};
 ghost use Rattle.chacha_base.specs.Counts.{Grows, for_bytes, for_last_part, for_whole_blocks};
 
 use crate::bytes::xor_bytes;
@@ -108,18 +108,20 @@ impl<C: StreamCipherSeekCore> StreamCipher for StreamCipherCoreWrapper<C> {
         buf: &mut [u8],
         steps: &mut Steps,
     ) -> Result<(), StreamCipherError> {
-        // Not by `?`, which also converts the error: the proof would follow that call.
-        if let Err(refusal) = self.check_remaining(buf.len()) {
-            return Err(refusal);
+        // Not by `?`, which also converts the error, and with one return: the proof would follow each more.
+        match self.check_remaining(buf.len()) {
+            Ok(()) => {
+                let begun = self.begun(buf.len());
+                let (front, rest) = buf.split_at_mut(begun);
+                let whole = rest.len() / 64 * 64;
+                let (blocks, last) = rest.split_at_mut(whole);
+                self.apply_begun(front);
+                self.apply_whole(blocks, steps);
+                self.apply_last(last, steps);
+                Ok(())
+            }
+            Err(refusal) => Err(refusal),
         }
-        let begun = self.begun(buf.len());
-        let (front, rest) = buf.split_at_mut(begun);
-        let whole = rest.len() / 64 * 64;
-        let (blocks, last) = rest.split_at_mut(whole);
-        self.apply_begun(front);
-        self.apply_whole(blocks, steps);
-        self.apply_last(last, steps);
-        Ok(())
     }
 
     fn try_apply_keystream_b2b(
@@ -130,22 +132,24 @@ impl<C: StreamCipherSeekCore> StreamCipher for StreamCipherCoreWrapper<C> {
         if input.len() != output.len() {
             return Err(StreamCipherError);
         }
-        if let Err(refusal) = self.check_remaining(input.len()) {
-            return Err(refusal);
+        match self.check_remaining(input.len()) {
+            Ok(()) => {
+                let mut steps = Steps::new();
+                let begun = self.begun(input.len());
+                let (from_front, from_rest) = input.split_at(begun);
+                let (front, rest) = output.split_at_mut(begun);
+                let whole = rest.len() / 64 * 64;
+                let (from_blocks, from_last) = from_rest.split_at(whole);
+                let (blocks, last) = rest.split_at_mut(whole);
+                copy_part(from_front, front);
+                copy_part(from_last, last);
+                self.apply_begun(front);
+                self.apply_whole_between(from_blocks, blocks, &mut steps);
+                self.apply_last(last, &mut steps);
+                Ok(())
+            }
+            Err(too_long) => Err(too_long),
         }
-        let mut steps = Steps::new();
-        let begun = self.begun(input.len());
-        let (from_front, from_rest) = input.split_at(begun);
-        let (front, rest) = output.split_at_mut(begun);
-        let whole = rest.len() / 64 * 64;
-        let (from_blocks, from_last) = from_rest.split_at(whole);
-        let (blocks, last) = rest.split_at_mut(whole);
-        copy_part(from_front, front);
-        copy_part(from_last, last);
-        self.apply_begun(front);
-        self.apply_whole_between(from_blocks, blocks, &mut steps);
-        self.apply_last(last, &mut steps);
-        Ok(())
     }
 }
 
@@ -196,9 +200,8 @@ impl<C: StreamCipherSeekCore> StreamCipherCoreWrapper<C> {
 
     // XORs whole blocks of bytes, from the front of a block on.
     fn apply_whole(&mut self, blocks: &mut [u8], steps: &mut Steps)
-        requires whole { length blocks.old % 64 ≡ 0 }
-        requires front { 0 < length blocks.old → self.old.position % 64 ≡ 0 }
-        requires fits { self.old.position + length blocks.old ≤ limit_of C.modulus }
+        requires { (length blocks.old % 64 ≡ 0)
+            × Follow self.old.position (length blocks.old) (limit_of C.modulus) }
         ensures bytes { blocks.new ≡ xor_stream
             (keystream C.modulus (C.block_at self.old.fixed)) self.old.position blocks.old }
         ensures fixed { self.new.fixed ≡ self.old.fixed }
@@ -216,9 +219,8 @@ impl<C: StreamCipherSeekCore> StreamCipherCoreWrapper<C> {
     // XORs whole blocks of an input into an output, from the front of a block on.
     fn apply_whole_between(&mut self, input: &[u8], blocks: &mut [u8], steps: &mut Steps)
         requires same { length input.now ≡ length blocks.old }
-        requires whole { length blocks.old % 64 ≡ 0 }
-        requires front { 0 < length blocks.old → self.old.position % 64 ≡ 0 }
-        requires fits { self.old.position + length blocks.old ≤ limit_of C.modulus }
+        requires whole { (length blocks.old % 64 ≡ 0)
+            × Follow self.old.position (length blocks.old) (limit_of C.modulus) }
         ensures bytes { blocks.new ≡ xor_stream
             (keystream C.modulus (C.block_at self.old.fixed)) self.old.position input.now }
         ensures fixed { self.new.fixed ≡ self.old.fixed }
@@ -232,9 +234,8 @@ impl<C: StreamCipherSeekCore> StreamCipherCoreWrapper<C> {
 
     // XORs a last part of less than a block, from the front of a block on.
     fn apply_last(&mut self, bytes: &mut [u8], steps: &mut Steps)
-        requires part { length bytes.old < 64 }
-        requires front { 0 < length bytes.old → self.old.position % 64 ≡ 0 }
-        requires fits { self.old.position + length bytes.old ≤ limit_of C.modulus }
+        requires { (length bytes.old < 64)
+            × Follow self.old.position (length bytes.old) (limit_of C.modulus) }
         ensures bytes { bytes.new ≡ xor_stream
             (keystream C.modulus (C.block_at self.old.fixed)) self.old.position bytes.old }
         ensures fixed { self.new.fixed ≡ self.old.fixed }

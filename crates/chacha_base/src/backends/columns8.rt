@@ -5,9 +5,8 @@ ghost use Rattle.chacha_base.specs.Counts.{Grows, for_tail, tail_of_8};
 ghost use Rattle.chacha_base.specs.State.{state_after, AreNextBlocks};
 
 use crate::backends::columns::Columns;
-use crate::backends::group::Interleaved;
-use crate::backends::kernel::{write_buffer, write_group, write_narrow_tail, write_one};
-use crate::backends::rows::Rows;
+use crate::backends::kernel::{write_buffer, write_group, write_one};
+use crate::backends::narrow::{Four, One, write_up_to_8};
 use crate::cipher::{ParBlocksSizeUser, RngBackend, StreamCipherBackend};
 use crate::rounds::{Rounds, Steps};
 use crate::variants::Variant;
@@ -18,16 +17,7 @@ use std::simd::prelude::*;
 #[derive(Clone, Copy, Debug)]
 pub struct Columns8;
 
-// Groups by their number of blocks: one to six in rows, in vectors of four, eight and sixteen words, and eight in
-// columns.
-type One = Rows<u32x4, 1>;
-
-type Two = Rows<u32x8, 1>;
-
-type Four = Rows<u32x16, 1>;
-
-type Six = Interleaved<Four, Two>;
-
+// Eight blocks in columns.
 type Eight = Columns<u32x8>;
 
 impl ParBlocksSizeUser for Columns8 {
@@ -67,13 +57,7 @@ impl<R: Rounds, V: Variant> StreamCipherBackend<R, V> for Columns8 {
         ensures rounds { steps.new.rounds
             ≡ steps.old.rounds + tail_of_8 (length blocks.old) * R.COUNT }
     {
-        match blocks.len() {
-            0 | 1 => write_narrow_tail::<R, V, One, 1, 8>(state, blocks, steps),
-            2 => write_narrow_tail::<R, V, Two, 2, 8>(state, blocks, steps),
-            3 | 4 => write_narrow_tail::<R, V, Four, 4, 8>(state, blocks, steps),
-            5 | 6 => write_narrow_tail::<R, V, Six, 6, 8>(state, blocks, steps),
-            _ => write_narrow_tail::<R, V, Eight, 8, 8>(state, blocks, steps),
-        }
+        write_up_to_8::<R, V, Eight, 8>(state, blocks, steps);
     }
 }
 

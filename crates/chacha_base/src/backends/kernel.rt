@@ -3,7 +3,7 @@
 ghost use Rattle.std.specs.Prelude.{◌≡◌, ◌≤◌, ◌<◌, ◌≢◌, ℕ, ◌+◌, ◌*◌, min, [], length, drop, slice_index_or};
 ghost use Rattle.chacha_base.specs.ChaCha.{legacy, mix};
 ghost use Rattle.chacha_base.specs.State.{state_after, next_block, AreNextBlocks, next_words};
-ghost use Rattle.chacha_base.specs.Counts.{Grows, for_tail, tail_rounds};
+ghost use Rattle.chacha_base.specs.Counts.{Grows, for_tail};
 
 use crate::backends::group::Group;
 use crate::bytes::write_bytes;
@@ -137,29 +137,6 @@ pub fn write_tail<R: Rounds, V: Variant, G: Group, const W: usize>(
         }
         advance::<V>(state, blocks.len());
     }
-}
-
-/// As `write_tail`, for a backend whose single block takes two quarter rounds in a double round. Its tails of seven
-/// and eight blocks take `UP_TO_8`.
-#[inline(always)]
-pub fn write_narrow_tail<R: Rounds, V: Variant, G: Group, const W: usize, const UP_TO_8: usize>(
-    state: &mut [u32; 16],
-    blocks: &mut [[u8; 64]],
-    steps: &mut Steps,
-)
-    requires width { G.BLOCKS ≡ W }
-    requires few { W ≤ 16 }
-    requires within { length blocks.old ≤ W }
-    requires up_to_8 { (2 ≤ UP_TO_8) × (UP_TO_8 ≤ 8) }
-    requires narrowest { min 1 (length blocks.old) * (2 * G.ROUND_STEPS)
-        ≡ tail_rounds UP_TO_8 (length blocks.old) }
-    ensures blocks { AreNextBlocks R.COUNT V.layout state.old (length blocks.old) blocks.new }
-    ensures state { state.new ≡ state_after V.layout (length blocks.old) state.old }
-    ensures steps { Grows (for_tail (2 * R.COUNT) (length blocks.old)) steps.old steps.new }
-    ensures rounds { steps.new.rounds
-        ≡ steps.old.rounds + tail_rounds UP_TO_8 (length blocks.old) * R.COUNT }
-{
-    write_tail::<R, V, G, W>(state, blocks, steps);
 }
 
 /// Writes the words of the next four blocks, in the legacy layout. The counter moves past them.

@@ -6,8 +6,8 @@ ghost use Rattle.chacha_base.specs.State.{state_after, AreNextBlocks};
 
 use crate::backends::columns::Columns;
 use crate::backends::group::Interleaved;
-use crate::backends::kernel::{write_buffer, write_group, write_narrow_tail, write_one};
-use crate::backends::rows::Rows;
+use crate::backends::kernel::{write_buffer, write_group, write_one};
+use crate::backends::narrow::{Four, One, write_narrow_tail, write_up_to_8};
 use crate::cipher::{ParBlocksSizeUser, RngBackend, StreamCipherBackend};
 use crate::rounds::{Rounds, Steps};
 use crate::variants::Variant;
@@ -19,16 +19,7 @@ use std::simd::prelude::*;
 #[derive(Clone, Copy, Debug)]
 pub struct Lanes16;
 
-// Groups in rows, by their number of blocks: one in vectors of four words, two in vectors of eight, four in vectors of
-// sixteen, and more side by side.
-type One = Rows<u32x4, 1>;
-
-type Two = Rows<u32x8, 1>;
-
-type Four = Rows<u32x16, 1>;
-
-type Six = Interleaved<Four, Two>;
-
+// Eight and sixteen blocks in rows, by groups of four side by side.
 type Eight = Interleaved<Four, Four>;
 
 type Sixteen = Interleaved<Eight, Eight>;
@@ -70,13 +61,10 @@ impl<R: Rounds, V: Variant> StreamCipherBackend<R, V> for Lanes16 {
         ensures rounds { steps.new.rounds
             ≡ steps.old.rounds + tail_of_16 (length blocks.old) * R.COUNT }
     {
-        match blocks.len() {
-            0 | 1 => write_narrow_tail::<R, V, One, 1, 4>(state, blocks, steps),
-            2 => write_narrow_tail::<R, V, Two, 2, 4>(state, blocks, steps),
-            3 | 4 => write_narrow_tail::<R, V, Four, 4, 4>(state, blocks, steps),
-            5 | 6 => write_narrow_tail::<R, V, Six, 6, 4>(state, blocks, steps),
-            7 | 8 => write_narrow_tail::<R, V, Eight, 8, 4>(state, blocks, steps),
-            _ => write_narrow_tail::<R, V, Sixteen, 16, 4>(state, blocks, steps),
+        if blocks.len() <= 8 {
+            write_up_to_8::<R, V, Eight, 4>(state, blocks, steps);
+        } else {
+            write_narrow_tail::<R, V, Sixteen, 16, 4>(state, blocks, steps);
         }
     }
 }

@@ -3,33 +3,28 @@ use Rattle.chacha_base.specs.ChaCha.{keystream, xor_stream}
 use Rattle.chacha_base.proofs.BufferedLemmas.{none-is_empty, xor_stream-is_empty, at-whole, counter-at_front, begins-not_empty}
 use Rattle.chacha_base.proofs.wrapper.StreamCipherCoreWrapper.apply_whole.Goals as goal
 
-pub returns-then-not-is_empty-clause-bytes : goal.returns-then-not-is_empty-clause-bytes
-returns-then-not-is_empty-clause-bytes g c =
+pub returns-then-not-is_empty : goal.returns-then-not-is_empty
+returns-then-not-is_empty g c =
     let begins = begins-not_empty _ (length c.args.blocks.now) c.is_empty.ensures c.if-not-is_empty.true
-    c.requires.front c.requires.fits in
-    c.apply_blocks_counted.ensures.data
-    ∙ ap₂ (λ f p. xor_stream (keystream g.C.Keystream.modulus (g.C.Keystream.block_at f)) p c.args.blocks.now)
-    (ap (λ v. v.fixed) c.self.view_is)
-    (counter-at_front c.self.invariant (ap (λ v. v.position) c.self.view_is) begins)
-
-pub returns-then-not-is_empty-clause-steps : goal.returns-then-not-is_empty-clause-steps
-returns-then-not-is_empty-clause-steps g c = c.apply_blocks_counted.ensures.steps
+    c.requires.1 in
+    record {
+      bytes = c.apply_blocks_counted.ensures.data
+          ∙ ap₂ (λ f p. xor_stream (keystream g.C.Keystream.modulus (g.C.Keystream.block_at f)) p c.args.blocks.now)
+          (ap (λ v. v.fixed) c.self.view_is)
+          (counter-at_front c.self.invariant (ap (λ v. v.position) c.self.view_is) begins);
+      fixed = c.apply_blocks_counted.ensures.fixed ∙ ap (λ v. v.fixed) c.self.view_is;
+      position = omega (arith, ap (λ v. v.position) c.self.view_is);
+      steps = c.apply_blocks_counted.ensures.steps;
+    }
 
 pub invariant_of-self : goal.invariant_of-self
 invariant_of-self g c =
     let begins = begins-not_empty _ (length c.args.blocks.now) c.is_empty.ensures c.if-not-is_empty.true
-    c.requires.front c.requires.fits in
-    at-whole c.self.invariant (ap (λ v. v.position) c.self.view_is) begins c.requires.whole
+    c.requires.1 in
+    at-whole c.self.invariant (ap (λ v. v.position) c.self.view_is) begins c.requires.0
     c.apply_blocks_counted.auto.data c.apply_blocks_counted.ensures.counter
 
--- answered for speed
-pub returns-then-not-is_empty-clause-fixed : goal.returns-then-not-is_empty-clause-fixed
-returns-then-not-is_empty-clause-fixed g c = c.apply_blocks_counted.ensures.fixed ∙ ap (λ v. v.fixed) c.self.view_is
-
--- answered for speed, as the next ones
-pub returns-then-not-is_empty-clause-position : goal.returns-then-not-is_empty-clause-position
-returns-then-not-is_empty-clause-position g c = omega (arith, ap (λ v. v.position) c.self.view_is)
-
+-- answered for speed, as the next one
 pub returns-else-not-is_empty-clause-bytes : goal.returns-else-not-is_empty-clause-bytes
 returns-else-not-is_empty-clause-bytes g c =
     xor_stream-is_empty _ _ c.args.blocks.now c.args.blocks.now refl c.is_empty.ensures c.if-not-is_empty.false

@@ -1,4 +1,4 @@
-use Rattle.chacha_base.proofs.backends.columns8.Columns8StreamCipherBackend.gen_tail_blocks.Goals as goal
+use Rattle.chacha_base.proofs.backends.narrow.write_up_to_8.Goals as goal
 
 -- answered for speed, as the next ones
 pub returns-in-3 : goal.returns-in-3

@@ -1,6 +1,6 @@
 use Rattle.std.proofs.Common.{◌+◌, ◌*◌, length, ap, ◌∙◌}
 use Rattle.chacha_base.proofs.CountsLemmas.{grows-narrow}
-use Rattle.chacha_base.proofs.backends.kernel.write_narrow_tail.Goals as goal
+use Rattle.chacha_base.proofs.backends.narrow.write_narrow_tail.Goals as goal
 
 pub returns-clause-rounds : goal.returns-clause-rounds
 returns-clause-rounds g c =
