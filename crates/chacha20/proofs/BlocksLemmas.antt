@@ -1,5 +1,6 @@
--- Blocks written, and bytes XORed with blocks, group by group, as the engine does it. The proofs of `write_keystream_blocks`,
--- `apply_through` and `xor_blocks` cite these. Read `xored_at` and `applied` of `Blocks` first.
+-- Blocks written, and bytes XORed with blocks, group by group, as the engine does it. The proofs of
+-- `write_keystream_blocks`, `apply_through` and `xor_blocks` cite these. Read `xored_at` and `applied` of `Blocks`
+-- first.
 use Rattle.std.proofs.Common.{◌≡◌, ℕ, ◌+◌, ◌*◌, ◌/◌, ◌%◌, ◌<◌, ◌≤◌, Some, List, [], ◌++◌, length, take, drop, slice_get, slice_index, slice_index_or, arith, refl, sym, ap, ap₂, ◌∙◌, append_assoc, length-drop, length-take-le, take_at, drop_at, drop-drop}
 use borrow.Rule.Slice.PartMut.{put_mid, same_len_mid}
 use Rattle.std.proofs.lemmas.Option.{get_or_from_slice_get}
@@ -35,7 +36,8 @@ xor_stream-blocks modulus block c blocks xs whole made =
     (ap (λ b. slice_index b (i % 64)) (get_or_from_slice_get blocks (i / 64) _ [] (made (i / 64) (omega arith)))))
 
 -- blocks that are written: the first `a` from the state s on, and a state t that goes on behind them
-pub record AreMadeBefore (n : ℕ) (layout : Layout) (s : List ℕ) (a : ℕ) (t : List ℕ) (now : List (List ℕ)) : Type 0 where
+pub record AreMadeBefore (n : ℕ) (layout : Layout) (s : List ℕ) (a : ℕ) (t : List ℕ) (now : List (List ℕ))
+    : Type 0 where
   pub within : a ≤ length now
   pub goes_on : (j : ℕ) → state_after layout j t ≡ state_after layout (a + j) s
   pub done : AreNextBlocks n layout s a now

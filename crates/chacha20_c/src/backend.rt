@@ -8,8 +8,8 @@ use chacha20::{Rounds, Steps, Variant};
 // The backend of fewer blocks than a group has.
 type Eight = Columns8;
 
-/// Makes as many blocks at once as `Group` of the level does, and a tail of eight or more in two calls: the first eight,
-/// and the rest. It counts nothing. It has one name at all levels, so that the exports are proved once.
+/// Makes as many blocks at once as `Group` of the level does, and a tail of eight or more in two calls: first eight,
+/// then the rest. It counts nothing. It has one name at all levels, so that the exports are proved once.
 pub(crate) struct Backend;
 
 impl ParBlocksSizeUser for Backend {

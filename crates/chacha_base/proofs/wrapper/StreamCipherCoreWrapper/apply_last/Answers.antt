@@ -15,7 +15,8 @@ returns-then-not-is_empty g c =
           c.args.bytes.now) (ap (λ v. v.fixed) c.self.view_is);
       fixed = c.write_block_counted.ensures.fixed ∙ ap (λ v. v.fixed) c.self.view_is;
       position = omega (arith, ap (λ v. v.position) c.self.view_is);
-      steps = grows-last g.C.StreamCipherCore.one_cost (length c.args.bytes.now) begins.some c.write_block_counted.ensures.steps;
+      steps = grows-last g.C.StreamCipherCore.one_cost (length c.args.bytes.now) begins.some
+          c.write_block_counted.ensures.steps;
     }
 
 pub invariant_of-self : goal.invariant_of-self

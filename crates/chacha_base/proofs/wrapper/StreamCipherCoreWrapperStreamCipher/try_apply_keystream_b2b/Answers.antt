@@ -42,8 +42,8 @@ returns-in-Ok g c =
           (c.apply_whole_between.ensures.fixed ∙ kept)));
       fixed = c.apply_last.ensures.fixed ∙ c.apply_whole_between.ensures.fixed ∙ kept;
       position = (parts c.if-input-output.false c.begun-begun.ensures (c.copy_part.auto.output ∙ ends.front_len)
-          ends.back_len back.front_len back.back_len c.copy_part-in-Ok.auto.output c.apply_begun.ensures.position within).end
-          c.apply_whole_between.ensures.position c.apply_last.ensures.position;
+          ends.back_len back.front_len back.back_len c.copy_part-in-Ok.auto.output c.apply_begun.ensures.position
+          within).end c.apply_whole_between.ensures.position c.apply_last.ensures.position;
       refused = tt;
     }
 

@@ -28,7 +28,8 @@ returns-in-Ok g c =
           front.value c.apply_begun.ensures.position c.apply_begun.ensures.bytes
           (xor_stream-parts stream begun.position ends.0.now ends.1.now
           back.value c.apply_whole.ensures.position
-          (c.apply_whole.ensures.bytes ∙ ap (λ f. xor_stream (keystream modulus (block f)) begun.position ends.0.now) kept)
+          (c.apply_whole.ensures.bytes
+          ∙ ap (λ f. xor_stream (keystream modulus (block f)) begun.position ends.0.now) kept)
           (c.apply_last.ensures.bytes
           ∙ ap (λ f. xor_stream (keystream modulus (block f)) whole.position ends.1.now)
           (c.apply_whole.ensures.fixed ∙ kept)));
