@@ -108,7 +108,7 @@ impl<C: StreamCipherSeekCore> StreamCipher for StreamCipherCoreWrapper<C> {
         buf: &mut [u8],
         steps: &mut Steps,
     ) -> Result<(), StreamCipherError> {
-        // Not by `?`, which also converts the error, and with one return: the proof would follow each more.
+        // Not by `?`, which also converts the error, nor by an early return: either makes the proof longer.
         match self.check_remaining(buf.len()) {
             Ok(()) => {
                 let begun = self.begun(buf.len());

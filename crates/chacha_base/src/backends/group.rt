@@ -54,7 +54,7 @@ pub trait Group: Sized {
         ensures { (g : ℕ) → g < BLOCKS → words_of result g
             ≡ with_last_row state.now (slice_index_or last_rows.now g []) };
 
-    /// A copy. `Copy` instead would make the bounds of nested groups many times as long, and so their proofs.
+    /// A copy. With `Copy` as a supertrait, bounds of nested groups would take many times as long to prove.
     fn copied(&self) -> Self
         ensures { result ≡ self.now };
 
