@@ -3,7 +3,7 @@ use Rattle.std.proofs.Common.{◌≡◌, ◌≢◌, ◌≤◌, ◌+◌, ◌-◌,
 use Rattle.std.proofs.lemmas.Bool.{eqb-true, eq-eqb, true≢false}
 use Rattle.std.proofs.lemmas.List.{nil_from_length}
 use Rattle.chacha20.specs.ChaCha.{xor_stream}
-use Rattle.chacha20.proofs.KeystreamLemmas.{length-xor_stream, take-xor_stream, window-xor_stream, xor_stream-parts, xor_stream-xor_stream, xor_stream-zeros}
+use Rattle.chacha20.proofs.KeystreamLemmas.{length-xor_stream, take-xor_stream, window-xor_stream, xor_stream-parts, xor_stream-zeros}
 use Rattle.aead.specs.Aead.{mac_key}
 use Rattle.aead.specs.Front.{HasFront}
 
@@ -78,7 +78,3 @@ module _ {stream : ℕ → ℕ} {front made message first rest new : List ℕ}
       let nothing = nil_from_length rest (eqb-true (length rest) 0 (sym is ∙ none)) in
       xor_stream-parts stream 64 first rest two.parts refl first-part
       (nothing ∙ sym (ap (xor_stream stream (64 + length first)) nothing))
-
--- decryption undoes encryption
-pub encrypted_twice : (stream : ℕ → ℕ) (text : List ℕ) → xor_stream stream 64 (xor_stream stream 64 text) ≡ text
-encrypted_twice stream text = xor_stream-xor_stream stream 64 text

@@ -7,7 +7,7 @@ ghost use Rattle.aead.specs.Aead.{encrypted, poly1305_tag, sealed_message};
 
 use crate::error::AeadError;
 use crate::mac::tag_of;
-use crate::message::{FRONT, apply, apply_between, begin, begin_verified, mac_key};
+use crate::message::{FRONT, apply, apply_between, begin, begin_verified, front_len, mac_key};
 use chacha20::Key;
 use chacha20::cipher::{KeyIvInit, StreamCipher};
 use poly1305::Tag;
@@ -80,19 +80,15 @@ impl<C: KeyIvInit<Key = Key> + StreamCipher + Drop> ChaChaPoly1305<C> {
         ensures refused { OnErr result (message.new ≡ message.old) }
     {
         let mut space = [0; FRONT];
+        let front = &mut space[..front_len(message.len())];
         let mut cipher = C::new(&self.key, nonce);
-        match begin(&mut cipher, message, &mut space) {
-            Ok(front) => {
-                apply(&mut cipher, front, message);
-                Ok(tag_of(&mac_key(front), aad, message))
-            }
-            Err(error) => Err(error),
-        }
+        begin(&mut cipher, message, front)?;
+        apply(&mut cipher, front, message);
+        Ok(tag_of(&mac_key(front), aad, message))
     }
 
     /// Checks the tag, and decrypts the message in place. Fails if the message is too long or the tag isn't that of
     /// `aad` and the message, and then leaves the message as it was.
-    #[tactic(auto, using(crate::proofs::MessageLemmas::encrypted_twice))]
     pub fn decrypt_in_place_detached(
         &self,
         nonce: &C::Iv,
@@ -116,14 +112,11 @@ impl<C: KeyIvInit<Key = Key> + StreamCipher + Drop> ChaChaPoly1305<C> {
         ensures refused { OnErr result (message.new ≡ message.old) }
     {
         let mut space = [0; FRONT];
+        let front = &mut space[..front_len(message.len())];
         let mut cipher = C::new(&self.key, nonce);
-        match begin_verified(&mut cipher, aad, message, tag, &mut space) {
-            Ok(front) => {
-                apply(&mut cipher, front, message);
-                Ok(())
-            }
-            Err(error) => Err(error),
-        }
+        begin_verified(&mut cipher, aad, message, tag, front)?;
+        apply(&mut cipher, front, message);
+        Ok(())
     }
 
     /// `encrypt_in_place_detached` from a text into an output as long.
@@ -145,18 +138,14 @@ impl<C: KeyIvInit<Key = Key> + StreamCipher + Drop> ChaChaPoly1305<C> {
         ensures refused { OnErr result (output.new ≡ output.old) }
     {
         let mut space = [0; FRONT];
+        let front = &mut space[..front_len(text.len())];
         let mut cipher = C::new(&self.key, nonce);
-        match begin(&mut cipher, text, &mut space) {
-            Ok(front) => {
-                apply_between(&mut cipher, front, text, output);
-                Ok(tag_of(&mac_key(front), aad, output))
-            }
-            Err(error) => Err(error),
-        }
+        begin(&mut cipher, text, front)?;
+        apply_between(&mut cipher, front, text, output);
+        Ok(tag_of(&mac_key(front), aad, output))
     }
 
     /// `decrypt_in_place_detached` from a ciphertext into an output as long.
-    #[tactic(auto, using(crate::proofs::MessageLemmas::encrypted_twice))]
     pub fn decrypt_detached(
         &self,
         nonce: &C::Iv,
@@ -182,14 +171,11 @@ impl<C: KeyIvInit<Key = Key> + StreamCipher + Drop> ChaChaPoly1305<C> {
         ensures refused { OnErr result (output.new ≡ output.old) }
     {
         let mut space = [0; FRONT];
+        let front = &mut space[..front_len(ciphertext.len())];
         let mut cipher = C::new(&self.key, nonce);
-        match begin_verified(&mut cipher, aad, ciphertext, tag, &mut space) {
-            Ok(front) => {
-                apply_between(&mut cipher, front, ciphertext, output);
-                Ok(())
-            }
-            Err(error) => Err(error),
-        }
+        begin_verified(&mut cipher, aad, ciphertext, tag, front)?;
+        apply_between(&mut cipher, front, ciphertext, output);
+        Ok(())
     }
 
     /// Writes the sealed message of a text: the ciphertext, and behind it the tag, 16 bytes. Fails if the text has more
@@ -216,13 +202,9 @@ impl<C: KeyIvInit<Key = Key> + StreamCipher + Drop> ChaChaPoly1305<C> {
         ensures refused { OnErr result (output.new ≡ output.old) }
     {
         let (ciphertext, place) = output.split_at_mut(text.len());
-        match self.encrypt_detached(nonce, aad, text, ciphertext) {
-            Ok(tag) => {
-                place.copy_from_slice(&tag);
-                Ok(())
-            }
-            Err(error) => Err(error),
-        }
+        let tag = self.encrypt_detached(nonce, aad, text, ciphertext)?;
+        place.copy_from_slice(&tag);
+        Ok(())
     }
 
     /// Checks the tag, the last 16 bytes of a sealed message, and writes its text. Fails if the text is too long or the

@@ -1,6 +1,6 @@
 //! One cipher for a message: one call makes block 0 and encrypts the message's front, another the rest.
 
-ghost use Rattle.std.specs.Prelude.{◌≡◌, ◌≢◌, ◌↔◌, ◌≤◌, ◌<◌, ◌+◌, ◌%◌, length, take, IsOk, IfOk, OnOk, IfErr, IsErrOf};
+ghost use Rattle.std.specs.Prelude.{◌≡◌, ◌≢◌, ◌↔◌, ◌≤◌, ◌<◌, ◌+◌, ◌%◌, length, take, IsOk, OnOk, IfErr, IsErrOf};
 ghost use Rattle.chacha20.specs.ChaCha.{keystream};
 ghost use Rattle.chacha20.specs.Cipher.{limit_of};
 ghost use Rattle.aead.specs.Aead.{mac_key, encrypted, poly1305_tag};
@@ -15,10 +15,10 @@ use poly1305::{Tag, is_equal};
 /// The most bytes of a front.
 pub const FRONT: usize = 512;
 
-// The bytes of a message's front: those of block 0, and of all blocks of a short message. Of a longer one, of so many
-// that a multiple of four or eight whole blocks is left, since ciphers make four, eight or sixteen at once. Of `APART`
-// bytes it is block 0 alone.
-fn front_len(len: usize) -> usize
+/// The bytes of a message's front: those of block 0, and of all blocks of a short message. Of a longer one, of so many
+/// that a multiple of four or eight whole blocks is left, since ciphers make four, eight or sixteen at once. Of `APART`
+/// bytes it is block 0 alone.
+pub fn front_len(len: usize) -> usize
     ensures whole { result % 64 ≡ 0 }
     ensures bounds { (64 ≤ result) × (result ≤ 512) }
     ensures needed { result < 128 + len }
@@ -35,47 +35,49 @@ fn front_len(len: usize) -> usize
     64 + 64 * blocks
 }
 
-/// Makes a front, and returns it: block 0, and behind it the front of the text, encrypted. The cipher, which is new,
-/// moves behind them. Fails if the text has more bytes than the keystream from block 1 on.
-pub fn begin<'a, C: StreamCipher>(
+/// Writes block 0 into `front`, and behind it the front of the text, encrypted. The cipher, which is new, moves behind
+/// them. Fails if the text has more bytes than the keystream from block 1 on.
+pub fn begin<C: StreamCipher>(
     cipher: &mut C,
     text: &[u8],
-    space: &'a mut [u8; FRONT],
-) -> Result<&'a [u8], AeadError>
+    front: &mut [u8],
+) -> Result<(), AeadError>
     requires start { C.position cipher.old ≡ 0 }
+    requires whole { length front.old % 64 ≡ 0 }
+    requires some { 64 ≤ length front.old }
+    requires needed { length front.old < 128 + length text.now }
     ensures accepted { IsOk result ↔ (64 + length text.now ≤ limit_of C.modulus) }
     ensures too_long { IfErr result (λ e. e ≡ AeadError.TooLong) }
-    ensures some { IfOk result (λ front. 64 ≤ length front.now) }
     ensures mac_key { let stream = keystream C.modulus (C.block_at (C.fixed cipher.old)) in
-        IfOk result (λ front. take 32 front.now ≡ mac_key stream) }
+        OnOk result (take 32 front.new ≡ mac_key stream) }
     ensures front { let stream = keystream C.modulus (C.block_at (C.fixed cipher.old)) in
-        IfOk result (λ front. HasFront stream text.now front.now) }
+        OnOk result (HasFront stream text.now front.new) }
     ensures fixed { OnOk result (C.fixed cipher.new ≡ C.fixed cipher.old) }
-    ensures position { IfOk result (λ front. C.position cipher.new ≡ length front.now) }
+    ensures position { OnOk result (C.position cipher.new ≡ length front.old) }
 {
-    match cipher.check_remaining(64 + text.len()) {
-        Ok(()) => {
-            let front = &mut space[..front_len(text.len())];
-            let (block_0, made) = front.split_at_mut(64);
-            block_0.copy_from_slice(&[0; 64]);
-            let (place, _) = made.split_at_mut(text.len().min(made.len()));
-            place.copy_from_slice(&text[..place.len()]);
-            cipher.apply_keystream(front);
-            Ok(front)
-        }
-        Err(_) => Err(AeadError::TooLong),
+    if cipher.check_remaining(64 + text.len()).is_err() {
+        return Err(AeadError::TooLong);
     }
+    let (block_0, made) = front.split_at_mut(64);
+    block_0.copy_from_slice(&[0; 64]);
+    let (place, _) = made.split_at_mut(text.len().min(made.len()));
+    place.copy_from_slice(&text[..place.len()]);
+    cipher.apply_keystream(front);
+    Ok(())
 }
 
 /// `begin` of a ciphertext. Also fails if the tag isn't that of `aad` and the ciphertext.
-pub fn begin_verified<'a, C: StreamCipher>(
+pub fn begin_verified<C: StreamCipher>(
     cipher: &mut C,
     aad: &[u8],
     ciphertext: &[u8],
     tag: &Tag,
-    space: &'a mut [u8; FRONT],
-) -> Result<&'a [u8], AeadError>
+    front: &mut [u8],
+) -> Result<(), AeadError>
     requires start { C.position cipher.old ≡ 0 }
+    requires whole { length front.old % 64 ≡ 0 }
+    requires some { 64 ≤ length front.old }
+    requires needed { length front.old < 128 + length ciphertext.now }
     ensures accepted { let stream = keystream C.modulus (C.block_at (C.fixed cipher.old)) in
         IsOk result ↔ ((64 + length ciphertext.now ≤ limit_of C.modulus)
         × (tag.now ≡ poly1305_tag stream aad.now ciphertext.now)) }
@@ -84,23 +86,17 @@ pub fn begin_verified<'a, C: StreamCipher>(
     ensures wrong_tag { let stream = keystream C.modulus (C.block_at (C.fixed cipher.old)) in
         IsErrOf result AeadError.WrongTag ↔ ((64 + length ciphertext.now ≤ limit_of C.modulus)
         × (tag.now ≢ poly1305_tag stream aad.now ciphertext.now)) }
-    ensures some { IfOk result (λ front. 64 ≤ length front.now) }
     ensures front { let stream = keystream C.modulus (C.block_at (C.fixed cipher.old)) in
-        IfOk result (λ front. HasFront stream ciphertext.now front.now) }
+        OnOk result (HasFront stream ciphertext.now front.new) }
     ensures fixed { OnOk result (C.fixed cipher.new ≡ C.fixed cipher.old) }
-    ensures position { IfOk result (λ front. C.position cipher.new ≡ length front.now) }
+    ensures position { OnOk result (C.position cipher.new ≡ length front.old) }
 {
-    match begin(cipher, ciphertext, space) {
-        Ok(front) => {
-            let expected = tag_of(&mac_key(front), aad, ciphertext);
-            if !is_equal(expected, tag) {
-                Err(AeadError::WrongTag)
-            } else {
-                Ok(front)
-            }
-        }
-        Err(error) => Err(error),
+    begin(cipher, ciphertext, front)?;
+    let expected = tag_of(&mac_key(front), aad, ciphertext);
+    if !is_equal(expected, tag) {
+        return Err(AeadError::WrongTag);
     }
+    Ok(())
 }
 
 /// The MAC's key (RFC 8439, section 2.6): the first half of block 0.

@@ -1,11 +1,11 @@
-use Rattle.std.proofs.Common.{◌∙◌, refl, ap, sym}
+use Rattle.std.proofs.Common.{◌≡◌, ◌∙◌, IsErrAnd, refl, ap, sym, subst}
 use Rattle.poly1305.specs.Poly1305.{poly1305}
 use Rattle.aead.specs.Aead.{mac_text}
 use Rattle.aead.proofs.message.begin_verified.Goals as goal
 
-pub returns-else-not-is_equal-clause-accepted : goal.returns-else-not-is_equal-clause-accepted
-returns-else-not-is_equal-clause-accepted g c =
-    let begun = c.in-Ok.ensures in
+pub returns-clause-accepted : goal.returns-clause-accepted
+returns-clause-accepted g c =
+    let begun = c.in_ok-begin.ensures in
     let text = mac_text c.args.aad.now c.args.ciphertext.now in (
       λ ok. (
         begun.accepted.0 refl,
@@ -14,3 +14,10 @@ returns-else-not-is_equal-clause-accepted g c =
       ),
       λ right. refl,
     )
+
+-- answered for speed
+pub returns-clause-wrong_tag : goal.returns-clause-wrong_tag
+returns-clause-wrong_tag g c = (
+  λ err. absurd (subst (λ r. IsErrAnd r (λ e. e ≡ e)) (sym err) refl),
+  λ wrong. absurd (wrong.1 ((returns-clause-accepted g c).0 refl).1),
+)
