@@ -36,13 +36,13 @@ xor_stream-blocks modulus block c blocks xs whole made =
     (ap (λ b. slice_index b (i % 64)) (get_or_from_slice_get blocks (i / 64) _ [] (made (i / 64) (omega arith)))))
 
 -- blocks that are written: the first `a` from the state s on, and a state t that goes on behind them
-pub record AreMadeBefore (n : ℕ) (layout : Layout) (s : List ℕ) (a : ℕ) (t : List ℕ) (now : List (List ℕ))
+pub record AreMade (n : ℕ) (layout : Layout) (s : List ℕ) (a : ℕ) (t : List ℕ) (now : List (List ℕ))
     : Type 0 where
   pub within : a ≤ length now
   pub goes_on : (j : ℕ) → state_after layout j t ≡ state_after layout (a + j) s
   pub done : AreNextBlocks n layout s a now
 
-pub none-made : {n : ℕ} {layout : Layout} (s : List ℕ) (now : List (List ℕ)) → AreMadeBefore n layout s 0 s now
+pub none-made : {n : ℕ} {layout : Layout} (s : List ℕ) (now : List (List ℕ)) → AreMade n layout s 0 s now
 none-made {layout = layout} s now = record {
   within = omega arith;
   goes_on = λ j. let all : j ≡ 0 + j = omega arith in ap (λ i. state_after layout i s) all;
@@ -50,12 +50,12 @@ none-made {layout = layout} s now = record {
 }
 
 -- and the next k, as a call made them: then the state is the one behind them
-pub made-before-more : {n : ℕ} {layout : Layout} {s t u : List ℕ} {a : ℕ} {now : List (List ℕ)} (k e : ℕ)
-    (part : List (List ℕ)) → length s ≡ 16 → AreMadeBefore n layout s a t now → a + k ≡ e → e ≤ length now
+pub made-more : {n : ℕ} {layout : Layout} {s t u : List ℕ} {a : ℕ} {now : List (List ℕ)} (k e : ℕ)
+    (part : List (List ℕ)) → length s ≡ 16 → AreMade n layout s a t now → a + k ≡ e → e ≤ length now
     → (let l = length (take k (drop a now)) in
     length part ≡ l → AreNextBlocks n layout t l part → u ≡ state_after layout l t
-    → AreMadeBefore n layout s e u (put_mid a k now part) × (u ≡ state_after layout e s))
-made-before-more {n} {layout} {s} {t} {u} {a} {now} k e part sixteen held all room count made moved =
+    → AreMade n layout s e u (put_mid a k now part) × (u ≡ state_after layout e s))
+made-more {n} {layout} {s} {t} {u} {a} {now} k e part sixteen held all room count made moved =
     let long = part_long a k now (omega arith) in
     let behind : u ≡ state_after layout e s =
     let sum : a + length (take k (drop a now)) ≡ e = omega (arith, long) in
@@ -69,27 +69,6 @@ made-before-more {n} {layout} {s} {t} {u} {a} {now} k e part sixteen held all ro
       },
       behind,
     )
-
--- the same with a state that is known to be the one behind the blocks, as the exports for C have it
-pub record AreMade (n : ℕ) (layout : Layout) (s : List ℕ) (a : ℕ) (t : List ℕ) (now : List (List ℕ)) : Type 0 where
-  pub within : a ≤ length now
-  pub state : t ≡ state_after layout a s
-  pub done : AreNextBlocks n layout s a now
-
--- and the next k, as a call made them
-pub made-more : {n : ℕ} {layout : Layout} {s t u : List ℕ} {a : ℕ} {now : List (List ℕ)} (k e : ℕ)
-    (part : List (List ℕ)) → length s ≡ 16 → AreMade n layout s a t now → a + k ≡ e → e ≤ length now
-    → (let l = length (take k (drop a now)) in
-    length part ≡ l → AreNextBlocks n layout t l part → u ≡ state_after layout l t
-    → AreMade n layout s e u (put_mid a k now part))
-made-more {n} {layout} {s} {t} {a = a} {now = now} k e part sixteen held all room count made moved =
-    let before : AreMadeBefore n layout s a t now = record {
-      within = held.within;
-      goes_on = λ j. ap (state_after layout j) held.state ∙ state_after-state_after layout a j s sixteen;
-      done = held.done;
-    } in
-    let more = made-before-more k e part sixteen before all room count made moved in
-    record { within = more.0.within; state = more.1; done = more.0.done }
 
 -- bytes that are combined, k of them: i blocks on from the state s and the bytes old
 pub record IsAt (n : ℕ) (layout : Layout) (k : ℕ) (s old : List ℕ) (i : ℕ) (t now : List ℕ) : Type 0 where

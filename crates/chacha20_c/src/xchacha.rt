@@ -9,7 +9,7 @@ ghost use Rattle.chacha20_c.specs.Results.{Written, Xored, XoredInto};
 use crate::chacha;
 use chacha20::{Key, Nonce, R8, R12, R20, Rounds, XNonce, hchacha};
 
-// XChaCha is ChaCha under a derived key and nonce (draft-irtf-cfrg-xchacha, section 2.3): these two.
+// The key and the nonce under which ChaCha is XChaCha (draft-irtf-cfrg-xchacha, section 2.3).
 
 pub(crate) fn subkey<R: Rounds>(key: &Key, nonce: &XNonce) -> Key
     ensures { result ≡ subkey R.COUNT key.now nonce.now }

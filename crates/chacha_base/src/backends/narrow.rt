@@ -12,8 +12,8 @@ use crate::rounds::{Rounds, Steps};
 use crate::variants::Variant;
 use std::simd::prelude::*;
 
-/// Groups in rows, by their number of blocks: one in vectors of four words, two in vectors of eight, four in vectors of
-/// sixteen, and six side by side.
+// Groups in rows, by their number of blocks: one in vectors of four words, two in vectors of eight, four in vectors of
+// sixteen, and six as four and two side by side.
 pub type One = Rows<u32x4, 1>;
 
 pub type Two = Rows<u32x8, 1>;
