@@ -1,27 +1,39 @@
 //! The calls that a line can name, and their answers.
 
-use crate::text::{Bytes, read_array, read_number, split_word};
+use crate::text::{Bytes, Operand, read_number, split_word};
 use chacha20::{CipherCall, RngCall, Seed, SerializedRngState};
 
 /// A call on a cipher, on a generator, or on a core, whose block position is called as that of a generator.
 #[derive(Clone, Copy)]
 pub enum Call {
     Cipher(CipherCall),
-    /// Positions in types that `CipherCall` lacks.
-    SeekU32(u128),
-    SeekU64(u128),
-    SeekUsize(u128),
-    PosU32,
-    PosU64,
-    PosUsize,
+    /// In a type that `CipherCall` lacks: a seek to a position or, without one, the current position.
+    InType(Type, Option<u128>),
     Rng(RngCall),
     /// `==` with the generator of a stored state.
     Equals(SerializedRngState),
     RemainingBlocks,
     WriteBlock(Range),
     WriteBlocks(Range),
-    /// `hchacha`.
-    Subkey,
+}
+
+/// A type of positions.
+#[derive(Clone, Copy)]
+pub enum Type {
+    U32,
+    U64,
+    Usize,
+}
+
+impl Type {
+    /// Its greatest value.
+    pub fn max(self) -> u128 {
+        match self {
+            Type::U32 => u128::from(u32::MAX),
+            Type::U64 => u128::from(u64::MAX),
+            Type::Usize => usize::MAX as u128,
+        }
+    }
 }
 
 /// An answer to a call.
@@ -90,7 +102,7 @@ pub fn read_call(text: &'static str, data: &mut Bytes) -> Option<Call> {
         "b2b" => Some(Call::Cipher(read_b2b(operand, data))),
         "write_keystream_block" => Some(Call::WriteBlock(room("1", 64, data))),
         "write_keystream_blocks" => Some(Call::WriteBlocks(room(operand, 64, data))),
-        "equals" => match read_array(operand) {
+        "equals" => match Operand::read(operand) {
             Some(state) => Some(Call::Equals(state)),
             None => None,
         },
@@ -129,12 +141,12 @@ fn range_from(at: usize, data: &Bytes) -> Range {
     Range { at, len }
 }
 
-static WITHOUT_OPERAND: [(&str, Call); 15] = [
+static WITHOUT_OPERAND: [(&str, Call); 14] = [
     ("pos i32", Call::Cipher(CipherCall::PosI32)),
-    ("pos u32", Call::PosU32),
-    ("pos u64", Call::PosU64),
+    ("pos u32", Call::InType(Type::U32, None)),
+    ("pos u64", Call::InType(Type::U64, None)),
     ("pos u128", Call::Cipher(CipherCall::Pos)),
-    ("pos usize", Call::PosUsize),
+    ("pos usize", Call::InType(Type::Usize, None)),
     ("next_u32", Call::Rng(RngCall::NextU32)),
     ("next_u64", Call::Rng(RngCall::NextU64)),
     ("get_word_pos", Call::Rng(RngCall::GetWordPos)),
@@ -144,7 +156,6 @@ static WITHOUT_OPERAND: [(&str, Call); 15] = [
     ("serialize_state", Call::Rng(RngCall::Serialize)),
     ("reload", Call::Rng(RngCall::Reload)),
     ("remaining_blocks", Call::RemainingBlocks),
-    ("subkey", Call::Subkey),
 ];
 
 fn read_call_without_data(text: &'static str) -> Option<Call> {
@@ -170,10 +181,10 @@ fn read_seek_i32(text: &str) -> Option<Call> {
 
 fn read_call_with_number(name: &str, number: u128) -> Option<Call> {
     match name {
-        "seek u32" => Some(Call::SeekU32(number)),
-        "seek u64" => Some(Call::SeekU64(number)),
+        "seek u32" => Some(Call::InType(Type::U32, Some(number))),
+        "seek u64" => Some(Call::InType(Type::U64, Some(number))),
         "seek u128" => Some(Call::Cipher(CipherCall::Seek(number))),
-        "seek usize" => Some(Call::SeekUsize(number)),
+        "seek usize" => Some(Call::InType(Type::Usize, Some(number))),
         "set_word_pos" => Some(Call::Rng(RngCall::SetWordPos(number))),
         _ => match u64::try_from(number) {
             Ok(number) => read_call_with_u64(name, number),

@@ -2,10 +2,9 @@
 
 use crate::calls::{Answer, Call, Range, read_call};
 use crate::text::{Bytes, Case, Data, read_number};
-use std::fmt::{self, Display, Formatter};
 
 /// A way to make calls.
-#[derive(Clone, Copy, Debug, PartialEq, Eq)]
+#[derive(Clone, Copy)]
 pub enum Way {
     /// A cipher's by the `try_` forms, a generator's by its own functions; a core writes blocks.
     Directly,
@@ -20,15 +19,14 @@ pub enum Way {
     AsList,
 }
 
+/// What a case's second line can describe.
+pub trait FromText: Sized {
+    fn read(made_of: &'static str) -> Option<Self>;
+}
+
 /// What a case is about: a cipher, a generator or a core. It has no contract, so that the proofs of the interpreter
 /// show only that it is safe.
-pub trait Subject: Drop {
-    /// The ways to make its calls, beside `Directly`.
-    const WAYS: &'static [Way];
-
-    /// A new one, made of what a case names.
-    fn read(made_of: &'static str) -> Option<Self>;
-
+pub trait Subject: FromText + Drop {
     /// Makes a call, but not as a list. `data` is what it may change.
     fn make(&mut self, way: Way, call: Call, input: &Data, data: &mut [u8]) -> Answer;
 
@@ -48,25 +46,34 @@ pub struct Made {
 pub struct Failure {
     pub title: &'static str,
     pub line: &'static str,
-    pub fault: Fault,
+    /// One of the next three, or the way in which the calls so far answer otherwise than directly, or leave other bytes.
+    pub fault: &'static str,
 }
 
-/// What is wrong with a line.
-#[derive(Clone, Copy, Debug, PartialEq, Eq)]
-pub enum Fault {
-    /// The line is not one that `cases` describes, or has too many calls or bytes before it.
-    Unreadable,
-    /// The direct call answers otherwise.
-    Answer,
-    /// It leaves other bytes.
-    Bytes,
-    /// In this way the calls so far answer otherwise than directly, or leave other bytes.
-    Differs(Way),
-}
+/// The line is not one that `cases` describes, or has too many calls or bytes before it.
+pub const UNREADABLE: &str = "unreadable";
 
-impl Display for Failure {
-    fn fmt<W: fmt::Write>(&self, f: &mut Formatter<W>) -> fmt::Result {
-        write!(f, "{}, at '{}': {:?}", self.title, self.line, self.fault)
+/// The direct call answers otherwise.
+pub const ANSWER: &str = "another answer";
+
+/// It leaves other bytes.
+pub const BYTES: &str = "other bytes";
+
+// The ways to make a subject's calls beside `Directly`, and the fault where one differs.
+fn ways_of(subject: &str) -> &'static [(Way, &'static str)] {
+    if subject.ends_with("Rng") {
+        &[
+            (Way::ThroughRng, "otherwise through Rng"),
+            (Way::ThroughTryRng, "otherwise through TryRng"),
+            (Way::AsList, "otherwise as a list"),
+        ]
+    } else if subject.ends_with("Core") {
+        &[(Way::Applying, "otherwise applied")]
+    } else {
+        &[
+            (Way::WithoutTry, "otherwise without try_"),
+            (Way::AsList, "otherwise as a list"),
+        ]
     }
 }
 
@@ -77,9 +84,9 @@ pub fn check<S: Subject>(case: &Case) -> Result<(), Failure> {
         let (line, call) = (script.lines[i], script.calls[i]);
         let direct = run::<S>(&script, i, Way::Directly);
         script.judge(line, call, direct.answers[i], &direct.data);
-        for way in S::WAYS {
+        for (way, fault) in ways_of(case.subject) {
             let is_same = run::<S>(&script, i, *way) == direct;
-            script.note_unless(line, Some(is_same), Fault::Differs(*way));
+            script.note_unless(line, Some(is_same), fault);
         }
     }
     script.verdict
@@ -92,22 +99,18 @@ fn run<S: Subject>(script: &Script, last: usize, way: Way) -> Made {
         data: script.data.bytes,
     };
     let calls = script.calls.get(..=last).unwrap_or(&[]);
-    match S::read(script.case.made_of) {
-        Some(mut subject) => make_all(&mut subject, way, calls, &script.data.bytes, &mut made),
-        None => {}
+    let input = &script.data.bytes;
+    if let Some(mut subject) = S::read(script.case.made_of) {
+        if let Way::AsList = way {
+            subject.make_list(calls, input, &mut made);
+        } else {
+            for i in 0..calls.len().min(128) {
+                let changed = calls[i].range().of_mut(&mut made.data);
+                made.answers[i] = subject.make(way, calls[i], input, changed);
+            }
+        }
     }
     made
-}
-
-fn make_all<S: Subject>(subject: &mut S, way: Way, calls: &[Call], input: &Data, made: &mut Made) {
-    if let Way::AsList = way {
-        subject.make_list(calls, input, made);
-        return;
-    }
-    for i in 0..calls.len().min(128) {
-        let changed = calls[i].range().of_mut(&mut made.data);
-        made.answers[i] = subject.make(way, calls[i], input, changed);
-    }
 }
 
 // A case's calls, and the line of each. It goes on where a line is wrong, and keeps the first.
@@ -139,7 +142,7 @@ impl Script {
             script.read_line(line);
         }
         let has_calls = script.count > 0;
-        script.note_unless(case.made_of, Some(has_calls), Fault::Unreadable);
+        script.note_unless(case.made_of, Some(has_calls), UNREADABLE);
         script.judged = script.data.bytes;
         script
     }
@@ -160,20 +163,16 @@ impl Script {
                 self.lines[self.count] = line;
                 self.count += 1;
             }
-            _ => self.note_unless(line, None, Fault::Unreadable),
+            _ => self.note_unless(line, None, UNREADABLE),
         }
     }
 
     // Notes a line where a check fails, or the line can't be read.
-    fn note_unless(&mut self, line: &'static str, holds: Option<bool>, fault: Fault) {
+    fn note_unless(&mut self, line: &'static str, holds: Option<bool>, fault: &'static str) {
         if holds.unwrap_or(false) | self.verdict.is_err() {
             return;
         }
-        let fault = if holds.is_some() {
-            fault
-        } else {
-            Fault::Unreadable
-        };
+        let fault = if holds.is_some() { fault } else { UNREADABLE };
         let title = self.case.title;
         self.verdict = Err(Failure { title, line, fault });
     }
@@ -184,12 +183,12 @@ impl Script {
         let is_done = matches!(answer, Answer::Done);
         let range = call.range();
         let is_kept = are_same_beside(range, is_done, &self.judged, data);
-        self.note_unless(line, is_answer(answer, expected), Fault::Answer);
+        self.note_unless(line, is_answer(answer, expected), ANSWER);
         if is_done & !expected.is_empty() {
             let are_right = Bytes::read(expected).are(range.of(data));
-            self.note_unless(line, are_right, Fault::Bytes);
+            self.note_unless(line, are_right, BYTES);
         }
-        self.note_unless(line, Some(is_kept), Fault::Bytes);
+        self.note_unless(line, Some(is_kept), BYTES);
         self.judged = *data;
     }
 }

@@ -3,63 +3,54 @@
 ghost use Rattle.std.specs.Prelude.{◌↔◌, ◌≤◌, ◌+◌, IsTrue, All};
 ghost use Rattle.chacha20.specs.Runs.{InSlices};
 
-use crate::calls::{Answer, Call, Range};
-use crate::check::{Made, Subject, Way};
-use crate::text::{Data, read_array, split_keyed};
+use crate::calls::{Answer, Call, Range, Type};
+use crate::check::{FromText, Made, Subject, Way};
+use crate::text::{Data, Operand, read_keyed};
 use chacha20::cipher::{
     KeyIvInit, SeekNum, StreamCipher, StreamCipherError, StreamCipherSeek, StreamCipherSeekCore,
 };
-use chacha20::{CipherAnswer, CipherCall, Key, StreamCipherCoreWrapper, run_cipher};
+use chacha20::{CipherAnswer, CipherCall, StreamCipherCoreWrapper, run_cipher};
 
-impl<const N: usize, K> Subject for StreamCipherCoreWrapper<K>
+impl<K> FromText for StreamCipherCoreWrapper<K>
 where
-    K: KeyIvInit<Key = Key, Iv = [u8; N]> + StreamCipherSeekCore + Drop,
+    K: KeyIvInit + StreamCipherSeekCore,
+    K::Key: Operand,
+    K::Iv: Operand,
 {
-    const WAYS: &'static [Way] = &[Way::WithoutTry, Way::AsList];
-
     fn read(made_of: &'static str) -> Option<Self> {
-        if N > 24 {
-            return None;
-        }
-        let (key, nonce) = split_keyed(made_of);
-        match (read_array::<32>(key), read_array::<N>(nonce)) {
-            (Some(key), Some(nonce)) => Some(StreamCipherCoreWrapper::new(&key, &nonce)),
-            _ => None,
-        }
+        read_keyed(made_of)
     }
+}
 
+impl<K> Subject for StreamCipherCoreWrapper<K>
+where
+    K: KeyIvInit + StreamCipherSeekCore + Drop,
+    K::Key: Operand,
+    K::Iv: Operand,
+{
+    // A call by a `try_` form, or by the form without where it may be called.
     fn make(&mut self, way: Way, call: Call, input: &Data, data: &mut [u8]) -> Answer {
-        make(self, matches!(way, Way::Directly), call, input, data)
+        let tries = matches!(way, Way::Directly);
+        match call {
+            Call::Cipher(call) => make_call(self, tries, call, input, data),
+            Call::InType(Type::U32, position) => make_in::<u32, Self>(self, tries, position),
+            Call::InType(Type::U64, position) => make_in::<u64, Self>(self, tries, position),
+            Call::InType(Type::Usize, position) => make_in::<usize, Self>(self, tries, position),
+            _ => Answer::Missing,
+        }
     }
 
     fn make_list(&mut self, calls: &[Call], input: &Data, made: &mut Made) {
-        make_list(self, calls, input, made);
-    }
-}
-
-/// Makes a call on a cipher by a `try_` form, or by the form without where it may be called.
-pub fn make<C: StreamCipherSeek>(
-    cipher: &mut C,
-    tries: bool,
-    call: Call,
-    input: &Data,
-    data: &mut [u8],
-) -> Answer {
-    match call {
-        Call::Cipher(call) => make_call(cipher, tries, call, input, data),
-        call => make_in_type(cipher, tries, call),
-    }
-}
-
-fn make_in_type<C: StreamCipherSeek>(cipher: &mut C, tries: bool, call: Call) -> Answer {
-    match call {
-        Call::SeekU32(position) => seek_in::<u32, C>(cipher, tries, position),
-        Call::SeekU64(position) => seek_in::<u64, C>(cipher, tries, position),
-        Call::SeekUsize(position) => seek_in::<usize, C>(cipher, tries, position),
-        Call::PosU32 => position::<u32, C>(cipher, tries),
-        Call::PosU64 => position::<u64, C>(cipher, tries),
-        Call::PosUsize => position::<usize, C>(cipher, tries),
-        _ => Answer::Missing,
+        let mut answers = [CipherAnswer::Overflow; 128];
+        let count = calls.len().min(128);
+        run_cipher(
+            self,
+            input,
+            &mut made.data,
+            &list_of(calls)[..count],
+            &mut answers[..count],
+        );
+        note_listed(calls, &answers, made);
     }
 }
 
@@ -127,10 +118,18 @@ fn seek<T: SeekNum, C: StreamCipherSeek>(cipher: &mut C, tries: bool, position: 
     of_outcome(outcome)
 }
 
-fn seek_in<T: SeekNum, C: StreamCipherSeek>(cipher: &mut C, tries: bool, position: u128) -> Answer {
-    match T::from_position(position) {
-        Ok(position) => seek(cipher, tries, position),
-        Err(_) => Answer::Missing,
+// A seek, or without a position to seek the current one.
+fn make_in<T: SeekNum, C: StreamCipherSeek>(
+    cipher: &mut C,
+    tries: bool,
+    sought: Option<u128>,
+) -> Answer {
+    match sought {
+        Some(sought) => match T::from_position(sought) {
+            Ok(sought) => seek(cipher, tries, sought),
+            Err(_) => Answer::Missing,
+        },
+        None => position::<T, C>(cipher, tries),
     }
 }
 
@@ -156,25 +155,6 @@ fn of_position<T: SeekNum>(position: T) -> Answer {
     }
 }
 
-/// Makes calls, at most 128, by one list.
-pub fn make_list<K: StreamCipherSeekCore>(
-    cipher: &mut StreamCipherCoreWrapper<K>,
-    calls: &[Call],
-    input: &Data,
-    made: &mut Made,
-) {
-    let mut answers = [CipherAnswer::Overflow; 128];
-    let count = calls.len().min(128);
-    run_cipher(
-        cipher,
-        input,
-        &mut made.data,
-        &list_of(calls)[..count],
-        &mut answers[..count],
-    );
-    note_listed(calls, &answers, made);
-}
-
 fn list_of(calls: &[Call]) -> [CipherCall; 128]
     ensures { All (InSlices 1536 1536) result }
 {
@@ -191,9 +171,7 @@ fn listed(call: Call) -> CipherCall
 {
     match call {
         Call::Cipher(call) if in_slices(call, 1536, 1536) => call,
-        Call::SeekU32(position) | Call::SeekU64(position) | Call::SeekUsize(position) => {
-            CipherCall::Seek(position)
-        }
+        Call::InType(_, Some(position)) => CipherCall::Seek(position),
         _ => CipherCall::Pos,
     }
 }
@@ -210,17 +188,9 @@ fn of_listed(call: Call, answer: CipherAnswer) -> Answer {
         (CipherAnswer::Refused, _) => Answer::Refused,
         (CipherAnswer::Overflow, _) => Answer::Overflow,
         (CipherAnswer::PositionI32(position), _) => of_position(position),
-        (CipherAnswer::Position(position), Call::PosU32) => in_type::<u32>(position),
-        (CipherAnswer::Position(position), Call::PosU64) => in_type::<u64>(position),
-        (CipherAnswer::Position(position), Call::PosUsize) => in_type::<usize>(position),
+        (CipherAnswer::Position(position), Call::InType(in_type, _)) if position > in_type.max() =>
+            { Answer::Overflow }
         (CipherAnswer::Position(position), _) => Answer::Number(position),
-    }
-}
-
-fn in_type<T: SeekNum>(position: u128) -> Answer {
-    match T::from_position(position) {
-        Ok(_) => Answer::Number(position),
-        Err(_) => Answer::Overflow,
     }
 }
 

@@ -2,41 +2,35 @@
 
 ghost use Rattle.std.specs.Prelude.{◌≤◌};
 
-use crate::Makes;
 use crate::calls::{Answer, Call};
-use crate::check::{Subject, Way};
-use crate::text::{Data, read_array, split_keyed};
-use chacha20::cipher::{KeyIvInit, StreamCipherBackend, StreamCipherCounter, StreamCipherSeekCore};
+use crate::check::{FromText, Subject, Way};
+use crate::text::{Data, Operand, read_keyed};
+use chacha20::cipher::{
+    RngBackend, StreamCipherBackend, StreamCipherCounter, StreamCipherSeekCore,
+};
 use chacha20::rand_core::SeedableRng;
-use chacha20::variants::{Ietf, Legacy};
+use chacha20::variants::{Ietf, Legacy, Variant};
 use chacha20::{ChaChaCore, RngCall, Rounds};
 
-impl<R: Rounds, B: StreamCipherBackend<R, Ietf>> Subject for ChaChaCore<R, Ietf, B> {
-    const WAYS: &'static [Way] = &[Way::Applying];
-
+impl<R: Rounds, B> FromText for ChaChaCore<R, Ietf, B> {
     fn read(made_of: &'static str) -> Option<Self> {
-        let (key, nonce) = split_keyed(made_of);
-        match (read_array(key), read_array(nonce)) {
-            (Some(key), Some(nonce)) => Some(ChaChaCore::new(&key, &nonce)),
-            _ => None,
-        }
-    }
-
-    fn make(&mut self, way: Way, call: Call, _: &Data, data: &mut [u8]) -> Answer {
-        make_call(self, way, call, data)
+        read_keyed(made_of)
     }
 }
 
-impl<R: Rounds, B: Makes<R>> Subject for ChaChaCore<R, Legacy, B> {
-    const WAYS: &'static [Way] = &[Way::Applying];
-
+impl<R: Rounds, B: RngBackend<R>> FromText for ChaChaCore<R, Legacy, B> {
     fn read(made_of: &'static str) -> Option<Self> {
-        match read_array(made_of.strip_prefix("seed ").unwrap_or("")) {
+        match Operand::read(made_of.strip_prefix("seed ").unwrap_or("")) {
             Some(seed) => Some(ChaChaCore::from_seed(seed)),
             None => None,
         }
     }
+}
 
+impl<R: Rounds, V: Variant, B: StreamCipherBackend<R, V>> Subject for ChaChaCore<R, V, B>
+where
+    ChaChaCore<R, V, B>: FromText,
+{
     fn make(&mut self, way: Way, call: Call, _: &Data, data: &mut [u8]) -> Answer {
         make_call(self, way, call, data)
     }
@@ -68,7 +62,7 @@ fn make_call<K: StreamCipherSeekCore>(
 
 fn make_block<K: StreamCipherSeekCore>(core: &mut K, way: Way, data: &mut [u8]) -> Answer {
     match data.first_chunk_mut::<64>() {
-        Some(block) if way == Way::Applying => {
+        Some(block) if matches!(way, Way::Applying) => {
             *block = [0; 64];
             core.apply_keystream_block(block);
         }
@@ -80,7 +74,7 @@ fn make_block<K: StreamCipherSeekCore>(core: &mut K, way: Way, data: &mut [u8]) 
 
 fn make_blocks<K: StreamCipherSeekCore>(core: &mut K, way: Way, data: &mut [u8]) -> Answer {
     let (blocks, _) = data.as_chunks_mut::<64>();
-    if way == Way::Applying {
+    if matches!(way, Way::Applying) {
         blocks.fill([0; 64]);
         core.apply_keystream_blocks(blocks);
     } else {

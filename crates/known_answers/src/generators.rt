@@ -4,26 +4,30 @@ ghost use Rattle.std.specs.Prelude.{◌↔◌, ◌≤◌, ◌+◌, IsTrue, All};
 ghost use Rattle.chacha20.specs.GeneratorRuns.{InData};
 
 use crate::calls::{Answer, Call};
-use crate::check::{Made, Subject, Way};
-use crate::text::{Data, read_array};
+use crate::check::{FromText, Made, Subject, Way};
+use crate::text::{Data, Operand, split_word};
 use chacha20::cipher::RngBackend;
 use chacha20::rand_core::{CryptoRng, TryRng};
 use chacha20::{ChaChaRng, RngAnswer, RngCall, Rounds, run_rng};
 
-impl<R: Rounds, B: RngBackend<R>> Subject for ChaChaRng<R, B> {
-    const WAYS: &'static [Way] = &[Way::ThroughRng, Way::ThroughTryRng, Way::AsList];
-
+impl<R: Rounds, B: RngBackend<R>> FromText for ChaChaRng<R, B> {
     // Of `seed S`, or of a stored state, `state S`.
     fn read(made_of: &'static str) -> Option<Self> {
-        if let Some(seed) = read_array(made_of.strip_prefix("seed ").unwrap_or("")) {
-            return Some(ChaChaRng::from_seed(seed));
-        }
-        match read_array(made_of.strip_prefix("state ").unwrap_or("")) {
-            Some(state) => Some(ChaChaRng::deserialize_state(&state)),
-            None => None,
+        match split_word(made_of) {
+            ("seed", seed) => match Operand::read(seed) {
+                Some(seed) => Some(ChaChaRng::from_seed(seed)),
+                None => None,
+            },
+            ("state", state) => match Operand::read(state) {
+                Some(state) => Some(ChaChaRng::deserialize_state(&state)),
+                None => None,
+            },
+            _ => None,
         }
     }
+}
 
+impl<R: Rounds, B: RngBackend<R>> Subject for ChaChaRng<R, B> {
     fn make(&mut self, way: Way, call: Call, _: &Data, data: &mut [u8]) -> Answer {
         match call {
             Call::Rng(call) => of_answer(make_call(self, way, call, data)),

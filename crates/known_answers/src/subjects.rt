@@ -1,9 +1,8 @@
 //! The ciphers, generators and cores that a case can name, over any backend.
 
-use crate::calls::{Answer, Call};
-use crate::check::{Failure, Fault, Subject, Way, check};
+use crate::check::{ANSWER, Failure, UNREADABLE, check};
 use crate::report::{Verdicts, note};
-use crate::text::{Case, Data, read_array, split_keyed};
+use crate::text::{Case, Operand, split_keyed};
 use crate::{Backend, Makes, R0};
 use chacha20::cipher::{RngBackend, StreamCipherBackend};
 use chacha20::variants::{Ietf, Legacy};
@@ -62,7 +61,7 @@ where
         "ChaCha12Rng" => check::<ChaChaRng<R12, B>>(case),
         "ChaCha8Rng" => check::<ChaChaRng<R8, B>>(case),
         "ChaCha0Rng" => check::<ChaChaRng<R0, B>>(case),
-        _ => unknown(case),
+        _ => wrong(case, UNREADABLE),
     }
 }
 
@@ -74,7 +73,7 @@ where
         "ChaCha20Core" => check::<ChaChaCore<R20, Ietf, B>>(case),
         "ChaCha0Core" => check::<ChaChaCore<R0, Ietf, B>>(case),
         "ChaCha0LegacyCore" => check::<ChaChaCore<R0, Legacy, B>>(case),
-        _ => unknown(case),
+        _ => wrong(case, UNREADABLE),
     }
 }
 
@@ -93,8 +92,8 @@ where
         "ChaCha0" => check_ietf::<R0, B>(case),
         "ChaCha20Legacy" => check::<StreamCipherCoreWrapper<ChaChaCore<R20, Legacy, B>>>(case),
         "XChaCha20" => check::<StreamCipherCoreWrapper<XChaChaCore<R20, B>>>(case),
-        "hchacha" => check::<Key>(case),
-        _ => unknown(case),
+        "hchacha" => check_subkey(case),
+        _ => wrong(case, UNREADABLE),
     }
 }
 
@@ -103,30 +102,20 @@ fn check_ietf<R: Rounds, B: StreamCipherBackend<R, Ietf>>(case: &Case) -> Result
     check::<StreamCipherCoreWrapper<ChaChaCore<R, Ietf, B>>>(case)
 }
 
-fn unknown(case: &Case) -> Result<(), Failure> {
+// The only line gives what `hchacha` derives from a key and a nonce.
+fn check_subkey(case: &Case) -> Result<(), Failure> {
+    let (key, nonce) = split_keyed(case.made_of);
+    let subkey = case.lines.strip_prefix("subkey -> ").unwrap_or("");
+    match (Operand::read(key), Operand::read(nonce), Key::read(subkey)) {
+        (Some(key), Some(nonce), Some(subkey)) if hchacha::<R20>(&key, &nonce) == subkey => Ok(()),
+        _ => wrong(case, ANSWER),
+    }
+}
+
+fn wrong(case: &Case, fault: &'static str) -> Result<(), Failure> {
     Err(Failure {
         title: case.title,
         line: case.subject,
-        fault: Fault::Unreadable,
+        fault,
     })
-}
-
-// What `hchacha` derives from a key and a nonce.
-impl Subject for Key {
-    const WAYS: &'static [Way] = &[];
-
-    fn read(made_of: &'static str) -> Option<Self> {
-        let (key, nonce) = split_keyed(made_of);
-        match (read_array(key), read_array(nonce)) {
-            (Some(key), Some(nonce)) => Some(hchacha::<R20>(&key, &nonce)),
-            _ => None,
-        }
-    }
-
-    fn make(&mut self, _: Way, call: Call, _: &Data, _: &mut [u8]) -> Answer {
-        match call {
-            Call::Subkey => Answer::Seed(*self),
-            _ => Answer::Missing,
-        }
-    }
 }

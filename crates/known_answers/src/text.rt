@@ -1,6 +1,6 @@
 //! How a text is read: cases, bytes and numbers.
 
-use chacha20::cipher::SeekNum;
+use chacha20::cipher::{KeyIvInit, SeekNum};
 
 /// A paragraph: its title, its subject's name, what the subject is made of, and its other lines.
 #[derive(Clone, Copy)]
@@ -30,10 +30,23 @@ pub fn split_word(text: &'static str) -> (&'static str, &'static str) {
     text.split_once(' ').unwrap_or((text, ""))
 }
 
-/// The key and the nonce of `key K nonce N`.
+/// The key and the nonce of `key K nonce N`, or of `key K`.
 pub fn split_keyed(text: &'static str) -> (&'static str, &'static str) {
     let text = text.strip_prefix("key ").unwrap_or("");
-    text.split_once(" nonce ").unwrap_or(("", ""))
+    text.split_once(" nonce ").unwrap_or((text, ""))
+}
+
+/// The cipher or the core of a key and a nonce.
+pub fn read_keyed<C: KeyIvInit>(text: &'static str) -> Option<C>
+where
+    C::Key: Operand,
+    C::Iv: Operand,
+{
+    let (key, nonce) = split_keyed(text);
+    match (C::Key::read(key), C::Iv::read(nonce)) {
+        (Some(key), Some(nonce)) => Some(C::new(&key, &nonce)),
+        _ => None,
+    }
 }
 
 /// A number of this type: decimal, or `0x` and hexadecimal digits, or `2^68`; and sums and differences, as `2^68-1`.
@@ -80,6 +93,8 @@ pub struct Bytes {
 }
 
 impl Bytes {
+    // Not inlined: LLVM would compile it anew for each subject.
+    #[inline(never)]
     pub fn read(text: &str) -> Bytes {
         let mut bytes = Bytes {
             bytes: [0; 1536],
@@ -155,13 +170,34 @@ fn read_byte(digits: &str) -> Option<u8> {
     u8::from_str_radix(digits, 16).ok()
 }
 
-/// Reads as many bytes as an array has.
-pub fn read_array<const N: usize>(text: &str) -> Option<[u8; N]> {
-    let read = Bytes::read(text);
-    let mut array = [0; N];
-    if read.is_wrong | (read.len != N) | (N > 1536) {
-        return None;
+/// A key, a nonce or a seed.
+pub trait Operand: Sized + Drop {
+    fn read(text: &str) -> Option<Self>;
+}
+
+/// Reads as many bytes as the array has.
+impl<const N: usize> Operand for [u8; N] {
+    fn read(text: &str) -> Option<[u8; N]> {
+        let read = Bytes::read(text);
+        let mut array = [0; N];
+        if read.is_wrong | (read.len != N) | (N > 1536) {
+            return None;
+        }
+        array.copy_from_slice(&read.bytes[..N]);
+        Some(array)
     }
-    array.copy_from_slice(&read.bytes[..N]);
-    Some(array)
+}
+
+/// A key of one byte.
+impl Operand for u8 {
+    fn read(text: &str) -> Option<u8> {
+        read_byte(text)
+    }
+}
+
+/// No nonce.
+impl Operand for () {
+    fn read(text: &str) -> Option<()> {
+        if text.is_empty() { Some(()) } else { None }
+    }
 }

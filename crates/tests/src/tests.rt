@@ -12,6 +12,7 @@ use chacha20::backends::{Columns8, Lanes4, Lanes8, Lanes16, Rows8, Soft};
 use chacha20::variants::Legacy;
 use chacha20::{ChaChaCore, R8, R12, R20};
 use known_answers::cases::CASES;
+use known_answers::check::Failure;
 use known_answers::more_cases::MORE_CASES;
 use known_answers::report::Verdicts;
 use known_answers::subjects::run_text;
@@ -69,8 +70,8 @@ fn stop_if_broken(rt: &impl Abort, backend: &str, verdict: &Verdict) {
 fn stop_at_failure(rt: &impl Abort, backend: &str, verdicts: &Verdicts) {
     for i in 0..32usize {
         let verdict = verdicts[i];
-        if let Some(Err(failure)) = verdict {
-            panic!(rt; "{backend}: {failure}");
+        if let Some(Err(Failure { title, line, fault })) = verdict {
+            panic!(rt; "{backend}: {title}, at '{line}': {fault}");
         }
     }
 }

@@ -1,6 +1,6 @@
 //! What the program prints, and its status: 0 only if all cases are right and the lines could be printed.
 
-use known_answers::check::{Failure, Fault};
+use known_answers::check::{ANSWER, Failure};
 use known_answers::report::report;
 use std::alloc::Global;
 use std::cell::Cell;
@@ -58,7 +58,7 @@ fn ends(rt: &impl Eprint, page: &Page, found: bool, status: ExitCode) -> bool {
         false => Err(Failure {
             title: "",
             line: "",
-            fault: Fault::Answer,
+            fault: ANSWER,
         }),
     };
     let mut verdicts = [None; 32];

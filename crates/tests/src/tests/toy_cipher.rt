@@ -4,18 +4,16 @@ use super::stop_at_failure;
 use chacha20::StreamCipherCoreWrapper;
 use chacha20::cipher::{KeyIvInit, StreamCipherSeekCore};
 use examples::own_core::Toy;
-use known_answers::calls::{Answer, Call};
-use known_answers::check::{Made, Subject, Way, check};
-use known_answers::ciphers::{make, make_list};
+use known_answers::check::check;
 use known_answers::report::{Verdicts, note};
-use known_answers::text::{Case, Data};
+use known_answers::text::Case;
 
 // Under the toy core of seed 7 byte p of the keystream is (7 + 100 * (p / 64) + p % 64) mod 256: the first block begins
 // with 7, the second with 107, the third with 207 and the last with 163. A cipher takes 64 bytes of each of the 2^32
 // blocks, and not one more; at the limit a core's counter is 0, as at the start.
 static CASES: &str = "
 By hand: a new cipher, into block 2
-Toy
+Toy key 07
 pos u64 -> 0
 room 2^38
 room 2^38+1 -> refused
@@ -26,7 +24,7 @@ room 2^38-130
 room 2^38-129 -> refused
 
 By hand: into the last block, and to the end
-Toy
+Toy key 07
 seek usize 2^38-65
 write 4 -> 7e a3 a4 a5
 apply 00*61 -> a6..e2
@@ -37,7 +35,7 @@ seek usize 2^38+1 -> refused
 pos u128 -> 2^38
 
 By hand: three bytes where two are left, the last two, and the first one again
-Toy
+Toy key 07
 seek usize 2^38-2
 apply 00*3 -> refused
 write 2 -> e1 e2
@@ -46,33 +44,12 @@ write 1 -> 07
 pos u32 -> 1
 ";
 
-#[derive(Drop)]
-struct ToyCipher {
-    cipher: StreamCipherCoreWrapper<Toy>,
-}
-
-impl Subject for ToyCipher {
-    const WAYS: &'static [Way] = &[Way::WithoutTry, Way::AsList];
-
-    fn read(_: &'static str) -> Option<Self> {
-        let cipher = StreamCipherCoreWrapper::new(&7, &());
-        Some(ToyCipher { cipher })
-    }
-
-    fn make(&mut self, way: Way, call: Call, input: &Data, data: &mut [u8]) -> Answer {
-        make(&mut self.cipher, way == Way::Directly, call, input, data)
-    }
-
-    fn make_list(&mut self, calls: &[Call], input: &Data, made: &mut Made) {
-        make_list(&mut self.cipher, calls, input, made);
-    }
-}
-
 fn check_toy() -> Verdicts {
     let mut verdicts = [None; 32];
     for paragraph in CASES.split("\n\n") {
         let case = Case::read(paragraph.trim());
-        note(&mut verdicts, case.title, check::<ToyCipher>(&case));
+        let outcome = check::<StreamCipherCoreWrapper<Toy>>(&case);
+        note(&mut verdicts, case.title, outcome);
     }
     verdicts
 }
