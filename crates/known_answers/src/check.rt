@@ -46,7 +46,7 @@ pub struct Made {
 pub struct Failure {
     pub title: &'static str,
     pub line: &'static str,
-    /// One of the next three, or the way in which the calls so far answer otherwise than directly, or leave other bytes.
+    /// One of the three below, or the way in which the calls so far don't do as the direct ones.
     pub fault: &'static str,
 }
 

@@ -54,6 +54,7 @@ where
     }
 }
 
+#[inline(never)]
 fn make_call<C: StreamCipherSeek>(
     cipher: &mut C,
     tries: bool,
@@ -89,6 +90,7 @@ fn from(call: CipherCall) -> Range {
 }
 
 // The forms without `try_` may be called where the `try_` forms succeed.
+#[inline(never)]
 fn is_made_without_try<C: StreamCipher>(
     cipher: &mut C,
     call: CipherCall,
@@ -110,6 +112,7 @@ fn is_made_without_try<C: StreamCipher>(
 }
 
 // The first `try_seek` shows that the position may be sought, the second takes the cipher elsewhere.
+#[inline(never)]
 fn seek<T: SeekNum, C: StreamCipherSeek>(cipher: &mut C, tries: bool, position: T) -> Answer {
     let outcome = cipher.try_seek(position);
     if !tries && outcome.is_ok() && cipher.try_seek(0u32).is_ok() {

@@ -60,6 +60,7 @@ fn make_call<K: StreamCipherSeekCore>(
     }
 }
 
+#[inline(never)]
 fn make_block<K: StreamCipherSeekCore>(core: &mut K, way: Way, data: &mut [u8]) -> Answer {
     match data.first_chunk_mut::<64>() {
         Some(block) if matches!(way, Way::Applying) => {
@@ -72,6 +73,7 @@ fn make_block<K: StreamCipherSeekCore>(core: &mut K, way: Way, data: &mut [u8]) 
     Answer::Done
 }
 
+#[inline(never)]
 fn make_blocks<K: StreamCipherSeekCore>(core: &mut K, way: Way, data: &mut [u8]) -> Answer {
     let (blocks, _) = data.as_chunks_mut::<64>();
     if matches!(way, Way::Applying) {

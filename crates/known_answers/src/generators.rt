@@ -110,6 +110,7 @@ fn of_answer(answer: RngAnswer) -> Answer {
     }
 }
 
+#[inline(never)]
 fn call_own<R: Rounds, B: RngBackend<R>>(
     rng: &mut ChaChaRng<R, B>,
     call: RngCall,
@@ -133,6 +134,7 @@ fn call_own<R: Rounds, B: RngBackend<R>>(
 }
 
 // A read of any generator that is fit for keys.
+#[inline(never)]
 fn read<G: CryptoRng>(rng: &mut G, call: RngCall, data: &mut [u8]) -> Option<RngAnswer> {
     match call {
         RngCall::NextU32 => Some(RngAnswer::U32(rng.next_u32())),
@@ -146,6 +148,7 @@ fn read<G: CryptoRng>(rng: &mut G, call: RngCall, data: &mut [u8]) -> Option<Rng
 }
 
 // A read that may fail. One that fails gives the seed ff, which no read gives.
+#[inline(never)]
 fn try_read<G: TryRng>(rng: &mut G, call: RngCall, data: &mut [u8]) -> Option<RngAnswer> {
     let read = match call {
         RngCall::NextU32 => rng.try_next_u32().map(RngAnswer::U32),

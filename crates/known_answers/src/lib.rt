@@ -1,5 +1,7 @@
 //! Known answers as text: cases with the answers that published sources give, and the interpreter that runs them on
 //! any backend. [`cases`] says how a case is written; [`more_cases`] has those without a number.
+//!
+//! Functions are `inline(never)` where LLVM would else compile them anew in each caller, for each subject.
 #![tactic(auto)]
 
 pub mod calls;

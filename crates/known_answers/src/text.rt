@@ -37,6 +37,7 @@ pub fn split_keyed(text: &'static str) -> (&'static str, &'static str) {
 }
 
 /// The cipher or the core of a key and a nonce.
+#[inline(never)]
 pub fn read_keyed<C: KeyIvInit>(text: &'static str) -> Option<C>
 where
     C::Key: Operand,
@@ -93,7 +94,6 @@ pub struct Bytes {
 }
 
 impl Bytes {
-    // Not inlined: LLVM would compile it anew for each subject.
     #[inline(never)]
     pub fn read(text: &str) -> Bytes {
         let mut bytes = Bytes {

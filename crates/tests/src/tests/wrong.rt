@@ -50,11 +50,7 @@ pos u64 -> 2^
 next_u32
 129 times pos u64",
     ),
-    (
-        "ChaCha0 key 00*31 nonce 00*12",
-        UNREADABLE,
-        "pos u64 -> 0",
-    ),
+    ("ChaCha0 key 00*31 nonce 00*12", UNREADABLE, "pos u64 -> 0"),
     (
         "ChaCha0Rng seed 00*32",
         ANSWER,
@@ -70,11 +66,7 @@ serialize_state -> 00*48 01
 equals 00*49 -> false
 equals 00*40 01 00*8 -> true",
     ),
-    (
-        "ChaCha0Rng seed 00*32",
-        BYTES,
-        "fill_bytes 5 -> caf0e0c2dd",
-    ),
+    ("ChaCha0Rng seed 00*32", BYTES, "fill_bytes 5 -> caf0e0c2dd"),
     (
         "ChaCha0Core key 00*32 nonce 00*12",
         ANSWER,
@@ -95,11 +87,7 @@ write_keystream_blocks 2 -> ca ..*126 01",
         UNREADABLE,
         "set_block_pos 2^32",
     ),
-    (
-        "hchacha key 00..1f nonce 00*16",
-        ANSWER,
-        "subkey -> 00*32",
-    ),
+    ("hchacha key 00..1f nonce 00*16", ANSWER, "subkey -> 00*32"),
 ];
 
 // The first line in which another fault is found, or nothing.
