@@ -186,18 +186,10 @@ fn read_call_with_number(name: &str, number: u128) -> Option<Call> {
         "seek u128" => Some(Call::Cipher(CipherCall::Seek(number))),
         "seek usize" => Some(Call::InType(Type::Usize, Some(number))),
         "set_word_pos" => Some(Call::Rng(RngCall::SetWordPos(number))),
-        _ => match u64::try_from(number) {
-            Ok(number) => read_call_with_u64(name, number),
-            Err(_) => None,
-        },
-    }
-}
-
-fn read_call_with_u64(name: &str, number: u64) -> Option<Call> {
-    match name {
+        _ if number > u128::from(u64::MAX) => None,
         "room" => Some(Call::Cipher(CipherCall::CheckRemaining(number as usize))),
-        "set_block_pos" => Some(Call::Rng(RngCall::SetBlockPos(number))),
-        "set_stream" => Some(Call::Rng(RngCall::SetStream(number))),
+        "set_block_pos" => Some(Call::Rng(RngCall::SetBlockPos(number as u64))),
+        "set_stream" => Some(Call::Rng(RngCall::SetStream(number as u64))),
         _ => None,
     }
 }

@@ -158,42 +158,32 @@ fn of_position<T: SeekNum>(position: T) -> Answer {
     }
 }
 
+// A list has positions in `i32` and `u128` only. All ranges lie in the data.
 fn list_of(calls: &[Call]) -> [CipherCall; 128]
     ensures { All (InSlices 1536 1536) result }
 {
     let mut list = [CipherCall::Pos; 128];
     'each: for i in 0..calls.len().min(128) {
-        list[i] = listed(calls[i]);
+        match calls[i] {
+            Call::Cipher(call) if in_slices(call, 1536, 1536) => list[i] = call,
+            Call::InType(_, Some(position)) => list[i] = CipherCall::Seek(position),
+            _ => {}
+        }
     }
     list
 }
 
-// A list has positions in `i32` and `u128` only. All ranges lie in the data.
-fn listed(call: Call) -> CipherCall
-    ensures { InSlices 1536 1536 result }
-{
-    match call {
-        Call::Cipher(call) if in_slices(call, 1536, 1536) => call,
-        Call::InType(_, Some(position)) => CipherCall::Seek(position),
-        _ => CipherCall::Pos,
-    }
-}
-
 fn note_listed(calls: &[Call], answers: &[CipherAnswer; 128], made: &mut Made) {
     for i in 0..calls.len().min(128) {
-        made.answers[i] = of_listed(calls[i], answers[i]);
-    }
-}
-
-fn of_listed(call: Call, answer: CipherAnswer) -> Answer {
-    match (answer, call) {
-        (CipherAnswer::Done, _) => Answer::Done,
-        (CipherAnswer::Refused, _) => Answer::Refused,
-        (CipherAnswer::Overflow, _) => Answer::Overflow,
-        (CipherAnswer::PositionI32(position), _) => of_position(position),
-        (CipherAnswer::Position(position), Call::InType(in_type, _)) if position > in_type.max() =>
-            { Answer::Overflow }
-        (CipherAnswer::Position(position), _) => Answer::Number(position),
+        made.answers[i] = match (answers[i], calls[i]) {
+            (CipherAnswer::Done, _) => Answer::Done,
+            (CipherAnswer::Refused, _) => Answer::Refused,
+            (CipherAnswer::Overflow, _) => Answer::Overflow,
+            (CipherAnswer::PositionI32(position), _) => of_position(position),
+            (CipherAnswer::Position(position), Call::InType(in_type, _))
+                if position > in_type.max() => Answer::Overflow,
+            (CipherAnswer::Position(position), _) => Answer::Number(position),
+        };
     }
 }
 

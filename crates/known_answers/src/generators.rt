@@ -13,12 +13,13 @@ use chacha20::{ChaChaRng, RngAnswer, RngCall, Rounds, run_rng};
 impl<R: Rounds, B: RngBackend<R>> FromText for ChaChaRng<R, B> {
     // Of `seed S`, or of a stored state, `state S`.
     fn read(made_of: &'static str) -> Option<Self> {
-        match split_word(made_of) {
-            ("seed", seed) => match Operand::read(seed) {
+        let (kind, bytes) = split_word(made_of);
+        match kind {
+            "seed" => match Operand::read(bytes) {
                 Some(seed) => Some(ChaChaRng::from_seed(seed)),
                 None => None,
             },
-            ("state", state) => match Operand::read(state) {
+            "state" => match Operand::read(bytes) {
                 Some(state) => Some(ChaChaRng::deserialize_state(&state)),
                 None => None,
             },
@@ -49,36 +50,26 @@ impl<R: Rounds, B: RngBackend<R>> Subject for ChaChaRng<R, B> {
     }
 }
 
+// A list has no `==`: the stored states are compared. All ranges lie in the data.
 fn list_of(calls: &[Call]) -> [RngCall; 128]
     ensures { All (InData 1536) result }
 {
     let mut list = [RngCall::Serialize; 128];
     'each: for i in 0..calls.len().min(128) {
-        list[i] = listed(calls[i]);
+        match calls[i] {
+            Call::Rng(call) if in_data(call, 1536) => list[i] = call,
+            _ => {}
+        }
     }
     list
 }
 
-// A list has no `==`: the stored states are compared. All ranges lie in the data.
-fn listed(call: Call) -> RngCall
-    ensures { InData 1536 result }
-{
-    match call {
-        Call::Rng(call) if in_data(call, 1536) => call,
-        _ => RngCall::Serialize,
-    }
-}
-
 fn note_listed(calls: &[Call], answers: &[RngAnswer; 128], made: &mut Made) {
     for i in 0..calls.len().min(128) {
-        made.answers[i] = of_listed(calls[i], answers[i]);
-    }
-}
-
-fn of_listed(call: Call, answer: RngAnswer) -> Answer {
-    match (call, answer) {
-        (Call::Equals(state), RngAnswer::State(found)) => Answer::Equal(found == state),
-        _ => of_answer(answer),
+        made.answers[i] = match (calls[i], answers[i]) {
+            (Call::Equals(state), RngAnswer::State(found)) => Answer::Equal(found == state),
+            (_, answer) => of_answer(answer),
+        };
     }
 }
 
@@ -147,16 +138,25 @@ fn read<G: CryptoRng>(rng: &mut G, call: RngCall, data: &mut [u8]) -> Option<Rng
     }
 }
 
-// A read that may fail. One that fails gives the seed ff, which no read gives.
+// A read that may fail. One that fails gives a state, which no read gives.
 #[inline(never)]
 fn try_read<G: TryRng>(rng: &mut G, call: RngCall, data: &mut [u8]) -> Option<RngAnswer> {
-    let read = match call {
-        RngCall::NextU32 => rng.try_next_u32().map(RngAnswer::U32),
-        RngCall::NextU64 => rng.try_next_u64().map(RngAnswer::U64),
-        RngCall::Fill { .. } => rng.try_fill_bytes(data).map(|()| RngAnswer::Done),
-        _ => return None,
-    };
-    Some(read.unwrap_or(RngAnswer::Seed([0xff; 32])))
+    let failed = RngAnswer::State([0xff; 49]);
+    match call {
+        RngCall::NextU32 => match rng.try_next_u32() {
+            Ok(word) => Some(RngAnswer::U32(word)),
+            Err(_) => Some(failed),
+        },
+        RngCall::NextU64 => match rng.try_next_u64() {
+            Ok(words) => Some(RngAnswer::U64(words)),
+            Err(_) => Some(failed),
+        },
+        RngCall::Fill { .. } => match rng.try_fill_bytes(data) {
+            Ok(()) => Some(RngAnswer::Done),
+            Err(_) => Some(failed),
+        },
+        _ => None,
+    }
 }
 
 fn in_data(call: RngCall, bytes: usize) -> bool

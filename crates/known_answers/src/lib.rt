@@ -16,16 +16,11 @@ pub mod report;
 pub mod subjects;
 pub mod text;
 
+use chacha20::Rounds;
 use chacha20::cipher::{RngBackend, StreamCipherBackend};
 use chacha20::variants::{Ietf, Legacy};
-use chacha20::{R8, R12, R20, Rounds};
 
-/// A backend that can make each cipher, generator and core that a case names.
-pub trait Backend: Makes<R0> + Makes<R8> + Makes<R12> + Makes<R20> {}
-
-impl<B: Makes<R0> + Makes<R8> + Makes<R12> + Makes<R20>> Backend for B {}
-
-/// A backend that can make each with so many rounds.
+/// A backend that can make each cipher, generator and core with so many rounds.
 pub trait Makes<R: Rounds>: StreamCipherBackend<R, Ietf>
     + StreamCipherBackend<R, Legacy>
     + RngBackend<R> {}

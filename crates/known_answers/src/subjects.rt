@@ -3,7 +3,7 @@
 use crate::check::{ANSWER, Failure, UNREADABLE, check};
 use crate::report::{Verdicts, note};
 use crate::text::{Case, Operand, split_keyed};
-use crate::{Backend, Makes, R0};
+use crate::{Makes, R0};
 use chacha20::cipher::{RngBackend, StreamCipherBackend};
 use chacha20::variants::{Ietf, Legacy};
 use chacha20::{
@@ -19,7 +19,10 @@ pub trait Cases {
     fn check_generator(case: &Case) -> Result<(), Failure>;
 }
 
-impl<B: Backend> Cases for B {
+impl<B> Cases for B
+where
+    B: Makes<R0> + Makes<R8> + Makes<R12> + Makes<R20>,
+{
     fn check_cipher_or_core(case: &Case) -> Result<(), Failure> {
         if case.subject.ends_with("Core") {
             check_core::<B>(case)

@@ -137,8 +137,9 @@ impl Bytes {
         } else if let Some((first, last)) = part.split_once("..") {
             self.push_range(read_byte(first), read_byte(last));
         } else {
-            for pair in part.as_bytes().chunks(2) {
-                self.push(read_byte(str::from_utf8(pair).unwrap_or("")), false);
+            for at in (0..part.len()).step_by(2) {
+                let pair = part.get(at..at.saturating_add(2)).unwrap_or("");
+                self.push(read_byte(pair), false);
             }
         }
     }

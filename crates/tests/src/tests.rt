@@ -15,14 +15,17 @@ use known_answers::cases::CASES;
 use known_answers::check::Failure;
 use known_answers::more_cases::MORE_CASES;
 use known_answers::report::Verdicts;
-use known_answers::subjects::run_text;
-use known_answers::{Backend, R0};
+use known_answers::subjects::{Cases, run_text};
+use known_answers::{Makes, R0};
 use loops::Verdict;
 use std::alloc::Global;
 use std::process::Abort;
 
 // Stops the test at the first line that is wrong, or the first loop that fails.
-fn run_all<B: Backend>(rt: &impl Abort, alloc: Global, backend: &str) {
+fn run_all<B>(rt: &impl Abort, alloc: Global, backend: &str)
+where
+    B: Makes<R0> + Makes<R8> + Makes<R12> + Makes<R20>,
+{
     run_cases::<B>(rt, backend, CASES);
     run_cases::<B>(rt, backend, MORE_CASES);
     let mut verdict = Verdict::new();
@@ -31,11 +34,14 @@ fn run_all<B: Backend>(rt: &impl Abort, alloc: Global, backend: &str) {
     stop_if_broken(rt, backend, &verdict);
 }
 
-fn run_cases<B: Backend>(rt: &impl Abort, backend: &str, text: &'static str) {
+fn run_cases<B: Cases>(rt: &impl Abort, backend: &str, text: &'static str) {
     stop_at_failure(rt, backend, &run_text::<B, B>(text));
 }
 
-fn run_loops<B: Backend>(verdict: &mut Verdict) {
+fn run_loops<B>(verdict: &mut Verdict)
+where
+    B: Makes<R0> + Makes<R8> + Makes<R12> + Makes<R20>,
+{
     verdict.begin("8 rounds");
     kinds::ietf::<R8, B>(verdict);
     verdict.begin("12 rounds");
