@@ -27,7 +27,7 @@ pub enum Type {
 
 impl Type {
     /// Its greatest value.
-    pub fn max(self) -> u128 {
+    pub(crate) fn max(self) -> u128 {
         match self {
             Type::U32 => u128::from(u32::MAX),
             Type::U64 => u128::from(u64::MAX),
@@ -58,12 +58,12 @@ pub struct Range {
 }
 
 impl Range {
-    pub fn of(self, bytes: &[u8]) -> &[u8] {
+    pub(crate) fn of(self, bytes: &[u8]) -> &[u8] {
         let end = self.at.saturating_add(self.len);
         bytes.get(self.at..end).unwrap_or(&[])
     }
 
-    pub fn of_mut(self, bytes: &mut [u8]) -> &mut [u8] {
+    pub(crate) fn of_mut(self, bytes: &mut [u8]) -> &mut [u8] {
         let end = self.at.saturating_add(self.len);
         bytes.get_mut(self.at..end).unwrap_or(&mut [])
     }
@@ -71,7 +71,7 @@ impl Range {
 
 impl Call {
     /// The range of the data that the call may change.
-    pub fn range(self) -> Range {
+    pub(crate) fn range(self) -> Range {
         match self {
             Call::Cipher(CipherCall::Apply { at, len })
             | Call::Cipher(CipherCall::Write { at, len })
@@ -84,7 +84,7 @@ impl Call {
 }
 
 /// Reads a call. What it reads and writes is put behind the data so far.
-pub fn read_call(text: &'static str, data: &mut Bytes) -> Option<Call> {
+pub(crate) fn read_call(text: &'static str, data: &mut Bytes) -> Option<Call> {
     let (name, operand) = split_word(text);
     match name {
         "apply" => {

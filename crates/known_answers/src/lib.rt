@@ -4,10 +4,10 @@
 //! Functions are `inline(never)` where LLVM would else compile them anew in each caller, for each subject.
 #![tactic(auto)]
 
-pub mod calls;
+mod calls;
 pub mod cases;
 pub mod check;
-pub mod ciphers;
+mod ciphers;
 mod cores;
 mod generators;
 pub mod more_cases;
