@@ -95,7 +95,7 @@ pub fn check<S: Subject>(case: &Case) -> Result<(), Failure> {
 // What a new subject makes of the calls up to one.
 fn run<S: Subject>(script: &Script, last: usize, way: Way) -> Made {
     let mut made = Made {
-        answers: [Answer::Missing; 128],
+        answers: script.unanswered,
         data: script.data.bytes,
     };
     let calls = script.calls.get(..=last).unwrap_or(&[]);
@@ -122,6 +122,8 @@ struct Script {
     count: usize,
     // Before all calls.
     data: Bytes,
+    // Copied in `run`, where LLVM would else store each answer by itself, for each subject.
+    unanswered: [Answer; 128],
     // After the calls that are judged.
     judged: Data,
     verdict: Result<(), Failure>,
@@ -135,6 +137,7 @@ impl Script {
             lines: [""; 128],
             count: 0,
             data: Bytes::read(""),
+            unanswered: [Answer::Missing; 128],
             judged: [0; 1536],
             verdict: Ok(()),
         };

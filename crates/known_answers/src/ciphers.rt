@@ -30,14 +30,7 @@ where
 {
     // A call by a `try_` form, or by the form without where it may be called.
     fn make(&mut self, way: Way, call: Call, input: &Data, data: &mut [u8]) -> Answer {
-        let tries = matches!(way, Way::Directly);
-        match call {
-            Call::Cipher(call) => make_call(self, tries, call, input, data),
-            Call::InType(Type::U32, position) => make_in::<u32, Self>(self, tries, position),
-            Call::InType(Type::U64, position) => make_in::<u64, Self>(self, tries, position),
-            Call::InType(Type::Usize, position) => make_in::<usize, Self>(self, tries, position),
-            _ => Answer::Missing,
-        }
+        make_call(self, matches!(way, Way::Directly), call, input, data)
     }
 
     fn make_list(&mut self, calls: &[Call], input: &Data, made: &mut Made) {
@@ -54,8 +47,25 @@ where
     }
 }
 
-#[inline(never)]
 fn make_call<C: StreamCipherSeek>(
+    cipher: &mut C,
+    tries: bool,
+    call: Call,
+    input: &Data,
+    data: &mut [u8],
+) -> Answer {
+    match call {
+        Call::Cipher(call) => make_listed_call(cipher, tries, call, input, data),
+        Call::InType(Type::U32, position) => make_in::<u32, C>(cipher, tries, position),
+        Call::InType(Type::U64, position) => make_in::<u64, C>(cipher, tries, position),
+        Call::InType(Type::Usize, position) => make_in::<usize, C>(cipher, tries, position),
+        _ => Answer::Missing,
+    }
+}
+
+// A call that a list can have too.
+#[inline(never)]
+fn make_listed_call<C: StreamCipherSeek>(
     cipher: &mut C,
     tries: bool,
     call: CipherCall,
@@ -159,6 +169,7 @@ fn of_position<T: SeekNum>(position: T) -> Answer {
 }
 
 // A list has positions in `i32` and `u128` only. All ranges lie in the data.
+#[inline(never)]
 fn list_of(calls: &[Call]) -> [CipherCall; 128]
     ensures { All (InSlices 1536 1536) result }
 {

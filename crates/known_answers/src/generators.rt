@@ -51,6 +51,7 @@ impl<R: Rounds, B: RngBackend<R>> Subject for ChaChaRng<R, B> {
 }
 
 // A list has no `==`: the stored states are compared. All ranges lie in the data.
+#[inline(never)]
 fn list_of(calls: &[Call]) -> [RngCall; 128]
     ensures { All (InData 1536) result }
 {

@@ -4,55 +4,43 @@ use crate::check::{ANSWER, Failure, UNREADABLE, check};
 use crate::report::{Verdicts, note};
 use crate::text::{Case, Operand, split_keyed};
 use crate::{Makes, R0};
-use chacha20::cipher::{RngBackend, StreamCipherBackend};
+use chacha20::cipher::{KeyIvInit, RngBackend, StreamCipherBackend, StreamCipherSeekCore};
 use chacha20::variants::{Ietf, Legacy};
 use chacha20::{
     ChaChaCore, ChaChaRng, Key, R8, R12, R20, Rounds, StreamCipherCoreWrapper, XChaChaCore, hchacha,
 };
 
-/// A backend over which cases can be checked. Their functions have this one bound.
+/// What checks cases: a pair of backends, ciphers and cores over the first, generators over the second.
 pub trait Cases {
-    /// The first line that is wrong of a case about a cipher or a core.
-    fn check_cipher_or_core(case: &Case) -> Result<(), Failure>;
-
-    /// The same of a generator.
-    fn check_generator(case: &Case) -> Result<(), Failure>;
+    /// The first line of a case that is wrong.
+    fn check(case: &Case) -> Result<(), Failure>;
 }
 
-impl<B> Cases for B
+impl<B, G> Cases for (B, G)
 where
     B: Makes<R0> + Makes<R8> + Makes<R12> + Makes<R20>,
+    G: RngBackend<R0> + RngBackend<R8> + RngBackend<R12> + RngBackend<R20>,
 {
-    fn check_cipher_or_core(case: &Case) -> Result<(), Failure> {
-        if case.subject.ends_with("Core") {
+    fn check(case: &Case) -> Result<(), Failure> {
+        if case.subject.ends_with("Rng") {
+            check_generator::<G>(case)
+        } else if case.subject.ends_with("Core") {
             check_core::<B>(case)
         } else {
             check_cipher::<B>(case)
         }
     }
-
-    fn check_generator(case: &Case) -> Result<(), Failure> {
-        check_generator::<B>(case)
-    }
 }
 
-/// Runs the cases of a text: ciphers and cores over a backend, and generators over another or the same.
-pub fn run_text<B: Cases, G: Cases>(text: &'static str) -> Verdicts {
+/// Runs the cases of a text.
+#[inline(never)]
+pub fn run_text<C: Cases>(text: &'static str) -> Verdicts {
     let mut verdicts = [None; 32];
     for paragraph in text.split("\n\n") {
         let case = Case::read(paragraph.trim());
-        note(&mut verdicts, case.title, check_case::<B, G>(&case));
+        note(&mut verdicts, case.title, C::check(&case));
     }
     verdicts
-}
-
-/// The first line of a case that is wrong.
-pub fn check_case<B: Cases, G: Cases>(case: &Case) -> Result<(), Failure> {
-    if case.subject.ends_with("Rng") {
-        G::check_generator(case)
-    } else {
-        B::check_cipher_or_core(case)
-    }
 }
 
 fn check_generator<B>(case: &Case) -> Result<(), Failure>
@@ -93,8 +81,8 @@ where
         "ChaCha12" => check_ietf::<R12, B>(case),
         "ChaCha8" => check_ietf::<R8, B>(case),
         "ChaCha0" => check_ietf::<R0, B>(case),
-        "ChaCha20Legacy" => check::<StreamCipherCoreWrapper<ChaChaCore<R20, Legacy, B>>>(case),
-        "XChaCha20" => check::<StreamCipherCoreWrapper<XChaChaCore<R20, B>>>(case),
+        "ChaCha20Legacy" => check_over::<ChaChaCore<R20, Legacy, B>>(case),
+        "XChaCha20" => check_over::<XChaChaCore<R20, B>>(case),
         "hchacha" => check_subkey(case),
         _ => wrong(case, UNREADABLE),
     }
@@ -102,7 +90,16 @@ where
 
 // At a parameter `R` the bounds of `check` are proved once, not for each number of rounds.
 fn check_ietf<R: Rounds, B: StreamCipherBackend<R, Ietf>>(case: &Case) -> Result<(), Failure> {
-    check::<StreamCipherCoreWrapper<ChaChaCore<R, Ietf, B>>>(case)
+    check_over::<ChaChaCore<R, Ietf, B>>(case)
+}
+
+fn check_over<K>(case: &Case) -> Result<(), Failure>
+where
+    K: KeyIvInit + StreamCipherSeekCore + Drop,
+    K::Key: Operand,
+    K::Iv: Operand,
+{
+    check::<StreamCipherCoreWrapper<K>>(case)
 }
 
 // The only line gives what `hchacha` derives from a key and a nonce.

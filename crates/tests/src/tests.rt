@@ -26,16 +26,17 @@ fn run_all<B>(rt: &impl Abort, alloc: Global, backend: &str)
 where
     B: Makes<R0> + Makes<R8> + Makes<R12> + Makes<R20>,
 {
-    run_cases::<B>(rt, backend, CASES);
-    run_cases::<B>(rt, backend, MORE_CASES);
+    run_cases::<(B, B)>(rt, backend);
     let mut verdict = Verdict::new();
     run_loops::<B>(&mut verdict);
     texts::over::<B>(alloc, &mut verdict);
     stop_if_broken(rt, backend, &verdict);
 }
 
-fn run_cases<B: Cases>(rt: &impl Abort, backend: &str, text: &'static str) {
-    stop_at_failure(rt, backend, &run_text::<B, B>(text));
+fn run_cases<C: Cases>(rt: &impl Abort, backend: &str) {
+    for text in [CASES, MORE_CASES] {
+        stop_at_failure(rt, backend, &run_text::<C>(text));
+    }
 }
 
 fn run_loops<B>(verdict: &mut Verdict)
@@ -54,8 +55,8 @@ where
     kinds::beside_soft::<R0, B>(verdict);
     verdict.begin("20 rounds");
     kinds::beside_soft::<R20, B>(verdict);
-    verdict.begin("fronts");
-    kinds::fronts_beside_soft::<B>(verdict);
+    verdict.begin("20 rounds only");
+    kinds::beside_soft_20::<B>(verdict);
     verdict.begin("generators");
     kinds::generators::<B>(verdict);
     verdict.begin("a core of zeros");

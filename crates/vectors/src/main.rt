@@ -13,5 +13,5 @@ use known_answers::subjects::run_text;
 fn main(rt: HostRuntime) -> Outcome {
     let mut message = [0, 1, 2, 3, 4, 5, 6, 7, 8, 9, 10, 11, 12, 13, 14, 15];
     ChaCha20::new(&[0x42; 32], &[0x24; 12]).apply_keystream(&mut message);
-    report(&rt, &message, &run_text::<Lanes16, Lanes8>(CASES))
+    report(&rt, &message, &run_text::<(Lanes16, Lanes8)>(CASES))
 }

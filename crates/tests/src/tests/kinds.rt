@@ -1,5 +1,7 @@
 //! The loops, for each kind of cipher, core and generator over a backend.
 
+ghost use Rattle.std.specs.Prelude.{◌<◌};
+
 use super::loops::{
     Applies, Called, Verdict, blocks, cuts, fronts, generator_fronts, last_bytes, parts,
     words_around_the_wrap,
@@ -86,54 +88,48 @@ fn parts_and_cuts<C: Applies>(cipher: &mut C, step: usize, verdict: &mut Verdict
     cuts(cipher, verdict);
 }
 
-/// Cores in both layouts, beside those over `Soft`, from five blocks before 2^32 on.
+/// Cores in both layouts, beside those over `Soft`.
 pub fn beside_soft<R, B>(verdict: &mut Verdict)
 where
     R: Rounds,
     B: StreamCipherBackend<R, Ietf> + StreamCipherBackend<R, Legacy> + RngBackend<R>,
 {
-    ietf_beside::<ChaChaCore<R, Ietf, B>, ChaChaCore<R, Ietf, Soft>>(verdict);
-    legacy_beside::<ChaChaCore<R, Legacy, B>, ChaChaCore<R, Legacy, Soft>>(verdict);
+    beside::<Nonce, ChaChaCore<R, Ietf, B>, ChaChaCore<R, Ietf, Soft>>(&[7; 12], verdict);
+    seeded_beside::<ChaChaCore<R, Legacy, B>, ChaChaCore<R, Legacy, Soft>>(verdict);
 }
 
-fn ietf_beside<K, S>(verdict: &mut Verdict)
+/// The same of what has 20 rounds only.
+pub fn beside_soft_20<B>(verdict: &mut Verdict)
 where
-    K: KeyIvInit<Key = Key, Iv = Nonce> + StreamCipherSeekCore<Counter = u32> + Drop,
-    S: KeyIvInit<Key = Key, Iv = Nonce> + StreamCipherSeekCore<Counter = u32> + Drop,
+    B: StreamCipherBackend<R20, Ietf> + StreamCipherBackend<R20, Legacy> + RngBackend<R20>,
 {
-    let (mut core, mut plain) = (K::new(&KEY, &[7; 12]), S::new(&KEY, &[7; 12]));
-    blocks(&mut core, &mut plain, 0xffff_fffb, verdict);
-    fronts_of::<Nonce, K, S>(&[7; 12], verdict);
+    beside::<XNonce, XChaChaCore<R20, B>, XChaChaCore<R20, Soft>>(&[7; 24], verdict);
+    beside::<LegacyNonce, ChaChaCore<R20, Legacy, B>, ChaChaCore<R20, Legacy, Soft>>(
+        &[7; 8], verdict,
+    );
+    generator_fronts::<R20, B, Soft>(KEY, verdict);
 }
 
-fn legacy_beside<K, S>(verdict: &mut Verdict)
+// Blocks from five before 2^32 on, and fronts of the stream.
+fn beside<N, K, S>(nonce: &N, verdict: &mut Verdict)
+where
+    K: KeyIvInit<Key = Key, Iv = N> + StreamCipherSeekCore + Drop,
+    S: KeyIvInit<Key = Key, Iv = N> + StreamCipherSeekCore<Counter = K::Counter> + Drop,
+    requires { 4294967291 < K.Counter.M }
+{
+    let (mut core, mut plain) = (K::new(&KEY, nonce), S::new(&KEY, nonce));
+    blocks(&mut core, &mut plain, 0xffff_fffb, verdict);
+    let mut cipher = called::<K>(&KEY, nonce, false);
+    fronts(&mut cipher, &mut called::<S>(&KEY, nonce, false), verdict);
+}
+
+fn seeded_beside<K, S>(verdict: &mut Verdict)
 where
     K: SeedableRng<Seed = Seed> + StreamCipherSeekCore<Counter = u64> + Drop,
     S: SeedableRng<Seed = Seed> + StreamCipherSeekCore<Counter = u64> + Drop,
 {
     let (mut core, mut plain) = (K::from_seed(KEY), S::from_seed(KEY));
     blocks(&mut core, &mut plain, 0xffff_fffb, verdict);
-}
-
-/// Fronts of the kinds with 20 rounds, beside those over `Soft`.
-pub fn fronts_beside_soft<B>(verdict: &mut Verdict)
-where
-    B: StreamCipherBackend<R20, Ietf> + StreamCipherBackend<R20, Legacy> + RngBackend<R20>,
-{
-    fronts_of::<XNonce, XChaChaCore<R20, B>, XChaChaCore<R20, Soft>>(&[7; 24], verdict);
-    fronts_of::<LegacyNonce, ChaChaCore<R20, Legacy, B>, ChaChaCore<R20, Legacy, Soft>>(
-        &[7; 8], verdict,
-    );
-    generator_fronts::<R20, B, Soft>(KEY, verdict);
-}
-
-fn fronts_of<N, K, S>(nonce: &N, verdict: &mut Verdict)
-where
-    K: KeyIvInit<Key = Key, Iv = N> + StreamCipherSeekCore + Drop,
-    S: KeyIvInit<Key = Key, Iv = N> + StreamCipherSeekCore + Drop,
-{
-    let mut cipher = called::<K>(&KEY, nonce, false);
-    fronts(&mut cipher, &mut called::<S>(&KEY, nonce, false), verdict);
 }
 
 // The block with the greatest counter is one of those that are left. A `usize` can't hold 2^64.

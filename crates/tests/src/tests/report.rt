@@ -8,28 +8,29 @@ use std::fmt::Display;
 use std::io;
 use std::process::{ExitCode, Termination};
 
-// In the place of the standard output: whether the lines that are printed are those of a text, of which `rest` is left.
-// A full page takes no line.
+// In the place of the standard output: the lines that are still to be printed. A full page takes no line.
 #[derive(Drop)]
 struct Page {
     alloc: Global,
     is_full: bool,
-    rest: Cell<&'static str>,
-    are_expected: Cell<bool>,
+    expected: Cell<&'static str>,
 }
+
+// No line follows it.
+const OTHERWISE: &str = "printed otherwise";
 
 impl Print for Page {
     fn print<D: Display + Drop>(&self, _: D) -> io::Result<()> {
-        self.are_expected.set(false);
+        self.expected.set(OTHERWISE);
         Ok(())
     }
 
     fn println<D: Display + Drop>(&self, value: D) -> io::Result<()> {
         let line = format!(in self.alloc; "{value}")?;
-        let (expected, rest) = self.rest.get().split_once('\n').unwrap_or(("", ""));
-        self.are_expected
-            .set(self.are_expected.get() & (line.as_str() == expected));
-        self.rest.set(rest);
+        match self.expected.get().split_once('\n') {
+            Some((first, rest)) if line.as_str() == first => self.expected.set(rest),
+            _ => self.expected.set(OTHERWISE),
+        }
         if self.is_full {
             Err(io::ErrorKind::StorageFull.into())
         } else {
@@ -46,8 +47,7 @@ fn page_of(alloc: Global, is_full: bool, expected: &'static str) -> Page {
     Page {
         alloc,
         is_full,
-        rest: Cell::new(expected),
-        are_expected: Cell::new(true),
+        expected: Cell::new(expected),
     }
 }
 
@@ -69,7 +69,7 @@ fn ends(rt: &impl Eprint, page: &Page, found: bool, status: ExitCode) -> bool {
     ciphertext[0] = 0xe4;
     ciphertext[15] = 0x0e;
     let ends_so = report(page, &ciphertext, &verdicts).report(rt) == status;
-    ends_so & page.are_expected.get() & page.rest.get().is_empty()
+    ends_so & page.expected.get().is_empty()
 }
 
 const BAD_ROWS: &str = "e400000000000000000000000000000e\nrow 1 bad\nrow 12 ok\nrow 23 bad\n";

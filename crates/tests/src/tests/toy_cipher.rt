@@ -4,8 +4,8 @@ use super::stop_at_failure;
 use chacha20::StreamCipherCoreWrapper;
 use chacha20::cipher::{KeyIvInit, StreamCipherSeekCore};
 use examples::own_core::Toy;
-use known_answers::check::check;
-use known_answers::report::{Verdicts, note};
+use known_answers::check::{Failure, check};
+use known_answers::subjects::{Cases, run_text};
 use known_answers::text::Case;
 
 // Under the toy core of seed 7 byte p of the keystream is (7 + 100 * (p / 64) + p % 64) mod 256: the first block begins
@@ -44,19 +44,18 @@ write 1 -> 07
 pos u32 -> 1
 ";
 
-fn check_toy() -> Verdicts {
-    let mut verdicts = [None; 32];
-    for paragraph in CASES.split("\n\n") {
-        let case = Case::read(paragraph.trim());
-        let outcome = check::<StreamCipherCoreWrapper<Toy>>(&case);
-        note(&mut verdicts, case.title, outcome);
+// Checks cases about the wrapper over `Toy`.
+struct OverToy;
+
+impl Cases for OverToy {
+    fn check(case: &Case) -> Result<(), Failure> {
+        check::<StreamCipherCoreWrapper<Toy>>(case)
     }
-    verdicts
 }
 
 // A new core is at block 5, and a cipher over it begins at block 0.
 #[test]
 fn toy_calls(rt: HostRuntime) {
     assert!(rt; Toy::new(&7, &()).get_block_pos() == 5);
-    stop_at_failure(&rt, "Toy", &check_toy());
+    stop_at_failure(&rt, "Toy", &run_text::<OverToy>(CASES));
 }

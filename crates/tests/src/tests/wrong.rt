@@ -2,7 +2,7 @@
 
 use chacha20::backends::Soft;
 use known_answers::check::{ANSWER, BYTES, UNREADABLE};
-use known_answers::subjects::check_case;
+use known_answers::subjects::Cases;
 use known_answers::text::{Case, split_word};
 
 // Each line is the only one of a case about the subject.
@@ -108,7 +108,7 @@ fn is_found(subject: &'static str, fault: &'static str, line: &'static str) -> b
         made_of,
         lines: line,
     };
-    match check_case::<Soft, Soft>(&case) {
+    match <(Soft, Soft)>::check(&case) {
         Ok(()) => false,
         Err(failure) => failure.fault == fault,
     }
