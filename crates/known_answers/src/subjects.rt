@@ -2,12 +2,12 @@
 
 use crate::check::{ANSWER, Failure, UNREADABLE, check};
 use crate::report::{Verdicts, note};
-use crate::text::{Case, Operand, split_keyed};
+use crate::text::{Bytes, Case, Operand, split_keyed};
 use crate::{Makes, R0};
 use chacha20::cipher::{KeyIvInit, RngBackend, StreamCipherBackend, StreamCipherSeekCore};
 use chacha20::variants::{Ietf, Legacy};
 use chacha20::{
-    ChaChaCore, ChaChaRng, Key, R8, R12, R20, Rounds, StreamCipherCoreWrapper, XChaChaCore, hchacha,
+    ChaChaCore, ChaChaRng, R8, R12, R20, Rounds, StreamCipherCoreWrapper, XChaChaCore, hchacha,
 };
 
 /// What checks cases: a pair of backends, ciphers and cores over the first, generators over the second.
@@ -105,9 +105,11 @@ where
 // The only line gives what `hchacha` derives from a key and a nonce.
 fn check_subkey(case: &Case) -> Result<(), Failure> {
     let (key, nonce) = split_keyed(case.made_of);
-    let subkey = case.lines.strip_prefix("subkey -> ").unwrap_or("");
-    match (Operand::read(key), Operand::read(nonce), Key::read(subkey)) {
-        (Some(key), Some(nonce), Some(subkey)) if hchacha::<R20>(&key, &nonce) == subkey => Ok(()),
+    let subkey = Bytes::read(case.lines.strip_prefix("subkey -> ").unwrap_or(""));
+    match (Operand::read(key), Operand::read(nonce)) {
+        (Some(key), Some(nonce)) if subkey.are(&hchacha::<R20>(&key, &nonce)) == Some(true) => {
+            Ok(())
+        }
         _ => wrong(case, ANSWER),
     }
 }

@@ -70,16 +70,10 @@ pub fn legacy<K>(step: usize, verdict: &mut Verdict)
 where
     K: KeyIvInit<Key = Key, Iv = LegacyNonce> + StreamCipherSeekCore + Drop,
 {
-    parts_and_cuts(
-        &mut called::<K>(&FROM_1, &LEGACY_NONCE, false),
-        step,
-        verdict,
-    );
-    parts_and_cuts(
-        &mut called::<K>(&FROM_1, &LEGACY_NONCE, true),
-        step,
-        verdict,
-    );
+    let mut by_lists = called::<K>(&FROM_1, &LEGACY_NONCE, true);
+    parts_and_cuts(&mut by_lists, 17, verdict);
+    let mut direct = called::<K>(&FROM_1, &LEGACY_NONCE, false);
+    parts_and_cuts(&mut direct, step, verdict);
 }
 
 fn parts_and_cuts<C: Applies>(cipher: &mut C, step: usize, verdict: &mut Verdict) {
