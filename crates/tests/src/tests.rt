@@ -34,9 +34,8 @@ where
 }
 
 fn run_cases<C: Cases>(rt: &impl Abort, backend: &str) {
-    for text in [CASES, MORE_CASES] {
-        stop_at_failure(rt, backend, &run_text::<C>(text));
-    }
+    stop_at_failure(rt, backend, &run_text::<C>(CASES));
+    stop_at_failure(rt, backend, &run_text::<C>(MORE_CASES));
 }
 
 fn run_loops<B>(verdict: &mut Verdict)
