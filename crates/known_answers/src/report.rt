@@ -12,7 +12,7 @@ use std::process::{ExitCode, Termination};
 pub type Verdicts = [Option<Result<(), Failure>>; 32];
 
 /// Notes what a case came to.
-pub fn note(verdicts: &mut Verdicts, title: &str, outcome: Result<(), Failure>) {
+pub(crate) fn note(verdicts: &mut Verdicts, title: &str, outcome: Result<(), Failure>) {
     let number = number_of(title);
     match verdicts[number] {
         Some(Err(_)) => {}
