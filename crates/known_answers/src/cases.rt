@@ -1,20 +1,21 @@
-//! The cases whose title begins with a number, sorted by it. They run on each backend in `tests`, and in the program
-//! `vectors`, which prints `row N ok` if all cases with the number N hold. None has the number 2.
+//! The cases with a number, sorted by it. They run on each backend in `tests`, and in the program `vectors`, which
+//! prints `row N ok` if all cases N hold. There is no case 2.
 //!
-//! A case is a paragraph. Its first line is the title: where the answers come from, and what the case shows; a source
-//! in parentheses is that of the bytes it names, and `By hand` means by the definition, without a program. The second
-//! line is the subject. Each line after it is a call, with its answer behind `->`; a call with nothing behind it must
-//! not be refused. To add a case, add a paragraph: with a number here, without one anywhere in
-//! [`more_cases`](crate::more_cases). No other file changes. A `\` at a line's end goes on to the next.
+//! A case is a paragraph. Its first line is the title: where the answers come from, and what the case shows. A source
+//! in parentheses is that of the bytes it names. `By hand` means by the definition, without a program. The Rust crate
+//! is `chacha20` 0.10.2. The second line is the subject. Each line after it is a call, with its answer behind `->`; a
+//! call with nothing behind it must not be refused. A line that ends with `\` goes on in the next. To add a case, add a
+//! paragraph: with a number here, without one anywhere in [`more_cases`](crate::more_cases). No other file changes.
 //!
 //! | subject | made of |
 //! |---|---|
-//! | `ChaCha20`, `ChaCha12`, `ChaCha8`; `ChaCha20Legacy`; `XChaCha20` | `key K nonce N`, of 32 bytes and of 12; 8; 24 |
-//! | `ChaCha0`: no rounds, so that bytes can be computed by hand | `key K nonce N` |
-//! | the cores `ChaCha20Core`, `ChaCha0Core` | `key K nonce N` |
-//! | the core `ChaCha0LegacyCore` | `seed S` |
+//! | `ChaCha20`, `ChaCha12`, `ChaCha8` | `key K nonce N`, of 32 and 12 bytes |
+//! | `ChaCha0`: no rounds, so each word of a block is twice that of its start state | the same |
+//! | `ChaCha20Legacy`, `XChaCha20` | the same, with a nonce of 8 and of 24 bytes |
+//! | the cores `ChaCha20Core`, `ChaCha0Core` | `key K nonce N`, of 32 and 12 bytes |
+//! | the core `ChaCha0LegacyCore`, with a nonce of zeros | `seed S`, of 32 bytes |
 //! | the generators `ChaCha20Rng`, `ChaCha12Rng`, `ChaCha8Rng`, `ChaCha0Rng` | `seed S`, or `state S` as stored |
-//! | `hchacha`; its only line is `subkey -> S` | `key K nonce N`, of 32 bytes and of 16 |
+//! | `hchacha`; its only line is `subkey -> S` | `key K nonce N`, of 32 and 16 bytes |
 //!
 //! | line of a cipher | call | answer |
 //! |---|---|---|
@@ -27,21 +28,25 @@
 //! | `pos u128 -> 2^70` | `current_pos::<u128>()` | 2^70 |
 //! | `pos u64 -> overflow` | the same in 64 bits | the type can't represent it |
 //!
-//! Positions count bytes, in an `i32`, `u32`, `u64`, `u128` or `usize`. After each line three ciphers must have given
-//! its answer: one called by `try_` forms, one by the forms without `try_` unless the call is refused, and one on which
-//! `run_cipher` makes all calls so far. A call changes no bytes but its line's, and a refused one nothing.
+//! Positions count bytes, in an `i32`, `u32`, `u64`, `u128` or `usize` (of 64 bits). Each line is checked on three
+//! ciphers: one is called by the `try_` forms; one by the forms without `try_`, but where these would panic; and on a
+//! new one `run_cipher` makes all calls so far, as one list. A call may change only its line's bytes, and a call that
+//! is refused changes nothing.
 //!
-//! A line of a generator is one of its functions, as `fill_bytes 5 -> e8ca40d600`, or `100 times next_u32`. Four must
-//! agree: one by its own functions, one with reads through `Rng`, one with reads through `TryRng`, and one on which
-//! `run_rng` makes all calls so far. `equals S -> true` compares by `==` with the generator of a stored state, which is
-//! the seed, the stream in eight bytes, and the word position in nine, little-endian.
+//! A line of a generator is one of its functions, as `fill_bytes 5 -> e8ca40d600`, or `100 times next_u32`. Each is
+//! checked on four generators: one is called by its own functions, one is read through `Rng`, one through `TryRng`, and
+//! on a new one `run_rng` makes all calls so far. `reload` stores the state and loads it again. `equals S -> true`
+//! compares by `==` with the generator of a stored state, which is the seed, the stream in eight bytes, and the word
+//! position in nine, little-endian. Word positions are modulo 2^68.
 //!
-//! A line of a core is one of its functions. A second core applies what the first writes, and must make the same.
+//! A line of a core is one of its functions, on blocks. What it writes, a second core must make of zeros by applying.
+//! `remaining_blocks -> overflow` stands for `None`.
 //!
 //! Bytes are pairs of hexadecimal digits with spaces anywhere between pairs; `00*12` is twelve times 00, `00..1f` all
 //! from 00 to 1f, and `..*12` any twelve bytes. A number is decimal, `0x` and hexadecimal digits, or as `2^68`,
 //! `2^68-1`, `2^68+5`. OpenSSL's answers are those of `openssl enc -chacha20 -K KEY -iv C`. C is the number of the
-//! block, little-endian in 4 bytes (8 for the legacy cipher and generators), and then the nonce or the stream.
+//! block, little-endian in 4 bytes (8 for the legacy cipher and generators), and then the nonce or the stream. For
+//! XChaCha20, KEY is the subkey, and the nonce is four zeros and its last eight bytes.
 
 pub static CASES: &str = "
 case 1. OpenSSL: a message there, back, and there in pieces of 3
@@ -265,7 +270,7 @@ room 2^38-64
 room 2^38-63
 room 2^38+1 -> refused
 
-case 22. By hand: more than a length says
+case 22. By hand: a new legacy cipher takes more than any length
 ChaCha20Legacy key 01..20 nonce 0301040105090206
 room 2^64-1
 

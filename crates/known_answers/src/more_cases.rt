@@ -115,7 +115,7 @@ seek i32 -1 -> refused
 pos i32 -> 3
 write 1 -> c2
 
-By hand: no position
+By hand: values that are no positions
 ChaCha20 key 00..1f nonce 00*12
 seek i32 -2147483648 -> refused
 seek u128 0xffffffffffffffffffffffffffffffff -> refused
@@ -346,7 +346,7 @@ fill_bytes 256 -> \
 get_word_pos -> 64
 get_block_pos -> 4
 
-OpenSSL: the same behind the last block
+OpenSSL: four blocks behind the last one
 ChaCha20Rng seed 00*32
 set_block_pos 2^64-1
 fill_bytes 320 -> \
