@@ -1,6 +1,6 @@
 //! The calls that a line can name, and their answers.
 
-use crate::text::{Bytes, Operand, read_number, split_word};
+use crate::text::{Bytes, read_number, split_word};
 use chacha20::{CipherCall, RngCall, Seed, SerializedRngState};
 
 /// A call on a cipher, on a generator, or on a core, whose block position is called as that of a generator.
@@ -9,9 +9,15 @@ pub enum Call {
     Cipher(CipherCall),
     /// In a type that `CipherCall` lacks: a seek to a position or, without one, the current position.
     InType(Type, Option<u128>),
+    /// A list without calls.
+    NoCalls,
     Rng(RngCall),
-    /// `==` with the generator of a stored state.
-    Equals(SerializedRngState),
+    /// On the second generator, without data.
+    OnSecond(RngCall),
+    /// Makes the second generator anew, of `seed S` or `state S`.
+    MakeSecond(&'static str),
+    /// `==` with the second generator.
+    EqualsSecond,
     RemainingBlocks,
     WriteBlock(Range),
     WriteBlocks(Range),
@@ -30,8 +36,7 @@ impl Type {
     pub(crate) fn max(self) -> u128 {
         match self {
             Type::U32 => u128::from(u32::MAX),
-            Type::U64 => u128::from(u64::MAX),
-            Type::Usize => usize::MAX as u128,
+            _ => u128::from(u64::MAX),
         }
     }
 }
@@ -48,6 +53,14 @@ pub enum Answer {
     Equal(bool),
     Seed(Seed),
     State(SerializedRngState),
+}
+
+/// What a case's calls read, and what they write.
+#[derive(Clone, Copy)]
+pub struct Slices {
+    pub input: Bytes,
+    /// Before all calls.
+    pub data: Bytes,
 }
 
 /// A range of the data.
@@ -83,65 +96,73 @@ impl Call {
     }
 }
 
-/// Reads a call. What it reads and writes is put behind the data so far.
-pub(crate) fn read_call(text: &'static str, data: &mut Bytes) -> Option<Call> {
+/// Reads a call. What it reads and writes is put behind the bytes so far, or is a range of shared ones.
+pub(crate) fn read_call(text: &'static str, slices: &mut Slices) -> Option<Call> {
     let (name, operand) = split_word(text);
+    let data = &mut slices.data;
     match name {
         "apply" => {
-            let Range { at, len } = bytes(operand, data);
+            let Range { at, len } = place(operand, 0, data);
             Some(Call::Cipher(CipherCall::Apply { at, len }))
         }
         "write" => {
-            let Range { at, len } = room(operand, 1, data);
+            let Range { at, len } = place(operand, 1, data);
             Some(Call::Cipher(CipherCall::Write { at, len }))
         }
         "fill_bytes" => {
-            let Range { at, len } = room(operand, 1, data);
+            let Range { at, len } = place(operand, 1, data);
             Some(Call::Rng(RngCall::Fill { at, len }))
         }
-        "b2b" => Some(Call::Cipher(read_b2b(operand, data))),
-        "write_keystream_block" => Some(Call::WriteBlock(room("1", 64, data))),
-        "write_keystream_blocks" => Some(Call::WriteBlocks(room(operand, 64, data))),
-        "equals" => match Operand::read(operand) {
-            Some(state) => Some(Call::Equals(state)),
-            None => None,
-        },
+        "b2b" => read_b2b(operand, slices),
+        "write_keystream_block" => Some(Call::WriteBlock(place("1", 64, data))),
+        "write_keystream_blocks" => Some(Call::WriteBlocks(place(operand, 64, data))),
+        "second" => read_second(operand),
         _ => read_call_without_data(text),
     }
 }
 
-fn read_b2b(operands: &'static str, data: &mut Bytes) -> CipherCall {
-    let (input, output) = operands.split_once(" into ").unwrap_or(("?", "?"));
-    let from = bytes(input, data);
-    let Range { at, len } = bytes(output, data);
-    CipherCall::ApplyFrom {
+fn read_b2b(operands: &'static str, slices: &mut Slices) -> Option<Call> {
+    let (input, output) = operands.split_once(" into ")?;
+    let from = place(input, 0, &mut slices.input);
+    let Range { at, len } = place(output, 0, &mut slices.data);
+    Some(Call::Cipher(CipherCall::ApplyFrom {
         from: from.at,
         from_len: from.len,
         at,
         len,
+    }))
+}
+
+fn read_second(text: &'static str) -> Option<Call> {
+    match read_call_without_data(text) {
+        Some(Call::Rng(call)) => Some(Call::OnSecond(call)),
+        None => Some(Call::MakeSecond(text)),
+        _ => None,
     }
 }
 
-fn bytes(text: &'static str, data: &mut Bytes) -> Range {
-    let at = data.len;
-    data.append(text);
-    range_from(at, data)
-}
-
-// New data of a length in units. The bytes are no zeros, so that it shows where one isn't written.
-fn room(len: &'static str, unit: usize, data: &mut Bytes) -> Range {
-    let at = data.len;
-    let len = read_number::<usize>(len).unwrap_or(1537);
-    data.repeat("5a", len.saturating_mul(unit));
-    range_from(at, data)
-}
-
-fn range_from(at: usize, data: &Bytes) -> Range {
-    let len = data.len.saturating_sub(at);
+// Of shared bytes the range `AT..END`. Otherwise new bytes: those of a text or, by a unit, so many units. The latter
+// are no zeros, so that it shows where one isn't written.
+fn place(text: &'static str, unit: usize, bytes: &mut Bytes) -> Range {
+    let (mut at, mut end) = (bytes.len, None);
+    if bytes.are_shared {
+        let (first, last) = text.split_once("..").unwrap_or(("", ""));
+        at = read_number(first).unwrap_or(1537);
+        end = Some(read_number(last).unwrap_or(1537));
+    } else if unit == 0 {
+        bytes.append(text);
+    } else {
+        let units = read_number::<usize>(text).unwrap_or(1537);
+        bytes.repeat("5a", units.saturating_mul(unit));
+    }
+    let end = end.unwrap_or(bytes.len);
+    bytes.is_wrong |= (at > end) | (end > bytes.len);
+    let len = end.saturating_sub(at);
     Range { at, len }
 }
 
-static WITHOUT_OPERAND: [(&str, Call); 14] = [
+static WITHOUT_OPERAND: [(&str, Call); 16] = [
+    ("no calls", Call::NoCalls),
     ("pos i32", Call::Cipher(CipherCall::PosI32)),
     ("pos u32", Call::InType(Type::U32, None)),
     ("pos u64", Call::InType(Type::U64, None)),
@@ -155,6 +176,7 @@ static WITHOUT_OPERAND: [(&str, Call); 14] = [
     ("get_seed", Call::Rng(RngCall::GetSeed)),
     ("serialize_state", Call::Rng(RngCall::Serialize)),
     ("reload", Call::Rng(RngCall::Reload)),
+    ("equals second", Call::EqualsSecond),
     ("remaining_blocks", Call::RemainingBlocks),
 ];
 
@@ -164,19 +186,12 @@ fn read_call_without_data(text: &'static str) -> Option<Call> {
             return Some(*call);
         }
     }
-    let (name, operand) = text.rsplit_once(' ').unwrap_or((text, ""));
-    match read_number::<u128>(operand) {
-        _ if name == "seek i32" => read_seek_i32(operand),
-        Some(number) => read_call_with_number(name, number),
-        None => None,
+    let (name, operand) = text.rsplit_once(' ')?;
+    if name == "seek i32" {
+        let position = operand.parse::<i32>().ok().or(read_number(operand));
+        return Some(Call::Cipher(CipherCall::SeekI32(position?)));
     }
-}
-
-fn read_seek_i32(text: &str) -> Option<Call> {
-    match text.parse::<i32>().ok().or(read_number(text)) {
-        Some(position) => Some(Call::Cipher(CipherCall::SeekI32(position))),
-        None => None,
-    }
+    read_call_with_number(name, read_number(operand)?)
 }
 
 fn read_call_with_number(name: &str, number: u128) -> Option<Call> {

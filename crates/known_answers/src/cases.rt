@@ -35,9 +35,17 @@
 //!
 //! A line of a generator is one of its functions, as `fill_bytes 5 -> e8ca40d600`, or `100 times next_u32`. Each is
 //! checked on four generators: one is called by its own functions, one is read through `Rng`, one through `TryRng`, and
-//! on a new one `run_rng` makes all calls so far. `reload` stores the state and loads it again. `equals S -> true`
-//! compares by `==` with the generator of a stored state, which is the seed, the stream in eight bytes, and the word
-//! position in nine, little-endian. Word positions are modulo 2^68.
+//! on a new one `run_rng` makes all calls so far. `reload` stores the state and loads it again: the seed, the stream in
+//! eight bytes, and the word position in nine, little-endian. Word positions are modulo 2^68.
+//!
+//! Beside each generator stands a second one, made of the same. `second set_word_pos 1` is a call on it, `second state
+//! S` makes it anew, and `equals second -> true` compares the two by `==`.
+//!
+//! Calls can share bytes. Then the lines `input 010203`, which `b2b` reads, and `data 00*4` stand below the subject.
+//! Every call of the case gets these slices, and a line names ranges in them: `apply 0..3` changes the first three
+//! bytes of the data, and `b2b 0..3 into 1..4` goes from the input to the last three. Behind its answer, each line has
+//! the whole data after the call: `-> done | caf0e000`, `-> refused | 00*4`, `-> 3 | caf0e000`. `no calls` is a list
+//! without calls.
 //!
 //! A line of a core is one of its functions, on blocks. What it writes, a second core must make of zeros by applying.
 //! `remaining_blocks -> overflow` stands for `None`.
@@ -203,7 +211,8 @@ case 15. By hand: the last position, and positions past it
 ChaCha20Rng state ff*49
 get_word_pos -> 2^68-1
 serialize_state -> ff*48 0f
-equals ff*48 0f -> true
+second state ff*48 0f
+equals second -> true
 set_word_pos 2^68+5
 get_word_pos -> 5
 set_word_pos 2^68-16
@@ -278,10 +287,25 @@ case 23. By hand: generators are equal where seed, stream and position are
 ChaCha20Rng seed 01..20
 7 times next_u32
 set_word_pos 0
-equals 01..20 00*17 -> true
+equals second -> true
 next_u32
-equals 01..20 00*8 01 00*8 -> true
-equals 01..20 01 00*7 01 00*8 -> false
-equals 01..20 00*8 02 00*8 -> false
-equals 02*32 00*8 01 00*8 -> false
+second set_word_pos 1
+equals second -> true
+second set_stream 1
+equals second -> false
+
+case 23. By hand: and otherwise they are not
+ChaCha20Rng seed 01..20
+next_u32
+equals second -> false
+second next_u32
+equals second -> true
+second set_word_pos 2^68-1
+equals second -> false
+second set_stream 1
+second next_u32
+equals second -> false
+second seed 02*32
+second next_u32
+equals second -> false
 ";

@@ -1,7 +1,7 @@
 //! Runs a case on its subject, in each way to make its calls.
 
-use crate::calls::{Answer, Call, Range, read_call};
-use crate::text::{Bytes, Case, Data, read_number};
+use crate::calls::{Answer, Call, Range, Slices, read_call};
+use crate::text::{Bytes, Case, Data, read_number, split_word};
 
 /// A way to make calls.
 #[derive(Clone, Copy)]
@@ -28,18 +28,14 @@ pub trait FromText: Sized {
 /// show only that it is safe.
 pub trait Subject: FromText + Drop {
     /// Makes a call, but not as a list. `data` is what it may change.
-    fn make(&mut self, way: Way, call: Call, input: &Data, data: &mut [u8]) -> Answer;
+    fn make(&mut self, way: Way, call: Call, input: &[u8], data: &mut [u8]) -> Answer;
 
     /// Makes calls, at most 128, by one list.
-    fn make_list(&mut self, _: &[Call], _: &Data, _: &mut Made) {}
+    fn make_list(&mut self, _: &[Call], _: &[u8], _: &mut [u8], _: &mut Answers) {}
 }
 
-/// What a run of calls answers, and makes of the data.
-#[derive(Clone, Copy, PartialEq, Eq)]
-pub struct Made {
-    pub answers: [Answer; 128],
-    pub data: Data,
-}
+/// An answer for each call.
+pub type Answers = [Answer; 128];
 
 /// A line that is wrong: the case's title, the line, and what is wrong with it.
 #[derive(Clone, Copy)]
@@ -83,7 +79,7 @@ pub fn check<S: Subject>(case: &Case) -> Result<(), Failure> {
     for i in 0..script.count.min(128) {
         let (line, call) = (script.lines[i], script.calls[i]);
         let direct = run::<S>(&script, i, Way::Directly);
-        script.judge(line, call, direct.answers[i], &direct.data);
+        script.judge(line, call, direct.0[i], &direct.1);
         for (way, fault) in ways_of(case.subject) {
             let is_same = run::<S>(&script, i, *way) == direct;
             script.note_unless(line, Some(is_same), fault);
@@ -92,25 +88,28 @@ pub fn check<S: Subject>(case: &Case) -> Result<(), Failure> {
     script.verdict
 }
 
-// What a new subject makes of the calls up to one.
-fn run<S: Subject>(script: &Script, last: usize, way: Way) -> Made {
-    let mut made = Made {
-        answers: script.unanswered,
-        data: script.data.bytes,
-    };
+// What a new subject answers to the calls up to one, and makes of the data.
+fn run<S: Subject>(script: &Script, last: usize, way: Way) -> (Answers, Data) {
+    let Slices { input, data } = &script.slices;
+    let mut bytes = data.bytes;
+    let mut answers = script.unanswered;
     let calls = script.calls.get(..=last).unwrap_or(&[]);
-    let input = &script.data.bytes;
+    let input = input.bytes.get(..input.len).unwrap_or(&[]);
+    let slice = bytes.get_mut(..data.len).unwrap_or(&mut []);
     if let Some(mut subject) = S::read(script.case.made_of) {
         if let Way::AsList = way {
-            subject.make_list(calls, input, &mut made);
+            subject.make_list(calls, input, slice, &mut answers);
         } else {
             for i in 0..calls.len().min(128) {
-                let changed = calls[i].range().of_mut(&mut made.data);
-                made.answers[i] = subject.make(way, calls[i], input, changed);
+                if let Call::NoCalls = calls[i] {
+                    subject.make_list(&[], input, slice, &mut answers);
+                }
+                let changed = calls[i].range().of_mut(slice);
+                answers[i] = subject.make(way, calls[i], input, changed);
             }
         }
     }
-    made
+    (answers, bytes)
 }
 
 // A case's calls, and the line of each. It goes on where a line is wrong, and keeps the first.
@@ -120,10 +119,9 @@ struct Script {
     calls: [Call; 128],
     lines: [&'static str; 128],
     count: usize,
-    // Before all calls.
-    data: Bytes,
+    slices: Slices,
     // Copied in `run`, where LLVM would else store each answer by itself, for each subject.
-    unanswered: [Answer; 128],
+    unanswered: Answers,
     // After the calls that are judged.
     judged: Data,
     verdict: Result<(), Failure>,
@@ -136,7 +134,10 @@ impl Script {
             calls: [Call::RemainingBlocks; 128],
             lines: [""; 128],
             count: 0,
-            data: Bytes::read(""),
+            slices: Slices {
+                input: Bytes::read(""),
+                data: Bytes::read(""),
+            },
             unanswered: [Answer::Missing; 128],
             judged: [0; 1536],
             verdict: Ok(()),
@@ -146,22 +147,29 @@ impl Script {
         }
         let has_calls = script.count > 0;
         script.note_unless(case.made_of, Some(has_calls), UNREADABLE);
-        script.judged = script.data.bytes;
+        script.judged = script.slices.data.bytes;
         script
     }
 
-    // A call or `N times CALL`, and the answer behind the arrow, if there is one.
+    // Shared bytes; or a call or `N times CALL`, and the answer behind the arrow, if there is one.
     fn read_line(&mut self, line: &'static str) {
-        let (text, _) = split_answer(line);
+        let (text, _) = line.split_once(" -> ").unwrap_or((line, ""));
         let (times, text) = text.split_once(" times ").unwrap_or(("1", text));
+        match split_word(line) {
+            ("input", bytes) => return self.slices.input.share(bytes),
+            ("data", bytes) => return self.slices.data.share(bytes),
+            _ => {}
+        }
         for _ in 0..read_number(times).unwrap_or(129usize).min(129) {
             self.add_call(line, text);
         }
     }
 
     fn add_call(&mut self, line: &'static str, text: &'static str) {
-        match read_call(text, &mut self.data) {
-            Some(call) if (self.count < 128) & !self.data.is_wrong => {
+        let call = read_call(text, &mut self.slices);
+        let is_wrong = self.slices.input.is_wrong | self.slices.data.is_wrong;
+        match call {
+            Some(call) if (self.count < 128) & !is_wrong => {
                 self.calls[self.count] = call;
                 self.lines[self.count] = line;
                 self.count += 1;
@@ -182,23 +190,26 @@ impl Script {
 
     // Judges what the direct call answers and leaves.
     fn judge(&mut self, line: &'static str, call: Call, answer: Answer, data: &Data) {
-        let (_, expected) = split_answer(line);
+        let (_, expected) = line.split_once(" -> ").unwrap_or((line, ""));
+        let (expected, after) = expected.split_once(" | ").unwrap_or((expected, ""));
         let is_done = matches!(answer, Answer::Done);
         let range = call.range();
-        let is_kept = are_same_beside(range, is_done, &self.judged, data);
         self.note_unless(line, is_answer(answer, expected), ANSWER);
-        if is_done & !expected.is_empty() {
+        if self.slices.data.are_shared {
+            self.note_unless(line, Some(is_done == (expected == "done")), ANSWER);
+            let all = data.get(..self.slices.data.len).unwrap_or(&[]);
+            self.note_unless(line, Bytes::read(after).are(all), BYTES);
+        } else if is_done & !expected.is_empty() {
             let are_right = Bytes::read(expected).are(range.of(data));
             self.note_unless(line, are_right, BYTES);
         }
-        self.note_unless(line, Some(is_kept), BYTES);
+        for i in 0..1536usize {
+            let is_in_range = (i >= range.at) & (i.saturating_sub(range.at) < range.len);
+            let is_right = (self.judged[i] == data[i]) | (is_in_range & is_done);
+            self.note_unless(line, Some(is_right), BYTES);
+        }
         self.judged = *data;
     }
-}
-
-// A call's text, and the answer behind the arrow.
-fn split_answer(line: &'static str) -> (&'static str, &'static str) {
-    line.split_once(" -> ").unwrap_or((line, ""))
 }
 
 // Whether an answer is the one that a line gives. Without one, the call must succeed.
@@ -215,27 +226,10 @@ fn is_answer(answer: Answer, expected: &str) -> Option<bool> {
 
 fn is_value(answer: Answer, expected: &str) -> Option<bool> {
     match answer {
-        Answer::Number(found) => match read_number::<u128>(expected) {
-            Some(number) => Some(found == number),
-            None => None,
-        },
-        Answer::Equal(found) => match expected {
-            "true" => Some(found),
-            "false" => Some(!found),
-            _ => None,
-        },
+        Answer::Number(found) => Some(found == read_number::<u128>(expected)?),
+        Answer::Equal(found) => Some(found == expected.parse::<bool>().ok()?),
         Answer::Seed(found) => Bytes::read(expected).are(&found),
         Answer::State(found) => Bytes::read(expected).are(&found),
         _ => Some(true),
     }
-}
-
-// Whether the data is the same but in a range, which a call that is done may change.
-fn are_same_beside(range: Range, is_done: bool, before: &Data, after: &Data) -> bool {
-    let mut are_same = true;
-    for i in 0..1536usize {
-        let is_in_range = (i >= range.at) & (i.saturating_sub(range.at) < range.len);
-        are_same &= (before[i] == after[i]) | (is_in_range & is_done);
-    }
-    are_same
 }

@@ -4,8 +4,8 @@ ghost use Rattle.std.specs.Prelude.{◌↔◌, ◌≤◌, ◌+◌, IsTrue, All};
 ghost use Rattle.chacha20.specs.Runs.{InSlices};
 
 use crate::calls::{Answer, Call, Range, Type};
-use crate::check::{FromText, Made, Subject, Way};
-use crate::text::{Data, Operand, read_keyed};
+use crate::check::{Answers, FromText, Subject, Way};
+use crate::text::{Operand, read_keyed};
 use chacha20::cipher::{
     KeyIvInit, SeekNum, StreamCipher, StreamCipherError, StreamCipherSeek, StreamCipherSeekCore,
 };
@@ -29,20 +29,15 @@ where
     K::Iv: Operand,
 {
     // A call by a `try_` form, or by the form without where it may be called.
-    fn make(&mut self, way: Way, call: Call, input: &Data, data: &mut [u8]) -> Answer {
+    fn make(&mut self, way: Way, call: Call, input: &[u8], data: &mut [u8]) -> Answer {
         make_call(self, matches!(way, Way::Directly), call, input, data)
     }
 
-    fn make_list(&mut self, calls: &[Call], input: &Data, made: &mut Made) {
+    fn make_list(&mut self, calls: &[Call], input: &[u8], data: &mut [u8], made: &mut Answers) {
         let mut answers = [CipherAnswer::Overflow; 128];
         let count = calls.len().min(128);
-        run_cipher(
-            self,
-            input,
-            &mut made.data,
-            &list_of(calls)[..count],
-            &mut answers[..count],
-        );
+        let list = list_of(calls, input.len(), data.len());
+        run_cipher(self, input, data, &list[..count], &mut answers[..count]);
         note_listed(calls, &answers, made);
     }
 }
@@ -51,11 +46,12 @@ fn make_call<C: StreamCipherSeek>(
     cipher: &mut C,
     tries: bool,
     call: Call,
-    input: &Data,
+    input: &[u8],
     data: &mut [u8],
 ) -> Answer {
     match call {
         Call::Cipher(call) => make_listed_call(cipher, tries, call, input, data),
+        Call::NoCalls => Answer::Done,
         Call::InType(Type::U32, position) => make_in::<u32, C>(cipher, tries, position),
         Call::InType(Type::U64, position) => make_in::<u64, C>(cipher, tries, position),
         Call::InType(Type::Usize, position) => make_in::<usize, C>(cipher, tries, position),
@@ -69,7 +65,7 @@ fn make_listed_call<C: StreamCipherSeek>(
     cipher: &mut C,
     tries: bool,
     call: CipherCall,
-    input: &Data,
+    input: &[u8],
     data: &mut [u8],
 ) -> Answer {
     let input = from(call).of(input);
@@ -124,8 +120,9 @@ fn is_made_without_try<C: StreamCipher>(
 // The first `try_seek` shows that the position may be sought, the second takes the cipher elsewhere.
 #[inline(never)]
 fn seek<T: SeekNum, C: StreamCipherSeek>(cipher: &mut C, tries: bool, position: T) -> Answer {
+    let elsewhere = u32::from(position.to_position() == Some(0));
     let outcome = cipher.try_seek(position);
-    if !tries && outcome.is_ok() && cipher.try_seek(0u32).is_ok() {
+    if !tries && outcome.is_ok() && cipher.try_seek(elsewhere).is_ok() {
         cipher.seek(position);
     }
     of_outcome(outcome)
@@ -161,22 +158,20 @@ fn of_outcome(outcome: Result<(), StreamCipherError>) -> Answer {
     }
 }
 
+// No position is negative.
 fn of_position<T: SeekNum>(position: T) -> Answer {
-    match position.to_position() {
-        Some(position) => Answer::Number(position),
-        None => Answer::Missing,
-    }
+    Answer::Number(position.to_position().unwrap_or(u128::MAX))
 }
 
-// A list has positions in `i32` and `u128` only. All ranges lie in the data.
+// A list has positions in `i32` and `u128` only. All ranges lie in slices of these lengths.
 #[inline(never)]
-fn list_of(calls: &[Call]) -> [CipherCall; 128]
-    ensures { All (InSlices 1536 1536) result }
+fn list_of(calls: &[Call], input: usize, bytes: usize) -> [CipherCall; 128]
+    ensures { All (InSlices input bytes) result }
 {
     let mut list = [CipherCall::Pos; 128];
     'each: for i in 0..calls.len().min(128) {
         match calls[i] {
-            Call::Cipher(call) if in_slices(call, 1536, 1536) => list[i] = call,
+            Call::Cipher(call) if in_slices(call, input, bytes) => list[i] = call,
             Call::InType(_, Some(position)) => list[i] = CipherCall::Seek(position),
             _ => {}
         }
@@ -184,13 +179,14 @@ fn list_of(calls: &[Call]) -> [CipherCall; 128]
     list
 }
 
-fn note_listed(calls: &[Call], answers: &[CipherAnswer; 128], made: &mut Made) {
+fn note_listed(calls: &[Call], answers: &[CipherAnswer; 128], made: &mut Answers) {
     for i in 0..calls.len().min(128) {
-        made.answers[i] = match (answers[i], calls[i]) {
+        made[i] = match (answers[i], calls[i]) {
             (CipherAnswer::Done, _) => Answer::Done,
             (CipherAnswer::Refused, _) => Answer::Refused,
             (CipherAnswer::Overflow, _) => Answer::Overflow,
             (CipherAnswer::PositionI32(position), _) => of_position(position),
+            (_, Call::NoCalls) => Answer::Done,
             (CipherAnswer::Position(position), Call::InType(in_type, _))
                 if position > in_type.max() => Answer::Overflow,
             (CipherAnswer::Position(position), _) => Answer::Number(position),

@@ -4,7 +4,7 @@ ghost use Rattle.std.specs.Prelude.{◌≤◌};
 
 use crate::calls::{Answer, Call};
 use crate::check::{FromText, Subject, Way};
-use crate::text::{Data, Operand, read_keyed};
+use crate::text::{Operand, read_keyed};
 use chacha20::cipher::{
     RngBackend, StreamCipherBackend, StreamCipherCounter, StreamCipherSeekCore,
 };
@@ -20,10 +20,8 @@ impl<R: Rounds, B> FromText for ChaChaCore<R, Ietf, B> {
 
 impl<R: Rounds, B: RngBackend<R>> FromText for ChaChaCore<R, Legacy, B> {
     fn read(made_of: &'static str) -> Option<Self> {
-        match Operand::read(made_of.strip_prefix("seed ").unwrap_or("")) {
-            Some(seed) => Some(ChaChaCore::from_seed(seed)),
-            None => None,
-        }
+        let seed = Operand::read(made_of.strip_prefix("seed ")?)?;
+        Some(ChaChaCore::from_seed(seed))
     }
 }
 
@@ -31,7 +29,7 @@ impl<R: Rounds, V: Variant, B: StreamCipherBackend<R, V>> Subject for ChaChaCore
 where
     ChaChaCore<R, V, B>: FromText,
 {
-    fn make(&mut self, way: Way, call: Call, _: &Data, data: &mut [u8]) -> Answer {
+    fn make(&mut self, way: Way, call: Call, _: &[u8], data: &mut [u8]) -> Answer {
         make_call(self, way, call, data)
     }
 }

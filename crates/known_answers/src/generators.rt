@@ -1,77 +1,89 @@
-//! Calls on generators.
+//! Calls on generators, each beside a second one.
 
 ghost use Rattle.std.specs.Prelude.{◌↔◌, ◌≤◌, ◌+◌, IsTrue, All};
 ghost use Rattle.chacha20.specs.GeneratorRuns.{InData};
 
 use crate::calls::{Answer, Call};
-use crate::check::{FromText, Made, Subject, Way};
-use crate::text::{Data, Operand, split_word};
+use crate::check::{Answers, FromText, Subject, Way};
+use crate::text::{Operand, split_word};
 use chacha20::cipher::RngBackend;
 use chacha20::rand_core::{CryptoRng, TryRng};
 use chacha20::{ChaChaRng, RngAnswer, RngCall, Rounds, run_rng};
 
-impl<R: Rounds, B: RngBackend<R>> FromText for ChaChaRng<R, B> {
-    // Of `seed S`, or of a stored state, `state S`.
-    fn read(made_of: &'static str) -> Option<Self> {
-        let (kind, bytes) = split_word(made_of);
-        match kind {
-            "seed" => match Operand::read(bytes) {
-                Some(seed) => Some(ChaChaRng::from_seed(seed)),
-                None => None,
-            },
-            "state" => match Operand::read(bytes) {
-                Some(state) => Some(ChaChaRng::deserialize_state(&state)),
-                None => None,
-            },
-            _ => None,
-        }
+/// A generator, and a second one to compare it with.
+#[derive(Drop)]
+pub struct Pair<R: Rounds, B> {
+    first: ChaChaRng<R, B>,
+    second: ChaChaRng<R, B>,
+}
+
+// Of `seed S`, or of a stored state, `state S`.
+fn read_generator<R: Rounds, B: RngBackend<R>>(made_of: &'static str) -> Option<ChaChaRng<R, B>> {
+    let (kind, bytes) = split_word(made_of);
+    match kind {
+        "seed" => Some(ChaChaRng::from_seed(Operand::read(bytes)?)),
+        "state" => Some(ChaChaRng::deserialize_state(&Operand::read(bytes)?)),
+        _ => None,
     }
 }
 
-impl<R: Rounds, B: RngBackend<R>> Subject for ChaChaRng<R, B> {
-    fn make(&mut self, way: Way, call: Call, _: &Data, data: &mut [u8]) -> Answer {
+impl<R: Rounds, B: RngBackend<R>> FromText for Pair<R, B> {
+    fn read(made_of: &'static str) -> Option<Self> {
+        Some(Pair {
+            first: read_generator(made_of)?,
+            second: read_generator(made_of)?,
+        })
+    }
+}
+
+impl<R: Rounds, B: RngBackend<R>> Subject for Pair<R, B> {
+    fn make(&mut self, way: Way, call: Call, _: &[u8], data: &mut [u8]) -> Answer {
         match call {
-            Call::Rng(call) => of_answer(make_call(self, way, call, data)),
-            Call::Equals(state) => Answer::Equal(*self == ChaChaRng::deserialize_state(&state)),
+            Call::Rng(call) => of_answer(make_call(&mut self.first, way, call, data)),
+            Call::OnSecond(call) => of_answer(make_call(&mut self.second, way, call, &mut [])),
+            Call::MakeSecond(made_of) => match read_generator(made_of) {
+                Some(second) => {
+                    self.second = second;
+                    Answer::Done
+                }
+                None => Answer::Missing,
+            },
+            Call::EqualsSecond => Answer::Equal(self.first == self.second),
+            Call::NoCalls => Answer::Done,
             _ => Answer::Missing,
         }
     }
 
-    fn make_list(&mut self, calls: &[Call], _: &Data, made: &mut Made) {
+    fn make_list(&mut self, calls: &[Call], input: &[u8], data: &mut [u8], made: &mut Answers) {
         let mut answers = [RngAnswer::Done; 128];
         let count = calls.len().min(128);
-        run_rng(
-            self,
-            &mut made.data,
-            &list_of(calls)[..count],
-            &mut answers[..count],
-        );
-        note_listed(calls, &answers, made);
+        let list = list_of(calls, data.len());
+        run_rng(&mut self.first, data, &list[..count], &mut answers[..count]);
+        for i in 0..count {
+            made[i] = match (calls[i], answers[i]) {
+                (Call::Rng(_), answer) => of_answer(answer),
+                (Call::EqualsSecond, RngAnswer::State(state)) => {
+                    Answer::Equal(ChaChaRng::deserialize_state(&state) == self.second)
+                }
+                (call, _) => self.make(Way::AsList, call, input, &mut []),
+            };
+        }
     }
 }
 
-// A list has no `==`: the stored states are compared. All ranges lie in the data.
+// A list has no `==`: it stores the state, to be compared. All ranges lie in the data.
 #[inline(never)]
-fn list_of(calls: &[Call]) -> [RngCall; 128]
-    ensures { All (InData 1536) result }
+fn list_of(calls: &[Call], bytes: usize) -> [RngCall; 128]
+    ensures { All (InData bytes) result }
 {
     let mut list = [RngCall::Serialize; 128];
     'each: for i in 0..calls.len().min(128) {
         match calls[i] {
-            Call::Rng(call) if in_data(call, 1536) => list[i] = call,
+            Call::Rng(call) if in_data(call, bytes) => list[i] = call,
             _ => {}
         }
     }
     list
-}
-
-fn note_listed(calls: &[Call], answers: &[RngAnswer; 128], made: &mut Made) {
-    for i in 0..calls.len().min(128) {
-        made.answers[i] = match (calls[i], answers[i]) {
-            (Call::Equals(state), RngAnswer::State(found)) => Answer::Equal(found == state),
-            (_, answer) => of_answer(answer),
-        };
-    }
 }
 
 fn make_call<R: Rounds, B: RngBackend<R>>(
@@ -142,22 +154,13 @@ fn read<G: CryptoRng>(rng: &mut G, call: RngCall, data: &mut [u8]) -> Option<Rng
 // A read that may fail. One that fails gives a state, which no read gives.
 #[inline(never)]
 fn try_read<G: TryRng>(rng: &mut G, call: RngCall, data: &mut [u8]) -> Option<RngAnswer> {
-    let failed = RngAnswer::State([0xff; 49]);
-    match call {
-        RngCall::NextU32 => match rng.try_next_u32() {
-            Ok(word) => Some(RngAnswer::U32(word)),
-            Err(_) => Some(failed),
-        },
-        RngCall::NextU64 => match rng.try_next_u64() {
-            Ok(words) => Some(RngAnswer::U64(words)),
-            Err(_) => Some(failed),
-        },
-        RngCall::Fill { .. } => match rng.try_fill_bytes(data) {
-            Ok(()) => Some(RngAnswer::Done),
-            Err(_) => Some(failed),
-        },
-        _ => None,
-    }
+    let read = match call {
+        RngCall::NextU32 => rng.try_next_u32().map(|word| RngAnswer::U32(word)),
+        RngCall::NextU64 => rng.try_next_u64().map(|words| RngAnswer::U64(words)),
+        RngCall::Fill { .. } => rng.try_fill_bytes(data).map(|_| RngAnswer::Done),
+        _ => return None,
+    };
+    Some(read.unwrap_or(RngAnswer::State([0xff; 49])))
 }
 
 fn in_data(call: RngCall, bytes: usize) -> bool

@@ -106,14 +106,16 @@ apply 00*4 -> caf0e0c2
 
 By hand: a run of calls over the same bytes
 ChaCha0 key 00*32 nonce 00*12
-apply 00*4 -> caf0e0c2
-seek u128 0
-b2b 010203 into 00*3 -> cbf2e3
-b2b 010203 into 00*4 -> refused
-pos u128 -> 3
-seek i32 -1 -> refused
-pos i32 -> 3
-write 1 -> c2
+input 010203
+data 00*4
+apply 0..4 -> done | caf0e0c2
+seek u128 0 -> done | caf0e0c2
+b2b 0..3 into 0..3 -> done | cbf2e3c2
+b2b 0..3 into 0..4 -> refused | cbf2e3c2
+pos u128 -> 3 | cbf2e3c2
+seek i32 -1 -> refused | cbf2e3c2
+pos i32 -> 3 | cbf2e3c2
+write 3..4 -> done | cbf2e3c2
 
 By hand: values that are no positions
 ChaCha20 key 00..1f nonce 00*12
@@ -186,18 +188,30 @@ seek u64 2^38-80
 apply 00*17 -> fcffffff 00*12 ca
 pos u128 -> 2^38-63
 
-By hand: at the limit
+By hand: no calls, and no bytes behind the data, from block 0 on and at the limit
 ChaCha0 key 00*32 nonce 00*12
-seek u64 2^38
-room 0
-room 1 -> refused
-seek u64 2^38+1 -> refused
-pos u128 -> 2^38
-b2b 010203 into 05*4 -> refused
-b2b 01 into 05 -> refused
-write 1 -> refused
-b2b 00*0 into 00*0
-write 0
+input 010203
+data 05*4
+no calls -> done | 05*4
+apply 0..1 -> done | cf050505
+no calls -> done | cf050505
+apply 4..4 -> done | cf050505
+write 4..4 -> done | cf050505
+b2b 3..3 into 4..4 -> done | cf050505
+write 1..2 -> done | cff00505
+seek u64 2^38 -> done | cff00505
+room 0 -> done | cff00505
+room 1 -> refused | cff00505
+seek u64 2^38+1 -> refused | cff00505
+b2b 0..3 into 0..4 -> refused | cff00505
+b2b 0..1 into 0..1 -> refused | cff00505
+write 3..4 -> refused | cff00505
+apply 4..4 -> done | cff00505
+write 4..4 -> done | cff00505
+b2b 0..0 into 0..0 -> done | cff00505
+b2b 3..3 into 4..4 -> done | cff00505
+no calls -> done | cff00505
+pos u128 -> 2^38 | cff00505
 
 OpenSSL: the last block, and none after it
 ChaCha20 key 00..1f nonce 00*12
@@ -371,18 +385,19 @@ fill_bytes 5 -> e8ca40d600
 fill_bytes 0
 next_u32 -> 0
 
-By hand: a run of calls
+By hand: a run of calls over the same bytes
 ChaCha0Rng seed 00*32
-set_stream 0x8000000100000003
-set_word_pos 2^68+14
-next_u64 -> 0x0000000200000006
-get_word_pos -> 16
-get_block_pos -> 1
-fill_bytes 5 -> caf0e0c2dc
-reload
-get_word_pos -> 18
-get_block_pos -> 1
-get_stream -> 0x8000000100000003
+data 00*5
+set_stream 0x8000000100000003 -> done | 00*5
+set_word_pos 2^68+14 -> done | 00*5
+next_u64 -> 0x0000000200000006 | 00*5
+get_word_pos -> 16 | 00*5
+get_block_pos -> 1 | 00*5
+fill_bytes 0..5 -> done | caf0e0c2dc
+reload -> done | caf0e0c2dc
+get_word_pos -> 18 | caf0e0c2dc
+get_block_pos -> 1 | caf0e0c2dc
+get_stream -> 0x8000000100000003 | caf0e0c2dc
 
 By hand: the last words, and the first ones
 ChaCha0Rng seed 00*32

@@ -1,14 +1,13 @@
 //! The ciphers, generators and cores that a case can name, over any backend.
 
 use crate::check::{ANSWER, Failure, UNREADABLE, check};
+use crate::generators::Pair;
 use crate::report::{Verdicts, note};
 use crate::text::{Bytes, Case, Operand, split_keyed};
 use crate::{Makes, R0};
 use chacha20::cipher::{KeyIvInit, RngBackend, StreamCipherBackend, StreamCipherSeekCore};
 use chacha20::variants::{Ietf, Legacy};
-use chacha20::{
-    ChaChaCore, ChaChaRng, R8, R12, R20, Rounds, StreamCipherCoreWrapper, XChaChaCore, hchacha,
-};
+use chacha20::{ChaChaCore, R8, R12, R20, Rounds, StreamCipherCoreWrapper, XChaChaCore, hchacha};
 
 /// What checks cases: a pair of backends, ciphers and cores over the first, generators over the second.
 pub trait Cases {
@@ -48,11 +47,11 @@ where
     B: RngBackend<R0> + RngBackend<R8> + RngBackend<R12> + RngBackend<R20>,
 {
     match case.subject {
-        "ChaCha20Rng" => check::<ChaChaRng<R20, B>>(case),
-        "ChaCha12Rng" => check::<ChaChaRng<R12, B>>(case),
-        "ChaCha8Rng" => check::<ChaChaRng<R8, B>>(case),
-        "ChaCha0Rng" => check::<ChaChaRng<R0, B>>(case),
-        _ => wrong(case, UNREADABLE),
+        "ChaCha20Rng" => check::<Pair<R20, B>>(case),
+        "ChaCha12Rng" => check::<Pair<R12, B>>(case),
+        "ChaCha8Rng" => check::<Pair<R8, B>>(case),
+        "ChaCha0Rng" => check::<Pair<R0, B>>(case),
+        _ => wrong(case, case.subject, UNREADABLE),
     }
 }
 
@@ -64,7 +63,7 @@ where
         "ChaCha20Core" => check::<ChaChaCore<R20, Ietf, B>>(case),
         "ChaCha0Core" => check::<ChaChaCore<R0, Ietf, B>>(case),
         "ChaCha0LegacyCore" => check::<ChaChaCore<R0, Legacy, B>>(case),
-        _ => wrong(case, UNREADABLE),
+        _ => wrong(case, case.subject, UNREADABLE),
     }
 }
 
@@ -84,7 +83,7 @@ where
         "ChaCha20Legacy" => check_over::<ChaChaCore<R20, Legacy, B>>(case),
         "XChaCha20" => check_over::<XChaChaCore<R20, B>>(case),
         "hchacha" => check_subkey(case),
-        _ => wrong(case, UNREADABLE),
+        _ => wrong(case, case.subject, UNREADABLE),
     }
 }
 
@@ -110,14 +109,11 @@ fn check_subkey(case: &Case) -> Result<(), Failure> {
         (Some(key), Some(nonce)) if subkey.are(&hchacha::<R20>(&key, &nonce)) == Some(true) => {
             Ok(())
         }
-        _ => wrong(case, ANSWER),
+        _ => wrong(case, case.lines, ANSWER),
     }
 }
 
-fn wrong(case: &Case, fault: &'static str) -> Result<(), Failure> {
-    Err(Failure {
-        title: case.title,
-        line: case.subject,
-        fault,
-    })
+fn wrong(case: &Case, line: &'static str, fault: &'static str) -> Result<(), Failure> {
+    let title = case.title;
+    Err(Failure { title, line, fault })
 }

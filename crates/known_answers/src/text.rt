@@ -44,30 +44,20 @@ where
     C::Iv: Operand,
 {
     let (key, nonce) = split_keyed(text);
-    match (C::Key::read(key), C::Iv::read(nonce)) {
-        (Some(key), Some(nonce)) => Some(C::new(&key, &nonce)),
-        _ => None,
-    }
+    let key = C::Key::read(key)?;
+    Some(C::new(&key, &C::Iv::read(nonce)?))
 }
 
 /// A number of this type: decimal, or `0x` and hexadecimal digits, or `2^68`; and sums and differences, as `2^68-1`.
 pub fn read_number<T: SeekNum>(text: &str) -> Option<T> {
-    match read_sum(text) {
-        Some(number) => T::from_position(number).ok(),
-        None => None,
-    }
+    T::from_position(read_sum(text)?).ok()
 }
 
 fn read_sum(text: &str) -> Option<u128> {
     let (text, more) = text.split_once('+').unwrap_or((text, "0"));
     let (text, less) = text.split_once('-').unwrap_or((text, "0"));
-    match (read_term(text), read_term(more), read_term(less)) {
-        (Some(number), Some(more), Some(less)) => match number.checked_add(more) {
-            Some(sum) => sum.checked_sub(less),
-            None => None,
-        },
-        _ => None,
-    }
+    let sum = read_term(text)?.checked_add(read_term(more)?)?;
+    sum.checked_sub(read_term(less)?)
 }
 
 fn read_term(text: &str) -> Option<u128> {
@@ -91,6 +81,8 @@ pub struct Bytes {
     pub len: usize,
     /// Whether a text could not be read, or there are more than 1536 bytes.
     pub is_wrong: bool,
+    /// Whether they are all the bytes that a case has, and its calls name ranges of them.
+    pub are_shared: bool,
 }
 
 impl Bytes {
@@ -101,9 +93,15 @@ impl Bytes {
             is_any: [false; 1536],
             len: 0,
             is_wrong: false,
+            are_shared: false,
         };
         bytes.append(text);
         bytes
+    }
+
+    pub(crate) fn share(&mut self, text: &str) {
+        self.append(text);
+        self.are_shared = true;
     }
 
     /// Whether bytes are these; nothing where these could not be read.

@@ -4,7 +4,6 @@
 mod contracts;
 mod exports;
 mod first_calls;
-mod generators;
 mod names;
 mod readme;
 mod unexported;

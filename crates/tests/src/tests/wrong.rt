@@ -1,4 +1,4 @@
-//! Lines with one thing wrong, and the fault that must be found in each.
+//! Cases with one thing wrong, in the last line, and the fault that must be found there.
 
 use chacha20::backends::Soft;
 use known_answers::check::{ANSWER, BYTES, UNREADABLE};
@@ -6,7 +6,7 @@ use known_answers::subjects::Cases;
 use known_answers::text::{Case, split_word};
 
 // Each line is the only one of a case about the subject.
-static WRONG: [(&str, &str, &str); 10] = [
+static LINES: [(&str, &str, &str); 11] = [
     (
         "ChaCha0 key 00*32 nonce 00*12",
         ANSWER,
@@ -63,8 +63,15 @@ get_block_pos -> 1
 get_stream -> 1
 get_seed -> 00*31 01
 serialize_state -> 00*48 01
-equals 00*49 -> false
-equals 00*40 01 00*8 -> true",
+equals second -> false",
+    ),
+    (
+        "ChaCha0Rng seed 00*32",
+        UNREADABLE,
+        "\
+second seed 00*31
+second fill_bytes 4
+equals third -> true",
     ),
     ("ChaCha0Rng seed 00*32", BYTES, "fill_bytes 5 -> caf0e0c2dd"),
     (
@@ -90,34 +97,97 @@ write_keystream_blocks 2 -> ca ..*126 01",
     ("hchacha key 00..1f nonce 00*16", ANSWER, "subkey -> 00*32"),
 ];
 
-// The first line in which another fault is found, or nothing.
-fn wrong_line(subject: &'static str, fault: &'static str, lines: &'static str) -> &'static str {
-    for line in lines.lines() {
-        if !is_found(subject, fault, line) {
-            return line;
+// Cases of several lines.
+static CASES: [(&str, &str, &str); 4] = [
+    (
+        "ChaCha0 key 00*32 nonce 00*12",
+        ANSWER,
+        "\
+data 00*4
+apply 0..4 -> 4 | caf0e0c2
+
+data 00*4
+apply 0..4 -> caf0e0c2",
+    ),
+    (
+        "ChaCha0 key 00*32 nonce 00*12",
+        BYTES,
+        "\
+data 00*4
+apply 0..3 -> done | caf0e0c2
+
+data 00*4
+seek u64 0 -> done
+
+input 0102
+data 00*2
+b2b 0..2 into 0..2 -> done | caf0",
+    ),
+    (
+        "ChaCha0 key 00*32 nonce 00*12",
+        UNREADABLE,
+        "\
+data 00*4
+apply 0..5 -> done | caf0e0c2dc
+
+data 00*4
+apply 2..1 -> done | 00*4
+
+data 00*4
+write 4 -> done | caf0e0c2
+
+data 0
+no calls -> done | 00",
+    ),
+    (
+        "ChaCha0Rng seed 00*32",
+        ANSWER,
+        "\
+second next_u32
+equals second -> true
+
+next_u32
+equals second -> true",
+    ),
+];
+
+// The first case in which another fault is found, or none in the last line; or nothing.
+fn wrong_case(
+    subject: &'static str,
+    fault: &'static str,
+    cases: &'static str,
+    between: &'static str,
+) -> &'static str {
+    for lines in cases.split(between) {
+        if !is_found(subject, fault, lines) {
+            return lines;
         }
     }
     ""
 }
 
-fn is_found(subject: &'static str, fault: &'static str, line: &'static str) -> bool {
+fn is_found(subject: &'static str, fault: &'static str, lines: &'static str) -> bool {
     let (subject, made_of) = split_word(subject);
     let case = Case {
         title: "",
         subject,
         made_of,
-        lines: line,
+        lines,
     };
     match <(Soft, Soft)>::check(&case) {
         Ok(()) => false,
-        Err(failure) => failure.fault == fault,
+        Err(failure) => (failure.fault == fault) & lines.ends_with(failure.line),
     }
 }
 
 #[test]
 fn faults_are_found(rt: HostRuntime) {
-    for (subject, fault, lines) in &WRONG {
-        let line = wrong_line(subject, fault, lines);
+    for (subject, fault, lines) in &LINES {
+        let line = wrong_case(subject, fault, lines, "\n");
         assert!(rt; line.is_empty(), "{line}");
+    }
+    for (subject, fault, cases) in &CASES {
+        let case = wrong_case(subject, fault, cases, "\n\n");
+        assert!(rt; case.is_empty(), "{case}");
     }
 }

@@ -3,4 +3,4 @@ use Rattle.chacha20.specs.GeneratorRuns.{InData}
 use Rattle.known_answers.proofs.generators.list_of.Given as goal
 
 abbrev pub invariant-each : goal.invariant-each
-invariant-each l = All (InData 1536) l.list
+invariant-each l = All (InData l.bytes) l.list
