@@ -1,10 +1,10 @@
 //! The cases with a number, sorted by it. They run on each backend in `tests`, and in the program `vectors`, which
-//! prints `row N ok` if all cases N hold. There is no case 2.
+//! prints `row N ok` if every case N holds. There is no case 2.
 //!
 //! A case is a paragraph. Its first line is the title: where the answers come from, and what the case shows. A source
-//! in parentheses is that of the bytes it names. `By hand` means by the definition, without a program. The Rust crate
-//! is `chacha20` 0.10.2. The second line is the subject. Each line after it is a call, with its answer behind `->`; a
-//! call with nothing behind it must not be refused. A line that ends with `\` goes on in the next. To add a case, add a
+//! in parentheses covers only the bytes named there. `By hand` means by the definition, without a program. The Rust
+//! crate is `chacha20` 0.10.2. The second line is the subject. Each line after it is a call, with its answer after
+//! `->`; a call without one must succeed. A line that ends with `\` continues on the next. To add a case, add a
 //! paragraph: with a number here, without one anywhere in [`more_cases`](crate::more_cases). No other file changes.
 //!
 //! | subject | made of |
@@ -29,32 +29,33 @@
 //! | `pos u64 -> overflow` | the same in 64 bits | the type can't represent it |
 //!
 //! Positions count bytes, in an `i32`, `u32`, `u64`, `u128` or `usize` (of 64 bits). Each line is checked on three
-//! ciphers: one is called by the `try_` forms; one by the forms without `try_`, but where these would panic; and on a
-//! new one `run_cipher` makes all calls so far, as one list. A call may change only its line's bytes, and a call that
-//! is refused changes nothing.
+//! ciphers: one is called by the `try_` forms; one by the forms without `try_`, unless these would panic; and on a new
+//! one `run_cipher` makes all calls so far, as one list. A call may change only its line's bytes, and a call that is
+//! refused changes nothing.
 //!
-//! A line of a generator is one of its functions, as `fill_bytes 5 -> e8ca40d600`, or `100 times next_u32`. Each is
-//! checked on four generators: one is called by its own functions, one is read through `Rng`, one through `TryRng`, and
-//! on a new one `run_rng` makes all calls so far. `reload` stores the state and loads it again: the seed, the stream in
-//! eight bytes, and the word position in nine, little-endian. Word positions are modulo 2^68.
+//! A line of a generator is one of its functions, such as `fill_bytes 5 -> e8ca40d600`, or `100 times next_u32`. Each
+//! is checked on four generators: one is called by its own functions; one is read through `Rng`, one through `TryRng`;
+//! and on a new one `run_rng` makes all calls so far. `reload` stores the state and loads it again: the seed, the
+//! stream in eight bytes, and the word position in nine, little-endian. Word positions are modulo 2^68, and
+//! `set_stream` moves to position 0.
 //!
-//! Beside each generator stands a second one, made of the same. `second set_word_pos 1` is a call on it, `second state
-//! S` makes it anew, and `equals second -> true` compares the two by `==`.
+//! Beside each generator stands a second one, made of the same seed or state. `second set_word_pos 1` is a call on it,
+//! `second seed S` and `second state S` make it anew, and `equals second -> true` compares the two by `==`.
 //!
 //! Calls can share bytes. Then the lines `input 010203`, which `b2b` reads, and `data 00*4` stand below the subject.
-//! Every call of the case gets these slices, and a line names ranges in them: `apply 0..3` changes the first three
-//! bytes of the data, and `b2b 0..3 into 1..4` goes from the input to the last three. Behind its answer, each line has
-//! the whole data after the call: `-> done | caf0e000`, `-> refused | 00*4`, `-> 3 | caf0e000`. `no calls` is a list
-//! without calls.
+//! `run_cipher` and `run_rng` get these slices, and each line names ranges in them: `apply 0..3` changes the first
+//! three bytes of the data, and `b2b 0..3 into 1..4` goes from the input to the last three. After its answer, a line
+//! has the whole data after the call: `-> done | caf0e000`, `-> refused | 00*4`, `-> 3 | caf0e000`. `no calls` is
+//! `run_cipher` or `run_rng` on an empty list.
 //!
-//! A line of a core is one of its functions, on blocks. What it writes, a second core must make of zeros by applying.
+//! A line of a core is one of its functions, on blocks. Another core must make the same by applying to zeros.
 //! `remaining_blocks -> overflow` stands for `None`.
 //!
 //! Bytes are pairs of hexadecimal digits with spaces anywhere between pairs; `00*12` is twelve times 00, `00..1f` all
 //! from 00 to 1f, and `..*12` any twelve bytes. A number is decimal, `0x` and hexadecimal digits, or as `2^68`,
 //! `2^68-1`, `2^68+5`. OpenSSL's answers are those of `openssl enc -chacha20 -K KEY -iv C`. C is the number of the
 //! block, little-endian in 4 bytes (8 for the legacy cipher and generators), and then the nonce or the stream. For
-//! XChaCha20, KEY is the subkey, and the nonce is four zeros and its last eight bytes.
+//! XChaCha20, KEY is the subkey, and the nonce is four zeros and the last eight bytes of the cipher's.
 
 pub static CASES: &str = "
 case 1. OpenSSL: a message there, back, and there in pieces of 3
@@ -273,13 +274,13 @@ get_word_pos -> 0
 get_seed -> 00*32
 next_u32 -> 0x374dc6c2
 
-case 22. By hand: how much a new cipher takes
+case 22. By hand: how much room a new cipher has
 ChaCha20 key 00..1f nonce 000000000000004a00000000
 room 2^38-64
 room 2^38-63
 room 2^38+1 -> refused
 
-case 22. By hand: a new legacy cipher takes more than any length
+case 22. By hand: a new legacy cipher has room for any length
 ChaCha20Legacy key 01..20 nonce 0301040105090206
 room 2^64-1
 
@@ -294,18 +295,16 @@ equals second -> true
 second set_stream 1
 equals second -> false
 
-case 23. By hand: and otherwise they are not
+case 23. By hand: generators that differ in one part only
 ChaCha20Rng seed 01..20
 next_u32
 equals second -> false
-second next_u32
-equals second -> true
-second set_word_pos 2^68-1
+second set_word_pos 2^67+1
 equals second -> false
-second set_stream 1
-second next_u32
+second set_stream 2^63
+second set_word_pos 1
 equals second -> false
-second seed 02*32
-second next_u32
+second seed 01..1f 21
+second set_word_pos 1
 equals second -> false
 ";

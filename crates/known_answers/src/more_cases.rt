@@ -117,7 +117,7 @@ seek i32 -1 -> refused | cbf2e3c2
 pos i32 -> 3 | cbf2e3c2
 write 3..4 -> done | cbf2e3c2
 
-By hand: values that are no positions
+By hand: invalid positions
 ChaCha20 key 00..1f nonce 00*12
 seek i32 -2147483648 -> refused
 seek u128 0xffffffffffffffffffffffffffffffff -> refused
@@ -188,7 +188,7 @@ seek u64 2^38-80
 apply 00*17 -> fcffffff 00*12 ca
 pos u128 -> 2^38-63
 
-By hand: no calls, and no bytes behind the data, from block 0 on and at the limit
+By hand: empty lists, and empty ranges at the end of the data, in block 0 and at the limit
 ChaCha0 key 00*32 nonce 00*12
 input 010203
 data 05*4
@@ -360,7 +360,7 @@ fill_bytes 256 -> \
 get_word_pos -> 64
 get_block_pos -> 4
 
-OpenSSL: four blocks behind the last one
+OpenSSL: four blocks after the last one
 ChaCha20Rng seed 00*32
 set_block_pos 2^64-1
 fill_bytes 320 -> \
@@ -414,4 +414,6 @@ set_stream 0x8000000100000003
 set_word_pos 2^68-1
 fill_bytes 5 -> 02000000 ca
 get_word_pos -> 1
+reload
+next_u32 -> 0x6640c8dc
 ";
