@@ -41,9 +41,7 @@ fn make_call<K: StreamCipherSeekCore>(
     data: &mut [u8],
 ) -> Answer {
     match call {
-        Call::Rng(RngCall::GetBlockPos) => {
-            Answer::Number(u128::from(core.get_block_pos().to_u64()))
-        }
+        Call::Rng(RngCall::GetBlockPos) => Answer::Number(core.get_block_pos().to_u64() as u128),
         Call::Rng(RngCall::SetBlockPos(number)) if number <= K::Counter::last() => {
             core.set_block_pos(K::Counter::from_u64(number));
             Answer::Done

@@ -55,9 +55,8 @@ impl<R: Rounds, B: RngBackend<R>> Subject for Pair<R, B> {
     }
 
     fn make_list(&mut self, calls: &[Call], input: &[u8], data: &mut [u8], made: &mut Answers) {
-        let mut answers = [RngAnswer::Done; 128];
         let count = calls.len().min(128);
-        let list = list_of(calls, data.len());
+        let (list, mut answers) = list_of(calls, data.len());
         run_rng(&mut self.first, data, &list[..count], &mut answers[..count]);
         for i in 0..count {
             made[i] = match (calls[i], answers[i]) {
@@ -71,10 +70,11 @@ impl<R: Rounds, B: RngBackend<R>> Subject for Pair<R, B> {
     }
 }
 
-// A list has no `==`: it stores the state, to be compared. All ranges lie in the data.
+// A list has no `==`: it stores the state, to be compared. All ranges lie in the data. Room for the answers is made here,
+// where LLVM stores each by itself once, and not for each generator.
 #[inline(never)]
-fn list_of(calls: &[Call], bytes: usize) -> [RngCall; 128]
-    ensures { All (InData bytes) result }
+fn list_of(calls: &[Call], bytes: usize) -> ([RngCall; 128], [RngAnswer; 128])
+    ensures { All (InData bytes) result.0 }
 {
     let mut list = [RngCall::Serialize; 128];
     'each: for i in 0..calls.len().min(128) {
@@ -83,7 +83,7 @@ fn list_of(calls: &[Call], bytes: usize) -> [RngCall; 128]
             _ => {}
         }
     }
-    list
+    (list, [RngAnswer::Done; 128])
 }
 
 fn make_call<R: Rounds, B: RngBackend<R>>(
