@@ -14,7 +14,7 @@ ghost use Rattle.std.specs.Io.KnownBytes.{Keeps, ReadConsumes};
 ghost use Rattle.std.specs.Io.Seek.{SeekMoves};
 ghost use Rattle.std.specs.IoError.{error_kind};
 ghost use Rattle.sealed.specs.declared.error.Damage.{Damage};
-ghost use Rattle.sealed.specs.Sealed.{header, chunk, place, text_of, damage_at, CopiesFrom};
+ghost use Rattle.sealed.specs.Sealed.{header, chunk, place, text_of, damage_at, kind_of, CopiesFrom};
 ghost use Rattle.sealed.specs.Seeking.{GivesAt, GivesNoChunk, GivesNoHeader};
 
 use crate::chunk::{Salt, TAG, open_chunk};
@@ -71,6 +71,7 @@ impl<'b, R: Read + Seek> SealedReader<'b, R> {
             IfSome (R.stream_bytes reader) (λ bytes. (file r).len ≡ length bytes))) }
         ensures damaged { IfErr result (λ e. (damage : Damage) → e ≡ SealError.Damaged damage
             → GivesNoHeader R.remaining R.stream_position R.stream_bytes reader damage) }
+        ensures retried { IfErr result (λ e. kind_of e ≢ ErrorKind.Interrupted) }
         ensures not_write { IfErr result (λ e. (error : Error) → e ≢ SealError.Write error) }
         ensures not_long { IfErr result (λ e. e ≢ SealError.TooLong) }
     {
@@ -107,6 +108,7 @@ impl<'b, R: Read + Seek> SealedReader<'b, R> {
             (file self.old).key (file self.old).salt (number self.old) (is_last self.old)) }
         ensures failed { OnErr result ((window.new ≡ window.old) × (held self.new ≡ None)
             × (position self.new ≡ position self.old)) }
+        ensures retried { IfErr result (λ e. kind_of e ≢ ErrorKind.Interrupted) }
         ensures not_write { IfErr result (λ e. (error : Error) → e ≢ SealError.Write error) }
         ensures not_long { IfErr result (λ e. e ≢ SealError.TooLong) }
         ensures same_file { file self.new ≡ file self.old }
@@ -144,6 +146,7 @@ impl<'b, R: Read + Seek> SealedReader<'b, R> {
             (inner self.old) (inner self.new)
             (file self.old).key (file self.old).salt number last) }
         ensures failed { OnErr result (held self.new ≡ None) }
+        ensures retried { IfErr result (λ e. kind_of e ≢ ErrorKind.Interrupted) }
         ensures not_write { IfErr result (λ e. (error : Error) → e ≢ SealError.Write error) }
         ensures not_long { IfErr result (λ e. e ≢ SealError.TooLong) }
         ensures same { (file self.new ≡ file self.old) × (position self.new ≡ position self.old) }
@@ -169,6 +172,7 @@ impl<'b, R: Read + Seek> SealedReader<'b, R> {
             (inner self.old) (inner self.new)
             (file self.old).key (file self.old).salt number last) }
         ensures failed { OnErr result (held self.new ≡ None) }
+        ensures retried { IfErr result (λ e. kind_of e ≢ ErrorKind.Interrupted) }
         ensures not_write { IfErr result (λ e. (error : Error) → e ≢ SealError.Write error) }
         ensures not_long { IfErr result (λ e. e ≢ SealError.TooLong) }
         ensures same { (file self.new ≡ file self.old) × (position self.new ≡ position self.old) }
@@ -187,18 +191,24 @@ impl<'b, R: Read + Seek> SealedReader<'b, R> {
     }
 }
 
+// A seek, repeated while a signal interrupts it.
 fn go_to<S: Seek>(inner: &mut S, to: SeekFrom) -> Result<u64, SealError>
     ensures moves { SeekMoves (S.stream_position inner.old) (S.stream_position inner.new)
         (S.stream_bytes inner.old) to result }
     ensures file { Keeps (S.stream_bytes inner.old) (S.stream_bytes inner.new) }
     ensures not_damaged { IfErr result (λ e. (damage : Damage) → e ≢ SealError.Damaged damage) }
+    ensures retried { IfErr result (λ e. kind_of e ≢ ErrorKind.Interrupted) }
     ensures not_write { IfErr result (λ e. (error : Error) → e ≢ SealError.Write error) }
     ensures not_long { IfErr result (λ e. e ≢ SealError.TooLong) }
 {
-    match inner.seek(to) {
-        Ok(n) => Ok(n),
-        Err(e) => Err(SealError::Read(e)),
+    'tries: for _ in 0..u64::MAX {
+        match inner.seek(to) {
+            Ok(n) => return Ok(n),
+            Err(e) if e.kind() == ErrorKind::Interrupted => {}
+            Err(e) => return Err(SealError::Read(e)),
+        }
     }
+    Err(SealError::Read(io::Error::from(ErrorKind::TimedOut)))
 }
 
 // Reads the header's salt, and the length of the file.
@@ -209,6 +219,7 @@ fn read_start<R: Read + Seek>(reader: &mut R) -> Result<(Salt, u64), SealError>
         IfSome (R.stream_bytes reader.old) (λ bytes. r.1 ≡ length bytes))) }
     ensures damaged { IfErr result (λ e. (damage : Damage) → e ≡ SealError.Damaged damage
         → GivesNoHeader R.remaining R.stream_position R.stream_bytes reader.old damage) }
+    ensures retried { IfErr result (λ e. kind_of e ≢ ErrorKind.Interrupted) }
     ensures not_write { IfErr result (λ e. (error : Error) → e ≢ SealError.Write error) }
     ensures not_long { IfErr result (λ e. e ≢ SealError.TooLong) }
 {
@@ -237,6 +248,7 @@ fn load<R: Read + Seek>(
         → (damage ≡ damage_at number last)
         × GivesNoChunk R.remaining R.stream_position R.stream_bytes
         inner.old inner.new key.now salt.now number last) }
+    ensures retried { IfErr result (λ e. kind_of e ≢ ErrorKind.Interrupted) }
     ensures not_write { IfErr result (λ e. (error : Error) → e ≢ SealError.Write error) }
     ensures not_long { IfErr result (λ e. e ≢ SealError.TooLong) }
 {
@@ -262,6 +274,7 @@ impl<R: Read + Seek> Read for SealedReader<'_, R> {
             (KeepsRight R.remaining R.stream_position R.stream_bytes self.old self.new) }
         ensures failed { OnErr result ((buf.new ≡ buf.old) × (held self.new ≡ None)
             × (position self.new ≡ position self.old)) }
+        ensures retried { IfErr result (λ e. error_kind e ≢ ErrorKind.Interrupted) }
         ensures same_file { file self.new ≡ file self.old }
     {
         match self.read_text(buf) {
@@ -308,10 +321,7 @@ impl From<SealError> for io::Error {
     fn from(error: SealError) -> io::Error
         ensures read { (e : Error) → error ≡ SealError.Read e → result ≡ e }
         ensures write { (e : Error) → error ≡ SealError.Write e → result ≡ e }
-        ensures damaged { (damage : Damage) → error ≡ SealError.Damaged damage
-            → error_kind result ≡ ErrorKind.InvalidData }
-        ensures too_long { error ≡ SealError.TooLong
-            → error_kind result ≡ ErrorKind.TimedOut }
+        ensures kind { error_kind result ≡ kind_of error }
     {
         match error {
             SealError::Read(e) | SealError::Write(e) => e,
