@@ -15,7 +15,7 @@ ghost use Rattle.std.specs.Io.Seek.{SeekMoves};
 ghost use Rattle.std.specs.IoError.{error_kind};
 ghost use Rattle.sealed.specs.declared.error.Damage.{Damage};
 ghost use Rattle.sealed.specs.Sealed.{header, chunk, place, text_of, damage_at, kind_of, CopiesFrom};
-ghost use Rattle.sealed.specs.Seeking.{GivesAt, GivesNoChunk, GivesNoHeader};
+ghost use Rattle.sealed.specs.Seeking.{GivesAt, GivesNoChunk, GivesNoHeader, StopsShort};
 
 use crate::chunk::{Salt, TAG, open_chunk};
 use crate::error::{Damage, SealError};
@@ -106,6 +106,9 @@ impl<'b, R: Read + Seek> SealedReader<'b, R> {
             × GivesNoChunk R.remaining R.stream_position R.stream_bytes
             (inner self.old) (inner self.new)
             (file self.old).key (file self.old).salt (number self.old) (is_last self.old)) }
+        ensures stopped { IfErr result (λ e. (error : Error) → e ≡ SealError.Read error
+            → StopsShort R.remaining R.stream_position R.stream_bytes
+            (inner self.old) (inner self.new) (number self.old)) }
         ensures failed { OnErr result ((window.new ≡ window.old) × (held self.new ≡ None)
             × (position self.new ≡ position self.old)) }
         ensures retried { IfErr result (λ e. kind_of e ≢ ErrorKind.Interrupted) }
@@ -145,6 +148,9 @@ impl<'b, R: Read + Seek> SealedReader<'b, R> {
             × GivesNoChunk R.remaining R.stream_position R.stream_bytes
             (inner self.old) (inner self.new)
             (file self.old).key (file self.old).salt number last) }
+        ensures stopped { IfErr result (λ e. (error : Error) → e ≡ SealError.Read error
+            → StopsShort R.remaining R.stream_position R.stream_bytes
+            (inner self.old) (inner self.new) number) }
         ensures failed { OnErr result (held self.new ≡ None) }
         ensures retried { IfErr result (λ e. kind_of e ≢ ErrorKind.Interrupted) }
         ensures not_write { IfErr result (λ e. (error : Error) → e ≢ SealError.Write error) }
@@ -171,6 +177,9 @@ impl<'b, R: Read + Seek> SealedReader<'b, R> {
             × GivesNoChunk R.remaining R.stream_position R.stream_bytes
             (inner self.old) (inner self.new)
             (file self.old).key (file self.old).salt number last) }
+        ensures stopped { IfErr result (λ e. (error : Error) → e ≡ SealError.Read error
+            → StopsShort R.remaining R.stream_position R.stream_bytes
+            (inner self.old) (inner self.new) number) }
         ensures failed { OnErr result (held self.new ≡ None) }
         ensures retried { IfErr result (λ e. kind_of e ≢ ErrorKind.Interrupted) }
         ensures not_write { IfErr result (λ e. (error : Error) → e ≢ SealError.Write error) }
@@ -248,6 +257,8 @@ fn load<R: Read + Seek>(
         → (damage ≡ damage_at number last)
         × GivesNoChunk R.remaining R.stream_position R.stream_bytes
         inner.old inner.new key.now salt.now number last) }
+    ensures stopped { IfErr result (λ e. (error : Error) → e ≡ SealError.Read error
+        → StopsShort R.remaining R.stream_position R.stream_bytes inner.old inner.new number) }
     ensures retried { IfErr result (λ e. kind_of e ≢ ErrorKind.Interrupted) }
     ensures not_write { IfErr result (λ e. (error : Error) → e ≢ SealError.Write error) }
     ensures not_long { IfErr result (λ e. e ≢ SealError.TooLong) }
@@ -261,7 +272,7 @@ fn load<R: Read + Seek>(
 }
 
 impl<R: Read + Seek> Read for SealedReader<'_, R> {
-    ghost use Rattle.sealed.specs.SealedReader.{file, position, held, ReadsHeld, KeepsRight};
+    ghost use Rattle.sealed.specs.SealedReader.{file, inner, position, held, number, ReadsHeld, KeepsRight};
 
     /// Reads text up to the buffer's end or that of the chunk, and returns how many bytes that are: 0 at the end of the
     /// text and past it, once the last chunk was right. A wrong chunk is an error of the kind `InvalidData`. After
@@ -274,6 +285,9 @@ impl<R: Read + Seek> Read for SealedReader<'_, R> {
             (KeepsRight R.remaining R.stream_position R.stream_bytes self.old self.new) }
         ensures failed { OnErr result ((buf.new ≡ buf.old) × (held self.new ≡ None)
             × (position self.new ≡ position self.old)) }
+        ensures damaged { IfErr result (λ e. (error_kind e ≡ ErrorKind.InvalidData)
+            ⊎ StopsShort R.remaining R.stream_position R.stream_bytes
+            (inner self.old) (inner self.new) (number self.old)) }
         ensures retried { IfErr result (λ e. error_kind e ≢ ErrorKind.Interrupted) }
         ensures same_file { file self.new ≡ file self.old }
     {

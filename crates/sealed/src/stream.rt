@@ -1,6 +1,6 @@
 //! From a reader to a writer.
 
-ghost use Rattle.std.specs.Prelude.{◌≡◌, ◌≢◌, ◌<◌, ◌≤◌, ◌+◌, ◌*◌, ◌^◌, ◌++◌, ℕ, List, length, take, Some, IfOk, OnOk, IfErr, IfSome};
+ghost use Rattle.std.specs.Prelude.{◌≡◌, ◌≢◌, ◌<◌, ◌≤◌, ◌+◌, ◌*◌, ◌^◌, ◌++◌, ℕ, List, length, take, Some, IfOk, OnOk, IfErr, OnErr, IfSome};
 ghost use Rattle.std.specs.declared.io.Error.{Error};
 ghost use Rattle.std.specs.Io.KnownBytes.{Appends, Consumes, IsAtEnd, prepend_known};
 ghost use Rattle.sealed.specs.declared.error.Damage.{Damage};
@@ -155,7 +155,7 @@ fn write_text<W: Write>(
 }
 
 /// Reads until the buffer is full or the reader ends, behind the `held` bytes that the buffer has already. Returns how
-/// many bytes it has then. A read that is interrupted is tried again.
+/// many bytes it has then. A read that is interrupted is tried again. After an error, the buffer has what was read.
 pub fn fill<R: Read>(reader: &mut R, buf: &mut [u8], held: usize) -> Result<usize, SealError>
     requires { held ≤ length buf.old }
     ensures read { IfOk result (λ n. Consumes
@@ -167,11 +167,14 @@ pub fn fill<R: Read>(reader: &mut R, buf: &mut [u8], held: usize) -> Result<usiz
     ensures not_write { IfErr result (λ e. (error : Error) → e ≢ SealError.Write error) }
     ensures not_long { IfErr result (λ e. e ≢ SealError.TooLong) }
     ensures end { IfOk result (λ n. n < length buf.old → IsAtEnd (R.remaining reader.new)) }
+    ensures partly { OnErr result ((n : ℕ) × (n < length buf.old) × Consumes
+        (prepend_known (take held buf.old) (R.remaining reader.old)) (R.remaining reader.new)
+        (take n buf.new)) }
 {
     let mut at = held;
     'reads: for _ in 0..u64::MAX {
         if at >= buf.len() {
-            return Ok(at);
+            break;
         }
         match reader.read(&mut buf[at..]) {
             Ok(0) => return Ok(at),
@@ -180,5 +183,8 @@ pub fn fill<R: Read>(reader: &mut R, buf: &mut [u8], held: usize) -> Result<usiz
             Err(e) => return Err(SealError::Read(e)),
         }
     }
-    Err(SealError::Read(io::Error::from(ErrorKind::TimedOut)))
+    if at < buf.len() {
+        return Err(SealError::Read(io::Error::from(ErrorKind::TimedOut)));
+    }
+    Ok(at)
 }
