@@ -1,5 +1,4 @@
--- Facts on the format, so that another magic word, cipher, header, order of a number's bytes or place of a chunk doesn't
--- check.
+-- Facts on the format, so that another magic word, cipher, order of a number's bytes, data or place doesn't check.
 use Rattle.std.proofs.Common.{◌≡◌, ℕ, true, false, List, [], ◌∷◌, ◌++◌, take, drop, codes, refl}
 use Rattle.std.specs.List.{range_with_len}
 use Rattle.chacha20.specs.ChaCha.{quarter, columns, diagonals, rounds, add_states}

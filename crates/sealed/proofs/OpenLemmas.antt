@@ -139,7 +139,8 @@ begins a b key salt moved held i size long more read =
     let front = header salt ++ chunks key salt moved i in
     let (left, all) = text-left a b front held read in
     let rest = held ++ left in
-    (front ++ rest, all, inl (salt, rest, i, (size, long, λ some. omega (arith, more some, length-append held left), refl)))
+    let some : 0 < i → 0 < length rest = λ later. omega (arith, more later, length-append held left) in
+    (front ++ rest, all, inl (salt, rest, i, (size, long, some, refl)))
 
 -- only the text of the chunks before is written
 pub right-before : (a b w v : Option (List ℕ)) (key salt moved held : List ℕ) (i : ℕ) → length salt ≡ 16
