@@ -63,8 +63,10 @@ pub fn xor_all<C: StreamCipher, R: Read, W: Write>(
     ensures too_long { IsErrOf result TooLong → (text : List ℕ)
         × Consumes (R.remaining reader.old) (R.remaining reader.new) text
         × (limit_of C.modulus < C.position cipher.old + length text) }
-    ensures retried { (e : Error)
+    ensures reads_retried { (e : Error)
         → IsErrOf result (StreamError.Read e) → error_kind e ≢ ErrorKind.Interrupted }
+    ensures writes_retried { (e : Error)
+        → IsErrOf result (StreamError.Write e) → error_kind e ≢ ErrorKind.Interrupted }
 {
     'pieces: for _ in 0..u64::MAX {
         let n = xor_piece(cipher, reader, writer, buf)?;
@@ -100,8 +102,10 @@ fn xor_piece<C: StreamCipher, R: Read, W: Write>(
     ensures too_long { IsErrOf result TooLong → (text : List ℕ)
         × Consumes (R.remaining reader.old) (R.remaining reader.new) text
         × (limit_of C.modulus < C.position cipher.old + length text) }
-    ensures retried { (e : Error)
+    ensures reads_retried { (e : Error)
         → IsErrOf result (StreamError.Read e) → error_kind e ≢ ErrorKind.Interrupted }
+    ensures writes_retried { (e : Error)
+        → IsErrOf result (StreamError.Write e) → error_kind e ≢ ErrorKind.Interrupted }
 {
     let n = read_some(reader, buf).map_err(StreamError::Read)?;
     let piece = &mut buf[..n];
@@ -137,6 +141,7 @@ fn write_whole<W: Write>(writer: &mut W, bytes: &[u8]) -> io::Result<()>
         (Appends (W.contents writer.old) (W.contents writer.new) bytes.now) }
     ensures partly { (n : ℕ)
         × Appends (W.contents writer.old) (W.contents writer.new) (take n bytes.now) }
+    ensures retried { IfErr result (λ e. error_kind e ≢ ErrorKind.Interrupted) }
 {
     let mut done = 0;
     'tries: for _ in 0..u64::MAX {

@@ -28,7 +28,7 @@ front-more w v u xs ys rest all n is before more =
     (length xs + m, subst (Appends w u) (sym front) (Appends-trans w v u xs (take n ys) before more))
 
 -- a reader's text: what it gave, what is held of it, and what is left
-text-left : (a b : Option (List ℕ)) (moved held : List ℕ) → Consumes a (prepend_known held b) moved
+pub text-left : (a b : Option (List ℕ)) (moved held : List ℕ) → Consumes a (prepend_known held b) moved
     → (rest : List ℕ) × IfSome a (λ all. all ≡ moved ++ (held ++ rest))
 text-left None b moved held read = ([], tt)
 text-left (Some all) None moved held read = absurd read

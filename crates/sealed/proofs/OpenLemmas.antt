@@ -13,7 +13,7 @@ use Rattle.sealed.specs.declared.error.SealError.TheVariants.{Damaged}
 use Rattle.sealed.specs.Sealed.{header, chunk, chunks, sealed, IsDamage, IsHeaderDamage, IsNoChunk, IsRight}
 use Rattle.sealed.proofs.ChunkLemmas.{chunks-more, sealed-end, length-chunk}
 use Rattle.sealed.proofs.FileLemmas.{damage-refuses, one-text, right-front}
-use Rattle.sealed.proofs.FrontLemmas.{front-more}
+use Rattle.sealed.proofs.FrontLemmas.{front-more, text-left}
 use Rattle.sealed.proofs.ReaderLemmas.{Consumes-held, Consumes-some}
 
 -- what follows from each refusal
@@ -67,13 +67,11 @@ header-damage (Some file) key (WrongEnd i) wrong = absurd wrong
 
 -- one text
 pub text-of : (a w v : Option (List ℕ)) (key : List ℕ)
-    → IfSome a (λ file. (salt text : List ℕ) × (length salt ≡ 16) × (file ≡ sealed key salt text) × Appends w v text)
+    → (salt text : List ℕ) × (length salt ≡ 16) × IfSome a (λ file. file ≡ sealed key salt text) × Appends w v text
     → (salt text : List ℕ) → length salt ≡ 16 → a ≡ Some (sealed key salt text) → Appends w v text
-text-of a w v key holds salt text size is =
-    let (salt', text', size', same, written) =
-    subst (λ o. IfSome o (λ file. (s t : List ℕ) × (length s ≡ 16) × (file ≡ sealed key s t)
-    × Appends w v t)) is holds in
-    subst (Appends w v) (sym (one-text key salt salt' text text' size size' same)) written
+text-of a w v key (salt', text', size', same, written) salt text size is =
+    subst (Appends w v) (sym (one-text key salt salt' text text' size size'
+    (subst (λ o. IfSome o (λ file. file ≡ sealed key salt' text')) is same))) written
 
 -- a full buffer: a chunk, and the next one's first byte
 pub split-full : (before buf : List ℕ) (n : ℕ) → length buf ≡ 65553 → 65552 < n
@@ -82,53 +80,67 @@ split-full before buf n full more =
     ap (λ xs. before ++ xs) (take_all n buf (omega (arith, more, full)) ∙ sym (take-append-drop 65552 buf))
     ∙ sym (append_assoc before (take 65552 buf) (drop 65552 buf))
 
+-- a text of a reader's file is right
+abbrev pub RightIn : Option (List ℕ) → List ℕ → List ℕ → Type 0
+RightIn a key text = (file : List ℕ) × IfSome a (λ all. all ≡ file) × IsRight key file text
+
 -- what was written is the front of a right text
 abbrev pub RightFront : Option (List ℕ) → List ℕ → Option (List ℕ) → Option (List ℕ) → Type 0
-RightFront a key w v = IfSome a (λ file. (text : List ℕ) × (n : ℕ) × (0 < n → IsRight key file text)
-    × Appends w v (take n text))
+RightFront a key w v = (file text : List ℕ) × (n : ℕ) × IfSome a (λ all. all ≡ file)
+    × (0 < n → IsRight key file text) × Appends w v (take n text)
+
+-- and so is nothing
+pub none-written : (a w : Option (List ℕ)) (key : List ℕ) → RightFront a key w w
+none-written None w key = ([], [], 0, tt, (λ less. absurd (omega (arith, less))), Appends-nil w)
+none-written (Some file) w key = (file, [], 0, refl, (λ less. absurd (omega (arith, less))), Appends-nil w)
 
 -- of a sealed file that is the front of its text
 pub only-front : (a w v : Option (List ℕ)) (key salt text : List ℕ) → length salt ≡ 16
     → a ≡ Some (sealed key salt text) → RightFront a key w v → (n : ℕ) × Appends w v (take n text)
 only-front a w v key salt text size is written =
-    let (t, n, right, appends) = subst (λ o. RightFront o key w v) is written in
-    front t n right appends
+    let (file, t, n, all, right, appends) = written in
+    front file t n (subst (λ o. IfSome o (λ all. all ≡ file)) is all) right appends
   where
-    front : (t : List ℕ) (n : ℕ) → (0 < n → IsRight key (sealed key salt text) t) → Appends w v (take n t)
-        → (k : ℕ) × Appends w v (take k text)
-    front t zero right appends = (0, appends)
-    front t (suc n) right appends =
-        let (rest, is) = right-front key salt text t size (right (omega arith)) in
+    front : (file t : List ℕ) (n : ℕ) → sealed key salt text ≡ file → (0 < n → IsRight key file t)
+        → Appends w v (take n t) → (k : ℕ) × Appends w v (take k text)
+    front file t zero same right appends = (0, appends)
+    front file t (suc n) same right appends =
+        let (rest, is) = right-front key salt text t size
+        (subst (λ f. IsRight key f t) (sym same) (right (omega arith))) in
         front-more w w v [] t rest text (suc n) is (Appends-nil w) appends
 
 -- all of the chunks before, and a front of the next one
-right-then : (a w v u : Option (List ℕ)) (key moved text : List ℕ) (n : ℕ) → IfSome a (λ file. IsRight key file moved)
-    → (0 < n → IfSome a (λ file. IsRight key file (moved ++ text))) → Appends w v moved → Appends v u (take n text)
-    → RightFront a key w u
-right-then None w v u key moved text n before after written more = tt
-right-then (Some file) w v u key moved text zero before after written more = (
+right-then : (a w v u : Option (List ℕ)) (key moved text : List ℕ) (n : ℕ) → RightIn a key moved
+    → (0 < n → RightIn a key (moved ++ text)) → Appends w v moved → Appends v u (take n text) → RightFront a key w u
+right-then a w v u key moved text zero (file, all, right) after written more = (
+  file,
   moved,
   length moved,
-  λ _. before,
+  all,
+  λ _. right,
   subst (Appends w u) (append-nil moved ∙ sym (take-length moved)) (Appends-trans w v u moved [] written more),
 )
-right-then (Some file) w v u key moved text (suc n) before after written more = (
-  moved ++ text,
-  length moved + suc n,
-  λ _. after (omega arith),
-  subst (Appends w u) (sym (take-append-add moved text (suc n)))
-      (Appends-trans w v u moved (take (suc n) text) written more),
-)
+right-then a w v u key moved text (suc n) before after written more =
+    let (file, all, right) = after (omega arith) in (
+      file,
+      moved ++ text,
+      length moved + suc n,
+      all,
+      λ _. right,
+      subst (Appends w u) (sym (take-append-add moved text (suc n)))
+          (Appends-trans w v u moved (take (suc n) text) written more),
+    )
 
 -- the chunks before are right
 begins : (a b : Option (List ℕ)) (key salt moved held : List ℕ) (i : ℕ) → length salt ≡ 16
     → length moved ≡ 65536 * i → (0 < i → 0 < length held)
-    → Consumes a (prepend_known held b) (header salt ++ chunks key salt moved i)
-    → IfSome a (λ file. IsRight key file moved)
-begins None b key salt moved held i size long more read = tt
-begins (Some file) None key salt moved held i size long more read = absurd read
-begins (Some file) (Some left) key salt moved held i size long more read =
-    inl (salt, held ++ left, i, (size, long, λ some. omega (arith, more some, length-append held left), read))
+    → Consumes a (prepend_known held b) (header salt ++ chunks key salt moved i) → RightIn a key moved
+begins a b key salt moved held i size long more read =
+    let front = header salt ++ chunks key salt moved i in
+    let (left, all) = text-left a b front held read in
+    let rest = held ++ left in
+    let some : 0 < i → 0 < length rest = λ later. omega (arith, more later, length-append held left) in
+    (front ++ rest, all, inl (salt, rest, i, (size, long, some, refl)))
 
 -- only the text of the chunks before is written
 pub right-before : (a b w v : Option (List ℕ)) (key salt moved held : List ℕ) (i : ℕ) → length salt ≡ 16
@@ -155,12 +167,16 @@ module _ (a b : Option (List ℕ)) (key salt moved bytes : List ℕ) (i : ℕ) (
   pub opened : (w v u : Option (List ℕ)) (text : List ℕ) → length bytes ≤ 65552 → (0 < i → 0 < length text)
       → bytes ≡ chunk key salt i true text → Consumes a b (front ++ bytes) → IsAtEnd b → Appends w v moved
       → Appends v u text
-      → IfSome a (λ file. (salt' text' : List ℕ) × (length salt' ≡ 16) × (file ≡ sealed key salt' text')
-      × Appends w u text')
-  opened w v u text fits some is read end before more =
-      Consumes-whole a b (front ++ bytes)
-      (λ file. (salt' text' : List ℕ) × (length salt' ≡ 16) × (file ≡ sealed key salt' text') × Appends w u text')
-      read end (salt, moved ++ text, size, whole text fits some is, Appends-trans w v u moved text before more)
+      → (salt' text' : List ℕ) × (length salt' ≡ 16) × IfSome a (λ file. file ≡ sealed key salt' text')
+      × Appends w u text'
+  opened w v u text fits some is read end before more = (
+    salt,
+    moved ++ text,
+    size,
+    Consumes-whole a b (front ++ bytes) (λ file. file ≡ sealed key salt (moved ++ text)) read end
+        (whole text fits some is),
+    Appends-trans w v u moved text before more,
+  )
 
   -- the last chunk is wrong
   pub damaged-last : length bytes ≤ 65552 → (0 < i → 0 < length bytes) → IsNoChunk key salt i true bytes
@@ -200,9 +216,11 @@ module _ (a b : Option (List ℕ)) (key salt moved bytes : List ℕ) (i : ℕ) (
   right-last c w v u held text n fits right some read read' end written more =
       right-then a w v u key moved text n (begins a c key salt moved held i size long some read)
       (λ less.
-      let (some, is) = right less in
-      Consumes-whole a b (front ++ bytes) (λ file. IsRight key file (moved ++ text)) read' end
-      (inr (salt, size, whole text fits some is)))
+      let (some, is) = right less in (
+        front ++ bytes,
+        Consumes-whole a b (front ++ bytes) (λ all. all ≡ front ++ bytes) read' end refl,
+        inr (salt, size, whole text fits some is),
+      ))
       written more
 
   -- a front of another chunk's text is written

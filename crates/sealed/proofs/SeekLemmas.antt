@@ -1,10 +1,20 @@
 -- A chunk that a reader gives at its place.
-use Rattle.std.proofs.Common.{◌≡◌, ◌≤◌, ◌+◌, ◌-◌, ◌∙◌, ◌++◌, ℕ, List, [], Bool, length, take, Some, None, IfSome, ap, sym, subst, arith, length-take-le}
+use Rattle.std.proofs.Common.{◌≡◌, ◌≤◌, ◌+◌, ◌-◌, ◌∙◌, ◌++◌, ℕ, List, [], Bool, length, take, Some, None, Ok, Err, IfSome, IfErr, ap, sym, subst, arith, length-take-le}
 use Rattle.std.proofs.lemmas.List.{take-append-le}
 use Rattle.std.proofs.KnownBytes.{prepend_known-nil}
+use Rattle.std.specs.declared.io.Error.{Error}
 use Rattle.std.specs.declared.option.Option.{Option}
+use Rattle.std.specs.declared.result.Result.{Result}
 use Rattle.std.specs.Io.KnownBytes.{Consumes, prepend_known}
+use Rattle.sealed.specs.declared.error.SealError.{SealError}
+use Rattle.sealed.specs.declared.error.SealError.TheVariants.{Read}
 use Rattle.sealed.specs.Sealed.{chunk}
+
+-- what holds where a call fails holds also where its reader did
+pub of-read : {T : Type 0} (r : Result T SealError) (P : Type 0) → P
+    → IfErr r (λ e. (error : Error) → e ≡ Read error → P)
+of-read (Ok x) P holds = tt
+of-read (Err e) P holds = λ error is. holds
 
 -- where a seek from the front went
 pub went-to : (a b : Option ℕ) (n k place : ℕ) → IfSome a (λ _. (n ≡ k) × (b ≡ Some n)) → k ≡ place

@@ -2,10 +2,15 @@
 use Rattle.std.specs.Prelude.{◌≡◌, ◌≢◌, ◌⊎◌, ℕ, zero, suc, ◌+◌, ◌<◌, ◌≤◌, min, ◌-◌, ◌*◌, ◌/◌, ◌^◌, Bool, true, false, if◌then◌else◌, nat_eq}
 use Rattle.std.specs.Prelude.{List, [], ◌++◌, take, drop, length, codes}
 use Rattle.std.specs.Int.{w64, to_le_bytes, div_ceil}
+use Rattle.std.specs.IoError.{error_kind}
+use Rattle.std.specs.declared.io.ErrorKind.{ErrorKind}
+use Rattle.std.specs.declared.io.ErrorKind.TheVariants.{InvalidData, TimedOut}
 use Rattle.chacha20.specs.XChaCha.{xchacha_stream}
 use Rattle.aead.specs.Aead.{sealed_message}
 use Rattle.sealed.specs.declared.error.Damage.{Damage}
 use Rattle.sealed.specs.declared.error.Damage.TheVariants.{NotSealed, OtherVersion, CutHeader, WrongChunk, WrongEnd}
+use Rattle.sealed.specs.declared.error.SealError.{SealError}
+use Rattle.sealed.specs.declared.error.SealError.TheVariants.{Read, Write, Damaged, TooLong}
 
 -- XChaCha20-Poly1305 (draft-irtf-cfrg-xchacha, section 2): the ciphertext, and then its tag
 abbrev pub xchacha20_poly1305 : List ℕ → List ℕ → List ℕ → List ℕ → List ℕ
@@ -110,6 +115,13 @@ IsDamage key file (WrongEnd i) =
     (salt text rest : List ℕ) × Splits key salt file text i rest
     × (length rest ≤ 65552) × IsNoChunk key salt i true rest
 IsDamage key file damage = IsHeaderDamage file damage
+
+-- the kind of an error, also as an `io::Error`
+abbrev pub kind_of : SealError → ErrorKind
+kind_of (Read error) = error_kind error
+kind_of (Write error) = error_kind error
+kind_of (Damaged damage) = InvalidData
+kind_of TooLong = TimedOut
 
 -- n bytes of a text, from byte `from` on, have come to a window's front: up to the end of either
 abbrev pub CopiesFrom : List ℕ → ℕ → List ℕ → List ℕ → ℕ → Type 0

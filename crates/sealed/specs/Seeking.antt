@@ -1,8 +1,9 @@
 -- What a reader gives at a place of its file. The first arguments are `remaining`, `stream_position` and `stream_bytes`
 -- of the standard library's `Read` and `Seek`.
-use Rattle.std.specs.Prelude.{◌≡◌, ◌<◌, ℕ, Bool, List, length, Some, IfSome}
+use Rattle.std.specs.Prelude.{◌≡◌, ◌<◌, ◌⊎◌, ℕ, Bool, List, length, Some, IfSome}
 use Rattle.std.specs.declared.option.Option.{Option}
 use Rattle.std.specs.Io.KnownBytes.{Keeps, Consumes, IsAtEnd}
+use Rattle.std.specs.Io.Seek.{StaysAt}
 use Rattle.sealed.specs.declared.error.Damage.{Damage}
 use Rattle.sealed.specs.Sealed.{place, IsHeaderDamage, IsNoChunk}
 
@@ -24,6 +25,14 @@ abbrev pub GivesNoChunk : {R : Type 0} → (R → Option (List ℕ)) → (R → 
 GivesNoChunk remaining position file old new key salt i last =
     (bytes : List ℕ) × GivesAt remaining position file old new (place i) bytes
     × (length bytes < 65552 → IsAtEnd (remaining new)) × IsNoChunk key salt i last bytes
+
+-- a reader stayed where it was, or went to the place of chunk i and gave less than a whole chunk
+abbrev pub StopsShort : {R : Type 0} → (R → Option (List ℕ)) → (R → Option ℕ)
+    → (R → Option (List ℕ)) → R → R → ℕ → Type 0
+StopsShort remaining position file old new i =
+    (StaysAt (position old) (position new) × Keeps (file old) (file new))
+    ⊎ ((bytes : List ℕ) × GivesAt remaining position file old new (place i) bytes
+    × (length bytes < 65552))
 
 -- a reader went to the front of its file, which doesn't begin with a header
 abbrev pub GivesNoHeader : {R : Type 0} → (R → Option (List ℕ)) → (R → Option ℕ)

@@ -1,10 +1,10 @@
 //! The parts of a sealed file.
 
-ghost use Rattle.std.specs.Prelude.{◌≡◌, ◌≢◌, ◌<◌, ◌≤◌, ◌+◌, ◌-◌, ◌^◌, ◌↔◌, ℕ, List, Bool, length, take, IsTrue, IsFalse, IsOk, IfOk, OnOk, IfErr};
+ghost use Rattle.std.specs.Prelude.{◌≡◌, ◌≢◌, ◌<◌, ◌≤◌, ◌+◌, ◌-◌, ◌^◌, ◌↔◌, ℕ, List, Bool, length, take, drop, IsTrue, IsFalse, IsOk, IfOk, OnOk, IfErr};
 ghost use Rattle.std.specs.declared.io.Error.{Error};
 ghost use Rattle.std.specs.Io.KnownBytes.{Appends};
 ghost use Rattle.sealed.specs.declared.error.Damage.{Damage};
-ghost use Rattle.sealed.specs.Sealed.{header, chunk_nonce, chunk, HasSalt, IsHeaderDamage};
+ghost use Rattle.sealed.specs.Sealed.{header, chunk_nonce, chunk, kind_of, HasSalt, IsHeaderDamage};
 
 use crate::error::{Damage, SealError};
 use aead::XChaCha20Poly1305;
@@ -71,7 +71,7 @@ pub fn chunk_nonce(salt: &Salt, number: u64, last: bool) -> XNonce
     nonce
 }
 
-/// Encrypts a text in place, and writes its chunk.
+/// Encrypts a text in place, and writes its chunk. `text` then has the ciphertext, also after an error.
 pub fn write_chunk<W: Write>(
     key: &Key,
     salt: &Salt,
@@ -86,6 +86,9 @@ pub fn write_chunk<W: Write>(
         (chunk key.now salt.now number last text.old)) }
     ensures partly { (n : ℕ) × Appends (W.contents writer.old) (W.contents writer.new)
         (take n (chunk key.now salt.now number last text.old)) }
+    ensures text { text.new
+        ≡ take (length text.old) (chunk key.now salt.now number last text.old) }
+    ensures retried { IfErr result (λ e. kind_of e ≢ ErrorKind.Interrupted) }
     ensures not_damaged { IfErr result (λ e. (damage : Damage) → e ≢ SealError.Damaged damage) }
     ensures not_read { IfErr result (λ e. (error : Error) → e ≢ SealError.Read error) }
     ensures not_long { IfErr result (λ e. e ≢ SealError.TooLong) }
@@ -103,6 +106,7 @@ pub fn write_chunk<W: Write>(
 pub fn write_whole<W: Write>(writer: &mut W, bytes: &[u8]) -> Result<(), SealError>
     ensures written { OnOk result
         (Appends (W.contents writer.old) (W.contents writer.new) bytes.now) }
+    ensures retried { IfErr result (λ e. kind_of e ≢ ErrorKind.Interrupted) }
     ensures not_damaged { IfErr result (λ e. (damage : Damage) → e ≢ SealError.Damaged damage) }
     ensures not_read { IfErr result (λ e. (error : Error) → e ≢ SealError.Read error) }
     ensures not_long { IfErr result (λ e. e ≢ SealError.TooLong) }
@@ -124,8 +128,8 @@ pub fn write_whole<W: Write>(writer: &mut W, bytes: &[u8]) -> Result<(), SealErr
     Err(SealError::Write(io::Error::from(ErrorKind::TimedOut)))
 }
 
-/// Decrypts a chunk in place and returns true if its tag is right; the text is then all but the last 16 bytes.
-/// Otherwise, and for an empty text after chunk 0, returns false and changes nothing.
+/// Decrypts a chunk in place and returns true if its tag is right; the text is then all but the last 16 bytes, which
+/// stay the tag. Otherwise, and for an empty text after chunk 0, returns false and changes nothing.
 pub fn open_chunk(key: &Key, salt: &Salt, number: u64, last: bool, bytes: &mut [u8]) -> bool
     requires number { number < 2 ^ 56 }
     requires size { length bytes.old ≤ 65552 }
@@ -135,6 +139,7 @@ pub fn open_chunk(key: &Key, salt: &Salt, number: u64, last: bool, bytes: &mut [
     ensures wrong { IsFalse result → (text : List ℕ) → (0 < number → 0 < length text)
         → bytes.old ≢ chunk key.now salt.now number last text }
     ensures refused { IsFalse result → bytes.new ≡ bytes.old }
+    ensures tag { let end = length bytes.old - 16 in drop end bytes.new ≡ drop end bytes.old }
 {
     let least = if number == 0 { TAG } else { TAG + 1 };
     if bytes.len() < least {

@@ -5,8 +5,16 @@
 //! `R.remaining reader` is `Some` of the bytes that the reader has left, `W.contents writer` of those that the writer
 //! holds. They are known for a slice and a `Vec`; for a `File` they are `None`. `Consumes a b text`: a reader with `a`
 //! left gave the text and has `b` left. `IsAtEnd a`: none are left. `Appends a b bytes`: a writer that held `a` took
-//! the bytes and holds `b`. Clauses on unknown bytes say nothing. A reader or a writer may fail at any time, so no
-//! clause says when a call returns `Ok`.
+//! the bytes and holds `b`. Of unknown bytes, these say nothing.
+//!
+//! So `encrypt` writes to a `Vec` the sealed file of some text, whatever the reader. But that `decrypt` writes only
+//! right text is proved for readers of known bytes alone: the standard library has no word for the bytes that another
+//! reader gave, and every text is that of some file. Nor has it one for the error that a reader or a writer returned,
+//! which is handed on. Tests show both.
+//!
+//! A reader or a writer may fail at any time, so no clause says when a call returns `Ok`. A read, a write or a seek
+//! that a signal interrupts is repeated, so no error is of the kind `Interrupted`, after which callers repeat their
+//! call.
 //!
 //! `SealedSlice` reads any part of the text of a file in memory, and `SealedReader` of one behind a reader that seeks.
 //! Both check only the chunks that hold the part, so they don't notice damage elsewhere, nor a cut before they read the

@@ -14,8 +14,8 @@ ghost use Rattle.std.specs.Io.KnownBytes.{Keeps, ReadConsumes};
 ghost use Rattle.std.specs.Io.Seek.{SeekMoves};
 ghost use Rattle.std.specs.IoError.{error_kind};
 ghost use Rattle.sealed.specs.declared.error.Damage.{Damage};
-ghost use Rattle.sealed.specs.Sealed.{header, chunk, place, text_of, damage_at, CopiesFrom};
-ghost use Rattle.sealed.specs.Seeking.{GivesAt, GivesNoChunk, GivesNoHeader};
+ghost use Rattle.sealed.specs.Sealed.{header, chunk, place, text_of, damage_at, kind_of, CopiesFrom};
+ghost use Rattle.sealed.specs.Seeking.{GivesAt, GivesNoChunk, GivesNoHeader, StopsShort};
 
 use crate::chunk::{Salt, TAG, open_chunk};
 use crate::error::{Damage, SealError};
@@ -71,6 +71,7 @@ impl<'b, R: Read + Seek> SealedReader<'b, R> {
             IfSome (R.stream_bytes reader) (λ bytes. (file r).len ≡ length bytes))) }
         ensures damaged { IfErr result (λ e. (damage : Damage) → e ≡ SealError.Damaged damage
             → GivesNoHeader R.remaining R.stream_position R.stream_bytes reader damage) }
+        ensures retried { IfErr result (λ e. kind_of e ≢ ErrorKind.Interrupted) }
         ensures not_write { IfErr result (λ e. (error : Error) → e ≢ SealError.Write error) }
         ensures not_long { IfErr result (λ e. e ≢ SealError.TooLong) }
     {
@@ -105,8 +106,12 @@ impl<'b, R: Read + Seek> SealedReader<'b, R> {
             × GivesNoChunk R.remaining R.stream_position R.stream_bytes
             (inner self.old) (inner self.new)
             (file self.old).key (file self.old).salt (number self.old) (is_last self.old)) }
+        ensures stopped { IfErr result (λ e. (error : Error) → e ≡ SealError.Read error
+            → StopsShort R.remaining R.stream_position R.stream_bytes
+            (inner self.old) (inner self.new) (number self.old)) }
         ensures failed { OnErr result ((window.new ≡ window.old) × (held self.new ≡ None)
             × (position self.new ≡ position self.old)) }
+        ensures retried { IfErr result (λ e. kind_of e ≢ ErrorKind.Interrupted) }
         ensures not_write { IfErr result (λ e. (error : Error) → e ≢ SealError.Write error) }
         ensures not_long { IfErr result (λ e. e ≢ SealError.TooLong) }
         ensures same_file { file self.new ≡ file self.old }
@@ -143,7 +148,11 @@ impl<'b, R: Read + Seek> SealedReader<'b, R> {
             × GivesNoChunk R.remaining R.stream_position R.stream_bytes
             (inner self.old) (inner self.new)
             (file self.old).key (file self.old).salt number last) }
+        ensures stopped { IfErr result (λ e. (error : Error) → e ≡ SealError.Read error
+            → StopsShort R.remaining R.stream_position R.stream_bytes
+            (inner self.old) (inner self.new) number) }
         ensures failed { OnErr result (held self.new ≡ None) }
+        ensures retried { IfErr result (λ e. kind_of e ≢ ErrorKind.Interrupted) }
         ensures not_write { IfErr result (λ e. (error : Error) → e ≢ SealError.Write error) }
         ensures not_long { IfErr result (λ e. e ≢ SealError.TooLong) }
         ensures same { (file self.new ≡ file self.old) × (position self.new ≡ position self.old) }
@@ -168,7 +177,11 @@ impl<'b, R: Read + Seek> SealedReader<'b, R> {
             × GivesNoChunk R.remaining R.stream_position R.stream_bytes
             (inner self.old) (inner self.new)
             (file self.old).key (file self.old).salt number last) }
+        ensures stopped { IfErr result (λ e. (error : Error) → e ≡ SealError.Read error
+            → StopsShort R.remaining R.stream_position R.stream_bytes
+            (inner self.old) (inner self.new) number) }
         ensures failed { OnErr result (held self.new ≡ None) }
+        ensures retried { IfErr result (λ e. kind_of e ≢ ErrorKind.Interrupted) }
         ensures not_write { IfErr result (λ e. (error : Error) → e ≢ SealError.Write error) }
         ensures not_long { IfErr result (λ e. e ≢ SealError.TooLong) }
         ensures same { (file self.new ≡ file self.old) × (position self.new ≡ position self.old) }
@@ -187,18 +200,24 @@ impl<'b, R: Read + Seek> SealedReader<'b, R> {
     }
 }
 
+// A seek, repeated while a signal interrupts it.
 fn go_to<S: Seek>(inner: &mut S, to: SeekFrom) -> Result<u64, SealError>
     ensures moves { SeekMoves (S.stream_position inner.old) (S.stream_position inner.new)
         (S.stream_bytes inner.old) to result }
     ensures file { Keeps (S.stream_bytes inner.old) (S.stream_bytes inner.new) }
     ensures not_damaged { IfErr result (λ e. (damage : Damage) → e ≢ SealError.Damaged damage) }
+    ensures retried { IfErr result (λ e. kind_of e ≢ ErrorKind.Interrupted) }
     ensures not_write { IfErr result (λ e. (error : Error) → e ≢ SealError.Write error) }
     ensures not_long { IfErr result (λ e. e ≢ SealError.TooLong) }
 {
-    match inner.seek(to) {
-        Ok(n) => Ok(n),
-        Err(e) => Err(SealError::Read(e)),
+    'tries: for _ in 0..u64::MAX {
+        match inner.seek(to) {
+            Ok(n) => return Ok(n),
+            Err(e) if e.kind() == ErrorKind::Interrupted => {}
+            Err(e) => return Err(SealError::Read(e)),
+        }
     }
+    Err(SealError::Read(io::Error::from(ErrorKind::TimedOut)))
 }
 
 // Reads the header's salt, and the length of the file.
@@ -209,6 +228,7 @@ fn read_start<R: Read + Seek>(reader: &mut R) -> Result<(Salt, u64), SealError>
         IfSome (R.stream_bytes reader.old) (λ bytes. r.1 ≡ length bytes))) }
     ensures damaged { IfErr result (λ e. (damage : Damage) → e ≡ SealError.Damaged damage
         → GivesNoHeader R.remaining R.stream_position R.stream_bytes reader.old damage) }
+    ensures retried { IfErr result (λ e. kind_of e ≢ ErrorKind.Interrupted) }
     ensures not_write { IfErr result (λ e. (error : Error) → e ≢ SealError.Write error) }
     ensures not_long { IfErr result (λ e. e ≢ SealError.TooLong) }
 {
@@ -237,6 +257,9 @@ fn load<R: Read + Seek>(
         → (damage ≡ damage_at number last)
         × GivesNoChunk R.remaining R.stream_position R.stream_bytes
         inner.old inner.new key.now salt.now number last) }
+    ensures stopped { IfErr result (λ e. (error : Error) → e ≡ SealError.Read error
+        → StopsShort R.remaining R.stream_position R.stream_bytes inner.old inner.new number) }
+    ensures retried { IfErr result (λ e. kind_of e ≢ ErrorKind.Interrupted) }
     ensures not_write { IfErr result (λ e. (error : Error) → e ≢ SealError.Write error) }
     ensures not_long { IfErr result (λ e. e ≢ SealError.TooLong) }
 {
@@ -249,7 +272,7 @@ fn load<R: Read + Seek>(
 }
 
 impl<R: Read + Seek> Read for SealedReader<'_, R> {
-    ghost use Rattle.sealed.specs.SealedReader.{file, position, held, ReadsHeld, KeepsRight};
+    ghost use Rattle.sealed.specs.SealedReader.{file, inner, position, held, number, ReadsHeld, KeepsRight};
 
     /// Reads text up to the buffer's end or that of the chunk, and returns how many bytes that are: 0 at the end of the
     /// text and past it, once the last chunk was right. A wrong chunk is an error of the kind `InvalidData`. After
@@ -262,6 +285,10 @@ impl<R: Read + Seek> Read for SealedReader<'_, R> {
             (KeepsRight R.remaining R.stream_position R.stream_bytes self.old self.new) }
         ensures failed { OnErr result ((buf.new ≡ buf.old) × (held self.new ≡ None)
             × (position self.new ≡ position self.old)) }
+        ensures damaged { IfErr result (λ e. (error_kind e ≡ ErrorKind.InvalidData)
+            ⊎ StopsShort R.remaining R.stream_position R.stream_bytes
+            (inner self.old) (inner self.new) (number self.old)) }
+        ensures retried { IfErr result (λ e. error_kind e ≢ ErrorKind.Interrupted) }
         ensures same_file { file self.new ≡ file self.old }
     {
         match self.read_text(buf) {
@@ -308,10 +335,7 @@ impl From<SealError> for io::Error {
     fn from(error: SealError) -> io::Error
         ensures read { (e : Error) → error ≡ SealError.Read e → result ≡ e }
         ensures write { (e : Error) → error ≡ SealError.Write e → result ≡ e }
-        ensures damaged { (damage : Damage) → error ≡ SealError.Damaged damage
-            → error_kind result ≡ ErrorKind.InvalidData }
-        ensures too_long { error ≡ SealError.TooLong
-            → error_kind result ≡ ErrorKind.TimedOut }
+        ensures kind { error_kind result ≡ kind_of error }
     {
         match error {
             SealError::Read(e) | SealError::Write(e) => e,

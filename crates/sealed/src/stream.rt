@@ -1,10 +1,10 @@
 //! From a reader to a writer.
 
-ghost use Rattle.std.specs.Prelude.{◌≡◌, ◌≢◌, ◌<◌, ◌≤◌, ◌+◌, ◌*◌, ◌^◌, ◌++◌, ℕ, List, length, take, Some, IfOk, OnOk, IfErr, IfSome};
+ghost use Rattle.std.specs.Prelude.{◌≡◌, ◌≢◌, ◌<◌, ◌≤◌, ◌+◌, ◌*◌, ◌^◌, ◌++◌, ℕ, List, length, take, Some, IfOk, OnOk, IfErr, OnErr, IfSome};
 ghost use Rattle.std.specs.declared.io.Error.{Error};
 ghost use Rattle.std.specs.Io.KnownBytes.{Appends, Consumes, IsAtEnd, prepend_known};
 ghost use Rattle.sealed.specs.declared.error.Damage.{Damage};
-ghost use Rattle.sealed.specs.Sealed.{header, chunk, sealed, damage_at, IsRight, IsNoChunk, IsHeaderDamage, IsDamage};
+ghost use Rattle.sealed.specs.Sealed.{header, chunk, sealed, damage_at, kind_of, IsRight, IsNoChunk, IsHeaderDamage, IsDamage};
 
 use crate::chunk::{
     CHUNK, CHUNKS, Salt, TAG, header, open_chunk, salt_of, write_chunk, write_whole,
@@ -16,7 +16,7 @@ use std::io::{self, ErrorKind, Read, Write};
 /// Writes the sealed file of all that the reader has left. The salt must be 16 new random bytes for each file: a salt
 /// that is used twice under a key reveals the XOR of both texts, and lets others forge. Fails for a text of more than
 /// 2^72 bytes, and where the reader or the writer fails; then the writer has a front of that file. `buf` is scratch
-/// space of `CHUNK + 1` bytes.
+/// space of `CHUNK + 1` bytes. Don't read it afterwards: no clause says what it holds.
 pub fn encrypt<R: Read, W: Write>(
     key: &Key,
     salt: &Salt,
@@ -25,8 +25,9 @@ pub fn encrypt<R: Read, W: Write>(
     buf: &mut [u8],
 ) -> Result<(), SealError>
     requires { length buf.old ≡ 65537 }
-    ensures written { OnOk result (IfSome (R.remaining reader.old) (λ text.
-        Appends (W.contents writer.old) (W.contents writer.new) (sealed key.now salt.now text))) }
+    ensures written { OnOk result ((text : List ℕ)
+        × IfSome (R.remaining reader.old) (λ all. all ≡ text)
+        × Appends (W.contents writer.old) (W.contents writer.new) (sealed key.now salt.now text)) }
     ensures short { OnOk result (IfSome (R.remaining reader.old) (λ text. length text ≤ 2 ^ 72)) }
     // Also after an error.
     ensures only_sealed { (text : List ℕ) × (n : ℕ)
@@ -35,6 +36,7 @@ pub fn encrypt<R: Read, W: Write>(
         (take n (sealed key.now salt.now text)) }
     ensures too_long { IfErr result (λ e. e ≡ SealError.TooLong
         → IfSome (R.remaining reader.old) (λ text. 2 ^ 72 < length text)) }
+    ensures retried { IfErr result (λ e. kind_of e ≢ ErrorKind.Interrupted) }
     ensures not_damaged { IfErr result (λ e. (damage : Damage) → e ≢ SealError.Damaged damage) }
 {
     write_whole(writer, &header(salt))?;
@@ -63,23 +65,25 @@ pub fn decrypt<R: Read, W: Write>(
     buf: &mut [u8],
 ) -> Result<(), SealError>
     requires { length buf.old ≡ 65553 }
-    ensures accepted { OnOk result (IfSome (R.remaining reader.old) (λ file. (salt text : List ℕ)
-        × (length salt ≡ 16) × (file ≡ sealed key.now salt text)
-        × Appends (W.contents writer.old) (W.contents writer.new) text)) }
+    ensures accepted { OnOk result ((salt text : List ℕ) × (length salt ≡ 16)
+        × IfSome (R.remaining reader.old) (λ file. file ≡ sealed key.now salt text)
+        × Appends (W.contents writer.old) (W.contents writer.new) text) }
     ensures refused { IfErr result (λ e. (damage : Damage) → e ≡ SealError.Damaged damage
         → IfSome (R.remaining reader.old) (λ file. (salt text : List ℕ)
         → length salt ≡ 16 → file ≢ sealed key.now salt text)) }
     ensures damaged { IfErr result (λ e. (damage : Damage) → e ≡ SealError.Damaged damage
         → IfSome (R.remaining reader.old) (λ file. IsDamage key.now file damage)) }
     // Also after an error.
-    ensures only_right { IfSome (R.remaining reader.old) (λ file. (text : List ℕ) × (n : ℕ)
+    ensures only_right { (file text : List ℕ) × (n : ℕ)
+        × IfSome (R.remaining reader.old) (λ all. all ≡ file)
         × (0 < n → IsRight key.now file text)
-        × Appends (W.contents writer.old) (W.contents writer.new) (take n text)) }
+        × Appends (W.contents writer.old) (W.contents writer.new) (take n text) }
     ensures text { (salt text : List ℕ) → length salt ≡ 16
         → R.remaining reader.old ≡ Some (sealed key.now salt text)
         → OnOk result (Appends (W.contents writer.old) (W.contents writer.new) text) }
     ensures too_long { IfErr result (λ e. e ≡ SealError.TooLong
         → IfSome (R.remaining reader.old) (λ file. 32 + 65552 * 2 ^ 56 < length file)) }
+    ensures retried { IfErr result (λ e. kind_of e ≢ ErrorKind.Interrupted) }
 {
     let salt = read_header(reader)?;
     let mut held = 0;
@@ -106,6 +110,7 @@ pub fn read_header<R: Read>(reader: &mut R) -> Result<Salt, SealError>
         → length salt ≡ 16 → file ≢ header salt ++ rest)) }
     ensures damaged { IfErr result (λ e. (damage : Damage) → e ≡ SealError.Damaged damage
         → IfSome (R.remaining reader.old) (λ file. IsHeaderDamage file damage)) }
+    ensures retried { IfErr result (λ e. kind_of e ≢ ErrorKind.Interrupted) }
     ensures not_write { IfErr result (λ e. (error : Error) → e ≢ SealError.Write error) }
     ensures not_long { IfErr result (λ e. e ≢ SealError.TooLong) }
 {
@@ -139,6 +144,7 @@ fn write_text<W: Write>(
         × (0 < n → (0 < number → 0 < length text)
         × (bytes.old ≡ chunk key.now salt.now number last text))
         × Appends (W.contents writer.old) (W.contents writer.new) (take n text) }
+    ensures retried { IfErr result (λ e. kind_of e ≢ ErrorKind.Interrupted) }
     ensures not_long { IfErr result (λ e. e ≢ SealError.TooLong) }
 {
     let right = open_chunk(key, salt, number, last, bytes);
@@ -149,22 +155,26 @@ fn write_text<W: Write>(
 }
 
 /// Reads until the buffer is full or the reader ends, behind the `held` bytes that the buffer has already. Returns how
-/// many bytes it has then. A read that is interrupted is tried again.
+/// many bytes it has then. A read that is interrupted is tried again. After an error, the buffer has what was read.
 pub fn fill<R: Read>(reader: &mut R, buf: &mut [u8], held: usize) -> Result<usize, SealError>
     requires { held ≤ length buf.old }
     ensures read { IfOk result (λ n. Consumes
         (prepend_known (take held buf.old) (R.remaining reader.old)) (R.remaining reader.new)
         (take n buf.new)) }
     ensures bounds { IfOk result (λ n. (held ≤ n) × (n ≤ length buf.old)) }
+    ensures retried { IfErr result (λ e. kind_of e ≢ ErrorKind.Interrupted) }
     ensures not_damaged { IfErr result (λ e. (damage : Damage) → e ≢ SealError.Damaged damage) }
     ensures not_write { IfErr result (λ e. (error : Error) → e ≢ SealError.Write error) }
     ensures not_long { IfErr result (λ e. e ≢ SealError.TooLong) }
     ensures end { IfOk result (λ n. n < length buf.old → IsAtEnd (R.remaining reader.new)) }
+    ensures partly { OnErr result ((n : ℕ) × (n < length buf.old) × Consumes
+        (prepend_known (take held buf.old) (R.remaining reader.old)) (R.remaining reader.new)
+        (take n buf.new)) }
 {
     let mut at = held;
     'reads: for _ in 0..u64::MAX {
         if at >= buf.len() {
-            return Ok(at);
+            break;
         }
         match reader.read(&mut buf[at..]) {
             Ok(0) => return Ok(at),
@@ -173,5 +183,8 @@ pub fn fill<R: Read>(reader: &mut R, buf: &mut [u8], held: usize) -> Result<usiz
             Err(e) => return Err(SealError::Read(e)),
         }
     }
-    Err(SealError::Read(io::Error::from(ErrorKind::TimedOut)))
+    if at < buf.len() {
+        return Err(SealError::Read(io::Error::from(ErrorKind::TimedOut)));
+    }
+    Ok(at)
 }

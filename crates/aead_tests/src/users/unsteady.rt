@@ -1,9 +1,9 @@
-//! A reader and writer that takes few bytes in a call, is interrupted, and fails.
+//! A reader and writer that takes few bytes in a call, is interrupted, fails, and gives one more byte after its end.
 
 use std::io::{self, ErrorKind, Read, Seek, SeekFrom, Write};
 
-// It takes at most `most` bytes in a call, and is interrupted in each third read or write. It fails in the read or
-// write with the number `fails`, and in the seek with the number `failing_seek`; the first is 1.
+// It takes at most `most` bytes in a call, and is interrupted in each third read or write and in each third seek. It
+// fails in the read or write with the number `fails`, and in the seek with the number `failing_seek`; the first is 1.
 #[derive(Drop)]
 pub struct Unsteady<T> {
     pub inner: T,
@@ -12,6 +12,7 @@ pub struct Unsteady<T> {
     calls: u32,
     pub seeks: u32,
     pub failing_seek: u32,
+    ended: bool,
 }
 
 impl<T> Unsteady<T> {
@@ -23,6 +24,7 @@ impl<T> Unsteady<T> {
             calls: 0,
             seeks: 0,
             failing_seek: 0,
+            ended: false,
         }
     }
 
@@ -42,7 +44,12 @@ impl<R: Read> Read for Unsteady<R> {
     fn read(&mut self, buf: &mut [u8]) -> io::Result<usize> {
         self.step()?;
         let len = buf.len().min(self.most);
-        self.inner.read(&mut buf[..len])
+        if self.ended {
+            return Ok(len.min(1));
+        }
+        let n = self.inner.read(&mut buf[..len])?;
+        self.ended = n < len.min(1);
+        Ok(n)
     }
 }
 
@@ -64,6 +71,10 @@ impl<S: Seek> Seek for Unsteady<S> {
         if self.seeks == self.failing_seek {
             return Err(io::Error::from(ErrorKind::BrokenPipe));
         }
+        if self.seeks % 3 == 0 {
+            return Err(io::Error::from(ErrorKind::Interrupted));
+        }
+        self.ended = false;
         self.inner.seek(to)
     }
 }

@@ -1,4 +1,4 @@
-use Rattle.std.proofs.Common.{◌≡◌, ◌∙◌, ◌++◌, ◌-◌, IsOk, arith, length, take, drop, sym, ap, take_at, length-take-le, true≢false}
+use Rattle.std.proofs.Common.{◌≡◌, ◌∙◌, ◌++◌, ◌-◌, IsOk, arith, length, take, drop, sym, ap, take_at, drop_at, length-take-le, true≢false}
 use Rattle.std.proofs.lemmas.List.{take-append-drop, take_rest}
 use Rattle.chacha20.specs.XChaCha.{xchacha_stream}
 use Rattle.chacha20.proofs.KeystreamLemmas.{xor_stream-xor_stream}
@@ -62,6 +62,13 @@ returns-clause-wrong c refused text some same =
           ∙ take_rest c.args.bytes.now end ∙ tag,
     ) in
     true≢false (sym accepted ∙ sym c.is_ok.ensures.value ∙ refused)
+
+pub returns-clause-tag : goal.returns-clause-tag
+returns-clause-tag c =
+    let bytes = c.args.bytes.now in
+    let end = length bytes - 16 in
+    drop_at c.decrypt_in_place_detached.new.message (drop end bytes) end
+    (c.decrypt_in_place_detached.auto.message ∙ length-take-le end bytes (omega arith))
 
 -- answered for speed
 pub returns-clause-long : goal.returns-clause-long

@@ -1,6 +1,6 @@
-use Rattle.std.proofs.Common.{◌≤◌, length, length-take-le, take, arith, subst}
+use Rattle.std.proofs.Common.{◌≤◌, length, length-take, length-take-le, take, arith, inr, subst}
 use Rattle.std.specs.Io.KnownBytes.{Consumes}
-use Rattle.sealed.proofs.SeekLemmas.{went-to, first-read, opened-in}
+use Rattle.sealed.proofs.SeekLemmas.{of-read, went-to, first-read, opened-in}
 use Rattle.sealed.proofs.reader.load.Goals as goal
 
 pub returns-clause-right : goal.returns-clause-right
@@ -20,6 +20,24 @@ returns-clause-right g c =
           c.open_chunk.auto.bytes (c.open_chunk.ensures.right c.if-not-open_chunk.false))
           (first-read a b (take n buf) c.in_ok-bytes.ensures.read),
     )
+
+pub returns-in_err-bytes-clause-stopped : goal.returns-in_err-bytes-clause-stopped
+returns-in_err-bytes-clause-stopped g c =
+    let (n, less, read) = c.in_err-bytes.ensures.partly in
+    let buf = c.fill.new.buf in
+    of-read c.from_residual-in_err-bytes.result _
+    (inr (
+      take n buf,
+      (
+        c.go_to.new.inner,
+        (
+          went-to _ _ _ _ _ c.in_ok-go_to.ensures.moves c.chunk_place.ensures,
+          c.in_ok-go_to.ensures.file,
+        ),
+        first-read _ _ (take n buf) read,
+      ),
+      omega (arith, length-take n buf, less, c.requires.buffer),
+    ))
 
 pub returns-then-not-open_chunk-clause-damaged : goal.returns-then-not-open_chunk-clause-damaged
 returns-then-not-open_chunk-clause-damaged g c damage same =

@@ -5,7 +5,7 @@ use Rattle.std.proofs.KnownBytes.{Appends-nil, Appends-trans, Consumes-trans, pr
 use Rattle.sealed.specs.Sealed.{header, chunks}
 use Rattle.sealed.proofs.ChunkLemmas.{as-chunk, no-chunk-as, chunks-more, length-chunk, length-chunks}
 use Rattle.sealed.proofs.FrontLemmas.{long-text}
-use Rattle.sealed.proofs.OpenLemmas.{HasDamage, refusal-weaker, passed-on, on_ok-passed, damage-refused, header-damage, text-of, opened, damaged-last, damaged-mid, right-before, right-last, right-mid, split-full}
+use Rattle.sealed.proofs.OpenLemmas.{HasDamage, refusal-weaker, passed-on, on_ok-passed, damage-refused, header-damage, text-of, opened, damaged-last, damaged-mid, none-written, right-before, right-last, right-mid, split-full}
 use Rattle.sealed.proofs.ReaderLemmas.{Consumes-held, first-byte}
 use Rattle.sealed.proofs.stream.decrypt.Goals as goal
 
@@ -109,6 +109,9 @@ returns-then-n-clause-text g c salt text size is =
     (λ holds. text-of (g.R.Read.remaining c.args.reader.now) (g.W.Write.contents c.args.writer.now)
     (g.W.Write.contents c.write_text.new.writer) c.args.key.now holds salt text size is)
     (returns-then-n-clause-accepted g c)
+
+pub returns-in_err-salt-clause-only_right : goal.returns-in_err-salt-clause-only_right
+returns-in_err-salt-clause-only_right g c = none-written _ _ c.args.key.now
 
 pub returns-in_err-n-clause-only_right : goal.returns-in_err-n-clause-only_right
 returns-in_err-n-clause-only_right g c =

@@ -2,7 +2,7 @@ use Rattle.std.proofs.Common.{◌≡◌, ◌≤◌, ◌∙◌, ◌++◌, ℕ, []
 use Rattle.std.proofs.lemmas.Result.{on_ok_weaker}
 use Rattle.std.specs.Io.KnownBytes.{Appends, Consumes, prepend_known}
 use Rattle.std.proofs.KnownBytes.{Appends-trans, Consumes-trans, Consumes-nil, Consumes-whole, prepend_known-nil}
-use Rattle.sealed.specs.Sealed.{header, sealed}
+use Rattle.sealed.specs.Sealed.{header}
 use Rattle.sealed.proofs.ChunkLemmas.{as-chunk, chunks-more, sealed-end}
 use Rattle.sealed.proofs.FrontLemmas.{front-before, front-header, front-last, front-mid, long-text, never-long, split-text}
 use Rattle.sealed.proofs.ReaderLemmas.{Consumes-held, first-byte}
@@ -45,14 +45,15 @@ returns-then-n-le-CHUNK g c =
     let end = got.end (omega (arith, c.if-n-le-CHUNK.true, c.chunks.auto.buf, c.requires)) in
     let whole = sealed-end key salt moved (take n buf) c.chunks.number long (omega (arith, wide, c.if-n-le-CHUNK.true))
     (λ more. omega (arith, wide, held more, got.bounds.0)) in
+    let all = Consumes-whole _ _ _ (λ all. all ≡ moved ++ take n buf) (Consumes-trans _ _ _ _ _ read got.read) end
+    refl in
     record {
       written = on_ok_weaker c.write_chunk.result
-          (λ last.
-          Consumes-whole _ _ _
-          (λ text. Appends (g.W.Write.contents c.args.writer.now) (g.W.Write.contents c.write_chunk.new.writer)
-          (sealed key salt text))
-          (Consumes-trans _ _ _ _ _ read got.read) end
-          (subst (Appends _ _) whole (Appends-trans _ _ _ _ _ written last)))
+          (λ last. (
+            moved ++ take n buf,
+            all,
+            subst (Appends _ _) whole (Appends-trans _ _ _ _ _ written last),
+          ))
           (as-chunk (λ xs. OnOk c.write_chunk.result
           (Appends (g.W.Write.contents c.chunks.writer) (g.W.Write.contents c.write_chunk.new.writer) xs))
           key salt (take n buf) _ c.chunks.number _ true c.write_chunk.ensures.written refl refl);
@@ -67,9 +68,9 @@ returns-then-n-le-CHUNK g c =
           key salt (take n buf) _ c.chunks.number _ true c.write_chunk.ensures.partly refl refl in
           front-last key salt a (g.R.Read.remaining c.fill.new.reader) _ _ _ moved (take n buf) c.chunks.number k long
           (omega (arith, wide, c.if-n-le-CHUNK.true)) (λ more. omega (arith, wide, held more, got.bounds.0))
-          (Consumes-whole _ _ _ (λ all. all ≡ moved ++ take n buf) (Consumes-trans _ _ _ _ _ read got.read) end refl)
-          written front;
+          all written front;
       too_long = never-long c.write_chunk.result _ c.write_chunk.ensures.not_long;
+      retried = c.write_chunk.ensures.retried;
       not_damaged = c.write_chunk.ensures.not_damaged;
     }
 
