@@ -6,7 +6,7 @@ use Rattle.aead.specs.Poly1305.{number, accumulator, tag_from}
 use Rattle.aead.specs.Aead.{mac_key}
 use Rattle.sealed.specs.Sealed.{chunk, chunk_nonce, chunk_at, sealed}
 
--- a whole file: libsodium 1.0.18 and OpenSSL 3.0, this with HChaCha20 in Python, made its chunk
+-- a whole file. libsodium 1.0.18 made its chunk, and so did OpenSSL 4.0 with HChaCha20 in Python.
 pub whole_file : sealed (range_with_len 0 32) (codes "defghijklmnopqrs") (codes "attack at dawn") ≡
     codes "chacha20-seal v1defghijklmnopqrs" ++
     0xb7 ∷ 0x49 ∷ 0xa5 ∷ 0xca ∷ 0x72 ∷ 0x7c ∷ 0x19 ∷ 0x06 ∷ 0xb4 ∷ 0xac ∷ 0x97 ∷ 0x3a ∷ 0xbc ∷ 0x2a

@@ -7,10 +7,10 @@
 //! left gave the text and has `b` left. `IsAtEnd a`: none are left. `Appends a b bytes`: a writer that held `a` took
 //! the bytes and holds `b`. Of unknown bytes, these say nothing.
 //!
-//! So `encrypt` writes to a `Vec` the sealed file of some text, whatever the reader. But that `decrypt` writes only
-//! right text is proved for readers of known bytes alone: the standard library has no word for the bytes that another
-//! reader gave, and every text is that of some file. Nor has it one for the error that a reader or a writer returned,
-//! which is handed on. Tests show both.
+//! So whatever the reader, `encrypt` writes to a `Vec` the sealed file of some text. That `decrypt` writes only right
+//! text is proved for readers of known bytes alone: the standard library has no word for the bytes that another reader
+//! gave, and every text is that of some file. Nor has it a word for the error that a reader or a writer returned; it is
+//! handed on. Tests show both.
 //!
 //! A reader or a writer may fail at any time, so no clause says when a call returns `Ok`. A read, a write or a seek
 //! that a signal interrupts is repeated, so no error is of the kind `Interrupted`, after which callers repeat their
