@@ -70,8 +70,8 @@ impl<R: Rounds, B: RngBackend<R>> Subject for Pair<R, B> {
     }
 }
 
-// A list has no `==`: it stores the state, to be compared. All ranges lie in the data. Room for the answers is made here,
-// where LLVM stores each by itself once, and not for each generator.
+// A list has no `==`: it stores the state, to be compared. All ranges lie in the data. The room for answers is made
+// here, since LLVM stores each by itself: so it does once, and not for each generator.
 #[inline(never)]
 fn list_of(calls: &[Call], bytes: usize) -> ([RngCall; 128], [RngAnswer; 128])
     ensures { All (InData bytes) result.0 }
