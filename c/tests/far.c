@@ -4,7 +4,6 @@
 
 #define _GNU_SOURCE
 
-#include <inttypes.h>
 #include <signal.h>
 #include <stdio.h>
 #include <stdlib.h>
@@ -18,68 +17,12 @@ enum { LARGE = (3 << 20) + 5 };
 
 #define GIB ((size_t)1 << 30)
 
-static const size_t lengths[] = {1,      2,      63,         64,          4095,    4096,        4097,
-                                 65536,  1 << 20, (1 << 20) + 1, 3 << 20, 2 * GIB, 4 * GIB - 1, 4 * GIB, 4 * GIB + 1, 5 * GIB};
 static const uint8_t key[32] = {1, 2, 3}, nonce[24] = {4, 5, 6};
-static uint64_t calls, wrong;
-static int is_planted;
-
-static void right_answer(int fact, const char *what, const char *level, size_t len, size_t apart) {
-    calls++;
-    if (fact) return;
-    wrong++;
-    if (!is_planted) printf("difference: %s, build %s, length %zu, %zu bytes apart\n", what, level, len, apart);
-}
 
 uint8_t *reserve(size_t size) {
     uint8_t *room = mmap(NULL, size, PROT_NONE, MAP_PRIVATE | MAP_ANONYMOUS | MAP_NORESERVE, -1, 0);
     if (room == MAP_FAILED) puts("no room for addresses"), exit(2);
     return room;
-}
-
-/* Overlaps in part, and lengths that pass the end of the stream by one byte. */
-static void refused(const struct library *library, enum layout layout, const struct cipher *it, uint8_t *room) {
-    for (size_t i = 0; i < sizeof lengths / sizeof lengths[0]; i++) {
-        size_t len = lengths[i], all[] = {1, len / 2, len - 1, len % 4096, len > 4 * GIB ? 4 * GIB : 0};
-        /* The last byte is the stream's byte 2^38 or 2^70. */
-        uint64_t before = (len + 62) / 64, block = (layout == LEGACY ? UINT64_MAX : UINT32_MAX) - before;
-        uint64_t offset = 64 * (before + 1) - len + 1;
-        for (size_t j = 0; j < sizeof all / sizeof all[0]; j++) {
-            uint8_t *other = room + all[j];
-            if (all[j] == 0 || all[j] >= len) continue;
-            right_answer(it->xor(key, nonce, 0, 0, room, other, len) == CHACHA20_REFUSED &&
-                      it->xor(key, nonce, 0, 0, other, room, len) == CHACHA20_REFUSED,
-                  "an overlap was taken", library->level, len, all[j]);
-        }
-        right_answer(it->xor(key, nonce, block, offset, room, room, len) == CHACHA20_REFUSED &&
-                  it->xor(key, nonce, block, offset, room, room + len, len) == CHACHA20_REFUSED &&
-                  it->keystream(key, nonce, block, offset, room, len) == CHACHA20_REFUSED &&
-                  library->check[layout](block, offset, len) == CHACHA20_REFUSED &&
-                  library->check[layout](block, offset - 1, len) == CHACHA20_OK,
-              "the end of the stream", library->level, len, 0);
-    }
-}
-
-/* Buffers that don't overlap, at distances of which 32 bits or less say that they do, and large ones. */
-static void taken(const struct library *library, enum layout layout, int at_rounds, uint8_t *room) {
-    static const size_t distances[] = {100, PAGE, 1 << 16, 1 << 20, 1 << 22, 2 * GIB, 4 * GIB};
-    static uint8_t right[LARGE];
-    const struct cipher *it = &library->ciphers[layout][at_rounds];
-    memset(right, 0, LARGE);
-    plain_c.xor_from_block[layout](at_rounds == 2 ? 20 : 8 + 4 * at_rounds, key, nonce, 0, right, right, LARGE);
-    mprotect(room, LARGE, PROT_READ | PROT_WRITE);
-    for (size_t i = 0; i < sizeof distances / sizeof distances[0]; i++) {
-        size_t len = distances[i] == 1 << 22 ? LARGE : 100;
-        uint8_t *other = room + distances[i];
-        mprotect(other - distances[i] % PAGE, len, PROT_READ | PROT_WRITE);
-        memset(room, 0, len), memset(other, 0x55, len);
-        int good = it->xor(key, nonce, 0, 0, other, room, len) == CHACHA20_OK && memcmp(other, right, len) == 0 &&
-                   it->xor(key, nonce, 0, 0, other, other, len) == CHACHA20_OK && memcmp(other, room, len) == 0 &&
-                   it->keystream(key, nonce, 0, 0, other, len) == CHACHA20_OK && memcmp(other, right, len) == 0 &&
-                   it->xor(key, nonce, 0, 0, room, other, len) == CHACHA20_OK && memcmp(room, room + 1, len - 1) == 0;
-        right_answer(good && room[0] == 0, "buffers that don't overlap", library->level, len, distances[i]);
-    }
-    mprotect(room, 11 * GIB, PROT_NONE);
 }
 
 static void touched(int number) {
@@ -93,39 +36,88 @@ void end_where_touched(int is_wanted) {
     signal(SIGSEGV, is_wanted ? touched : SIG_DFL);
 }
 
-uint64_t far_apart(const struct machine *machine) {
+static int refuses(const struct cipher *it, uint8_t *output, const uint8_t *from, size_t len) {
+    return it->xor(key, nonce, 0, 0, output, from, len) == CHACHA20_REFUSED;
+}
+
+/* Overlaps in part, and lengths that pass the end of the stream by one byte. */
+static void refused(struct run *run, enum layout layout, const struct cipher *it, uint8_t *room) {
+    static const size_t lengths[] = {1,      2,      63,         64,          4095,    4096,        4097,
+                                     65536,  1 << 20, (1 << 20) + 1, 3 << 20, 2 * GIB, 4 * GIB - 1, 4 * GIB, 4 * GIB + 1, 5 * GIB};
+    for (size_t i = 0; i < sizeof lengths / sizeof lengths[0]; i++) {
+        size_t len = lengths[i], all[] = {1, len / 2, len - 1, len % 4096, len > 4 * GIB ? 4 * GIB : 0};
+        /* The last byte is the stream's byte 2^38 or 2^70. */
+        uint64_t before = (len + 62) / 64, block = (layout == LEGACY ? UINT64_MAX : UINT32_MAX) - before;
+        uint64_t offset = 64 * (before + 1) - len + 1;
+        for (size_t j = 0; j < sizeof all / sizeof all[0]; j++) {
+            uint8_t *other = room + all[j];
+            if (all[j] == 0 || all[j] >= len) continue;
+            holds(run, refuses(it, room, other, len) && refuses(it, other, room, len), "an overlap in part was taken");
+        }
+        holds(run, it->xor(key, nonce, block, offset, room, room, len) == CHACHA20_REFUSED &&
+                       it->xor(key, nonce, block, offset, room, room + len, len) == CHACHA20_REFUSED &&
+                       it->keystream(key, nonce, block, offset, room, len) == CHACHA20_REFUSED &&
+                       it->check(block, offset, len) == CHACHA20_REFUSED && it->check(block, offset - 1, len) == CHACHA20_OK,
+              "the end of the stream");
+    }
+}
+
+/* Overlaps at the greatest addresses, where a sum would wrap, and lengths that no object has. */
+static void refused_at_end(struct run *run, const struct library *library, const struct cipher *it, uint8_t *room) {
+    uint8_t *top = (uint8_t *)(UINTPTR_MAX - 200), tag[CHACHA20_TAG_BYTES];
+    const struct aead *aead = &library->aeads[IETF];
+    for (size_t len = 100; len < 400; len += 100) {
+        holds(run, refuses(it, top, top + 50, len) && refuses(it, top + 50, top, len) && refuses(it, (uint8_t *)1, top, SIZE_MAX - len),
+              "an overlap at the greatest address was taken");
+        holds(run, aead->encrypt(key, nonce, top + 50, len, top, room, len, tag) == CHACHA20_REFUSED &&
+                       aead->encrypt(key, nonce, top, len, top + 50, room, len, tag) == CHACHA20_REFUSED,
+              "data that the output overlaps at the greatest address were taken");
+    }
+    for (size_t len = (size_t)PTRDIFF_MAX + 1; len > PTRDIFF_MAX; len += len > SIZE_MAX - 63 ? 1 : PTRDIFF_MAX - 62) {
+        holds(run, refuses(it, room, room, len) && refuses(it, room, room + 8 * GIB, len) &&
+                       it->keystream(key, nonce, 0, 0, room, len) == CHACHA20_REFUSED, "a length that no object has was taken");
+    }
+}
+
+/* Buffers that don't overlap, at distances of which 32 bits or less say that they do, and large ones. */
+static void taken(struct run *run, enum layout layout, const struct cipher *it, uint8_t *room) {
+    static const size_t distances[] = {100, PAGE, 1 << 16, 1 << 20, 1 << 22, 2 * GIB, 4 * GIB};
+    static uint8_t right[LARGE];
+    memset(right, 0, LARGE);
+    plain_c.xor_from_block[layout](key, nonce, 0, right, right, LARGE);
+    mprotect(room, LARGE, PROT_READ | PROT_WRITE);
+    for (size_t i = 0; i < sizeof distances / sizeof distances[0]; i++) {
+        size_t len = distances[i] == 1 << 22 ? LARGE : 100;
+        uint8_t *other = room + distances[i];
+        mprotect(other - distances[i] % PAGE, len, PROT_READ | PROT_WRITE);
+        memset(room, 0, len), memset(other, 0x55, len);
+        int good = it->xor(key, nonce, 0, 0, other, room, len) == CHACHA20_OK && memcmp(other, right, len) == 0 &&
+                   it->xor(key, nonce, 0, 0, other, other, len) == CHACHA20_OK && memcmp(other, room, len) == 0 &&
+                   it->keystream(key, nonce, 0, 0, other, len) == CHACHA20_OK && memcmp(other, right, len) == 0 &&
+                   it->xor(key, nonce, 0, 0, room, other, len) == CHACHA20_OK && memcmp(room, room + 1, len - 1) == 0;
+        holds(run, good && room[0] == 0, "buffers that don't overlap");
+    }
+    mprotect(room, 11 * GIB, PROT_NONE);
+}
+
+void far_apart(struct run *run, const struct library *library) {
     uint8_t *room = reserve(11 * GIB);
     end_where_touched(1);
-    for (int i = 0; i < machine->build_count; i++) {
-        for (int layout = 0; layout < LAYOUTS; layout++) {
-            for (int j = 0; j < ROUNDS; j++) {
-                const struct cipher *it = &machine->builds[i]->ciphers[layout][j];
-                if (!it->xor) continue;
-                refused(machine->builds[i], (enum layout)layout, it, room);
-                taken(machine->builds[i], (enum layout)layout, j, room);
-            }
-        }
+    for (int layout = 0; layout < LAYOUTS; layout++) {
+        const struct cipher *it = &library->ciphers[layout];
+        refused(run, (enum layout)layout, it, room);
+        refused_at_end(run, library, it, room);
+        taken(run, (enum layout)layout, it, room);
     }
     end_where_touched(0);
     munmap(room, 11 * GIB);
-    printf("far apart: %" PRIu64 " answers, %" PRIu64 " differences\n", calls, wrong);
-    uint64_t before = wrong, is_lost;
-    is_planted = 1, right_answer(0, "a planted answer", "", 0, 0), is_planted = 0;
-    is_lost = wrong != before + 1;
-    if (is_lost) puts("wrong: a planted answer doesn't count");
-    wrong = before;
-    return wrong + is_lost + (calls < 500);
 }
 
-enum { WINDOW = 64 << 20 };
+enum { WINDOW = 64 << 20, WINDOWS = 4096 / 64 + 1, OVER = 1000 };
 
-/* Whole blocks: a call may write what is behind them at any time, and the windows show what was written last. */
-enum { WINDOWS = 4096 / 64 + 1, OVER = 64 * 1563, BASE = 0x5a };
-static const size_t len_over = 4 * GIB + OVER, all_windows = (size_t)WINDOWS * WINDOW;
-
-/* Many windows on the same 64 MiB, so that a call goes over them in turn. */
+/* 4 GiB and OVER bytes of windows on the same 64 MiB, so that a call goes over them in turn. */
 static uint8_t *windows(void) {
-    uint8_t *room = reserve(all_windows);
+    uint8_t *room = reserve((size_t)WINDOWS * WINDOW);
     int file = memfd_create("windows", 0), good = file >= 0 && ftruncate(file, WINDOW) == 0;
     for (size_t i = 0; good && i < WINDOWS; i++) {
         good = mmap(room + i * WINDOW, WINDOW, PROT_READ | PROT_WRITE, MAP_SHARED | MAP_FIXED, file, 0) != MAP_FAILED;
@@ -134,96 +126,39 @@ static uint8_t *windows(void) {
     return room;
 }
 
-/* What the windows show where the XOR of a stream with bytes has gone over them: the last bytes, and behind them those of the
-   pass before. */
-static int are_last(const uint8_t *room, uint8_t bytes, enum layout layout, int rounds, const struct other *other,
-                    const uint8_t *its_nonce) {
-    static uint8_t right[WINDOW];
-    const size_t blocks = WINDOW / 64;
-    memset(right, bytes, WINDOW);
-    other->xor_from_block[layout](rounds, key, its_nonce, (WINDOWS - 2) * blocks, right, right, WINDOW);
-    memset(right, bytes, OVER);
-    other->xor_from_block[layout](rounds, key, its_nonce, (WINDOWS - 1) * blocks, right, right, OVER);
-    return memcmp(room, right, WINDOW) == 0;
-}
-
-/* In place each pass changes the bytes of the one before. */
-static int are_of_all_passes(const uint8_t *room, const struct other *other) {
-    static uint8_t right[WINDOW];
-    for (size_t i = 0; i < WINDOWS; i++) {
-        other->xor_from_block[IETF](20, key, nonce, i * (WINDOW / 64), right, right, i + 1 < WINDOWS ? WINDOW : OVER);
-    }
-    return memcmp(room, right, WINDOW) == 0;
-}
-
-/* Whether there is memory for a ciphertext, and as much again for others. */
-static int has_memory(void) {
-    unsigned long long kib = 0;
-    char line[100];
-    FILE *file = fopen("/proc/meminfo", "r");
-    while (file && fgets(line, sizeof line, file) && sscanf(line, "MemAvailable: %llu", &kib) != 1) continue;
-    if (file) fclose(file);
-    return kib >= 2 * len_over / 1024;
-}
-
-/* Associated data and a text of windows, beside libsodium. A tag depends on the whole ciphertext, so tags stand for it. */
-static void messages_over_4_gib(const struct library *library, const struct other *other, uint8_t *room, const uint8_t *from) {
-    const struct aead *aead = &library->aeads[IETF];
-    const size_t len = len_over;
-    uint8_t tag[CHACHA20_TAG_BYTES], right[CHACHA20_TAG_BYTES], *ciphertext;
-    uint32_t answer;
-    if (!other->encrypt[IETF]) return;
-    other->encrypt[IETF](key, nonce, from, len, room, from, 100, right);
-    answer = aead->encrypt(key, nonce, from, len, room, from, 100, tag);
-    right_answer(answer == CHACHA20_OK && memcmp(tag, right, sizeof tag) == 0, "associated data", "chosen", len, 0);
-    answer = aead->decrypt(key, nonce, from, len, room, room, 100, tag);
-    right_answer(answer == CHACHA20_OK && memcmp(room, from, 100) == 0, "associated data, decrypted", "chosen", len, 0);
-    if (!has_memory()) {
-        puts("skipped, 8 GiB of memory aren't free: messages of more than 4 GiB");
-        return;
-    }
-    ciphertext = reserve(len);
-    if (mprotect(ciphertext, len, PROT_READ | PROT_WRITE) != 0) puts("no memory for a ciphertext"), exit(2);
-    other->encrypt[IETF](key, nonce, key, 32, ciphertext, from, len, right);
-    answer = aead->encrypt(key, nonce, key, 32, ciphertext, from, len, tag);
-    right_answer(answer == CHACHA20_OK && memcmp(tag, right, sizeof tag) == 0, "a message", "chosen", len, 0);
+/* Whether something is written behind OVER bytes, to which a length of 32 bits would shrink; they are zero again then. */
+static int is_behind(uint8_t *room) {
+    static const uint8_t zeros[100];
+    int is = memcmp(room + 2 * OVER, zeros, sizeof zeros) != 0;
     memset(room, 0, WINDOW);
-    answer = aead->decrypt(key, nonce, key, 32, room, ciphertext, len, right);
-    right_answer(answer == CHACHA20_OK && memcmp(room, from, WINDOW) == 0, "a decrypted message", "chosen", len, 0);
-    answer = aead->decrypt(key, nonce, key, 32, ciphertext, ciphertext, len, right);
-    answer |= aead->encrypt(key, nonce, key, 32, ciphertext, ciphertext, len, tag);
-    right_answer(answer == CHACHA20_OK && memcmp(tag, right, sizeof tag) == 0, "a message in place", "chosen", len, 0);
-    munmap(ciphertext, len);
+    return is;
 }
 
-uint64_t over_4_gib(const struct machine *machine) {
-    static const uint8_t stream_0[8] = {0};
-    const struct library *library = machine->builds[machine->build_count - 1];
-    /* libsodium, the last one, has all layouts. */
-    const struct other *other = machine->other_count > 0 ? &machine->others[machine->other_count - 1] : &plain_c;
-    const size_t len = len_over;
-    uint8_t *room = windows(), *from = windows(), state[CHACHA_RNG_STATE_BYTES];
-    uint64_t before = wrong, before_calls = calls, low, high;
-    uint32_t answer = library->ciphers[IETF][2].xor(key, nonce, 0, 0, room, room, len);
-    right_answer(answer == CHACHA20_OK && are_of_all_passes(room, other), "XOR in place", "chosen", len, 0);
-    memset(from, BASE, WINDOW);
-    for (int i = 0; i < LAYOUTS; i++) {
-        const struct cipher *it = &library->ciphers[i][2];
-        enum layout layout = (enum layout)i;
-        answer = it->xor(key, nonce, 0, 0, room, from, len);
-        right_answer(answer == CHACHA20_OK && are_last(room, BASE, layout, 20, other, nonce), "XOR", "chosen", len, 0);
-        answer = it->keystream(key, nonce, 0, 0, room, len);
-        right_answer(answer == CHACHA20_OK && are_last(room, 0, layout, 20, other, nonce), "a keystream", "chosen", len, 0);
+void over_4_gib(struct run *run, int is_whole) {
+    const struct library *library = run->builds[run->build_count - 1];
+    const size_t len = 4 * GIB + OVER;
+    uint8_t *room = windows(), *from = windows(), state[CHACHA_RNG_STATE_BYTES] = {0}, tag[2][CHACHA20_TAG_BYTES];
+    uint64_t low, high;
+    holds(run, library->verify(room, from, len) == CHACHA20_OK, "equal bytes over 4 GiB were refused");
+    library->poly1305(key, room, len, tag[0]), library->poly1305(key, room, OVER, tag[1]);
+    holds(run, memcmp(tag[0], tag[1], sizeof tag[0]) != 0, "the MAC of 4 GiB less");
+    library->fill(state, room, len);
+    library->get_word_pos(state, &low, &high);
+    holds(run, is_behind(room) && low == len / 4 && high == 0, "a fill over 4 GiB");
+    from[2 * OVER] = 1;
+    holds(run, library->verify(room, from, len) == CHACHA20_REFUSED, "unequal bytes over 4 GiB");
+    for (int i = 0; i < LAYOUTS && is_whole; i++) {
+        const struct cipher *it = &library->ciphers[i];
+        holds(run, it->xor(key, nonce, 0, 0, room, room, len) == CHACHA20_OK && is_behind(room), "XOR in place over 4 GiB");
+        holds(run, it->xor(key, nonce, 0, 0, room, from, len) == CHACHA20_OK && is_behind(room), "XOR over 4 GiB");
+        holds(run, it->keystream(key, nonce, 0, 0, room, len) == CHACHA20_OK && is_behind(room), "a keystream over 4 GiB");
     }
-    for (int i = 0; i < ROUNDS; i++) {
-        library->from_seed(key, state);
-        library->fill[i](state, room, len);
-        library->get_word_pos(state, &low, &high);
-        int good = are_last(room, 0, LEGACY, i == 2 ? 20 : 8 + 4 * i, i == 2 ? other : &plain_c, stream_0);
-        right_answer(good && low == (len + 3) / 4 && high == 0, "a fill", "chosen", len, 0);
+    for (int i = 0; i < 2 * AEADS && is_whole; i++) {
+        const struct aead *it = &library->aeads[i / 2];
+        size_t aad_len = i % 2 ? len : 8, text_len = i % 2 ? 8 : len;
+        int answer = it->encrypt(key, nonce, from, aad_len, room, from, text_len, tag[0]);
+        answer |= it->encrypt(key, nonce, from, (uint32_t)aad_len, room, from, (uint32_t)text_len, tag[1]);
+        holds(run, answer == CHACHA20_OK && memcmp(tag[0], tag[1], sizeof tag[0]) != 0, "the tag of 4 GiB less");
     }
-    messages_over_4_gib(library, other, room, from);
-    munmap(room, all_windows), munmap(from, all_windows);
-    printf("over 4 GiB: %" PRIu64 " calls of %zu bytes, %" PRIu64 " differences\n", calls - before_calls, len, wrong - before);
-    return wrong - before;
+    munmap(room, (size_t)WINDOWS * WINDOW), munmap(from, (size_t)WINDOWS * WINDOW);
 }

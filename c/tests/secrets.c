@@ -22,7 +22,7 @@ static uint8_t key[32], nonce[24], state[CHACHA_RNG_STATE_BYTES], aad[300], tag[
 static unsigned calls, wrong_answers, verdicts, wrong_verdicts;
 
 /* A program that knows no secret may look at an answer. */
-static void done(uint32_t answer) {
+static void done(int answer) {
     calls++;
     if (answer != CHACHA20_OK) wrong_answers++;
 }
@@ -44,7 +44,7 @@ static void by_cipher(const struct cipher *cipher, uint64_t position, size_t len
 static void by_decryption(const struct aead *aead, size_t aad_len, size_t len, int is_in_place, int wrong_byte) {
     unsigned before = VALGRIND_COUNT_ERRORS;
     if (wrong_byte < TAG) tag[wrong_byte] ^= 0x10;
-    uint32_t answer = aead->decrypt(key, nonce, aad, aad_len, is_in_place ? output : input, output, len, tag);
+    int answer = aead->decrypt(key, nonce, aad, aad_len, is_in_place ? output : input, output, len, tag);
     (void)VALGRIND_MAKE_MEM_DEFINED(&answer, sizeof answer);
     unsigned reports = VALGRIND_COUNT_ERRORS - before;
     if (wrong_byte < TAG) tag[wrong_byte] ^= 0x10;
@@ -60,12 +60,12 @@ static void by_aead(const struct library *library, enum layout layout, size_t aa
         by_decryption(aead, aad_len, len, i % 2, (int[]){TAG, 0, TAG - 1}[i / 2]);
     }
     library->poly1305(key, input, len, tag);
-    uint32_t answer = library->equal(input, output, len);
+    int answer = library->verify(input, output, len);
     (void)VALGRIND_MAKE_MEM_DEFINED(&answer, sizeof answer);
     calls += 2;
 }
 
-static void by_generator(const struct library *library, int at_rounds, uint64_t position, size_t len) {
+static void by_generator(const struct library *library, uint64_t position, size_t len) {
     uint64_t low, high, stream = 5;
     chacha20_words words;
     (void)VALGRIND_MAKE_MEM_UNDEFINED(&stream, sizeof stream);
@@ -73,16 +73,14 @@ static void by_generator(const struct library *library, int at_rounds, uint64_t 
     library->from_seed(key, state);
     library->set_stream(state, stream);
     library->set_word_pos(state, position, 1);
-    library->fill[at_rounds](state, output, len);
-    (void)library->next_u32[at_rounds](state);
-    (void)library->next_u64[at_rounds](state);
+    library->fill(state, output, len);
     (void)library->get_stream(state);
     library->words_from_state(&words, state);
     (void)library->words_next(&words);
     library->words_to_state(&words, state);
     library->get_word_pos(state, &low, &high);
     /* The word position isn't secret, and no secret has come into it. */
-    if (high == 1 && low == position + (len + 3) / 4 + 4) calls += 11;
+    if (high == 1 && low == position + (len + 3) / 4 + 1) calls += 9;
     library->set_block_pos(state, library->get_block_pos(state) + 1);
     library->set_stream(state, stream);
     calls += 3;
@@ -97,22 +95,17 @@ static void by_library(const struct library *library, size_t longest) {
             size_t len = lengths[j];
             if (len > longest) continue;
             for (int layout = 0; layout < LAYOUTS; layout++) {
-                done(library->check[layout](positions[i] / 64, positions[i] % 64, len));
-                for (int at_rounds = 0; at_rounds < ROUNDS; at_rounds++) {
-                    if (!library->ciphers[layout][at_rounds].xor) continue;
-                    all_secret();
-                    by_cipher(&library->ciphers[layout][at_rounds], positions[i], len);
-                }
+                done(library->ciphers[layout].check(positions[i] / 64, positions[i] % 64, len));
+                all_secret();
+                by_cipher(&library->ciphers[layout], positions[i], len);
             }
             for (int layout = 0; layout < AEADS; layout++) {
                 all_secret();
                 by_aead(library, (enum layout)layout, positions[i] % 300, len);
             }
-            for (int at_rounds = 0; at_rounds < ROUNDS; at_rounds++) {
-                all_secret();
-                library->hchacha[at_rounds](key, nonce, output);
-                by_generator(library, at_rounds, positions[i], len);
-            }
+            all_secret();
+            library->hchacha(key, nonce, output);
+            by_generator(library, positions[i], len);
         }
     }
 }
@@ -131,7 +124,7 @@ static int without_memcheck(const struct library *library, const char *argument)
     by_library(library, 1024);
     if (is_planted && key[3] & 1) seen = 1;
     (void)seen;
-    return wrong_answers != 0 || calls < 3000;
+    return wrong_answers != 0 || calls < 2500;
 }
 
 int main(int argc, char **argv) {
