@@ -16,7 +16,7 @@
 #include "../tests/compare.h"
 
 /* Every multiple of 16 bytes in a page is a place. Long tasks have fewer places. */
-enum { MOST_OTHERS = 4, MOST_CONTESTANTS = MOST_BUILDS + MOST_OTHERS, PAGE = 4096, PLACES = PAGE / 16, FEW_PLACES = 16 };
+enum { MOST_OTHERS = 4, MOST_CONTESTANTS = MOST_LEVELS + MOST_OTHERS, PAGE = 4096, PLACES = PAGE / 16, FEW_PLACES = 16 };
 
 /* What is timed: a cipher or a message with 13 bytes of associated data, so many bytes in place, or between buffers. */
 static const struct task {
@@ -41,10 +41,10 @@ enum { ROOM = (1 << 20) + 2 * PAGE };
 
 static uint8_t *output_room, *input_room;
 
-/* A build of the library or another implementation. */
+/* A level of the library or another implementation. */
 struct contestant {
     const char *name;
-    const struct library *library;
+    int level;
     const struct other *other;
 };
 
@@ -65,9 +65,9 @@ static void call(const struct contestant *it, const struct task *task, uint8_t *
         if (task->is_message) it->other->encrypt[IETF](key, nonce, aad, sizeof aad, output, from, task->len, tag);
         else it->other->xor_from_block[IETF](key, nonce, 0, output, from, task->len);
     } else if (task->is_message) {
-        answer = it->library->aeads[IETF].encrypt(key, nonce, aad, sizeof aad, output, from, task->len, tag);
+        answer = aeads[IETF].encrypt(key, nonce, aad, sizeof aad, output, from, task->len, tag);
     } else {
-        answer = it->library->ciphers[IETF].xor(key, nonce, 0, 0, output, from, task->len);
+        answer = ciphers[IETF].xor(key, nonce, 0, 0, output, from, task->len);
     }
     if (answer != CHACHA20_OK) abort();
 }
@@ -83,6 +83,7 @@ static double calls_here(const struct contestant *it, const struct task *task, i
     uint8_t *output = output_room + 64 * (30 * place % (PAGE / 64));
     const uint8_t *input = input_room + 64 * (44 * place % (PAGE / 64));
     moved[0] = 0;
+    if (!it->other) set_level(it->level);
     call(it, task, output, input);
     double begin = seconds();
     for (int i = 0; i < calls; i++) call(it, task, output, input);
@@ -224,15 +225,14 @@ static int find_boringssl(struct other *found) {
     return 1;
 }
 
-/* The builds, and how many; then the others, of which the first is that by whose time the others' are divided: libsodium. */
-static int gather(struct contestant *all, int *build_count) {
+/* The levels, and how many; then the others, of which the first is that by whose time the others' are divided: libsodium. */
+static int gather(struct contestant *all, int *level_count) {
     static int (*const find[MOST_OTHERS])(struct other *) = {find_sodium, find_openssl, find_gcrypt, find_boringssl};
     static struct other others[MOST_OTHERS];
-    const struct library *builds[MOST_BUILDS];
-    int count = *build_count = find_builds(builds);
-    for (int i = 0; i < count; i++) all[i] = (struct contestant){builds[i]->level, builds[i], NULL};
+    int count = *level_count = find_levels();
+    for (int i = 0; i < count; i++) all[i] = (struct contestant){set_level(i), i, NULL};
     for (int i = 0; i < MOST_OTHERS; i++) {
-        if (find[i](&others[i])) all[count++] = (struct contestant){others[i].name, NULL, &others[i]};
+        if (find[i](&others[i])) all[count++] = (struct contestant){others[i].name, 0, &others[i]};
     }
     return count;
 }
@@ -263,15 +263,15 @@ static void print_times(const struct contestant *all, int count, int base) {
 /* The least time of 64 words of a generator: one by one, or in a fill. */
 enum words { ONE_BY_ONE, BY_FILL, WAYS };
 
-static double time_of_words(const struct library *library, enum words way, int turns) {
+static double time_of_words(enum words way, int turns) {
     static volatile uint32_t sum;
     static chacha20_words words;
     double least = 1e18;
     for (int turn = 0; turn < turns; turn++) {
         double begin = seconds(), time;
         for (int calls = 0; calls < 20; calls++) {
-            if (way == BY_FILL) library->fill(output_room, output_room + 64, 256);
-            for (int i = 0; i < 64 && way == ONE_BY_ONE; i++) sum ^= library->words_next(&words);
+            if (way == BY_FILL) chacha20_rng_fill(output_room, output_room + 64, 256);
+            for (int i = 0; i < 64 && way == ONE_BY_ONE; i++) sum ^= chacha20_words_next(&words);
         }
         time = seconds() - begin;
         if (time < least) least = time;
@@ -284,14 +284,14 @@ static void time_words(const struct contestant *all, int count, int turns) {
     print_head("nanoseconds a word", all, count);
     for (int way = 0; way < WAYS; way++) {
         printf("| %s |", names[way]);
-        for (int i = 0; i < count; i++) printf(" %.1f |", time_of_words(all[i].library, (enum words)way, turns) * 1e9 / (20 * 64));
+        for (int i = 0; i < count; i++) set_level(i), printf(" %.1f |", time_of_words((enum words)way, turns) * 1e9 / (20 * 64));
         putchar('\n');
     }
 }
 
 int main(int argc, char **argv) {
     struct contestant all[MOST_CONTESTANTS];
-    int passes = argc > 1 ? atoi(argv[1]) : 32, build_count, count = gather(all, &build_count), base = build_count < count ? build_count : 0;
+    int passes = argc > 1 ? atoi(argv[1]) : 32, level_count, count = gather(all, &level_count), base = level_count < count ? level_count : 0;
     output_room = aligned_alloc(PAGE, ROOM), input_room = aligned_alloc(PAGE, ROOM);
     if (passes < 1 || !output_room || !input_room) return 2;
     memset(output_room, 0, ROOM), memset(input_room, 0, ROOM);
@@ -304,7 +304,7 @@ int main(int argc, char **argv) {
     printf("\nChaCha20 and ChaCha20-Poly1305, in place but where two buffers are named: %d turns at each of %d places; "
            "from 1 MiB on %d places\n", passes, PLACES, FEW_PLACES);
     print_times(all, count, base);
-    time_words(all, build_count, 256 * passes);
+    time_words(all, level_count, 256 * passes);
     free(output_room), free(input_room);
     return 0;
 }

@@ -10,15 +10,6 @@
 #include <stdlib.h>
 #include <string.h>
 
-/* The first of these libraries that the machine has. */
-static void *open_first(const char *const *names) {
-    for (; *names; names++) {
-        void *handle = dlopen(*names, RTLD_NOW | RTLD_LOCAL);
-        if (handle) return handle;
-    }
-    return NULL;
-}
-
 /* ISO C has no cast from an object's pointer to a function's. */
 int look_up(void *handle, const char *name, void *function) {
     void *found = dlsym(handle, name);
@@ -64,10 +55,9 @@ static void sodium_poly1305(const uint8_t *key, const uint8_t *input, size_t len
 }
 
 int find_sodium(struct other *found) {
-    static const char *const names[] = {"libsodium.so.23", "libsodium.so.26", "libsodium.so", NULL};
     int (*init)(void) = NULL;
     const char *(*version)(void) = NULL;
-    void *handle = open_first(names);
+    void *handle = dlopen("libsodium.so.23", RTLD_NOW | RTLD_LOCAL);
     if (!handle || !look_up(handle, "sodium_init", &init) || !look_up(handle, "sodium_version_string", &version) ||
         !look_up(handle, "crypto_stream_chacha20_ietf_xor_ic", &sodium_ietf_ic) ||
         !look_up(handle, "crypto_stream_chacha20_xor_ic", &sodium_legacy_ic) ||
@@ -212,11 +202,28 @@ const struct other plain_c = {
     .encrypt = {plain_ietf_encrypt, plain_xchacha_encrypt},
     .poly1305 = plain_poly1305};
 
-/* The library: the builds for the levels of x86-64, where they are built, and libchacha20.a, which chooses one. */
-extern const struct library library_1 __attribute__((weak));
-extern const struct library library_2 __attribute__((weak));
-extern const struct library library_3 __attribute__((weak));
-extern const struct library library_chosen __attribute__((weak));
+/* The library */
+
+#define CIPHER(NAME, CHECK, ...)                                                                                           \
+    static int NAME##_1(const uint8_t *key, const uint8_t *nonce, uint64_t block, uint64_t offset, uint8_t *output,        \
+                        const uint8_t *input, size_t len) {                                                                \
+        return NAME##_xor(key, nonce, __VA_ARGS__, output, input, len);                                                    \
+    }                                                                                                                      \
+    static int NAME##_2(const uint8_t *key, const uint8_t *nonce, uint64_t block, uint64_t offset, uint8_t *output,        \
+                        size_t len) {                                                                                      \
+        return NAME##_keystream(key, nonce, __VA_ARGS__, output, len);                                                     \
+    }                                                                                                                      \
+    static int NAME##_3(uint64_t block, uint64_t offset, size_t len) { return CHECK(__VA_ARGS__, len); }
+CIPHER(chacha20, chacha20_check, 64 * block + offset)
+CIPHER(xchacha20, chacha20_check, 64 * block + offset)
+CIPHER(chacha20_legacy, chacha20_legacy_check, block, offset)
+
+const struct cipher ciphers[LAYOUTS] = {{chacha20_1, chacha20_2, chacha20_3}, {xchacha20_1, xchacha20_2, xchacha20_3},
+                                        {chacha20_legacy_1, chacha20_legacy_2, chacha20_legacy_3}};
+const struct aead aeads[AEADS] = {{chacha20_aead_encrypt, chacha20_aead_decrypt}, {xchacha20_aead_encrypt, xchacha20_aead_decrypt}};
+
+/* Of chacha20.c; the Makefile shows it. A library of one level has no choice. */
+extern int level __attribute__((weak));
 
 int level_here(void) {
 #if defined(__x86_64__)
@@ -228,16 +235,17 @@ int level_here(void) {
 #endif
 }
 
-int find_builds(const struct library *found[MOST_BUILDS]) {
-    static const struct library *const all[] = {&library_1, &library_2, &library_3};
-    int count = 0, here = level_here(), highest = 0;
-    for (int i = 0; i < here; i++) {
-        if (all[i]) found[count++] = all[i], highest = i + 1;
-        else printf("not built: level %d of x86-64\n", i + 1);
-    }
-    if (here > 0 && here < 3) printf("not run, since this processor lacks it: what is above level %d of x86-64\n", here);
-    found[count++] = &library_chosen;
-    if (!library_chosen.chosen || *library_chosen.chosen == highest) return count;
-    printf("wrong: level %d is chosen where %d can run\n", *library_chosen.chosen, highest);
-    exit(1);
+int find_levels(void) {
+    int here = level_here();
+    if (!&level) return 1;
+    if (here < 3) printf("not run, since this processor lacks it: what is above level %d of x86-64\n", here);
+    if (level != here) printf("wrong: level %d is chosen where %d can run\n", level, here), exit(1);
+    return here;
+}
+
+const char *set_level(int at) {
+    static const char *const names[] = {"x86-64", "x86-64-v2", "x86-64-v3"};
+    if (!&level) return "the one level";
+    level = at + 1;
+    return names[at];
 }

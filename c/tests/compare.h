@@ -1,62 +1,43 @@
 /* SPDX-License-Identifier: Apache-2.0 OR MIT
 
-   The library's builds and other implementations, each behind one form. */
+   The library's levels and other implementations. */
 
 #ifndef COMPARE_H
 #define COMPARE_H
 
 #include "../../include/chacha20.h"
 
-enum { LAYOUTS = 3, AEADS = 2, MOST_BUILDS = 4 };
+enum { LAYOUTS = 3, AEADS = 2, MOST_LEVELS = 3 };
 
 /* Nonces of 12, of 24 and of 8 bytes. */
 enum layout { IETF, XCHACHA, LEGACY };
 
-/* The position is byte 64 * block + offset in all layouts. */
-struct cipher {
+/* The library's ciphers. The position is byte 64 * block + offset in all layouts. */
+extern const struct cipher {
     int (*xor)(const uint8_t *key, const uint8_t *nonce, uint64_t block, uint64_t offset, uint8_t *output,
                const uint8_t *input, size_t len);
     int (*keystream)(const uint8_t *key, const uint8_t *nonce, uint64_t block, uint64_t offset, uint8_t *output, size_t len);
     int (*check)(uint64_t block, uint64_t offset, size_t len);
-};
+} ciphers[LAYOUTS];
 
 /* Authenticated encryption with the nonces of IETF and of XCHACHA. */
 #define AEAD_PARAMETERS                                                                                                  \
     const uint8_t *key, const uint8_t *nonce, const uint8_t *aad, size_t aad_len, uint8_t *output, const uint8_t *input, \
         size_t len
-struct aead {
+extern const struct aead {
     int (*encrypt)(AEAD_PARAMETERS, uint8_t *tag);
     int (*decrypt)(AEAD_PARAMETERS, const uint8_t *tag);
-};
-
-/* The functions of one build, so that one program can have several builds. */
-struct library {
-    const char *level;
-    const int *chosen; /* where the library has a choice, its level */
-    struct cipher ciphers[LAYOUTS];
-    struct aead aeads[AEADS];
-    void (*hchacha)(const uint8_t *key, const uint8_t *input, uint8_t *subkey);
-    void (*poly1305)(const uint8_t *key, const uint8_t *input, size_t len, uint8_t *tag);
-    int (*verify)(const uint8_t *one, const uint8_t *other, size_t len);
-    void (*fill)(uint8_t *state, uint8_t *output, size_t len);
-    void (*words_from_state)(chacha20_words *words, const uint8_t *state);
-    uint32_t (*words_next)(chacha20_words *words);
-    void (*words_to_state)(const chacha20_words *words, uint8_t *state);
-    void (*from_seed)(const uint8_t *seed, uint8_t *state);
-    void (*get_word_pos)(const uint8_t *state, uint64_t *low, uint64_t *high);
-    void (*set_word_pos)(uint8_t *state, uint64_t low, uint64_t high);
-    uint64_t (*get_block_pos)(const uint8_t *state);
-    void (*set_block_pos)(uint8_t *state, uint64_t block_pos);
-    uint64_t (*get_stream)(const uint8_t *state);
-    void (*set_stream)(uint8_t *state, uint64_t stream);
-};
+} aeads[AEADS];
 
 /* The level of x86-64 that this processor has by the compiler's own means; 0 on another machine. */
 int level_here(void);
 
-/* Finds the builds that this processor can run, library_chosen last, and returns their number. It prints a line for each
-   other build, and ends the program if the library has chosen another level than the highest. */
-int find_builds(const struct library *found[MOST_BUILDS]);
+/* Finds the levels of the library that this processor can run, the chosen one last, and returns their number. It prints a line
+   for each other level, and ends the program if the library has chosen another than the highest. */
+int find_levels(void);
+
+/* Has the library run one of these, from 0 on, and returns its name. */
+const char *set_level(int at);
 
 /* Another implementation; NULL where it has no such function. */
 struct other {

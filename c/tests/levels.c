@@ -128,61 +128,39 @@ static void all_calls(size_t len) {
 static void before_choice(void) { is(level == 1, "a level before the choice"), all_calls(600); }
 __attribute__((section(".preinit_array"), used)) static void (*const first)(void) = before_choice;
 
-struct described {
-    const char *name;
-    struct processor processor;
-    int wanted;
-};
+/* The whole choice on a processor, and every call. */
+static void try(struct processor it, int wanted) {
+    static int processors;
+    described = it, level = 1, is_xgetbv_run = 0, processors++;
+    choose_level();
+    if (level != wanted) printf("wrong: processor %d has level %d and not %d\n", processors, level, wanted), wrong++;
+    is(!is_xgetbv_run || (it.leaf_1_ecx & OSXSAVE), "xgetbv runs where there is none");
+    all_calls(0), all_calls(600);
+}
 
-enum {
-    QEMU64_1 = (int)0x80002001, /* SSE3 and CMPXCHG16B alone, as kvm64 */
-    CONROE_1 = 0x0000e3bd,      /* SSSE3, no SSE4.1 */
-    PENRYN_1 = 0x0008e3fd,      /* SSE4.1, no SSE4.2 */
-    NEHALEM_1 = 0x0098e3bd,     /* SSE4.2, no AVX */
-    SANDY_BRIDGE_1 = 0x1fbae3bf, /* AVX, no FMA */
-    HASWELL_1 = 0x7ffafbff, HASWELL_7 = 0x000027ab, HASWELL_EXTENDED = 0x00000021,
-    SANDY_BRIDGE_EXTENDED = 0x00000001, SKYLAKE_X_1 = 0x7ffefbff,
-    ZEN_1 = 0x7ed8320b, ZEN_7 = 0x209c01a9, ZEN_EXTENDED = 0x35c233ff,
-    SAVES_X87 = 1, SAVES_128 = 3, SAVES_256 = 7, SAVES_512 = 0xe7
-};
-
-/* Haswell with other registers. */
-#define HASWELL(ONE, SEVEN, EXTENDED, SAVED) {HASWELL_1 ONE, HASWELL_7 SEVEN, HASWELL_EXTENDED EXTENDED, SAVED}
+enum { SAVES_256 = 7, LAHF_ALONE = 1 };
 
 int main(void) {
-    const struct described all[] = {
-        {"nothing but x86-64", {0, 0, 0, 0}, 1},
-        {"qemu64", {(uint32_t)QEMU64_1, 0, SANDY_BRIDGE_EXTENDED, 0}, 1},
-        {"Conroe", {CONROE_1, 0, SANDY_BRIDGE_EXTENDED, 0}, 1},
-        {"Penryn", {PENRYN_1, 0, SANDY_BRIDGE_EXTENDED, 0}, 1},
-        {"Nehalem", {NEHALEM_1, 0, SANDY_BRIDGE_EXTENDED, 0}, 2},
-        {"Sandy Bridge", {SANDY_BRIDGE_1, 0, SANDY_BRIDGE_EXTENDED, SAVES_256}, 2},
-        {"Haswell", HASWELL(, , , SAVES_256), 3},
-        {"Haswell, whose system saves no vectors of 256 bits", HASWELL(, , , SAVES_128), 2},
-        {"Haswell, whose system saves no vectors", HASWELL(, , , SAVES_X87), 2},
-        {"Haswell, whose system doesn't say", HASWELL(& ~OSXSAVE, , , 0), 2},
-        {"Haswell, whose host hides leaf 7", HASWELL(, &0, , SAVES_256), 2},
-        {"Haswell, whose host hides leaf 80000001", HASWELL(, , &0, SAVES_256), 1},
-        {"Zen", {ZEN_1, ZEN_7, ZEN_EXTENDED, SAVES_256}, 3},
-        {"Skylake with AVX-512", {SKYLAKE_X_1, 0xd39ffffb, HASWELL_EXTENDED, SAVES_512}, 3},
-        {"lacks SSE3", HASWELL(& ~SSE3, , , SAVES_256), 1}, {"lacks SSSE3", HASWELL(& ~SSSE3, , , SAVES_256), 1},
-        {"lacks CMPXCHG16B", HASWELL(& ~CMPXCHG16B, , , SAVES_256), 1}, {"lacks SSE4.1", HASWELL(& ~SSE41, , , SAVES_256), 1},
-        {"lacks SSE4.2", HASWELL(& ~SSE42, , , SAVES_256), 1}, {"lacks POPCNT", HASWELL(& ~POPCNT, , , SAVES_256), 1},
-        {"lacks LAHF", HASWELL(, , & ~LAHF, SAVES_256), 1}, {"lacks FMA", HASWELL(& ~FMA, , , SAVES_256), 2},
-        {"lacks MOVBE", HASWELL(& ~MOVBE, , , SAVES_256), 2}, {"lacks AVX", HASWELL(& ~AVX, , , SAVES_256), 2},
-        {"lacks F16C", HASWELL(& ~F16C, , , SAVES_256), 2}, {"lacks BMI1", HASWELL(, & ~BMI1, , SAVES_256), 2},
-        {"lacks AVX2", HASWELL(, & ~AVX2, , SAVES_256), 2}, {"lacks BMI2", HASWELL(, & ~BMI2, , SAVES_256), 2},
-        {"lacks LZCNT", HASWELL(, , & ~LZCNT, SAVES_256), 2},
-        {"saves 256 bits without 128", HASWELL(, , , SAVES_256 & ~2), 2},
-    };
-    int count = sizeof all / sizeof all[0];
-    for (int i = 0; i < count; i++) {
-        described = all[i].processor, level = 1, is_xgetbv_run = 0;
-        choose_level();
-        if (level != all[i].wanted) printf("wrong: %s has level %d\n", all[i].name, level), wrong++;
-        is(!is_xgetbv_run || (described.leaf_1_ecx & OSXSAVE), "xgetbv runs where there is none");
-        all_calls(0), all_calls(600);
+    static const struct processor haswell = {0x7ffafbff, 0x000027ab, 0x00000021, SAVES_256};
+    /* Of the leaves 1, 7 and 80000001, each with the level of a processor that lacks the bit; and what the system may save. */
+    static const uint32_t bits[][3] = {{SSE3, 0, 0}, {SSSE3, 0, 0}, {CMPXCHG16B, 0, 0}, {SSE41, 0, 0}, {SSE42, 0, 0}, {POPCNT, 0, 0},
+                                       {0, 0, LAHF}, {FMA, 0, 0}, {MOVBE, 0, 0}, {AVX, 0, 0}, {F16C, 0, 0}, {OSXSAVE, 0, 0},
+                                       {0, BMI1, 0}, {0, AVX2, 0}, {0, BMI2, 0}, {0, 0, LZCNT}};
+    enum { COUNT = sizeof bits / sizeof bits[0], OF_LEVEL_2 = 7 };
+    try(haswell, 3);
+    for (int i = 0; i < COUNT; i++) {
+        struct processor it = {haswell.leaf_1_ecx & ~bits[i][0], haswell.leaf_7_ebx & ~bits[i][1],
+                               haswell.leaf_80000001_ecx & ~bits[i][2], SAVES_256};
+        try(it, i < OF_LEVEL_2 ? 1 : 2);
     }
-    printf("levels: %d processors, %d calls of stubs, %d wrong\n", count, calls, wrong);
-    return wrong != 0 || count < 30 || calls < 50 * count;
+    for (uint32_t saved = 0; saved < SAVES_256; saved++) {
+        struct processor it = {haswell.leaf_1_ecx, haswell.leaf_7_ebx, haswell.leaf_80000001_ecx, saved};
+        try(it, saved == 6 ? 3 : 2);
+    }
+    try((struct processor){0, 0, 0, 0}, 1);                           /* nothing but x86-64 */
+    try((struct processor){0x80002001, 0, LAHF_ALONE, 0}, 1);         /* qemu64 */
+    try((struct processor){0x0098e3bd, 0, LAHF_ALONE, 0}, 2);         /* Nehalem */
+    try((struct processor){0x1fbae3bf, 0, LAHF_ALONE, SAVES_256}, 2); /* Sandy Bridge */
+    printf("levels: %d calls of stubs, %d wrong\n", calls, wrong);
+    return wrong != 0 || calls < 1600;
 }

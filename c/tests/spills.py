@@ -2,15 +2,12 @@
 marked`. gdb stops at each function with many such stores, and reads rsp; the size of its frame and the places of the stores come
 from the disassembly. Of the functions that a call runs, the one with most stores counts, as it runs last: it makes most blocks.
 SPDX-License-Identifier: Apache-2.0 OR MIT"""
-import collections
-import re
-import subprocess
-import gdb
+import collections, re, subprocess, gdb
 
 # As on_stack of calls.c, and as marked_calls.
-KINDS = [f"{it} {way}" for it in ("chacha20", "xchacha20", "chacha20_legacy") for way in ("between", "in place", "keystream")]
-KINDS += [f"{it}chacha20_aead_{way} {place}" for way in ("encrypt", "decrypt") for it in ("", "x") for place in ("in place", "between")]
-KINDS += ["chacha20_rng_fill"]
+KINDS = [f"{it} {way}" for it in ("chacha20", "xchacha20", "chacha20_legacy") for way in ("between", "in place", "keystream")] + [
+    f"{it}chacha20_aead_{way} {place}" for way in ("encrypt", "decrypt") for it in ("", "x") for place in ("in place", "between")
+] + ["chacha20_rng_fill"]
 LENGTHS = (512, 1000, 1100, 4096, (1 << 14) + 1000)
 MANY = 50
 
@@ -41,9 +38,8 @@ class Entry(gdb.Breakpoint):
 
 
 found = {}
-gdb.execute("set pagination off")
-gdb.execute("set confirm off")
-gdb.execute("starti", to_string=True)
+for command in ("set pagination off", "set confirm off", "starti"):
+    gdb.execute(command, to_string=True)
 base = int(re.search(r"0x[0-9a-f]+", gdb.execute("info proc mappings", to_string=True))[0], 16)
 entries = list(functions(gdb.current_progspace().filename))
 for address, size, places in entries:
