@@ -22,10 +22,10 @@
    - Positions and lengths count bytes, blocks of 64 bytes where a name has |block|, and words of 32
      bits where it has |word_pos|.
    - Data of length 0 may be null. With any other null pointer the behaviour is undefined.
-   - An output is the input, or overlaps no other argument. A function that returns CHACHA20_OK or
-     CHACHA20_REFUSED refuses other overlap, and a length above PTRDIFF_MAX, which no object has. For
-     chacha_poly1305, hchacha20 and the generators, overlap is undefined. Inputs may overlap: a key and
-     a nonce may be parts of one buffer.
+   - |output| may be |input|. Otherwise what is written overlaps no other argument. Authenticated
+     encryption and the ciphers refuse other overlap, and lengths above PTRDIFF_MAX, which no object
+     has. With overlap, the behaviour of the other functions is undefined. Inputs may overlap: a key
+     and a nonce may be parts of one buffer.
    - Bytes need no alignment.
    - No function allocates, takes a lock, throws or keeps anything between calls. Threads and signal
      handlers may call any function at any time if none writes memory that another uses.
