@@ -4,13 +4,13 @@
 #
 # chacha20_c is a static library only in a copy of the crates, which lies outside the tree, where the gate would refuse it. The copy
 # has their text and what rt has proved of it; `make -C tests copy` compares them. Only level.rt differs, for the levels with vectors
-# of 256 bits. must-fail is left out, which has no code of theirs.
+# of 256 bits. Left out are must-fail, and work on libraries that are whole.
 
 WIDE = x86-64-v3
-CRATES = poly1305 chacha_base chacha20 aead chacha20_c
+LIBRARIES = poly1305 chacha_base chacha20 aead
+CRATES = $(LIBRARIES) chacha20_c
 SOURCES := $(sort $(shell find $(CRATES:%=../crates/%) \( -name out -o -name must-fail \) -prune -o -type f -print))
 BUILT = $(LEVELS:%=$(OUT)/built-%.a)
-
 # A tool and its version. One that isn't found keeps its line, so that a user without it can install.
 quoted = '$(subst ','\'',$(1))'
 line_of = $(call quoted,$(or $(if $(3),$(1): $(2)$(comma) $(3)),$(shell sed -n '/^$(1): /p' $(OUT)/$(4) 2> /dev/null),$(1): not found))
@@ -28,7 +28,7 @@ $(OUT)/proved-with: $(call if_differs,$(PROVED_WITH),proved-with) | $(OUT)
 $(BUILT) &: $(SOURCES) $(OUT)/proved-with proved.mk
 	cd ../crates/aead && $(RT) lib
 	set -e; copy=$$(mktemp -d); crate=$$copy/crates/chacha20_c; trap 'rm -rf "$$copy"' EXIT; trap 'exit 1' HUP INT TERM; \
-	tar -C .. --exclude=must-fail -cf - $(CRATES:%=crates/%) | tar -C "$$copy" -xf -; \
+	tar -C .. --exclude=must-fail $(LIBRARIES:%=--exclude=crates/%/out/incremental) -cf - $(CRATES:%=crates/%) | tar -C "$$copy" -xf -; \
 	for name in $(CRATES); do grep "^$$name:" ../crates.txt; done | sed 's/^chacha20_c:/chacha20_c staticlib:/' > "$$copy/crates.txt"; \
 	jobs=; for level in $(LEVELS); do \
 		case ' $(WIDE) ' in *" $$level "*) change='s/Lanes4;/Lanes16;/; s/= true;/= false;/' ;; *) change= ;; esac; \
