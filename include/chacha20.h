@@ -22,21 +22,19 @@
    - Positions and lengths count bytes, blocks of 64 bytes where a name has |block|, and words of 32
      bits where it has |word_pos|.
    - Data of length 0 may be null. With any other null pointer the behaviour is undefined.
-   - An output may not overlap another argument, except that |output| may be |input|. Authenticated
-     encryption refuses all overlap, and a cipher that of |output| and |input| in part; with other
-     overlap the behaviour is undefined. Inputs may overlap: a key and a nonce may be parts of one
-     buffer.
+   - |output| may be |input|. Otherwise what is written overlaps no other argument. Authenticated
+     encryption and the ciphers refuse other overlap, and lengths above PTRDIFF_MAX, which no object
+     has. With overlap, the behaviour of the other functions is undefined. Inputs may overlap: a key
+     and a nonce may be parts of one buffer.
    - Bytes need no alignment.
    - No function allocates, takes a lock, throws or keeps anything between calls. Threads and signal
      handlers may call any function at any time if none writes memory that another uses.
-   - A call takes at most CHACHA20_DEEPEST bytes of the stack. A signal handler with a stack of its
-     own needs these and sysconf(_SC_MINSIGSTKSZ) bytes; the constant SIGSTKSZ may be too small.
+   - A call takes at most CHACHA20_STACK_BYTES of the stack. A signal handler with a stack of its own
+     needs these and sysconf(_SC_MINSIGSTKSZ) bytes; the constant SIGSTKSZ may be too small.
    - Copies of keys and keystream stay in that part of the stack and in registers;
      chacha_wipe_stack overwrites the stack.
    - The proved code has no unwind tables. A thread that is cancelled asynchronously during a call
-     may skip its cleanup handlers, and a backtrace from within a call can show keystream.
-
-   chacha20_reduced.h has ciphers, HChaCha and generators with 12 and 8 rounds. */
+     may skip its cleanup handlers, and a backtrace from within a call can show keystream. */
 
 #ifndef CHACHA20_H
 #define CHACHA20_H
@@ -50,13 +48,13 @@ extern "C" {
 
 /* The version of this header. While the major version is 0, the minor version changes whenever a
    function, its parameters or its meaning changes, and with it the soname of the shared library,
-   libchacha20.so.0.8, and the version node of its symbols, CHACHA20_0.8. */
-#define CHACHA20_VERSION "0.8.0"
+   libchacha20.so.0.9, and the version node of its symbols, CHACHA20_0.9. */
+#define CHACHA20_VERSION "0.9.0"
 #define CHACHA20_VERSION_MAJOR 0
-#define CHACHA20_VERSION_MINOR 8
+#define CHACHA20_VERSION_MINOR 9
 #define CHACHA20_VERSION_PATCH 0
 
-/* Sizes, the same for each number of rounds. */
+/* Sizes. */
 #define CHACHA20_KEY_BYTES 32
 #define CHACHA20_NONCE_BYTES 12
 #define XCHACHA20_NONCE_BYTES 24
@@ -77,7 +75,7 @@ extern "C" {
 
 /* An upper bound on the bytes of the stack that a call takes, measured by a test. Half of them are
    for the dynamic linker, which may bind memcpy, memmove and memset in a program's first calls. */
-#define CHACHA20_DEEPEST 5888
+#define CHACHA20_STACK_BYTES 5888
 
 /* What a function that can refuse returns. After CHACHA20_REFUSED no byte has changed: the data are NOT
    encrypted and must not be sent, or NOT decrypted. */
@@ -87,8 +85,8 @@ extern "C" {
 /* A length has 64 bits in the library. */
 typedef char chacha20_size_t_has_64_bits[sizeof(size_t) == 8 ? 1 : -1];
 
-/* Compilers report an ignored result and a null pointer. gcc also reports an output or an input that
-   is shorter than the length, and in C a short array. */
+/* Compilers report an ignored result, a null pointer and, in C, a short array. gcc also reports an output or
+   an input that is shorter than the length. */
 #if defined(__GNUC__)
 #define CHACHA20_ATTR_MUST_USE __attribute__((__warn_unused_result__))
 #define CHACHA20_ATTR_NONNULL __attribute__((__nonnull__))
@@ -112,6 +110,12 @@ typedef char chacha20_size_t_has_64_bits[sizeof(size_t) == 8 ? 1 : -1];
 #define CHACHA20_ATTR_WRITES(TO, LEN)
 #define CHACHA20_ATTR_READS(FROM, LEN)
 #endif
+/* C++ has no such word, and C has it since C99. */
+#if defined(__STDC_VERSION__) && __STDC_VERSION__ >= 199901L
+#define CHACHA20_AT_LEAST static
+#else
+#define CHACHA20_AT_LEAST
+#endif
 #define CHACHA20_ATTR_XOR CHACHA20_ATTR_CIPHER CHACHA20_ATTR_WRITES(4, 6) CHACHA20_ATTR_READS(5, 6)
 #define CHACHA20_ATTR_KEYSTREAM CHACHA20_ATTR_CIPHER CHACHA20_ATTR_WRITES(4, 5)
 #define CHACHA20_ATTR_LEGACY_XOR \
@@ -121,26 +125,25 @@ typedef char chacha20_size_t_has_64_bits[sizeof(size_t) == 8 ? 1 : -1];
 #define CHACHA20_ATTR_SEAL \
     CHACHA20_ATTR_AEAD CHACHA20_ATTR_READS(3, 4) CHACHA20_ATTR_WRITES(5, 7) CHACHA20_ATTR_READS(6, 7)
 #define CHACHA20_ATTR_TAG CHACHA20_ATTR_MAC CHACHA20_ATTR_READS(2, 3)
-#define CHACHA20_ATTR_EQUAL \
+#define CHACHA20_ATTR_VERIFY \
     CHACHA20_ATTR_MUST_USE CHACHA20_ATTR_READS(1, 3) CHACHA20_ATTR_READS(2, 3)
 
 /* Authenticated encryption */
 
 /* chacha20_aead_encrypt encrypts |len| bytes of |input| to |output| by ChaCha20-Poly1305 (RFC 8439,
    section 2.8), and writes the tag of the associated data |aad|, which isn't encrypted, and of the
-   ciphertext. Send or store nonce, ciphertext and tag.
-
-   |output| and |input| are the same pointer or don't overlap. |output| and |tag| overlap nothing
-   else. With |output| + |len| as |tag|, ciphertext and tag are one buffer.
+   ciphertext. Send or store nonce, ciphertext and tag. With |output| + |len| as |tag|, ciphertext and
+   tag are one buffer.
 
    It returns CHACHA20_OK, or CHACHA20_REFUSED if |len| is greater than CHACHA20_AEAD_LONGEST, if
    |aad_len| is greater than PTRDIFF_MAX, or if |output| or |tag| overlaps what it may not.
 
    Never use a nonce twice under one key: the XOR of the two messages would show, and tags could be
    forged. A tag doesn't commit to its key: one ciphertext and tag can be right under two keys. */
-uint32_t chacha20_aead_encrypt(const uint8_t key[32], const uint8_t nonce[12], const uint8_t *aad,
-                               size_t aad_len, uint8_t *output, const uint8_t *input, size_t len,
-                               uint8_t tag[16]) CHACHA20_ATTR_SEAL;
+int chacha20_aead_encrypt(const uint8_t key[CHACHA20_AT_LEAST 32],
+                          const uint8_t nonce[CHACHA20_AT_LEAST 12], const uint8_t *aad,
+                          size_t aad_len, uint8_t *output, const uint8_t *input, size_t len,
+                          uint8_t tag[CHACHA20_AT_LEAST 16]) CHACHA20_ATTR_SEAL;
 
 /* chacha20_aead_decrypt checks that |tag| is that of |aad| and of the ciphertext |input|, and only
    then decrypts |len| bytes to |output|.
@@ -148,26 +151,29 @@ uint32_t chacha20_aead_encrypt(const uint8_t key[32], const uint8_t nonce[12], c
    It returns CHACHA20_OK, or CHACHA20_REFUSED if the tag is wrong, and where chacha20_aead_encrypt
    does, except that |tag| is an input, which may overlap all but |output|. The 16 bytes of the tag
    taken from a total below 16 wrap, and are refused as a |len| that is too great. */
-uint32_t chacha20_aead_decrypt(const uint8_t key[32], const uint8_t nonce[12], const uint8_t *aad,
-                               size_t aad_len, uint8_t *output, const uint8_t *input, size_t len,
-                               const uint8_t tag[16]) CHACHA20_ATTR_SEAL;
+int chacha20_aead_decrypt(const uint8_t key[CHACHA20_AT_LEAST 32],
+                          const uint8_t nonce[CHACHA20_AT_LEAST 12], const uint8_t *aad,
+                          size_t aad_len, uint8_t *output, const uint8_t *input, size_t len,
+                          const uint8_t tag[CHACHA20_AT_LEAST 16]) CHACHA20_ATTR_SEAL;
 
 /* XChaCha20-Poly1305 (draft-irtf-cfrg-xchacha): a nonce of 24 bytes, which may be random. */
-uint32_t xchacha20_aead_encrypt(const uint8_t key[32], const uint8_t nonce[24], const uint8_t *aad,
-                                size_t aad_len, uint8_t *output, const uint8_t *input, size_t len,
-                                uint8_t tag[16]) CHACHA20_ATTR_SEAL;
-uint32_t xchacha20_aead_decrypt(const uint8_t key[32], const uint8_t nonce[24], const uint8_t *aad,
-                                size_t aad_len, uint8_t *output, const uint8_t *input, size_t len,
-                                const uint8_t tag[16]) CHACHA20_ATTR_SEAL;
+int xchacha20_aead_encrypt(const uint8_t key[CHACHA20_AT_LEAST 32],
+                           const uint8_t nonce[CHACHA20_AT_LEAST 24], const uint8_t *aad,
+                           size_t aad_len, uint8_t *output, const uint8_t *input, size_t len,
+                           uint8_t tag[CHACHA20_AT_LEAST 16]) CHACHA20_ATTR_SEAL;
+int xchacha20_aead_decrypt(const uint8_t key[CHACHA20_AT_LEAST 32],
+                           const uint8_t nonce[CHACHA20_AT_LEAST 24], const uint8_t *aad,
+                           size_t aad_len, uint8_t *output, const uint8_t *input, size_t len,
+                           const uint8_t tag[CHACHA20_AT_LEAST 16]) CHACHA20_ATTR_SEAL;
 
 /* chacha_poly1305 writes the tag of |input| under a key that serves one message alone (RFC 8439,
    section 2.5). Whoever sees the tags of two messages under one key can forge others. */
-void chacha_poly1305(const uint8_t key[32], const uint8_t *input, size_t len,
-                     uint8_t tag[16]) CHACHA20_ATTR_TAG;
+void chacha_poly1305(const uint8_t key[CHACHA20_AT_LEAST 32], const uint8_t *input, size_t len,
+                     uint8_t tag[CHACHA20_AT_LEAST 16]) CHACHA20_ATTR_TAG;
 
-/* chacha_equal returns 1 if |len| bytes are equal, and else 0: a truth value, never to be compared
-   with CHACHA20_OK. It reads all bytes, wherever they differ: compare tags by it, not by memcmp. */
-uint32_t chacha_equal(const uint8_t *one, const uint8_t *other, size_t len) CHACHA20_ATTR_EQUAL;
+/* chacha20_verify returns CHACHA20_OK if |len| bytes are equal, and else CHACHA20_REFUSED. It reads all
+   bytes, wherever they differ: compare tags by it, not by memcmp. */
+int chacha20_verify(const uint8_t *one, const uint8_t *other, size_t len) CHACHA20_ATTR_VERIFY;
 
 /* chacha_wipe_stack overwrites the stack below its caller, as deep as other calls of the caller left copies
    of keys and keystream. Call it from the function that made these calls. */
@@ -181,24 +187,24 @@ void chacha_wipe_stack(void);
    A message may be processed in parts, in any order, and the bytes are those of one call. A part
    that begins or ends within a block takes as long as the whole block.
 
-   |output| and |input| are the same pointer or don't overlap.
-
    It returns CHACHA20_OK, or CHACHA20_REFUSED if |position| + |len|, computed without overflow, is
-   greater than CHACHA20_STREAM_BYTES, or if |output| and |input| overlap in part.
+   greater than CHACHA20_STREAM_BYTES, or if |output| overlaps what it may not.
 
    A bare cipher doesn't authenticate: whoever can change the output can flip any bit of the message.
    For messages use chacha20_aead_encrypt. Never use a nonce twice under one key: the XOR of the two
    messages would show. */
-uint32_t chacha20_xor(const uint8_t key[32], const uint8_t nonce[12], uint64_t position,
-                      uint8_t *output, const uint8_t *input, size_t len) CHACHA20_ATTR_XOR;
+int chacha20_xor(const uint8_t key[CHACHA20_AT_LEAST 32], const uint8_t nonce[CHACHA20_AT_LEAST 12],
+                 uint64_t position, uint8_t *output, const uint8_t *input, size_t len)
+                 CHACHA20_ATTR_XOR;
 
 /* chacha20_keystream writes the keystream itself, and is refused as chacha20_xor is. */
-uint32_t chacha20_keystream(const uint8_t key[32], const uint8_t nonce[12], uint64_t position,
-                            uint8_t *output, size_t len) CHACHA20_ATTR_KEYSTREAM;
+int chacha20_keystream(const uint8_t key[CHACHA20_AT_LEAST 32],
+                       const uint8_t nonce[CHACHA20_AT_LEAST 12], uint64_t position,
+                       uint8_t *output, size_t len) CHACHA20_ATTR_KEYSTREAM;
 
 /* chacha20_check returns CHACHA20_OK if |len| bytes at |position| end within the keystream, and
    CHACHA20_REFUSED otherwise. It serves every cipher with a nonce of 12 or 24 bytes. */
-uint32_t chacha20_check(uint64_t position, size_t len) CHACHA20_ATTR_MUST_USE;
+int chacha20_check(uint64_t position, size_t len) CHACHA20_ATTR_MUST_USE;
 
 /* chacha20_block_position returns the position of the first byte of |block|, 64 * |block|. If that is
    greater than 2^63, it returns 2^63: a cipher with a nonce of 12 or 24 bytes refuses it, and also its
@@ -210,18 +216,23 @@ uint64_t chacha20_block_position(uint64_t block);
    xchacha20        XChaCha20 (draft-irtf-cfrg-xchacha): a nonce of 24 bytes, which may be random
    chacha20_legacy  ChaCha20 from before the RFC: a nonce of 8 bytes and a counter of 64 bits. Its
                     keystream has 2^70 bytes, so a position is two numbers: byte 64 * |block| +
-                    |offset|, computed without overflow. |offset| may be 64 or more. */
-uint32_t xchacha20_xor(const uint8_t key[32], const uint8_t nonce[24], uint64_t position,
-                       uint8_t *output, const uint8_t *input, size_t len) CHACHA20_ATTR_XOR;
-uint32_t xchacha20_keystream(const uint8_t key[32], const uint8_t nonce[24], uint64_t position,
-                             uint8_t *output, size_t len) CHACHA20_ATTR_KEYSTREAM;
-uint32_t chacha20_legacy_xor(const uint8_t key[32], const uint8_t nonce[8], uint64_t block,
-                             uint64_t offset, uint8_t *output, const uint8_t *input,
-                             size_t len) CHACHA20_ATTR_LEGACY_XOR;
-uint32_t chacha20_legacy_keystream(const uint8_t key[32], const uint8_t nonce[8], uint64_t block,
-                                   uint64_t offset, uint8_t *output,
-                                   size_t len) CHACHA20_ATTR_LEGACY_KEYSTREAM;
-uint32_t chacha20_legacy_check(uint64_t block, uint64_t offset, size_t len) CHACHA20_ATTR_MUST_USE;
+                    |offset|, computed without overflow. |offset| may be 64 or more. The check looks
+                    at the end of the keystream alone; the ciphers also refuse |len| above
+                    PTRDIFF_MAX. */
+int xchacha20_xor(const uint8_t key[CHACHA20_AT_LEAST 32],
+                  const uint8_t nonce[CHACHA20_AT_LEAST 24], uint64_t position, uint8_t *output,
+                  const uint8_t *input, size_t len) CHACHA20_ATTR_XOR;
+int xchacha20_keystream(const uint8_t key[CHACHA20_AT_LEAST 32],
+                        const uint8_t nonce[CHACHA20_AT_LEAST 24], uint64_t position,
+                        uint8_t *output, size_t len) CHACHA20_ATTR_KEYSTREAM;
+int chacha20_legacy_xor(const uint8_t key[CHACHA20_AT_LEAST 32],
+                        const uint8_t nonce[CHACHA20_AT_LEAST 8], uint64_t block, uint64_t offset,
+                        uint8_t *output, const uint8_t *input, size_t len) CHACHA20_ATTR_LEGACY_XOR;
+int chacha20_legacy_keystream(const uint8_t key[CHACHA20_AT_LEAST 32],
+                              const uint8_t nonce[CHACHA20_AT_LEAST 8], uint64_t block,
+                              uint64_t offset, uint8_t *output, size_t len)
+                              CHACHA20_ATTR_LEGACY_KEYSTREAM;
+int chacha20_legacy_check(uint64_t block, uint64_t offset, size_t len) CHACHA20_ATTR_MUST_USE;
 
 /* HChaCha */
 
@@ -229,8 +240,8 @@ uint32_t chacha20_legacy_check(uint64_t block, uint64_t offset, size_t len) CHAC
 
    xchacha20_xor derives the subkey of the first 16 bytes of its nonce in each call. To derive it
    once, call chacha20_xor with the subkey, and as nonce four zero bytes and the last 8 bytes. */
-void hchacha20(
-    const uint8_t key[32], const uint8_t input[16], uint8_t subkey[32]) CHACHA20_ATTR_NONNULL;
+void hchacha20(const uint8_t key[CHACHA20_AT_LEAST 32], const uint8_t input[CHACHA20_AT_LEAST 16],
+               uint8_t subkey[CHACHA20_AT_LEAST 32]) CHACHA20_ATTR_NONNULL;
 
 /* Generators
 
@@ -239,54 +250,56 @@ void hchacha20(
    of the last byte are ignored, and a call that writes the state clears them.
 
    The words of a stream are those of ChaCha's blocks with a counter of 64 bits, the seed as key and
-   the stream as nonce. After 2^68 words the first comes again. A state doesn't record the
-   number of rounds: each read has its own. No call is refused.
+   the stream as nonce. After 2^68 words the first comes again. No call is refused.
 
    The state is secret: it determines all words, past and future. A copy of it repeats the stream,
    also in a child after fork; give each its own stream or seed. */
 
 /* chacha_rng_from_seed writes the state of |seed|: word 0 of stream 0. */
-void chacha_rng_from_seed(const uint8_t seed[32], uint8_t state[49]) CHACHA20_ATTR_NONNULL;
+void chacha_rng_from_seed(const uint8_t seed[CHACHA20_AT_LEAST 32],
+                          uint8_t state[CHACHA20_AT_LEAST 49]) CHACHA20_ATTR_NONNULL;
 
 /* chacha20_rng_fill writes the next |len| bytes, each word little-endian. Unused bytes of the last
    word are lost. Length 0 takes no word.
 
-   Each read computes four blocks; chacha20_words_next takes words one by one at a lower price. */
-void chacha20_rng_fill(uint8_t state[49], uint8_t *output, size_t len) CHACHA20_ATTR_FILL;
-
-/* chacha20_rng_next_u32 returns the next word, and chacha20_rng_next_u64 the next two, the first as
-   the low half. */
-uint32_t chacha20_rng_next_u32(uint8_t state[49]) CHACHA20_ATTR_NONNULL;
-uint64_t chacha20_rng_next_u64(uint8_t state[49]) CHACHA20_ATTR_NONNULL;
+   Each fill computes at least four blocks; chacha20_words_next takes words one by one at a lower price. */
+void chacha20_rng_fill(uint8_t state[CHACHA20_AT_LEAST 49], uint8_t *output, size_t len)
+                       CHACHA20_ATTR_FILL;
 
 /* Words one by one, from an object that the caller owns: a fill makes 64 at once. No caller reads or
-   writes its members. Keep it secret, and wipe it after use; a copy repeats its words. */
+   writes its members. Keep it secret, and wipe it after use; a copy repeats its words. An object of
+   zeros begins at word 0 of stream 0 of a seed of zeros, which is no secret. */
 typedef struct {
-    uint8_t words[256]; /* unread from |used| on, zero before it */
+    uint8_t words[256]; /* the last |unread| are, the others are zero */
     uint8_t state[49];  /* of the word after them */
-    size_t used;
+    size_t unread;
 } chacha20_words;
 
-/* chacha20_words_from_state begins at the next word of |state|. chacha20_words_next returns the word
-   that chacha20_rng_next_u32 would, and zeroes it in |words|. chacha20_words_to_state writes the state
-   whose next word is that of |words|. */
-void chacha20_words_from_state(chacha20_words *words, const uint8_t state[49]) CHACHA20_ATTR_NONNULL;
+/* chacha20_words_from_state begins at the next word of |state|. chacha20_words_next returns the next
+   word, and zeroes it in |words|. chacha20_words_to_state writes the state whose next word is that of
+   |words|. */
+void chacha20_words_from_state(chacha20_words *words, const uint8_t state[CHACHA20_AT_LEAST 49])
+                               CHACHA20_ATTR_NONNULL;
 uint32_t chacha20_words_next(chacha20_words *words) CHACHA20_ATTR_NONNULL;
-void chacha20_words_to_state(const chacha20_words *words, uint8_t state[49]) CHACHA20_ATTR_NONNULL;
+void chacha20_words_to_state(const chacha20_words *words, uint8_t state[CHACHA20_AT_LEAST 49])
+                             CHACHA20_ATTR_NONNULL;
 
 /* The word position, |*low| + 2^64 * |*high| with |*high| below 16. Setting takes any two numbers,
    modulo 2^68. |low| and |high| are different objects. */
-void chacha_rng_get_word_pos(
-    const uint8_t state[49], uint64_t *low, uint64_t *high) CHACHA20_ATTR_NONNULL;
-void chacha_rng_set_word_pos(uint8_t state[49], uint64_t low, uint64_t high) CHACHA20_ATTR_NONNULL;
+void chacha_rng_get_word_pos(const uint8_t state[CHACHA20_AT_LEAST 49], uint64_t *low,
+                             uint64_t *high) CHACHA20_ATTR_NONNULL;
+void chacha_rng_set_word_pos(uint8_t state[CHACHA20_AT_LEAST 49], uint64_t low, uint64_t high)
+                             CHACHA20_ATTR_NONNULL;
 
 /* The block of the next word. Setting moves to the first word of the block. */
-uint64_t chacha_rng_get_block_pos(const uint8_t state[49]) CHACHA20_ATTR_NONNULL;
-void chacha_rng_set_block_pos(uint8_t state[49], uint64_t block_pos) CHACHA20_ATTR_NONNULL;
+uint64_t chacha_rng_get_block_pos(const uint8_t state[CHACHA20_AT_LEAST 49]) CHACHA20_ATTR_NONNULL;
+void chacha_rng_set_block_pos(uint8_t state[CHACHA20_AT_LEAST 49], uint64_t block_pos)
+                              CHACHA20_ATTR_NONNULL;
 
 /* The stream. Setting moves to word 0 of the stream. */
-uint64_t chacha_rng_get_stream(const uint8_t state[49]) CHACHA20_ATTR_NONNULL;
-void chacha_rng_set_stream(uint8_t state[49], uint64_t stream) CHACHA20_ATTR_NONNULL;
+uint64_t chacha_rng_get_stream(const uint8_t state[CHACHA20_AT_LEAST 49]) CHACHA20_ATTR_NONNULL;
+void chacha_rng_set_stream(uint8_t state[CHACHA20_AT_LEAST 49], uint64_t stream)
+                           CHACHA20_ATTR_NONNULL;
 
 /* chacha20_version returns the version of the library that runs. */
 const char *chacha20_version(void);
@@ -306,7 +319,8 @@ const char *chacha20_version(void);
 #undef CHACHA20_ATTR_MAC
 #undef CHACHA20_ATTR_SEAL
 #undef CHACHA20_ATTR_TAG
-#undef CHACHA20_ATTR_EQUAL
+#undef CHACHA20_ATTR_VERIFY
+#undef CHACHA20_AT_LEAST
 
 #ifdef __cplusplus
 }

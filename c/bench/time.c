@@ -13,11 +13,10 @@
 #include <string.h>
 #include <time.h>
 
-#include "../../include/chacha20.h"
 #include "../tests/compare.h"
 
 /* Every multiple of 16 bytes in a page is a place. Long tasks have fewer places. */
-enum { MOST_CONTESTANTS = MOST_BUILDS + MOST_OTHERS + 2, PAGE = 4096, PLACES = PAGE / 16, FEW_PLACES = 16 };
+enum { MOST_OTHERS = 4, MOST_CONTESTANTS = MOST_LEVELS + MOST_OTHERS, PAGE = 4096, PLACES = PAGE / 16, FEW_PLACES = 16 };
 
 /* What is timed: a cipher or a message with 13 bytes of associated data, so many bytes in place, or between buffers. */
 static const struct task {
@@ -42,10 +41,10 @@ enum { ROOM = (1 << 20) + 2 * PAGE };
 
 static uint8_t *output_room, *input_room;
 
-/* A build of the library or another implementation. */
+/* A level of the library or another implementation. */
 struct contestant {
     const char *name;
-    const struct library *library;
+    int level;
     const struct other *other;
 };
 
@@ -61,14 +60,14 @@ static void call(const struct contestant *it, const struct task *task, uint8_t *
     static const uint8_t aad[13] = {7};
     const uint8_t *from = task->is_between ? input : output;
     uint8_t *tag = output + task->len;
-    uint32_t answer = CHACHA20_OK;
+    int answer = CHACHA20_OK;
     if (it->other) {
         if (task->is_message) it->other->encrypt[IETF](key, nonce, aad, sizeof aad, output, from, task->len, tag);
-        else it->other->xor_from_block[IETF](20, key, nonce, 0, output, from, task->len);
+        else it->other->xor_from_block[IETF](key, nonce, 0, output, from, task->len);
     } else if (task->is_message) {
-        answer = it->library->aeads[IETF].encrypt(key, nonce, aad, sizeof aad, output, from, task->len, tag);
+        answer = aeads[IETF].encrypt(key, nonce, aad, sizeof aad, output, from, task->len, tag);
     } else {
-        answer = it->library->ciphers[IETF][2].xor(key, nonce, 0, 0, output, from, task->len);
+        answer = ciphers[IETF].xor(key, nonce, 0, 0, output, from, task->len);
     }
     if (answer != CHACHA20_OK) abort();
 }
@@ -84,6 +83,7 @@ static double calls_here(const struct contestant *it, const struct task *task, i
     uint8_t *output = output_room + 64 * (30 * place % (PAGE / 64));
     const uint8_t *input = input_room + 64 * (44 * place % (PAGE / 64));
     moved[0] = 0;
+    if (!it->other) set_level(it->level);
     call(it, task, output, input);
     double begin = seconds();
     for (int i = 0; i < calls; i++) call(it, task, output, input);
@@ -123,6 +123,51 @@ static void print_head(const char *first, const struct contestant *all, int coun
     printf("\n|");
     for (int i = 0; i <= count; i++) printf("---|");
     putchar('\n');
+}
+
+/* OpenSSL: the counter is in front of the nonce, in 16 bytes together. */
+
+static void *(*evp_new)(void);
+static void *(*evp_chacha20)(void);
+static int (*evp_init)(void *, void *, void *, const uint8_t *, const uint8_t *);
+static int (*evp_update)(void *, uint8_t *, int *, const uint8_t *, int);
+static void *evp_context;
+
+/* The context keeps the cipher that it has, so that OpenSSL fetches it once. */
+static void openssl_xor(const uint8_t *key, const uint8_t *nonce, uint64_t block, uint8_t *output, const uint8_t *input, size_t len) {
+    uint8_t iv[16] = {(uint8_t)block};
+    int out = 0;
+    memcpy(iv + 4, nonce, 12);
+    if (!evp_init(evp_context, NULL, NULL, key, iv) || !evp_update(evp_context, output, &out, input, (int)len)) abort();
+}
+
+static void *(*evp_chacha20_poly1305)(void);
+static int (*evp_final)(void *, uint8_t *, int *);
+static int (*evp_ctrl)(void *, int, int, void *);
+static void *aead_context;
+
+static void openssl_encrypt(AEAD_PARAMETERS, uint8_t *tag) {
+    enum { GET_TAG = 0x10 };
+    int out = 0, done = evp_init(aead_context, NULL, NULL, key, nonce) &&
+                        (aad_len == 0 || evp_update(aead_context, NULL, &out, aad, (int)aad_len)) &&
+                        (len == 0 || evp_update(aead_context, output, &out, input, (int)len)) &&
+                        evp_final(aead_context, output, &out) && evp_ctrl(aead_context, GET_TAG, 16, tag);
+    if (!done) abort();
+}
+
+static int find_openssl(struct other *found) {
+    const char *(*version)(int) = NULL;
+    void *handle = dlopen("libcrypto.so.3", RTLD_NOW | RTLD_LOCAL);
+    if (!handle || !look_up(handle, "EVP_CIPHER_CTX_new", &evp_new) || !look_up(handle, "EVP_chacha20", &evp_chacha20) ||
+        !look_up(handle, "EVP_EncryptInit_ex", &evp_init) || !look_up(handle, "EVP_EncryptUpdate", &evp_update) ||
+        !look_up(handle, "EVP_chacha20_poly1305", &evp_chacha20_poly1305) || !look_up(handle, "EVP_EncryptFinal_ex", &evp_final) ||
+        !look_up(handle, "EVP_CIPHER_CTX_ctrl", &evp_ctrl) || !look_up(handle, "OpenSSL_version", &version) ||
+        !(evp_context = evp_new()) || !evp_init(evp_context, evp_chacha20(), NULL, NULL, NULL) ||
+        !(aead_context = evp_new()) || !evp_init(aead_context, evp_chacha20_poly1305(), NULL, NULL, NULL))
+        return puts("not found: OpenSSL"), 0;
+    printf("found: %s\n", version(0));
+    *found = (struct other){.name = "OpenSSL", .xor_from_block = {[IETF] = openssl_xor}, .encrypt = {[IETF] = openssl_encrypt}};
+    return 1;
 }
 
 /* libgcrypt and BoringSSL have messages alone. Each takes the key and the nonce in each call, as the library does. */
@@ -180,19 +225,15 @@ static int find_boringssl(struct other *found) {
     return 1;
 }
 
-/* The contestants, and the one by whose time the others' are divided: libsodium, if it is found. */
-static int gather(const struct machine *machine, struct contestant *all, int *base) {
-    static struct other more[2];
-    int count = 0, more_count = find_gcrypt(more);
-    more_count += find_boringssl(more + more_count);
-    for (int i = 0; i < machine->build_count; i++) {
-        all[count++] = (struct contestant){machine->builds[i]->level, machine->builds[i], NULL};
+/* The levels, and how many; then the others, of which the first is that by whose time the others' are divided: libsodium. */
+static int gather(struct contestant *all, int *level_count) {
+    static int (*const find[MOST_OTHERS])(struct other *) = {find_sodium, find_openssl, find_gcrypt, find_boringssl};
+    static struct other others[MOST_OTHERS];
+    int count = *level_count = find_levels();
+    for (int i = 0; i < count; i++) all[i] = (struct contestant){set_level(i), i, NULL};
+    for (int i = 0; i < MOST_OTHERS; i++) {
+        if (find[i](&others[i])) all[count++] = (struct contestant){others[i].name, 0, &others[i]};
     }
-    for (int i = 0; i < machine->other_count; i++) {
-        all[count++] = (struct contestant){machine->others[i].name, NULL, &machine->others[i]};
-    }
-    *base = count - 1;
-    for (int i = 0; i < more_count; i++) all[count++] = (struct contestant){more[i].name, NULL, &more[i]};
     return count;
 }
 
@@ -219,19 +260,18 @@ static void print_times(const struct contestant *all, int count, int base) {
     }
 }
 
-/* The least time of 64 words of a generator: one by one, from an array of words, or in a fill. */
-enum words { ONE_BY_ONE, FROM_ARRAY, BY_FILL, WAYS };
+/* The least time of 64 words of a generator: one by one, or in a fill. */
+enum words { ONE_BY_ONE, BY_FILL, WAYS };
 
-static double time_of_words(const struct library *library, enum words way, int turns) {
+static double time_of_words(enum words way, int turns) {
     static volatile uint32_t sum;
     static chacha20_words words;
     double least = 1e18;
     for (int turn = 0; turn < turns; turn++) {
         double begin = seconds(), time;
         for (int calls = 0; calls < 20; calls++) {
-            if (way == BY_FILL) library->fill[2](output_room, output_room + 64, 256);
-            for (int i = 0; i < 64 && way == ONE_BY_ONE; i++) sum ^= library->next_u32[2](output_room);
-            for (int i = 0; i < 64 && way == FROM_ARRAY; i++) sum ^= library->words_next(&words);
+            if (way == BY_FILL) chacha20_rng_fill(output_room, output_room + 64, 256);
+            for (int i = 0; i < 64 && way == ONE_BY_ONE; i++) sum ^= chacha20_words_next(&words);
         }
         time = seconds() - begin;
         if (time < least) least = time;
@@ -240,22 +280,18 @@ static double time_of_words(const struct library *library, enum words way, int t
 }
 
 static void time_words(const struct contestant *all, int count, int turns) {
-    static const char *const names[WAYS] = {"chacha20_rng_next_u32", "chacha20_words_next", "a fill of 256 bytes"};
+    static const char *const names[WAYS] = {"chacha20_words_next", "a fill of 256 bytes"};
     print_head("nanoseconds a word", all, count);
     for (int way = 0; way < WAYS; way++) {
         printf("| %s |", names[way]);
-        for (int i = 0; i < count; i++) printf(" %.1f |", time_of_words(all[i].library, (enum words)way, turns) * 1e9 / (20 * 64));
+        for (int i = 0; i < count; i++) set_level(i), printf(" %.1f |", time_of_words((enum words)way, turns) * 1e9 / (20 * 64));
         putchar('\n');
     }
 }
 
 int main(int argc, char **argv) {
-    struct machine machine = {.build_count = 0};
     struct contestant all[MOST_CONTESTANTS];
-    int passes = argc > 1 ? atoi(argv[1]) : 32, base = 0;
-    machine.build_count = find_builds(machine.builds);
-    machine.other_count = find_others(machine.others);
-    int count = gather(&machine, all, &base);
+    int passes = argc > 1 ? atoi(argv[1]) : 32, level_count, count = gather(all, &level_count), base = level_count < count ? level_count : 0;
     output_room = aligned_alloc(PAGE, ROOM), input_room = aligned_alloc(PAGE, ROOM);
     if (passes < 1 || !output_room || !input_room) return 2;
     memset(output_room, 0, ROOM), memset(input_room, 0, ROOM);
@@ -268,7 +304,7 @@ int main(int argc, char **argv) {
     printf("\nChaCha20 and ChaCha20-Poly1305, in place but where two buffers are named: %d turns at each of %d places; "
            "from 1 MiB on %d places\n", passes, PLACES, FEW_PLACES);
     print_times(all, count, base);
-    time_words(all, machine.build_count, 256 * passes);
+    time_words(all, level_count, 256 * passes);
     free(output_room), free(input_room);
     return 0;
 }

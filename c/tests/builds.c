@@ -1,7 +1,7 @@
 /* SPDX-License-Identifier: Apache-2.0 OR MIT
 
-   What is compared: OpenSSL and libsodium, where the machine has them; plain C, written after RFC 8439 and the draft, for what
-   they lack; and below them the library's builds, which are declared nowhere else, so that no reference can call them. */
+   What is compared: libsodium, where the machine has it; plain C, written after RFC 8439 and the draft; and below them the
+   library's builds, which are declared nowhere else, so that no reference can call them. */
 
 #include "compare.h"
 
@@ -9,15 +9,6 @@
 #include <stdio.h>
 #include <stdlib.h>
 #include <string.h>
-
-/* The first of these libraries that the machine has. */
-static void *open_first(const char *const *names) {
-    for (; *names; names++) {
-        void *handle = dlopen(*names, RTLD_NOW | RTLD_LOCAL);
-        if (handle) return handle;
-    }
-    return NULL;
-}
 
 /* ISO C has no cast from an object's pointer to a function's. */
 int look_up(void *handle, const char *name, void *function) {
@@ -27,69 +18,10 @@ int look_up(void *handle, const char *name, void *function) {
 }
 
 #define XOR_PARAMETERS \
-    int rounds, const uint8_t *key, const uint8_t *nonce, uint64_t block, uint8_t *output, const uint8_t *input, size_t len
+    const uint8_t *key, const uint8_t *nonce, uint64_t block, uint8_t *output, const uint8_t *input, size_t len
 
 static void store_le(uint8_t *bytes, uint64_t number, int count) {
     for (int i = 0; i < count; i++) bytes[i] = (uint8_t)(number >> (8 * i));
-}
-
-/* OpenSSL: the counter is in front of the nonce, in 16 bytes together, and the carry goes on past 32 bits. */
-
-static void *(*evp_new)(void);
-static void *(*evp_chacha20)(void);
-static int (*evp_init)(void *, void *, void *, const uint8_t *, const uint8_t *);
-static int (*evp_update)(void *, uint8_t *, int *, const uint8_t *, int);
-static void *evp_context;
-
-/* The context keeps the cipher that it has, so that OpenSSL fetches it once. */
-static void openssl_xor(int counter_bytes, XOR_PARAMETERS) {
-    uint8_t iv[16];
-    (void)rounds;
-    store_le(iv, block, counter_bytes), memcpy(iv + counter_bytes, nonce, (size_t)(16 - counter_bytes));
-    int done = evp_init(evp_context, NULL, NULL, key, iv);
-    while (done && len > 0) {
-        int part = len < 1 << 30 ? (int)len : 1 << 30, out = 0;
-        done = evp_update(evp_context, output, &out, input, part) && out == part;
-        output += part, input += part, len -= (size_t)part;
-    }
-    if (!done) puts("OpenSSL refused a call"), exit(2);
-}
-
-static void openssl_ietf(XOR_PARAMETERS) { openssl_xor(4, rounds, key, nonce, block, output, input, len); }
-static void openssl_legacy(XOR_PARAMETERS) { openssl_xor(8, rounds, key, nonce, block, output, input, len); }
-
-static void *(*evp_chacha20_poly1305)(void);
-static int (*evp_final)(void *, uint8_t *, int *);
-static int (*evp_ctrl)(void *, int, int, void *);
-static void *aead_context;
-
-static void openssl_encrypt(AEAD_PARAMETERS, uint8_t *tag) {
-    enum { GET_TAG = 0x10 };
-    int out = 0, done = evp_init(aead_context, NULL, NULL, key, nonce) &&
-                        (aad_len == 0 || evp_update(aead_context, NULL, &out, aad, (int)aad_len)) &&
-                        (len == 0 || evp_update(aead_context, output, &out, input, (int)len)) &&
-                        evp_final(aead_context, output, &out) && evp_ctrl(aead_context, GET_TAG, 16, tag);
-    if (!done) puts("OpenSSL refused a message"), exit(2);
-}
-
-static int find_openssl(struct other *found) {
-    static const char *const names[] = {"libcrypto.so.3", "libcrypto.so.1.1", "libcrypto.so", NULL};
-    const char *(*version)(int) = NULL;
-    void *handle = open_first(names);
-    if (!handle || !look_up(handle, "EVP_CIPHER_CTX_new", &evp_new) || !look_up(handle, "EVP_chacha20", &evp_chacha20) ||
-        !look_up(handle, "EVP_EncryptInit_ex", &evp_init) || !look_up(handle, "EVP_EncryptUpdate", &evp_update) ||
-        !look_up(handle, "EVP_chacha20_poly1305", &evp_chacha20_poly1305) ||
-        !look_up(handle, "EVP_EncryptFinal_ex", &evp_final) || !look_up(handle, "EVP_CIPHER_CTX_ctrl", &evp_ctrl) || !look_up(handle, "OpenSSL_version", &version) ||
-        !(evp_context = evp_new()) || !evp_init(evp_context, evp_chacha20(), NULL, NULL, NULL) ||
-        !(aead_context = evp_new()) || !evp_init(aead_context, evp_chacha20_poly1305(), NULL, NULL, NULL)) {
-        puts("not found: OpenSSL (libcrypto.so) with ChaCha20");
-        return 0;
-    }
-    printf("found: %s\n", version(0));
-    *found = (struct other){.name = "OpenSSL",
-                            .xor_from_block = {[IETF] = openssl_ietf, [LEGACY] = openssl_legacy},
-                            .encrypt = {[IETF] = openssl_encrypt}};
-    return 1;
 }
 
 /* libsodium */
@@ -99,12 +31,12 @@ static int (*sodium_legacy_ic)(uint8_t *, const uint8_t *, unsigned long long, c
 static int (*sodium_xchacha_ic)(uint8_t *, const uint8_t *, unsigned long long, const uint8_t *, uint64_t, const uint8_t *);
 static int (*sodium_hchacha)(uint8_t *, const uint8_t *, const uint8_t *, const uint8_t *);
 
-static void sodium_ietf(XOR_PARAMETERS) { (void)rounds, sodium_ietf_ic(output, input, len, nonce, (uint32_t)block, key); }
-static void sodium_xchacha(XOR_PARAMETERS) { (void)rounds, sodium_xchacha_ic(output, input, len, nonce, block, key); }
-static void sodium_legacy(XOR_PARAMETERS) { (void)rounds, sodium_legacy_ic(output, input, len, nonce, block, key); }
+static void sodium_ietf(XOR_PARAMETERS) { sodium_ietf_ic(output, input, len, nonce, (uint32_t)block, key); }
+static void sodium_xchacha(XOR_PARAMETERS) { sodium_xchacha_ic(output, input, len, nonce, block, key); }
+static void sodium_legacy(XOR_PARAMETERS) { sodium_legacy_ic(output, input, len, nonce, block, key); }
 
-static void sodium_hchacha20(int rounds, const uint8_t *key, const uint8_t *input, uint8_t *subkey) {
-    (void)rounds, sodium_hchacha(subkey, input, key, NULL);
+static void sodium_hchacha20(const uint8_t *key, const uint8_t *input, uint8_t *subkey) {
+    sodium_hchacha(subkey, input, key, NULL);
 }
 
 typedef int sodium_aead(uint8_t *, uint8_t *, unsigned long long *, const uint8_t *, unsigned long long, const uint8_t *,
@@ -122,11 +54,10 @@ static void sodium_poly1305(const uint8_t *key, const uint8_t *input, size_t len
     sodium_mac(tag, input, len, key);
 }
 
-static int find_sodium(struct other *found) {
-    static const char *const names[] = {"libsodium.so.23", "libsodium.so.26", "libsodium.so", NULL};
+int find_sodium(struct other *found) {
     int (*init)(void) = NULL;
     const char *(*version)(void) = NULL;
-    void *handle = open_first(names);
+    void *handle = dlopen("libsodium.so.23", RTLD_NOW | RTLD_LOCAL);
     if (!handle || !look_up(handle, "sodium_init", &init) || !look_up(handle, "sodium_version_string", &version) ||
         !look_up(handle, "crypto_stream_chacha20_ietf_xor_ic", &sodium_ietf_ic) ||
         !look_up(handle, "crypto_stream_chacha20_xor_ic", &sodium_legacy_ic) ||
@@ -163,8 +94,8 @@ static void quarter_round(uint32_t *x, int a, int b, int c, int d) {
     x[c] += x[d], x[b] = rotated(x[b] ^ x[c], 7);
 }
 
-static void all_rounds(uint32_t *x, int rounds) {
-    for (int i = 0; i < rounds; i += 2) {
+static void all_rounds(uint32_t *x) {
+    for (int i = 0; i < 20; i += 2) {
         for (int j = 0; j < 4; j++) quarter_round(x, j, 4 + j, 8 + j, 12 + j);
         for (int j = 0; j < 4; j++) quarter_round(x, j, 4 + (j + 1) % 4, 8 + (j + 2) % 4, 12 + (j + 3) % 4);
     }
@@ -178,10 +109,10 @@ static void start(uint32_t *x, const uint8_t *key, const uint8_t *last) {
     for (int i = 0; i < 4; i++) x[12 + i] = load_32(last + 4 * i);
 }
 
-static void plain_hchacha(int rounds, const uint8_t *key, const uint8_t *input, uint8_t *subkey) {
+static void plain_hchacha(const uint8_t *key, const uint8_t *input, uint8_t *subkey) {
     uint32_t x[16];
     start(x, key, input);
-    all_rounds(x, rounds);
+    all_rounds(x);
     for (int i = 0; i < 4; i++) store_le(subkey + 4 * i, x[i], 4), store_le(subkey + 16 + 4 * i, x[12 + i], 4);
 }
 
@@ -193,20 +124,20 @@ static void plain_xor(int counter_bytes, XOR_PARAMETERS) {
         store_le(last, block, counter_bytes);
         start(first, key, last);
         memcpy(x, first, sizeof x);
-        all_rounds(x, rounds);
+        all_rounds(x);
         for (int i = 0; i < 16; i++) store_le(made + 4 * i, x[i] + first[i], 4);
         for (size_t i = 0; i < 64 && at + i < len; i++) output[at + i] = input[at + i] ^ made[i];
     }
 }
 
-static void plain_ietf(XOR_PARAMETERS) { plain_xor(4, rounds, key, nonce, block, output, input, len); }
-static void plain_legacy(XOR_PARAMETERS) { plain_xor(8, rounds, key, nonce, block, output, input, len); }
+static void plain_ietf(XOR_PARAMETERS) { plain_xor(4, key, nonce, block, output, input, len); }
+static void plain_legacy(XOR_PARAMETERS) { plain_xor(8, key, nonce, block, output, input, len); }
 
 static void plain_xchacha(XOR_PARAMETERS) {
     uint8_t subkey[32], subnonce[12] = {0};
-    plain_hchacha(rounds, key, nonce, subkey);
+    plain_hchacha(key, nonce, subkey);
     memcpy(subnonce + 4, nonce + 16, 8);
-    plain_xor(4, rounds, subkey, subnonce, block, output, input, len);
+    plain_xor(4, subkey, subnonce, block, output, input, len);
 }
 
 /* The bytes of a sum modulo 2^136, as digits below 256; 2^136 is 64 * 5 modulo 2^130 - 5. */
@@ -226,9 +157,9 @@ static void times(uint32_t *h, const uint32_t *r) {
     carry(h);
 }
 
-void plain_poly1305_but(int is_clamped, int is_reduced, const uint8_t *key, const uint8_t *input, size_t len, uint8_t *tag) {
+static void plain_poly1305(const uint8_t *key, const uint8_t *input, size_t len, uint8_t *tag) {
     uint32_t r[17] = {0}, h[17] = {0}, less[17];
-    for (int i = 0; i < 16; i++) r[i] = key[i] & (!is_clamped ? 255 : i % 4 == 3 ? 15 : i > 0 && i % 4 == 0 ? 252 : 255);
+    for (int i = 0; i < 16; i++) r[i] = key[i] & (i % 4 == 3 ? 15 : i > 0 && i % 4 == 0 ? 252 : 255);
     for (size_t at = 0; at < len; at += 16) {
         size_t part = len - at < 16 ? len - at : 16;
         for (size_t i = 0; i < part; i++) h[i] += input[at + i];
@@ -239,19 +170,15 @@ void plain_poly1305_but(int is_clamped, int is_reduced, const uint8_t *key, cons
     memcpy(less, h, sizeof less);
     less[0] += 5;
     for (int i = 0; i < 16; i++) less[i + 1] += less[i] >> 8, less[i] &= 255;
-    if (less[16] >= 4 && is_reduced) memcpy(h, less, sizeof less);
+    if (less[16] >= 4) memcpy(h, less, sizeof less);
     for (int i = 0; i < 16; i++) h[i] += key[16 + i], h[i + 1] += h[i] >> 8, tag[i] = (uint8_t)h[i];
-}
-
-static void plain_poly1305(const uint8_t *key, const uint8_t *input, size_t len, uint8_t *tag) {
-    plain_poly1305_but(1, 1, key, input, len, tag);
 }
 
 static void plain_encrypt(enum layout layout, AEAD_PARAMETERS, uint8_t *tag) {
     uint8_t one_time[32] = {0}, *room = calloc(1, aad_len + len + 48), *at = room;
     if (!room) puts("no memory"), exit(2);
-    plain_c.xor_from_block[layout](20, key, nonce, 0, one_time, one_time, 32);
-    plain_c.xor_from_block[layout](20, key, nonce, 1, output, input, len);
+    plain_c.xor_from_block[layout](key, nonce, 0, one_time, one_time, 32);
+    plain_c.xor_from_block[layout](key, nonce, 1, output, input, len);
     if (aad_len > 0) memcpy(at, aad, aad_len);
     at += (aad_len + 15) / 16 * 16;
     if (len > 0) memcpy(at, output, len);
@@ -275,18 +202,28 @@ const struct other plain_c = {
     .encrypt = {plain_ietf_encrypt, plain_xchacha_encrypt},
     .poly1305 = plain_poly1305};
 
-int find_others(struct other found[MOST_OTHERS]) {
-    int count = find_openssl(found);
-    count += find_sodium(found + count);
-    puts("8 and 12 rounds: beside plain C of this folder");
-    return count;
-}
+/* The library */
 
-/* The library: the builds for the levels of x86-64, where they are built, and libchacha20.a, which chooses one. */
-extern const struct library library_1 __attribute__((weak));
-extern const struct library library_2 __attribute__((weak));
-extern const struct library library_3 __attribute__((weak));
-extern const struct library library_chosen __attribute__((weak));
+#define CIPHER(NAME, CHECK, ...)                                                                                           \
+    static int NAME##_1(const uint8_t *key, const uint8_t *nonce, uint64_t block, uint64_t offset, uint8_t *output,        \
+                        const uint8_t *input, size_t len) {                                                                \
+        return NAME##_xor(key, nonce, __VA_ARGS__, output, input, len);                                                    \
+    }                                                                                                                      \
+    static int NAME##_2(const uint8_t *key, const uint8_t *nonce, uint64_t block, uint64_t offset, uint8_t *output,        \
+                        size_t len) {                                                                                      \
+        return NAME##_keystream(key, nonce, __VA_ARGS__, output, len);                                                     \
+    }                                                                                                                      \
+    static int NAME##_3(uint64_t block, uint64_t offset, size_t len) { return CHECK(__VA_ARGS__, len); }
+CIPHER(chacha20, chacha20_check, 64 * block + offset)
+CIPHER(xchacha20, chacha20_check, 64 * block + offset)
+CIPHER(chacha20_legacy, chacha20_legacy_check, block, offset)
+
+const struct cipher ciphers[LAYOUTS] = {{chacha20_1, chacha20_2, chacha20_3}, {xchacha20_1, xchacha20_2, xchacha20_3},
+                                        {chacha20_legacy_1, chacha20_legacy_2, chacha20_legacy_3}};
+const struct aead aeads[AEADS] = {{chacha20_aead_encrypt, chacha20_aead_decrypt}, {xchacha20_aead_encrypt, xchacha20_aead_decrypt}};
+
+/* Of chacha20.c; the Makefile shows it. A library of one level has no choice. */
+extern int level __attribute__((weak));
 
 int level_here(void) {
 #if defined(__x86_64__)
@@ -298,16 +235,17 @@ int level_here(void) {
 #endif
 }
 
-int find_builds(const struct library *found[MOST_BUILDS]) {
-    static const struct library *const all[] = {&library_1, &library_2, &library_3};
-    int count = 0, here = level_here(), highest = 0;
-    for (int i = 0; i < here; i++) {
-        if (all[i]) found[count++] = all[i], highest = i + 1;
-        else printf("not built: level %d of x86-64\n", i + 1);
-    }
-    if (here > 0 && here < 3) printf("not run, since this processor lacks it: what is above level %d of x86-64\n", here);
-    found[count++] = &library_chosen;
-    if (!library_chosen.chosen || *library_chosen.chosen == highest) return count;
-    printf("wrong: level %d is chosen where %d can run\n", *library_chosen.chosen, highest);
-    exit(1);
+int find_levels(void) {
+    int here = level_here();
+    if (!&level) return 1;
+    if (here < 3) printf("not run, since this processor lacks it: what is above level %d of x86-64\n", here);
+    if (level != here) printf("wrong: level %d is chosen where %d can run\n", level, here), exit(1);
+    return here;
+}
+
+const char *set_level(int at) {
+    static const char *const names[] = {"x86-64", "x86-64-v2", "x86-64-v3"};
+    if (!&level) return "the one level";
+    level = at + 1;
+    return names[at];
 }

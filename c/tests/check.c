@@ -1,43 +1,52 @@
 /* SPDX-License-Identifier: Apache-2.0 OR MIT
 
    The library beside other implementations: random messages, cut at random places, whose parts are combined in random
-   order, in place or between buffers, by builds for different levels; words of generators; refusals; buffers at the ends
-   of mapped pages. The random numbers of a turn are those of its seed, so that each turn can be repeated.
+   order, in place or between buffers, by different levels; words of generators; authenticated messages, forgeries of them, and
+   MACs of sums around 2^130 - 5. Buffers often lie at the ends of mapped pages. Overlaps, ends of streams, and what needs more
+   than 32 bits. The random numbers of a turn are those of its seed, so that each turn can be repeated.
 
-   compare check [BYTES [SEED]]   compares the library with what is found on the machine; the last line says how many bytes,
-                                  and how many of them differ. The first turn is that of SEED
-   compare plain [BYTES [SEED]]   the same with the plain C of builds.c alone
-   compare call WORDS             repeats one call: build, layout, rounds, way, block, offset, length, places of output and
-                                  input in their pages, seed of key and nonce. A difference prints these words */
+   compare check [BYTES [SEED]]   compares the library with libsodium and plain C; the last line says how many bytes, and how
+                                  many of them differ. The first turn is that of SEED
+   compare plain [BYTES [SEED]]   the same with the plain C of builds.c alone */
 
-#define _DEFAULT_SOURCE
+#define _GNU_SOURCE
 
 #include <inttypes.h>
+#include <signal.h>
 #include <stdio.h>
 #include <stdlib.h>
 #include <string.h>
 #include <sys/mman.h>
+#include <unistd.h>
 
-#include "check.h"
+#include "compare.h"
 
-enum { OFTEN_LONGEST = 1 << 18, MOST_CUTS = 40 };
+enum { OFTEN_LONGEST = 1 << 18, MOST_CUTS = 40, TAG = CHACHA20_TAG_BYTES, MOST_AAD = 3000 };
+
+/* Room for messages, their random_length and a page more. */
+enum { PAGE = 4096, LONGEST = 1 << 22, ROOM = LONGEST + PAGE };
+
+/* The cases of a kind that a run makes at least, and of calls by each level. */
+enum { KINDS = 5, LEAST_CASES = 10, LEAST_CALLS = 100 };
+
+struct run {
+    int level_count;
+    const char *level;             /* the one that runs */
+    const struct other *others[2]; /* the found one, if it is wanted, or else plain C, and plain C */
+    uint64_t random, seed;         /* the seed of the turn */
+    uint64_t bytes, differences, cases[KINDS], calls[MOST_LEVELS];
+};
+
+static const size_t nonce_len[LAYOUTS] = {12, 24, 8};
 
 /* A position in a stream: those of the legacy layout have more than 64 bits. */
 __extension__ typedef unsigned __int128 wide;
 
-static const int rounds_of[ROUNDS] = {8, 12, 20};
-static const size_t nonce_len[LAYOUTS] = {12, 24, 8};
-
-enum way { IN_PLACE, BETWEEN, KEYSTREAM, FILL, NEXT_U32, NEXT_U64, WORDS, WAYS };
-
-static const char *const layouts[] = {"ietf", "xchacha", "legacy"};
-static const char *const ways[] = {"in_place", "between", "keystream", "fill", "next_u32", "next_u64", "words"};
+enum way { IN_PLACE, BETWEEN, KEYSTREAM, FILL, WORDS, WAYS };
 
 /* A call of a cipher, or a read of a generator, that makes so many bytes; the position is in bytes in both. */
 struct call {
-    const struct library *library;
     enum layout layout;
-    int at_rounds;
     enum way way;
     uint64_t block, offset;
     size_t len;
@@ -45,7 +54,31 @@ struct call {
     const uint8_t *input;
 };
 
-uint8_t input[LONGEST + PAGE], expected[LONGEST + PAGE], made[LONGEST + PAGE];
+static uint8_t *input, *expected, *made;
+
+static uint8_t *reserve(size_t size) {
+    uint8_t *room = mmap(NULL, size, PROT_NONE, MAP_PRIVATE | MAP_ANONYMOUS | MAP_NORESERVE, -1, 0);
+    if (room == MAP_FAILED) puts("no room for addresses"), exit(2);
+    return room;
+}
+
+static void touched(int number) {
+    static const char text[] = "difference: a call that must be refused touched its buffers\n";
+    (void)number, (void)!write(1, text, sizeof text - 1);
+    _exit(1);
+}
+
+static void end_where_touched(int is_wanted) {
+    fflush(stdout);
+    signal(SIGSEGV, is_wanted ? touched : SIG_DFL);
+}
+
+/* Between pages that can't be touched. */
+static uint8_t *room(void) {
+    uint8_t *pages = reserve(ROOM + 2 * PAGE) + PAGE;
+    if (mprotect(pages, ROOM, PROT_READ | PROT_WRITE) != 0) puts("no pages"), exit(2);
+    return pages;
+}
 
 /* splitmix64 */
 static uint64_t next(struct run *run) {
@@ -55,65 +88,56 @@ static uint64_t next(struct run *run) {
     return x ^ x >> 31;
 }
 
-uint64_t below(struct run *run, uint64_t end) { return next(run) % end; }
+static uint64_t below(struct run *run, uint64_t end) { return next(run) % end; }
 
-void random_bytes(struct run *run, uint8_t *bytes, size_t len) {
+static void random_bytes(struct run *run, uint8_t *bytes, size_t len) {
     for (size_t i = 0; i < len; i++) bytes[i] = (uint8_t)(next(run) >> 56);
 }
 
 static void wrong(struct run *run, uint64_t count, const char *what) {
     run->differences += count;
-    if (run->is_control || run->differences - count >= 10) return;
-    printf("difference: %s; again: compare check 1 %" PRIu64 "\n", what, run->seed);
+    if (run->differences - count < 10) printf("difference: %s; again: compare check 1 %" PRIu64 "\n", what, run->seed);
 }
 
-void same_bytes(struct run *run, const uint8_t *found, const uint8_t *right, size_t len, const char *what) {
+static void same_bytes(struct run *run, const uint8_t *found, const uint8_t *right, size_t len, const char *what) {
     uint64_t count = 0;
     if (memcmp(found, right, len) == 0) return;
     for (size_t i = 0; i < len; i++) count += found[i] != right[i];
     wrong(run, count, what);
 }
 
-void holds(struct run *run, int fact, const char *what) { if (!fact) wrong(run, 1, what); }
+static void holds(struct run *run, int fact, const char *what) { if (!fact) wrong(run, 1, what); }
 
-/* What a call made. A difference is printed as the arguments that repeat the call. */
+/* What a call made. */
 static void right_call(struct run *run, const struct call *it, const uint8_t *found, const uint8_t *right) {
+    static const char *const layouts[] = {"ietf", "xchacha", "legacy"};
+    static const char *const ways[] = {"in place", "between", "keystream", "fill", "words"};
     char text[300];
     if (memcmp(found, right, it->len) == 0) return;
-    snprintf(text, sizeof text, "compare call %s %s %d %s %" PRIu64 " %" PRIu64 " %zu %d %d %" PRIu64, it->library->level,
-             layouts[it->layout], rounds_of[it->at_rounds], ways[it->way], it->block, it->offset, it->len,
-             (int)((uintptr_t)it->output % PAGE), (int)((uintptr_t)it->input % PAGE), run->seed);
+    snprintf(text, sizeof text, "level %s, %s, %s, block %" PRIu64 ", offset %" PRIu64 ", %zu bytes at %p from %p", run->level,
+             layouts[it->layout], ways[it->way], it->block, it->offset, it->len, (void *)it->output, (const void *)it->input);
     same_bytes(run, found, right, it->len, text);
 }
 
-const struct library *any_build(struct run *run) {
-    int at = (int)below(run, (uint64_t)run->machine->build_count);
+static void any_level(struct run *run) {
+    int at = (int)below(run, (uint64_t)run->level_count);
     run->calls[at]++;
-    return run->machine->builds[at];
+    run->level = set_level(at);
 }
 
-/* One that was found and has the layout with so many rounds, or plain C. */
-static const struct other *any_other(struct run *run, enum layout layout, int rounds, size_t len) {
-    const struct machine *machine = run->machine;
-    int first = machine->other_count > 0 ? (int)below(run, (uint64_t)machine->other_count) : 0;
-    for (int i = 0; rounds == 20 && i < machine->other_count; i++) {
-        const struct other *other = &machine->others[(first + i) % machine->other_count];
-        if (other->xor_from_block[layout]) return run->bytes_beside_found += len, other;
-    }
-    return run->bytes_beside_plain += len, &plain_c;
-}
+static const struct other *any_other(struct run *run) { return run->others[below(run, 8) == 0]; }
 
 /* What the bytes become by another implementation, which knows blocks alone. The room has 64 bytes more. */
-static const uint8_t *by_other(const struct other *other, enum layout layout, int rounds, const uint8_t *key,
-                               const uint8_t *nonce, wide position, const uint8_t *bytes, size_t len, uint8_t *room) {
+static const uint8_t *by_other(const struct other *other, enum layout layout, const uint8_t *key, const uint8_t *nonce,
+                               wide position, const uint8_t *bytes, size_t len, uint8_t *room) {
     size_t before = (size_t)(position % 64);
     memset(room, 0, before);
     memcpy(room + before, bytes, len);
-    other->xor_from_block[layout](rounds, key, nonce, (uint64_t)(position / 64), room, room, before + len);
+    other->xor_from_block[layout](key, nonce, (uint64_t)(position / 64), room, room, before + len);
     return room + before;
 }
 
-size_t random_length(struct run *run) {
+static size_t random_length(struct run *run) {
     static const size_t ends[] = {70, 300, 2000, 20000, OFTEN_LONGEST};
     return below(run, (below(run, 200) == 0 ? LONGEST : ends[below(run, 5)]) + 1);
 }
@@ -124,14 +148,12 @@ static wide end_of(enum layout layout) { return layout == LEGACY ? (wide)1 << 70
 /* A position from which so many bytes can be taken. */
 static wide random_position(struct run *run, enum layout layout, size_t len) {
     wide last = end_of(layout) - len;
-    switch (below(run, 8)) {
-        case 0: return 0;
-        case 1: return below(run, 5000);
-        case 2: return ((wide)1 << 32) - below(run, LONGEST);
-        case 3: return (layout == LEGACY ? (wide)1 << 38 : last / 2) - below(run, LONGEST);
-        case 4: return last - below(run, 5000);
-        case 5: return last;
-        case 6: return (layout == LEGACY ? (wide)1 << 64 : last / 3) - below(run, LONGEST);
+    switch (below(run, 6)) {
+        case 0: return below(run, 2) * below(run, 5000);
+        case 1: return ((wide)1 << 32) - below(run, LONGEST);
+        case 2: return (layout == LEGACY ? (wide)1 << 38 : last / 2) - below(run, LONGEST);
+        case 3: return last - below(run, 2) * below(run, 5000);
+        case 4: return (layout == LEGACY ? (wide)1 << 64 : last / 3) - below(run, LONGEST);
         default: return (((wide)next(run) << 64) + next(run)) % last;
     }
 }
@@ -152,10 +174,9 @@ static struct call at_position(struct run *run, enum layout layout, wide positio
 }
 
 /* XORs an input to an output, which is null where there is nothing to XOR. */
-static uint32_t by_cipher(const struct call *it, const uint8_t *key, const uint8_t *nonce) {
-    const struct cipher *cipher = &it->library->ciphers[it->layout][it->at_rounds];
+static int by_cipher(const struct call *it, const uint8_t *key, const uint8_t *nonce) {
+    const struct cipher *cipher = &ciphers[it->layout];
     uint8_t *output = it->len ? it->output : NULL;
-    uint32_t answer;
     if (it->way == IN_PLACE) {
         memmove(it->output, it->input, it->len);
         return cipher->xor(key, nonce, it->block, it->offset, output, output, it->len);
@@ -164,7 +185,7 @@ static uint32_t by_cipher(const struct call *it, const uint8_t *key, const uint8
     if (it->way == BETWEEN) {
         return cipher->xor(key, nonce, it->block, it->offset, output, it->len ? it->input : NULL, it->len);
     }
-    answer = cipher->keystream(key, nonce, it->block, it->offset, output, it->len);
+    int answer = cipher->keystream(key, nonce, it->block, it->offset, output, it->len);
     for (size_t i = 0; i < it->len; i++) it->output[i] ^= it->input[i];
     return answer;
 }
@@ -172,17 +193,16 @@ static uint32_t by_cipher(const struct call *it, const uint8_t *key, const uint8
 /* A message whole by another implementation, and in parts by the library. */
 static void one_message(struct run *run) {
     uint8_t key[32], nonce[24];
-    random_bytes(run, key, sizeof key);
-    random_bytes(run, nonce, sizeof nonce);
+    random_bytes(run, key, sizeof key), random_bytes(run, nonce, sizeof nonce);
     enum layout layout = (enum layout)below(run, LAYOUTS);
-    int at_rounds = layout == LEGACY || below(run, 40) > 0 ? 2 : (int)below(run, 2);
     size_t len = random_length(run), cuts[MOST_CUTS + 2], order[MOST_CUTS + 1];
     wide position = random_position(run, layout, len);
     int parts = 1 + (int)below(run, below(run, 4) == 0 ? MOST_CUTS + 1 : 4);
-    random_bytes(run, input, len < 512 ? len : 512);
-    const struct other *other = any_other(run, layout, rounds_of[at_rounds], len);
-    const uint8_t *right = by_other(other, layout, rounds_of[at_rounds], key, nonce, position, input, len, expected);
-    uint8_t *output = made + below(run, 64);
+    const uint8_t *text = input + (below(run, 2) ? ROOM - len : 0);
+    const uint8_t *right = by_other(any_other(run), layout, key, nonce, position, text, len, expected);
+    run->bytes += len;
+    /* At any place, or at either end of the room. */
+    uint8_t *output = made + (size_t[]){0, below(run, 64), ROOM - len}[below(run, 3)];
     memset(output, 0x55, len);
     cuts[0] = 0, cuts[parts] = len;
     for (int i = 1; i < parts; i++) cuts[i] = cuts[i - 1] + below(run, len - cuts[i - 1] + 1);
@@ -193,8 +213,8 @@ static void one_message(struct run *run) {
     for (int i = 0; i < parts; i++) {
         size_t from = cuts[order[i]];
         struct call call = at_position(run, layout, position + from);
-        call.library = any_build(run), call.at_rounds = at_rounds, call.way = (enum way)below(run, 3);
-        call.len = cuts[order[i] + 1] - from, call.output = output + from, call.input = input + from;
+        any_level(run), call.way = (enum way)below(run, FILL);
+        call.len = cuts[order[i] + 1] - from, call.output = output + from, call.input = text + from;
         holds(run, by_cipher(&call, key, nonce) == CHACHA20_OK, "a part was refused");
         right_call(run, &call, call.output, right + from);
     }
@@ -202,77 +222,59 @@ static void one_message(struct run *run) {
 }
 
 /* Words of the legacy layout from a block on, by another implementation; after the last block comes the first. */
-static void wrapping_blocks(const struct other *other, int rounds, const uint8_t *key, const uint8_t *nonce,
-                            uint64_t block, uint8_t *room, size_t len) {
+static void wrapping_blocks(const struct other *other, const uint8_t *key, const uint8_t *nonce, uint64_t block, uint8_t *room,
+                            size_t len) {
     size_t to_end = block > UINT64_MAX - LONGEST ? 64 * (size_t)(UINT64_MAX - block) + 64 : len;
     if (to_end > len) to_end = len;
     memset(room, 0, len);
-    other->xor_from_block[LEGACY](rounds, key, nonce, block, room, room, to_end);
-    if (to_end < len) other->xor_from_block[LEGACY](rounds, key, nonce, 0, room + to_end, room + to_end, len - to_end);
+    other->xor_from_block[LEGACY](key, nonce, block, room, room, to_end);
+    if (to_end < len) other->xor_from_block[LEGACY](key, nonce, 0, room + to_end, room + to_end, len - to_end);
 }
 
-static uint64_t stream_of(const uint8_t nonce[8]) {
-    uint64_t stream = 0;
-    for (int i = 7; i >= 0; i--) stream = stream << 8 | nonce[i];
-    return stream;
-}
-
-/* Words one by one, which leave zeros behind. */
-static void by_words(const struct call *it, uint8_t *state) {
+/* Words one by one, from an object with whatever bytes. They leave zeros behind. */
+static void by_words(struct run *run, const struct call *it, uint8_t *state) {
     chacha20_words words;
-    int is_zero = 1;
-    it->library->words_from_state(&words, state);
+    size_t unread;
+    memset(&words, 0xa5, sizeof words);
+    chacha20_words_from_state(&words, state);
     for (size_t i = 0; i < it->len; i += 4) {
-        uint32_t word = it->library->words_next(&words);
+        uint32_t word = chacha20_words_next(&words);
         for (size_t j = 0; j < 4 && i + j < it->len; j++) it->output[i + j] = (uint8_t)(word >> (8 * j));
     }
-    for (size_t i = 0; i < words.used && i < sizeof words.words; i++) is_zero &= words.words[i] == 0;
-    if (!is_zero && it->len > 0) it->output[0] ^= 1;
-    it->library->words_to_state(&words, state);
+    unread = words.unread < sizeof words.words ? words.unread : sizeof words.words;
+    for (size_t i = 0; i < sizeof words.words - unread; i++) holds(run, words.words[i] == 0, "a word that was taken is left");
+    chacha20_words_to_state(&words, state);
 }
 
-static void by_generator(const struct call *it, uint8_t *state) {
-    const struct library *library = it->library;
-    if (it->way == WORDS) {
-        by_words(it, state);
-        return;
-    }
-    if (it->way == FILL) {
-        library->fill[it->at_rounds](state, it->len ? it->output : NULL, it->len);
-        return;
-    }
-    uint64_t words = it->way == NEXT_U32 ? library->next_u32[it->at_rounds](state) : library->next_u64[it->at_rounds](state);
-    for (size_t i = 0; i < it->len; i++) it->output[i] = (uint8_t)(words >> (8 * i));
+static void by_generator(struct run *run, const struct call *it, uint8_t *state) {
+    if (it->way == WORDS) by_words(run, it, state);
+    else chacha20_rng_fill(state, it->len ? it->output : NULL, it->len);
 }
 
 /* Reads of a generator: its stream is that of the legacy cipher under the seed, from the word's place on, and begins
    again after 2^68 words. */
 static void one_generator(struct run *run) {
-    uint8_t seed[32], nonce[24], state[CHACHA_RNG_STATE_BYTES];
-    random_bytes(run, seed, sizeof seed);
-    random_bytes(run, nonce, sizeof nonce);
-    int at_rounds = below(run, 40) > 0 ? 2 : (int)below(run, 2);
+    uint8_t seed[32], nonce[24], state[CHACHA_RNG_STATE_BYTES], kept[CHACHA_RNG_STATE_BYTES];
+    random_bytes(run, seed, sizeof seed), random_bytes(run, nonce, sizeof nonce), random_bytes(run, state, sizeof state);
     size_t words = random_length(run) / 4, done = 0;
-    uint64_t block = next(run) >> below(run, 64), stream = stream_of(nonce), low, high;
+    uint8_t *output = made + (below(run, 2) ? ROOM - 4 * words : 0);
+    uint64_t block = next(run) >> below(run, 64), stream = 0, low, high;
     unsigned in_block = (unsigned)below(run, 16);
+    for (int i = 7; i >= 0; i--) stream = stream << 8 | nonce[i];
     if (below(run, 4) == 0) block = UINT64_MAX - below(run, below(run, 2) ? 8 : LONGEST / 64);
-    random_bytes(run, state, sizeof state);
-    const struct other *other = any_other(run, LEGACY, rounds_of[at_rounds], 4 * words);
-    wrapping_blocks(other, rounds_of[at_rounds], seed, nonce, block, expected, 4 * (words + in_block));
+    wrapping_blocks(any_other(run), seed, nonce, block, expected, 4 * (words + in_block));
     const uint8_t *right = expected + 4 * in_block;
-    any_build(run)->from_seed(seed, state);
-    any_build(run)->set_stream(state, stream);
-    if (in_block == 0) any_build(run)->set_block_pos(state, block);
-    else any_build(run)->set_word_pos(state, block << 4 | in_block, block >> 60 | next(run) << 4);
+    any_level(run), chacha_rng_from_seed(seed, state);
+    any_level(run), chacha_rng_set_stream(state, stream);
+    if (in_block == 0) chacha_rng_set_block_pos(state, block);
+    else chacha_rng_set_word_pos(state, block << 4 | in_block, block >> 60 | next(run) << 4);
     while (done < words) {
         size_t left = 4 * (words - done), len = below(run, (left < 70 || below(run, 2) ? left : 70) + 1);
-        enum way way = (enum way)(FILL + below(run, 5) % 4);
-        if (way == NEXT_U64 && left < 8) continue;
-        if (way == WORDS && at_rounds < 2) continue;
-        struct call call = {any_build(run), LEGACY, at_rounds, way, block + (in_block + done) / 16,
-                            (in_block + done) % 16 * 4, way == NEXT_U32 ? 4 : way == NEXT_U64 ? 8 : len, made + 4 * done, NULL};
+        struct call call = {LEGACY, (enum way)(FILL + below(run, 2)), block + (in_block + done) / 16, (in_block + done) % 16 * 4, len,
+                            output + 4 * done, NULL};
+        any_level(run);
         state[48] |= (uint8_t)(below(run, 16) << 4);
-        by_generator(&call, state);
+        by_generator(run, &call, state);
         if (call.len == 0) state[48] &= 15;
         right_call(run, &call, call.output, right + 4 * done);
         /* What is left of the last word is lost. */
@@ -280,159 +282,404 @@ static void one_generator(struct run *run) {
         holds(run, state[48] < 16, "the upper half of a written state's last byte");
     }
     wide word_pos = (((wide)block << 4) + in_block + words) % ((wide)1 << 68);
-    uint8_t kept[CHACHA_RNG_STATE_BYTES];
     state[48] |= (uint8_t)(below(run, 16) << 4);
     memcpy(kept, state, sizeof kept);
-    any_build(run)->get_word_pos(state, &low, &high);
+    any_level(run), chacha_rng_get_word_pos(state, &low, &high);
     holds(run, low == (uint64_t)word_pos && high == (uint64_t)(word_pos >> 64), "a word position");
-    holds(run, any_build(run)->get_block_pos(state) == (uint64_t)(word_pos / 16), "a block position");
-    holds(run, any_build(run)->get_stream(state) == stream && memcmp(state, seed, 32) == 0, "a stream or a seed");
+    holds(run, chacha_rng_get_block_pos(state) == (uint64_t)(word_pos / 16), "a block position");
+    holds(run, chacha_rng_get_stream(state) == stream && memcmp(state, seed, 32) == 0, "a stream or a seed");
     same_bytes(run, state, kept, sizeof kept, "a state that was read");
-    any_build(run)->set_stream(state, stream + 1);
-    any_build(run)->get_word_pos(state, &low, &high);
-    holds(run, low == 0 && high == 0 && state[48] == 0 && any_build(run)->get_stream(state) == stream + 1,
+    any_level(run), chacha_rng_set_block_pos(state, block);
+    any_level(run), chacha_rng_get_word_pos(state, &low, &high);
+    holds(run, low == block << 4 && high == block >> 60 && chacha_rng_get_stream(state) == stream, "a block's first word");
+    any_level(run), chacha_rng_set_stream(state, stream + 1);
+    any_level(run), chacha_rng_get_word_pos(state, &low, &high);
+    holds(run, low == 0 && high == 0 && state[48] == 0 && chacha_rng_get_stream(state) == stream + 1 && memcmp(state, seed, 32) == 0,
           "another stream begins at its first word");
-    any_build(run)->set_block_pos(state, block);
-    any_build(run)->get_word_pos(state, &low, &high);
-    holds(run, low == block << 4 && high == block >> 60 && memcmp(state, seed, 32) == 0, "a block's first word");
-}
-
-/* Whether the cipher and its check answer so, in place, between buffers and for the keystream. */
-static int answers(const struct call *it, const struct call *at, const uint8_t *key, const uint8_t *nonce, size_t len,
-                   uint32_t answer) {
-    const struct cipher *cipher = &it->library->ciphers[it->layout][it->at_rounds];
-    uint8_t *output = len ? made : NULL, *from = len ? expected : NULL;
-    return cipher->xor(key, nonce, at->block, at->offset, output, output, len) == answer &&
-           cipher->xor(key, nonce, at->block, at->offset, output, from, len) == answer &&
-           cipher->keystream(key, nonce, at->block, at->offset, output, len) == answer &&
-           it->library->check[it->layout](at->block, at->offset, len) == answer;
-}
-
-/* A refusal leaves what was there. */
-static void one_refusal(struct run *run) {
-    uint8_t key[32], nonce[24];
-    random_bytes(run, key, sizeof key);
-    random_bytes(run, nonce, sizeof nonce);
-    enum layout layout = (enum layout)below(run, LAYOUTS);
-    size_t len = 1 + below(run, 300);
-    wide end = end_of(layout), greatest = layout == LEGACY ? (wide)65 * UINT64_MAX : UINT64_MAX;
-    wide past = below(run, 2) ? below(run, len) : (((wide)next(run) << 64) + next(run)) % (greatest - end);
-    struct call it = {.library = any_build(run), .layout = layout, .at_rounds = layout == LEGACY ? 2 : (int)below(run, ROUNDS)};
-    struct call at = at_position(run, layout, end - len + 1 + past), last = at_position(run, layout, end - len);
-    struct call ends = at_position(run, layout, end), beyond = at_position(run, layout, end + 1 + past);
-    random_bytes(run, input, len);
-    memcpy(made, input, len);
-    holds(run, answers(&it, &at, key, nonce, len, CHACHA20_REFUSED), "taken past the end");
-    same_bytes(run, made, input, len, "a refused call wrote");
-    holds(run, answers(&it, &last, key, nonce, len, CHACHA20_OK), "refused up to the end");
-    holds(run, answers(&it, &ends, key, nonce, 0, CHACHA20_OK), "nothing at the end was refused");
-    holds(run, answers(&it, &beyond, key, nonce, 0, CHACHA20_REFUSED), "nothing past the end was taken");
 }
 
 static void one_subkey(struct run *run) {
-    int at_rounds = (int)below(run, ROUNDS);
     uint8_t key[32], block[16], found[32], right[32];
-    const struct machine *machine = run->machine;
-    const struct other *other = &plain_c;
-    for (int i = 0; i < machine->other_count; i++) {
-        if (at_rounds == 2 && machine->others[i].hchacha) other = &machine->others[i];
-    }
-    random_bytes(run, key, sizeof key);
-    random_bytes(run, block, sizeof block);
-    other->hchacha(rounds_of[at_rounds], key, block, right);
-    any_build(run)->hchacha[at_rounds](key, block, found);
+    random_bytes(run, key, sizeof key), random_bytes(run, block, sizeof block);
+    any_other(run)->hchacha(key, block, right);
+    any_level(run), hchacha20(key, block, found);
     same_bytes(run, found, right, sizeof right, "a subkey");
 }
 
-/* Two pages, between pages that can't be touched, with a buffer at their front or their end, and 0xa5 beside it. */
-enum { KEYS, NONCES, INPUTS, OUTPUTS, EDGES, ROOM = 2 * PAGE, MOST_AT_EDGE = 1400 };
-
-static struct edge {
-    uint8_t *pages, *buffer;
-    size_t len;
-} edges[EDGES];
-
-static uint8_t *put(int which, int at_end, size_t len) {
-    struct edge *it = &edges[which];
-    if (!it->pages) {
-        uint8_t *room = mmap(NULL, ROOM + 2 * PAGE, PROT_NONE, MAP_PRIVATE | MAP_ANONYMOUS, -1, 0);
-        if (room == MAP_FAILED || mprotect(room + PAGE, ROOM, PROT_READ | PROT_WRITE) != 0) puts("no pages"), exit(2);
-        it->pages = room + PAGE;
+/* An object of zeros, as a wiped one, begins at the first word of the seed of zeros. */
+static void words_of_zeros(struct run *run) {
+    static const uint8_t zeros[64];
+    chacha20_words words = {.unread = 0};
+    uint8_t right[64];
+    plain_c.xor_from_block[LEGACY](zeros, zeros, 0, right, zeros, sizeof right);
+    for (int i = 0; i < 16; i++) {
+        uint32_t word = chacha20_words_next(&words);
+        same_bytes(run, (const uint8_t *)&word, right + 4 * i, 4, "a word of zeros");
     }
-    memset(it->pages, 0xa5, ROOM);
-    it->len = len;
-    return it->buffer = it->pages + (at_end ? ROOM - len : 0);
 }
 
-static void beside_stays(struct run *run) {
-    uint64_t changed = 0;
-    for (const struct edge *it = edges; it < edges + EDGES; it++) {
-        for (const uint8_t *at = it->pages; at < it->buffer; at++) changed += *at != 0xa5;
-        for (const uint8_t *at = it->buffer + it->len; at < it->pages + ROOM; at++) changed += *at != 0xa5;
-    }
-    if (changed) wrong(run, changed, "bytes beside a buffer");
+/* Authenticated encryption */
+
+/* A message by another implementation: the text is in |input|, the ciphertext in |expected|. */
+struct sealed {
+    enum layout layout;
+    uint8_t key[32], nonce[24], aad[MOST_AAD], tag[TAG];
+    size_t aad_len, len;
+};
+
+static void seal_by_other(struct run *run, struct sealed *it) {
+    any_other(run)->encrypt[it->layout](it->key, it->nonce, it->aad, it->aad_len, expected, input, it->len, it->tag);
 }
 
-/* A call with each of its pointers there; the state of a generator stands where the nonce of a cipher does. */
-static void call_at_edge(struct run *run, const struct library *library, enum layout layout, int at_rounds, enum way way,
-                         size_t len, int at_end) {
-    static const uint8_t stream_0[8] = {0};
-    uint64_t position = below(run, 50) * 4;
-    uint8_t *key = put(KEYS, at_end, 32), *nonce = put(NONCES, at_end, way < FILL ? nonce_len[layout] : CHACHA_RNG_STATE_BYTES);
-    struct call it = {library, layout, at_rounds, way, position / 64, position % 64, len, put(OUTPUTS, at_end, len),
-                      put(INPUTS, at_end, len)};
-    run->seed = run->random;
-    random_bytes(run, key, 32);
-    random_bytes(run, nonce, edges[NONCES].len);
-    memset(edges[INPUTS].buffer, way < FILL ? 0x33 : 0, len);
-    const uint8_t *right = by_other(&plain_c, layout, rounds_of[at_rounds], key, way < FILL ? nonce : stream_0, position, it.input,
-                                    len, expected);
-    if (way < FILL) {
-        holds(run, by_cipher(&it, key, nonce) == CHACHA20_OK, "an answer at an edge");
-    } else {
-        library->from_seed(key, nonce);
-        library->set_word_pos(nonce, position / 4, 0);
-        by_generator(&it, nonce);
-    }
-    right_call(run, &it, it.output, right);
-    beside_stays(run);
+/* In place, or between buffers of which the output is first filled. Of length 0 buffers are null. */
+static int encrypt(const struct sealed *it, int is_in_place, uint8_t *tag) {
+    uint8_t *output = it->len ? made : NULL;
+    if (is_in_place) memcpy(made, input, it->len);
+    else memset(made, 0x55, it->len);
+    return aeads[it->layout].encrypt(it->key, it->nonce, it->aad_len ? it->aad : NULL, it->aad_len, output,
+                                              is_in_place || !it->len ? output : input, it->len, tag);
 }
 
-/* The functions with a fixed number of bytes. */
-static void others_at_edge(struct run *run, const struct library *library, int at_rounds, int at_end) {
-    uint8_t right[32], *key = put(KEYS, at_end, 32), *state = put(NONCES, at_end, 49), *subkey = put(OUTPUTS, at_end, 32);
-    uint64_t *low = (uint64_t *)(void *)put(INPUTS, at_end, 8), *high = (uint64_t *)(void *)subkey;
-    random_bytes(run, key, 32);
-    random_bytes(run, state, 16);
-    plain_c.hchacha(rounds_of[at_rounds], key, state, right);
-    library->hchacha[at_rounds](key, state, subkey);
-    same_bytes(run, subkey, right, 32, "a subkey at an edge");
-    library->from_seed(key, state);
-    library->set_stream(state, 7);
-    library->set_block_pos(state, 9);
-    library->get_word_pos(state, low, high);
-    holds(run, *low == 144 && *high == 0 && library->get_stream(state) == 7 && library->get_block_pos(state) == 9, "a state's edge");
-    beside_stays(run);
+static int decrypt(const struct sealed *it, int is_in_place, const uint8_t *ciphertext) {
+    uint8_t *output = it->len ? made : NULL;
+    if (is_in_place) memcpy(made, ciphertext, it->len);
+    else memset(made, 0x55, it->len);
+    return aeads[it->layout].decrypt(it->key, it->nonce, it->aad_len ? it->aad : NULL, it->aad_len, output,
+                                              is_in_place || !it->len ? output : ciphertext, it->len, it->tag);
 }
 
-/* Every function with each of its pointers at the front or the end of mapped pages, length 0 included, where a pointer at
-   the end is that of a page that can't be touched. */
-static void at_edges(struct run *run, const struct library *library) {
-    for (size_t len = 0; len <= MOST_AT_EDGE; len += len < 140 ? 1 : 63) {
-        for (int i = 0; i < 2 * LAYOUTS * ROUNDS * WAYS; i++) {
-            enum layout layout = (enum layout)(i / 2 % LAYOUTS);
-            enum way way = (enum way)(i / 2 / LAYOUTS / ROUNDS);
-            int at_rounds = i / 2 / LAYOUTS % ROUNDS;
-            if (way < FILL ? !library->ciphers[layout][at_rounds].xor : layout != LEGACY) continue;
-            if (way == WORDS && at_rounds < 2) continue;
-            call_at_edge(run, library, layout, at_rounds, way, way == NEXT_U32 ? 4 : way == NEXT_U64 ? 8 : len, i % 2);
+static void is_right(struct run *run, const struct sealed *it, int is_in_place) {
+    uint8_t tag[TAG];
+    holds(run, encrypt(it, is_in_place, tag) == CHACHA20_OK, "a message wasn't encrypted");
+    same_bytes(run, made, expected, it->len, "a ciphertext");
+    same_bytes(run, tag, it->tag, TAG, "a tag");
+    holds(run, decrypt(it, is_in_place, expected) == CHACHA20_OK, "a right tag was refused");
+    same_bytes(run, made, input, it->len, "a decrypted text");
+}
+
+/* A refused message leaves what was there. */
+static void is_refused(struct run *run, const struct sealed *it, int is_in_place,
+                       const uint8_t *ciphertext) {
+    size_t changed = 0;
+    holds(run, decrypt(it, is_in_place, ciphertext) == CHACHA20_REFUSED, "a forgery was taken");
+    for (size_t i = 0; i < it->len; i++) changed += made[i] != (is_in_place ? ciphertext[i] : 0x55);
+    holds(run, changed == 0, "a forgery was written");
+}
+
+/* A bit of one of what the tag depends on is wrong. */
+static void forge(struct run *run, struct sealed *it) {
+    const struct {
+        uint8_t *bytes;
+        size_t len;
+    } parts[] = {{it->tag, TAG}, {it->key, 32}, {it->nonce, nonce_len[it->layout]}, {it->aad, it->aad_len}, {expected, it->len}};
+    size_t which = below(run, sizeof parts / sizeof parts[0]), at = parts[which].len > 0 ? which : 0;
+    parts[at].bytes[below(run, parts[at].len)] ^= (uint8_t)(1 << below(run, 8));
+    any_level(run), is_refused(run, it, (int)below(run, 2), expected);
+}
+
+static void one_sealed(struct run *run) {
+    struct sealed it = {.layout = (enum layout)below(run, AEADS), .len = random_length(run)};
+    it.aad_len = below(run, below(run, 4) ? 70 : MOST_AAD + 1);
+    random_bytes(run, it.key, sizeof it.key), random_bytes(run, it.nonce, sizeof it.nonce);
+    random_bytes(run, it.aad, it.aad_len);
+    seal_by_other(run, &it);
+    any_level(run), is_right(run, &it, (int)below(run, 2));
+    forge(run, &it);
+}
+
+/* A text whose blocks have the sum 2^130 - 2 + 5 * fours - less modulo 2^130 - 5, under a key of 1: two blocks, and before them
+   blocks of zeros, of which four add 2^130. An accumulator that isn't reduced at the end, or too often, makes a wrong tag. */
+static size_t close_to_prime(uint8_t *key, uint8_t *text, size_t fours, uint8_t less) {
+    memset(key, 0, 16), key[0] = 1;
+    memset(text, 0, 64 * fours), memset(text + 64 * fours, 255, 32);
+    text[64 * fours] = (uint8_t)(255 - less);
+    return 64 * fours + 32;
+}
+
+/* The MAC alone, under any key, and the verification of tags. */
+static void one_tag(struct run *run) {
+    uint8_t key[32], right[TAG], tag[TAG];
+    int kind = (int)below(run, 4);
+    size_t len = below(run, 3000);
+    random_bytes(run, key, sizeof key), random_bytes(run, input, len);
+    if (kind == 0) len = close_to_prime(key, input, below(run, 3), (uint8_t)below(run, 12));
+    if (kind == 1) memset(key, 255, 16), memset(input, 255, len);
+    any_other(run)->poly1305(key, input, len, right);
+    any_level(run), chacha_poly1305(key, len ? input : NULL, len, tag);
+    same_bytes(run, tag, right, TAG, "a MAC");
+    size_t compared = below(run, 100), at = below(run, compared + 1);
+    memcpy(made, input, compared);
+    holds(run, chacha20_verify(input, made, compared) == CHACHA20_OK, "equal bytes were refused");
+    made[at] ^= (uint8_t)(1 << below(run, 8));
+    holds(run, chacha20_verify(made, input, compared) == (at == compared ? CHACHA20_OK : CHACHA20_REFUSED), "unequal bytes");
+    holds(run, chacha20_verify(NULL, NULL, 0) == CHACHA20_OK, "no bytes were refused");
+}
+
+static void sealed_by_each_length(struct run *run) {
+    static struct sealed it;
+    random_bytes(run, it.key, sizeof it.key), random_bytes(run, it.nonce, sizeof it.nonce), random_bytes(run, it.aad, 41);
+    for (it.len = 0; it.len <= 300; it.len++) {
+        for (it.aad_len = 0; it.aad_len <= 40; it.aad_len++) {
+            it.layout = (enum layout)((it.len + it.aad_len) % AEADS);
+            it.nonce[0]++;
+            seal_by_other(run, &it);
+            is_right(run, &it, it.aad_len % 2), is_right(run, &it, !(it.aad_len % 2));
         }
     }
-    for (int i = 0; i < 2 * ROUNDS; i++) others_at_edge(run, library, i / 2, i % 2);
+}
+
+/* Lengths that no message has, wrapped ones too, on pages that can't be touched. */
+static void refused_lengths(struct run *run, const struct aead *aead, const struct sealed *it, uint8_t *room) {
+    static const size_t gib = (size_t)1 << 30;
+    const uint8_t *key = it->key, *nonce = it->nonce, *aad = room + 7 * gib;
+    const size_t lengths[] = {CHACHA20_AEAD_LONGEST + 1, CHACHA20_STREAM_BYTES, (size_t)1 << 39, (size_t)1 << 63, 0 - (size_t)64,
+                              0 - (size_t)16, 0 - (size_t)1};
+    uint8_t tag[TAG], *output = room + PAGE, *other = room + 6 * gib;
+    for (size_t i = 0; i < sizeof lengths / sizeof lengths[0]; i++) {
+        size_t len = lengths[i], aad_len = len > PTRDIFF_MAX ? len : (size_t)PTRDIFF_MAX + 1;
+        holds(run, aead->encrypt(key, nonce, aad, 8, output, output, len, tag) == CHACHA20_REFUSED &&
+                       aead->encrypt(key, nonce, aad, 8, output, other, len, tag) == CHACHA20_REFUSED &&
+                       aead->encrypt(key, nonce, aad, aad_len, output, output, 8, tag) == CHACHA20_REFUSED &&
+                       aead->decrypt(key, nonce, aad, 8, output, output, len, tag) == CHACHA20_REFUSED &&
+                       aead->decrypt(key, nonce, aad, 8, output, other, len, tag) == CHACHA20_REFUSED &&
+                       aead->decrypt(key, nonce, aad, aad_len, output, output, 8, tag) == CHACHA20_REFUSED,
+              "a length that no message has was taken");
+    }
+}
+
+/* What a call is given, each part at its place in one room. */
+enum part { KEY, NONCE, AAD, INPUT, OUTPUT, ITS_TAG, PARTS };
+enum kind { ENCRYPT, DECRYPT, BY_XOR, BY_KEYSTREAM, CALL_KINDS };
+
+/* What a kind of call lacks has length 0. Ciphers begin at block 1, as encryption does. */
+static void lengths_of(const struct sealed *it, enum kind kind, size_t *len) {
+    const size_t all[PARTS] = {32, nonce_len[it->layout], kind < BY_XOR ? it->aad_len : 0, kind == BY_KEYSTREAM ? 0 : it->len, it->len,
+                               kind < BY_XOR ? TAG : 0};
+    memcpy(len, all, sizeof all);
+}
+
+static int call_of(enum layout layout, enum kind kind, uint8_t *const *at, const size_t *len) {
+    const struct cipher *cipher = &ciphers[layout];
+    switch (kind) {
+        case ENCRYPT:
+            return aeads[layout].encrypt(at[KEY], at[NONCE], at[AAD], len[AAD], at[OUTPUT], at[INPUT], len[OUTPUT], at[ITS_TAG]);
+        case DECRYPT:
+            return aeads[layout].decrypt(at[KEY], at[NONCE], at[AAD], len[AAD], at[OUTPUT], at[INPUT], len[OUTPUT], at[ITS_TAG]);
+        case BY_XOR: return cipher->xor(at[KEY], at[NONCE], 1, 0, at[OUTPUT], at[INPUT], len[OUTPUT]);
+        default: return cipher->keystream(at[KEY], at[NONCE], 1, 0, at[OUTPUT], len[OUTPUT]);
+    }
+}
+
+/* Two parts with so many bytes from the first one's begin to the second one's; the others lie far away, and a part of length
+   0 or the same text in place overlaps nothing. Where a call must be taken, its bytes must be right. */
+static void two_parts(struct run *run, struct sealed *it, enum kind kind, enum part one,
+                      enum part other, ptrdiff_t apart) {
+    static uint8_t room[8 * 1024], before[8 * 1024];
+    const uint8_t *const from[PARTS] = {it->key, it->nonce, it->aad, kind == DECRYPT ? expected : input, NULL, kind == DECRYPT ? it->tag : NULL};
+    size_t len[PARTS];
+    uint8_t *at[PARTS];
+    lengths_of(it, kind, len);
+    for (int i = 0; i < PARTS; i++) at[i] = room + 1024 * (i + 1);
+    at[other] = at[one] + apart;
+    int is_apart = apart >= (ptrdiff_t)len[one] || -apart >= (ptrdiff_t)len[other] || len[one] == 0 || len[other] == 0;
+    int is_taken = is_apart || (one == OUTPUT && other == INPUT && apart == 0);
+    memset(room, 0x55, sizeof room);
+    for (int i = 0; i < PARTS; i++) {
+        if (from[i]) memcpy(at[i], from[i], len[i]);
+    }
+    memcpy(before, room, sizeof room);
+    int answer = call_of(it->layout, kind, at, len);
+    holds(run, answer == (is_taken ? CHACHA20_OK : CHACHA20_REFUSED), is_taken ? "parts that don't overlap" : "an overlap");
+    if (!is_taken) {
+        same_bytes(run, room, before, sizeof room, "an overlap was refused and written");
+        return;
+    }
+    for (size_t i = 0; i < it->len; i++) at[OUTPUT][i] ^= kind == BY_KEYSTREAM ? input[i] : 0;
+    same_bytes(run, at[OUTPUT], kind == DECRYPT ? input : expected, it->len, "parts beside each other");
+    if (kind == ENCRYPT) same_bytes(run, at[ITS_TAG], it->tag, TAG, "a tag beside another part");
+}
+
+/* The output and the tag that is written, with each other part: before it, behind it, and sharing a byte or more. */
+static void overlaps(struct run *run, struct sealed *it) {
+    for (int i = 0; i < CALL_KINDS * PARTS * PARTS; i++) {
+        enum kind kind = (enum kind)(i / PARTS / PARTS);
+        enum part one = (enum part)(i / PARTS % PARTS), other = (enum part)(i % PARTS);
+        size_t len[PARTS];
+        lengths_of(it, kind, len);
+        const ptrdiff_t first = (ptrdiff_t)len[one], second = (ptrdiff_t)len[other];
+        if (one == other || (one != OUTPUT && (one != ITS_TAG || kind != ENCRYPT)) || (it->layout == LEGACY && kind < BY_XOR)) continue;
+        const ptrdiff_t all[] = {-second, 1 - second, -1, 0, 1, first - 1, first};
+        for (size_t j = 0; j < sizeof all / sizeof all[0]; j++) two_parts(run, it, kind, one, other, all[j]);
+    }
+}
+
+/* The tag of a ciphertext that ends with the tag's first byte stands over that byte. */
+static void tag_over_input(struct run *run, struct sealed *it) {
+    static uint8_t both[1000];
+    for (int i = 0; i < 10000 && (i == 0 || expected[it->len - 1] != it->tag[0]); i++) {
+        if (++it->nonce[0] == 0) it->nonce[1]++;
+        seal_by_other(run, it);
+    }
+    memcpy(both, expected, it->len), memcpy(both + it->len - 1, it->tag, TAG);
+    holds(run, aeads[it->layout].decrypt(it->key, it->nonce, it->aad, it->aad_len, made, both, it->len, both + it->len - 1) ==
+                   CHACHA20_OK, "a tag over the input");
+    same_bytes(run, made, input, it->len, "a text whose tag is over the input");
+}
+
+static void parts_beside_each_other(struct run *run) {
+    static const size_t lengths[][2] = {{0, 5}, {1, 0}, {16, 13}, {100, 16}, {300, 1}};
+    static struct sealed it;
+    const size_t size = (size_t)12 << 30;
+    uint8_t *room = reserve(size);
+    random_bytes(run, it.key, sizeof it.key), random_bytes(run, it.nonce, sizeof it.nonce), random_bytes(run, it.aad, 16);
+    end_where_touched(1);
+    for (size_t i = 0; i < LAYOUTS * sizeof lengths / sizeof lengths[0]; i++) {
+        it.layout = (enum layout)(i % LAYOUTS), it.len = lengths[i / LAYOUTS][0], it.aad_len = lengths[i / LAYOUTS][1];
+        it.nonce[0]++;
+        if (it.layout == LEGACY) plain_c.xor_from_block[LEGACY](it.key, it.nonce, 1, expected, input, it.len);
+        else seal_by_other(run, &it);
+        overlaps(run, &it);
+        if (it.layout == LEGACY) continue;
+        if (it.len > 0) tag_over_input(run, &it);
+        refused_lengths(run, &aeads[it.layout], &it, room + 8 * PAGE);
+    }
+    end_where_touched(0);
+    munmap(room, size);
+}
+
+/* What needs more than 32 bits. A refused call touches no byte, so its buffers can lie on pages that can't be touched. */
+
+#define GIB ((size_t)1 << 30)
+
+static const uint8_t far_key[32] = {1, 2, 3}, far_nonce[24] = {4, 5, 6};
+
+static int refuses(const struct cipher *it, uint8_t *output, const uint8_t *from, size_t len) {
+    return it->xor(far_key, far_nonce, 0, 0, output, from, len) == CHACHA20_REFUSED;
+}
+
+/* Overlaps in part, and lengths that pass the end of the stream by one byte. */
+static void refused(struct run *run, enum layout layout, const struct cipher *it, uint8_t *room) {
+    static const size_t lengths[] = {1,      2,      63,         64,          4095,    4096,        4097,
+                                     65536,  1 << 20, (1 << 20) + 1, 3 << 20, 2 * GIB, 4 * GIB - 1, 4 * GIB, 4 * GIB + 1, 5 * GIB};
+    for (size_t i = 0; i < sizeof lengths / sizeof lengths[0]; i++) {
+        size_t len = lengths[i], all[] = {1, len / 2, len - 1, len % 4096, len > 4 * GIB ? 4 * GIB : 0};
+        /* The last byte is the stream's byte 2^38 or 2^70. */
+        uint64_t before = (len + 62) / 64, block = (layout == LEGACY ? UINT64_MAX : UINT32_MAX) - before;
+        uint64_t offset = 64 * (before + 1) - len + 1;
+        for (size_t j = 0; j < sizeof all / sizeof all[0]; j++) {
+            uint8_t *other = room + all[j];
+            if (all[j] == 0 || all[j] >= len) continue;
+            holds(run, refuses(it, room, other, len) && refuses(it, other, room, len), "an overlap in part was taken");
+        }
+        holds(run, it->xor(far_key, far_nonce, block, offset, room, room, len) == CHACHA20_REFUSED &&
+                       it->xor(far_key, far_nonce, block, offset, room, room + len, len) == CHACHA20_REFUSED &&
+                       it->keystream(far_key, far_nonce, block, offset, room, len) == CHACHA20_REFUSED &&
+                       it->check(block, offset, len) == CHACHA20_REFUSED && it->check(block, offset - 1, len) == CHACHA20_OK,
+              "the end of the stream");
+        holds(run, it->xor(far_key, far_nonce, block, offset + len, NULL, NULL, 0) == CHACHA20_REFUSED &&
+                       it->keystream(far_key, far_nonce, block, offset + len, NULL, 0) == CHACHA20_REFUSED &&
+                       it->xor(far_key, far_nonce, block, offset + len - 1, NULL, NULL, 0) == CHACHA20_OK,
+              "nothing at the end of the stream");
+    }
+}
+
+/* Overlaps at the greatest addresses, where a sum would wrap, and lengths that no object has. */
+static void refused_at_end(struct run *run, const struct cipher *it, uint8_t *room) {
+    uint8_t *top = (uint8_t *)(UINTPTR_MAX - 200), tag[CHACHA20_TAG_BYTES];
+    const struct aead *aead = &aeads[IETF];
+    for (size_t len = 100; len < 400; len += 100) {
+        holds(run, refuses(it, top, top + 50, len) && refuses(it, top + 50, top, len) && refuses(it, (uint8_t *)1, top, SIZE_MAX - len),
+              "an overlap at the greatest address was taken");
+        holds(run, aead->encrypt(far_key, far_nonce, top + 50, len, top, room, len, tag) == CHACHA20_REFUSED &&
+                       aead->encrypt(far_key, far_nonce, top, len, top + 50, room, len, tag) == CHACHA20_REFUSED,
+              "data that the output overlaps at the greatest address were taken");
+    }
+    for (size_t len = (size_t)PTRDIFF_MAX + 1; len > PTRDIFF_MAX; len += len > SIZE_MAX - 63 ? 1 : PTRDIFF_MAX - 62) {
+        holds(run, refuses(it, room, room, len) && refuses(it, room, room + 8 * GIB, len) &&
+                       it->keystream(far_key, far_nonce, 0, 0, room, len) == CHACHA20_REFUSED, "a length that no object has was taken");
+    }
+}
+
+/* Buffers that don't overlap, at distances of which 32 bits or less say that they do. */
+static void taken(struct run *run, const struct cipher *it, uint8_t *room) {
+    static const size_t distances[] = {100, PAGE, 1 << 16, 1 << 20, 2 * GIB, 4 * GIB};
+    mprotect(room, PAGE, PROT_READ | PROT_WRITE);
+    for (size_t i = 0; i < sizeof distances / sizeof distances[0]; i++) {
+        uint8_t *other = room + distances[i];
+        mprotect(other - distances[i] % PAGE, PAGE, PROT_READ | PROT_WRITE);
+        memset(room, 0, 100);
+        holds(run, it->xor(far_key, far_nonce, 0, 0, other, room, 100) == CHACHA20_OK && memcmp(room, other, 100) != 0 &&
+                       it->xor(far_key, far_nonce, 0, 0, room, other, 100) == CHACHA20_OK && memcmp(room, room + 1, 99) == 0 && room[0] == 0,
+              "buffers that don't overlap");
+    }
+    mprotect(room, 11 * GIB, PROT_NONE);
+}
+
+static void far_apart(struct run *run) {
+    uint8_t *room = reserve(11 * GIB);
+    end_where_touched(1);
+    for (int layout = 0; layout < LAYOUTS; layout++) {
+        const struct cipher *it = &ciphers[layout];
+        refused(run, (enum layout)layout, it, room);
+        refused_at_end(run, it, room);
+        taken(run, it, room);
+    }
+    end_where_touched(0);
+    munmap(room, 11 * GIB);
+}
+
+enum { WINDOW = 64 << 20, WINDOWS = 4096 / 64 + 1, OVER = 1000 };
+
+/* 4 GiB and OVER bytes of windows on the same 64 MiB, so that a call goes over them in turn. */
+static uint8_t *windows(void) {
+    uint8_t *room = reserve((size_t)WINDOWS * WINDOW);
+    int file = memfd_create("windows", 0), good = file >= 0 && ftruncate(file, WINDOW) == 0;
+    for (size_t i = 0; good && i < WINDOWS; i++) {
+        good = mmap(room + i * WINDOW, WINDOW, PROT_READ | PROT_WRITE, MAP_SHARED | MAP_FIXED, file, 0) != MAP_FAILED;
+    }
+    if (!good) puts("no memory for 64 MiB"), exit(2);
+    return room;
+}
+
+/* Whether something is written behind OVER bytes, to which a length of 32 bits would shrink; they are zero again then. */
+static int is_behind(uint8_t *room) {
+    static const uint8_t zeros[100];
+    int is = memcmp(room + 2 * OVER, zeros, sizeof zeros) != 0;
+    memset(room, 0, WINDOW);
+    return is;
+}
+
+static void over_4_gib(struct run *run, int is_whole) {
+    run->level = set_level(run->level_count - 1);
+    const size_t len = 4 * GIB + OVER;
+    uint8_t *room = windows(), *from = windows(), state[CHACHA_RNG_STATE_BYTES] = {0}, tag[2][CHACHA20_TAG_BYTES];
+    uint64_t low, high;
+    holds(run, chacha20_verify(room, from, len) == CHACHA20_OK, "equal bytes over 4 GiB were refused");
+    chacha_poly1305(far_key, room, len, tag[0]), chacha_poly1305(far_key, room, OVER, tag[1]);
+    holds(run, memcmp(tag[0], tag[1], sizeof tag[0]) != 0, "the MAC of 4 GiB less");
+    chacha20_rng_fill(state, room, len);
+    chacha_rng_get_word_pos(state, &low, &high);
+    holds(run, is_behind(room) && low == len / 4 && high == 0, "a fill over 4 GiB");
+    from[2 * OVER] = 1;
+    holds(run, chacha20_verify(room, from, len) == CHACHA20_REFUSED, "unequal bytes over 4 GiB");
+    for (int i = 0; i < LAYOUTS && is_whole; i++) {
+        const struct cipher *it = &ciphers[i];
+        holds(run, it->xor(far_key, far_nonce, 0, 0, room, room, len) == CHACHA20_OK && is_behind(room), "XOR in place over 4 GiB");
+        holds(run, it->xor(far_key, far_nonce, 0, 0, room, from, len) == CHACHA20_OK && is_behind(room), "XOR over 4 GiB");
+        holds(run, it->keystream(far_key, far_nonce, 0, 0, room, len) == CHACHA20_OK && is_behind(room), "a keystream over 4 GiB");
+    }
+    for (int i = 0; i < 2 * AEADS && is_whole; i++) {
+        const struct aead *it = &aeads[i / 2];
+        size_t aad_len = i % 2 ? len : 8, text_len = i % 2 ? 8 : len;
+        int answer = it->encrypt(far_key, far_nonce, from, aad_len, room, from, text_len, tag[0]);
+        answer |= it->encrypt(far_key, far_nonce, from, (uint32_t)aad_len, room, from, (uint32_t)text_len, tag[1]);
+        holds(run, answer == CHACHA20_OK && memcmp(tag[0], tag[1], sizeof tag[0]) != 0, "the tag of 4 GiB less");
+    }
+    munmap(room, (size_t)WINDOWS * WINDOW), munmap(from, (size_t)WINDOWS * WINDOW);
 }
 
 static void one_turn(struct run *run) {
-    static void (*const kinds[KINDS])(struct run *) = {one_message, one_sealed, one_generator, one_tag, one_refusal, one_subkey};
+    static void (*const kinds[KINDS])(struct run *) = {one_message, one_sealed, one_generator, one_tag, one_subkey};
     run->seed = run->random;
     for (int i = 0; i < KINDS; i++) {
         if (i > 0 && below(run, UINT64_C(2) << (i + 1) / 2) > 0) continue;
@@ -441,96 +688,34 @@ static void one_turn(struct run *run) {
     }
 }
 
-int turns_find(const struct machine *machine, int turns) {
-    struct run run = {.machine = machine, .random = 7, .is_control = 1};
-    for (int i = 0; i < turns && run.differences == 0; i++) one_turn(&run);
-    return run.differences > 0;
-}
-
-static int index_of(const char *name, const char *const *names, int count) {
-    for (int i = 0; i < count; i++) {
-        if (strcmp(name, names[i]) == 0) return i;
-    }
-    printf("no such word: %s\n", name);
-    exit(2);
-}
-
-/* Returns the exit status. */
-static int repeat_call(const struct machine *machine, char **words) {
-    static const char *const rounds[] = {"8", "12", "20"};
-    static uint8_t from[LONGEST + PAGE] __attribute__((aligned(PAGE))), to[LONGEST + PAGE] __attribute__((aligned(PAGE)));
-    uint8_t key[32], nonce[24], state[CHACHA_RNG_STATE_BYTES];
-    uint64_t seed = strtoull(words[9], NULL, 10);
-    struct run run = {.machine = machine, .random = seed, .seed = seed};
-    struct call it = {.layout = (enum layout)index_of(words[1], layouts, LAYOUTS), .at_rounds = index_of(words[2], rounds, ROUNDS),
-                      .way = (enum way)index_of(words[3], ways, WAYS), .block = strtoull(words[4], NULL, 10),
-                      .offset = strtoull(words[5], NULL, 10), .len = strtoull(words[6], NULL, 10),
-                      .output = to + atoi(words[7]) % PAGE, .input = from + atoi(words[8]) % PAGE};
-    for (int i = 0; i < machine->build_count; i++) {
-        if (strcmp(words[0], machine->builds[i]->level) == 0) it.library = machine->builds[i];
-    }
-    if (!it.library || it.len > LONGEST || (it.way < FILL && !it.library->ciphers[it.layout][it.at_rounds].xor)) return 2;
-    random_bytes(&run, key, sizeof key);
-    random_bytes(&run, nonce, sizeof nonce);
-    if (it.way < FILL) random_bytes(&run, from, sizeof from);
-    const uint8_t *right = by_other(&plain_c, it.layout, rounds_of[it.at_rounds], key, nonce, (wide)64 * it.block + it.offset,
-                                    it.input, it.len, expected);
-    uint32_t answer = CHACHA20_OK;
-    if (it.way < FILL) {
-        answer = by_cipher(&it, key, nonce);
-    } else {
-        it.library->from_seed(key, state);
-        it.library->set_stream(state, stream_of(nonce));
-        it.library->set_word_pos(state, it.block << 4 | it.offset / 4, it.block >> 60);
-        by_generator(&it, state);
-    }
-    right_call(&run, &it, it.output, right);
-    printf("call: answer %u, %" PRIu64 " bytes differ from plain C\n", answer, run.differences);
-    return run.differences != 0;
-}
-
-static int check(const struct machine *machine, uint64_t seed, uint64_t bytes) {
-    struct run run = {.machine = machine, .random = 1};
-    const uint64_t *done = machine->other_count > 0 ? &run.bytes_beside_found : &run.bytes_beside_plain;
+static int check(struct run *run, uint64_t seed, uint64_t bytes) {
     uint64_t calls = 0, few = 0;
-    int found = 0;
-    random_bytes(&run, input, sizeof input);
-    for (int i = 0; i < machine->build_count; i++) {
-        at_edges(&run, machine->builds[i]);
-        sums_around_prime(&run, machine->builds[i]);
-        sealed_by_each_length(&run, machine->builds[i]);
-        sealed_at_pages(&run, machine->builds[i]);
+    input = room(), expected = room(), made = room();
+    random_bytes(run, input, ROOM);
+    for (int i = 0; i < run->level_count; i++) {
+        run->level = set_level(i);
+        words_of_zeros(run), sealed_by_each_length(run), parts_beside_each_other(run), far_apart(run);
     }
-    printf("buffers at the ends of mapped pages, messages by each length: %" PRIu64 " differences\n", run.differences);
-    run.differences += far_apart(machine);
-    if (bytes >= 1000000000) run.differences += over_4_gib(machine);
-    run.random = seed;
-    for (int i = 0; *done < bytes || i < 64 * LEAST_CASES; i++) one_turn(&run);
-    for (int i = 0; i < machine->build_count; i++) calls += run.calls[i], few += run.calls[i] < LEAST_CALLS;
-    for (int i = 0; i < KINDS; i++) few += run.cases[i] < LEAST_CASES;
-    if (few > 0) puts("wrong: too few cases of a kind, or too few calls of a build");
-    if (machine->other_count > 0) printf("8 and 12 rounds, beside plain C: %" PRIu64 " bytes\n", run.bytes_beside_plain);
-    found = controls_found(machine);
+    printf("overlaps, messages by each length: %" PRIu64 " differences\n", run->differences);
+    if (bytes >= 300000000) over_4_gib(run, bytes >= 1000000000);
+    run->random = seed;
+    for (int i = 0; run->bytes < bytes || i < 64 * LEAST_CASES; i++) one_turn(run);
+    for (int i = 0; i < run->level_count; i++) calls += run->calls[i], few += run->calls[i] < LEAST_CALLS;
+    for (int i = 0; i < KINDS; i++) few += run->cases[i] < LEAST_CASES;
+    if (few > 0) puts("wrong: too few cases of a kind, or too few calls of a level");
     printf("check, seed %" PRIu64 ":", seed);
-    for (int i = 0; i < machine->build_count; i++) printf(" %s", machine->builds[i]->level);
-    printf(" in %" PRIu64 " calls; %" PRIu64 " bytes beside", calls, *done);
-    for (int i = 0; i < machine->other_count; i++) printf("%s %s", i ? " and" : "", machine->others[i].name);
-    printf("%s, %" PRIu64 " differences\n", machine->other_count ? "" : " plain C", run.differences);
-    if (found != CONTROLS) puts("wrong: faults of the negative control were lost");
-    return found != CONTROLS || few > 0 || run.differences > 0;
+    for (int i = 0; i < run->level_count; i++) printf(" %s", set_level(i));
+    printf(" in %" PRIu64 " calls; %" PRIu64 " bytes beside %s, %" PRIu64 " differences\n", calls, run->bytes, run->others[0]->name,
+           run->differences);
+    return few > 0 || run->differences > 0;
 }
 
 int main(int argc, char **argv) {
-    struct machine machine = {.build_count = 0};
+    struct other sodium;
+    struct run run = {.random = 1, .others = {&plain_c, &plain_c}};
     const char *use = argc > 1 ? argv[1] : "";
-    int is_plain = strcmp(use, "plain") == 0;
-    machine.build_count = find_builds(machine.builds);
-    if (!is_plain) machine.other_count = find_others(machine.others);
-    if (is_plain || strcmp(use, "check") == 0) {
-        return check(&machine, argc > 3 ? strtoull(argv[3], NULL, 10) : 20260101,
-                     argc > 2 ? strtoull(argv[2], NULL, 10) : 1000000000);
-    }
-    if (argc == 12 && strcmp(use, "call") == 0) return repeat_call(&machine, argv + 2);
-    fputs("compare check|plain|call: see check.c\n", stderr);
-    return 2;
+    if (strcmp(use, "plain") != 0 && strcmp(use, "check") != 0) return fputs("compare check|plain: see check.c\n", stderr), 2;
+    run.level_count = find_levels();
+    if (strcmp(use, "check") == 0 && find_sodium(&sodium)) run.others[0] = &sodium;
+    return check(&run, argc > 3 ? strtoull(argv[3], NULL, 10) : 20260101, argc > 2 ? strtoull(argv[2], NULL, 10) : 1000000000);
 }

@@ -22,7 +22,7 @@ static uint8_t key[32], nonce[24], state[CHACHA_RNG_STATE_BYTES], aad[300], tag[
 static unsigned calls, wrong_answers, verdicts, wrong_verdicts;
 
 /* A program that knows no secret may look at an answer. */
-static void done(uint32_t answer) {
+static void done(int answer) {
     calls++;
     if (answer != CHACHA20_OK) wrong_answers++;
 }
@@ -44,7 +44,7 @@ static void by_cipher(const struct cipher *cipher, uint64_t position, size_t len
 static void by_decryption(const struct aead *aead, size_t aad_len, size_t len, int is_in_place, int wrong_byte) {
     unsigned before = VALGRIND_COUNT_ERRORS;
     if (wrong_byte < TAG) tag[wrong_byte] ^= 0x10;
-    uint32_t answer = aead->decrypt(key, nonce, aad, aad_len, is_in_place ? output : input, output, len, tag);
+    int answer = aead->decrypt(key, nonce, aad, aad_len, is_in_place ? output : input, output, len, tag);
     (void)VALGRIND_MAKE_MEM_DEFINED(&answer, sizeof answer);
     unsigned reports = VALGRIND_COUNT_ERRORS - before;
     if (wrong_byte < TAG) tag[wrong_byte] ^= 0x10;
@@ -52,43 +52,41 @@ static void by_decryption(const struct aead *aead, size_t aad_len, size_t len, i
     verdicts++, wrong_verdicts += reports != 1;
 }
 
-static void by_aead(const struct library *library, enum layout layout, size_t aad_len, size_t len) {
-    const struct aead *aead = &library->aeads[layout];
+static void by_aead(enum layout layout, size_t aad_len, size_t len) {
+    const struct aead *aead = &aeads[layout];
     done(aead->encrypt(key, nonce, aad, aad_len, output, output, len, tag));
     for (int i = 0; i < 6; i++) {
         if (i % 2 == 0) done(aead->encrypt(key, nonce, aad, aad_len, output, input, len, tag));
         by_decryption(aead, aad_len, len, i % 2, (int[]){TAG, 0, TAG - 1}[i / 2]);
     }
-    library->poly1305(key, input, len, tag);
-    uint32_t answer = library->equal(input, output, len);
+    chacha_poly1305(key, input, len, tag);
+    int answer = chacha20_verify(input, output, len);
     (void)VALGRIND_MAKE_MEM_DEFINED(&answer, sizeof answer);
     calls += 2;
 }
 
-static void by_generator(const struct library *library, int at_rounds, uint64_t position, size_t len) {
+static void by_generator(uint64_t position, size_t len) {
     uint64_t low, high, stream = 5;
     chacha20_words words;
     (void)VALGRIND_MAKE_MEM_UNDEFINED(&stream, sizeof stream);
     memset(state, 0, sizeof state);
-    library->from_seed(key, state);
-    library->set_stream(state, stream);
-    library->set_word_pos(state, position, 1);
-    library->fill[at_rounds](state, output, len);
-    (void)library->next_u32[at_rounds](state);
-    (void)library->next_u64[at_rounds](state);
-    (void)library->get_stream(state);
-    library->words_from_state(&words, state);
-    (void)library->words_next(&words);
-    library->words_to_state(&words, state);
-    library->get_word_pos(state, &low, &high);
+    chacha_rng_from_seed(key, state);
+    chacha_rng_set_stream(state, stream);
+    chacha_rng_set_word_pos(state, position, 1);
+    chacha20_rng_fill(state, output, len);
+    (void)chacha_rng_get_stream(state);
+    chacha20_words_from_state(&words, state);
+    (void)chacha20_words_next(&words);
+    chacha20_words_to_state(&words, state);
+    chacha_rng_get_word_pos(state, &low, &high);
     /* The word position isn't secret, and no secret has come into it. */
-    if (high == 1 && low == position + (len + 3) / 4 + 4) calls += 11;
-    library->set_block_pos(state, library->get_block_pos(state) + 1);
-    library->set_stream(state, stream);
+    if (high == 1 && low == position + (len + 3) / 4 + 1) calls += 9;
+    chacha_rng_set_block_pos(state, chacha_rng_get_block_pos(state) + 1);
+    chacha_rng_set_stream(state, stream);
     calls += 3;
 }
 
-static void by_library(const struct library *library, size_t longest) {
+static void by_library(size_t longest) {
     /* Each number of blocks that a build computes together, with tails and without. */
     static const size_t lengths[] = {0, 23, 64, 69, 128, 200, 256, 300, 511, 512, 576, 911, 1024, 2595, 8192, 8292, LONGEST};
     static const uint64_t positions[] = {0, 1, 63, 64, 1000, ((uint64_t)1 << 37) + 5};
@@ -97,52 +95,46 @@ static void by_library(const struct library *library, size_t longest) {
             size_t len = lengths[j];
             if (len > longest) continue;
             for (int layout = 0; layout < LAYOUTS; layout++) {
-                done(library->check[layout](positions[i] / 64, positions[i] % 64, len));
-                for (int at_rounds = 0; at_rounds < ROUNDS; at_rounds++) {
-                    if (!library->ciphers[layout][at_rounds].xor) continue;
-                    all_secret();
-                    by_cipher(&library->ciphers[layout][at_rounds], positions[i], len);
-                }
+                done(ciphers[layout].check(positions[i] / 64, positions[i] % 64, len));
+                all_secret();
+                by_cipher(&ciphers[layout], positions[i], len);
             }
             for (int layout = 0; layout < AEADS; layout++) {
                 all_secret();
-                by_aead(library, (enum layout)layout, positions[i] % 300, len);
+                by_aead((enum layout)layout, positions[i] % 300, len);
             }
-            for (int at_rounds = 0; at_rounds < ROUNDS; at_rounds++) {
-                all_secret();
-                library->hchacha[at_rounds](key, nonce, output);
-                by_generator(library, at_rounds, positions[i], len);
-            }
+            all_secret();
+            hchacha20(key, nonce, output);
+            by_generator(positions[i], len);
         }
     }
 }
 
 /* For ./trace. */
-static int without_memcheck(const struct library *library, const char *argument) {
+static int without_memcheck(const char *argument) {
     static volatile uint8_t seen;
     int is_planted = strcmp(argument, "planted") == 0;
     if (read(0, key, 32) != 32 || read(0, nonce, 24) != 24 || read(0, aad, 300) != 300) return 2;
     if (read(0, input, LONGEST) != LONGEST) return 2;
     if (argument[0] && !is_planted) {
-        done(library->aeads[IETF].encrypt(key, nonce, aad, 300, output, input, 1000, tag));
-        by_decryption(&library->aeads[IETF], 300, 1000, 1, argument[0] - 'A');
+        done(aeads[IETF].encrypt(key, nonce, aad, 300, output, input, 1000, tag));
+        by_decryption(&aeads[IETF], 300, 1000, 1, argument[0] - 'A');
         return wrong_answers != 0;
     }
-    by_library(library, 1024);
+    by_library(1024);
     if (is_planted && key[3] & 1) seen = 1;
     (void)seen;
-    return wrong_answers != 0 || calls < 3000;
+    return wrong_answers != 0 || calls < 2500;
 }
 
 int main(int argc, char **argv) {
     static volatile uint8_t table[256], seen;
-    const struct library *builds[MOST_BUILDS];
-    int build_count = find_builds(builds);
-    if (!RUNNING_ON_VALGRIND) return without_memcheck(builds[build_count - 1], argc > 1 ? argv[1] : "");
-    for (int i = 0; i < build_count; i++) {
-        /* ./verdicts counts the addresses that memcheck reports behind it. */
-        VALGRIND_PRINTF("build %s\n", builds[i]->level);
-        by_library(builds[i], LONGEST);
+    int level_count = find_levels();
+    if (!RUNNING_ON_VALGRIND) return without_memcheck(argc > 1 ? argv[1] : "");
+    for (int i = 0; i < level_count; i++) {
+        /* The Makefile counts the addresses that memcheck reports behind it. */
+        VALGRIND_PRINTF("level %s\n", set_level(i));
+        by_library(LONGEST);
     }
     unsigned reports = VALGRIND_COUNT_ERRORS - verdicts;
     VALGRIND_PRINTF("planted\n");
@@ -158,10 +150,10 @@ int main(int argc, char **argv) {
     (void)seen;
     unsigned of_address = VALGRIND_COUNT_ERRORS - verdicts - reports - of_branches;
     printf("secrets,");
-    for (int i = 0; i < build_count; i++) printf(" %s", builds[i]->level);
+    for (int i = 0; i < level_count; i++) printf(" %s", set_level(i));
     printf(": %u calls, %u wrong answers, %u reports; %u verdicts on tags, %u without just one report; ", calls, wrong_answers,
            reports, verdicts, wrong_verdicts);
     printf("of planted branches %u, of a planted address %u\n", of_branches, of_address);
     return reports != 0 || wrong_verdicts != 0 || of_branches != MARKED || of_address != 1 || wrong_answers != 0 ||
-           calls < 3000 * (unsigned)build_count;
+           calls < 3000 * (unsigned)level_count;
 }

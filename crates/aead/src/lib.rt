@@ -23,7 +23,6 @@
 
 mod chacha_poly1305;
 mod error;
-mod front;
 mod mac;
 mod message;
 mod named;

@@ -7,7 +7,6 @@ ghost use Rattle.aead.specs.Aead.{mac_key, encrypted, poly1305_tag};
 ghost use Rattle.aead.specs.Front.{HasFront};
 
 use crate::error::AeadError;
-use crate::front::{APART, SHORT};
 use crate::mac::tag_of;
 use chacha20::cipher::StreamCipher;
 use poly1305::{Tag, is_equal};
@@ -16,19 +15,16 @@ use poly1305::{Tag, is_equal};
 pub const FRONT: usize = 512;
 
 /// The bytes of a message's front: those of block 0, and of all blocks of a short message. Of a longer one, of so many
-/// that a multiple of four or eight whole blocks is left, since ciphers make four, eight or sixteen at once. Of `APART`
-/// bytes it is block 0 alone.
+/// that four or a multiple of eight whole blocks are left, since ciphers make four, eight or sixteen at once.
 pub fn front_len(len: usize) -> usize
     ensures whole { result % 64 ≡ 0 }
     ensures bounds { (64 ≤ result) × (result ≤ 512) }
     ensures needed { result < 128 + len }
 {
-    let blocks = if len == APART {
-        0
-    } else if len <= SHORT {
+    let blocks = if len <= 448 {
         len.div_ceil(64)
     } else if len < 512 {
-        len / 64 % 4
+        3
     } else {
         len / 64 % 8
     };

@@ -131,7 +131,7 @@ pub extern "C" fn xchacha20_aead_encrypt_in_place(
     ensures { Encrypted (limit_of (modulus ietf)) (xchacha_stream 10 key.now nonce.now)
         aad.now result «data».old «data».new tag.old tag.new }
 {
-    chacha20_aead_encrypt_in_place(&subkey::<R20>(key, nonce), &subnonce(nonce), aad, data, tag)
+    chacha20_aead_encrypt_in_place(&subkey(key, nonce), &subnonce(nonce), aad, data, tag)
 }
 
 /// XChaCha20-Poly1305: `chacha20_aead_encrypt_between` with a nonce of 24 bytes.
@@ -148,7 +148,7 @@ pub extern "C" fn xchacha20_aead_encrypt_between(
         aad.now result input.now output.old output.new tag.old tag.new }
 {
     chacha20_aead_encrypt_between(
-        &subkey::<R20>(key, nonce),
+        &subkey(key, nonce),
         &subnonce(nonce),
         aad,
         output,
@@ -169,7 +169,7 @@ pub extern "C" fn xchacha20_aead_decrypt_in_place(
     ensures { Decrypted (limit_of (modulus ietf)) (xchacha_stream 10 key.now nonce.now)
         aad.now tag.now result «data».old «data».new }
 {
-    chacha20_aead_decrypt_in_place(&subkey::<R20>(key, nonce), &subnonce(nonce), aad, data, tag)
+    chacha20_aead_decrypt_in_place(&subkey(key, nonce), &subnonce(nonce), aad, data, tag)
 }
 
 /// XChaCha20-Poly1305: `chacha20_aead_decrypt_between` with a nonce of 24 bytes.
@@ -186,7 +186,7 @@ pub extern "C" fn xchacha20_aead_decrypt_between(
         aad.now tag.now result input.now output.old output.new }
 {
     chacha20_aead_decrypt_between(
-        &subkey::<R20>(key, nonce),
+        &subkey(key, nonce),
         &subnonce(nonce),
         aad,
         output,
@@ -204,18 +204,19 @@ pub extern "C" fn chacha_poly1305(key: &Key, input: &[u8], tag: &mut Tag)
     *tag = authenticate(key, input);
 }
 
-/// 1 where the bytes are the same, and else 0. It reads all of them, wherever they differ, unless the lengths do.
+/// Compares bytes: returns 0 where they are the same, and else 1. It reads all of them, wherever they differ, unless
+/// the lengths do.
 #[unsafe(no_mangle)]
-pub extern "C" fn chacha_equal(one: &[u8], other: &[u8]) -> u32
-    ensures value { result ≡ 1 ↔ (one.now ≡ other.now) }
-    ensures two { (result ≡ 0) ⊎ (result ≡ 1) }
+pub extern "C" fn chacha20_verify(one: &[u8], other: &[u8]) -> u32
+    ensures accepted { result ≡ 0 ↔ (one.now ≡ other.now) }
+    ensures refused { (result ≡ 0) ⊎ (result ≡ 1) }
 {
     if one.len() != other.len() {
-        return 0;
+        return 1;
     }
     let mut difference = 0u8;
     'each: for i in 0..one.len() {
         difference |= one[i] ^ other[i];
     }
-    if difference == 0 { 1 } else { 0 }
+    if difference == 0 { 0 } else { 1 }
 }

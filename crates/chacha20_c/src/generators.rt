@@ -2,20 +2,20 @@
 //! little-endian. Any bytes are a state; the upper four bits of the last one are ignored, and a call that writes the
 //! state clears them. No call fails.
 //!
-//! A call that reads words makes the generator of the state, which makes four blocks, and writes back once. The other
-//! calls make no block: they read and write the bytes.
+//! A fill makes blocks as ciphers do, at least four at once. The other calls make no block: they read and write the
+//! bytes.
 
 ghost use Rattle.std.specs.Prelude.{◌≡◌, ◌<◌, ◌+◌, ◌*◌, ◌/◌, ◌%◌, ◌^◌, length, take, drop, slice_index};
 ghost use Rattle.std.specs.Int.{w64, from_le_bytes};
-ghost use Rattle.chacha20.specs.Generator.{of_seed, at_word_pos, next_u32, next_u64, fill, state_bytes, of_state_bytes};
+ghost use Rattle.chacha20.specs.Generator.{of_seed, at_word_pos, fill, state_bytes, of_state_bytes};
 
 use crate::legacy::Core;
 use crate::stateless;
 use chacha20::backends::Lanes8;
-use chacha20::{ChaChaRng, R8, R12, R20, Rounds, Seed, SerializedRngState};
+use chacha20::{ChaChaRng, R20, Seed, SerializedRngState};
 
-// `ChaCha8Rng`, `ChaCha12Rng` and `ChaCha20Rng`. The reads are proved once, for any number of rounds.
-type Generator<R> = ChaChaRng<R, Lanes8>;
+// `ChaCha20Rng`.
+type Generator = ChaChaRng<R20, Lanes8>;
 
 // How many word positions there are: sixteen words for each of 2^64 blocks.
 const POSITIONS: u128 = 1 << 68;
@@ -97,95 +97,8 @@ pub extern "C" fn chacha_rng_set_stream(state: &mut SerializedRngState, stream: 
     *state = stored(&seed_in(state), stream, 0);
 }
 
-/// Takes the next word of the generator with 8 rounds (this crate).
-#[unsafe(no_mangle)]
-pub extern "C" fn chacha8_rng_next_u32(state: &mut SerializedRngState) -> u32
-    ensures word { result ≡ (next_u32 4 (of_state_bytes state.old)).0 }
-    ensures moved { of_state_bytes state.new ≡ (next_u32 4 (of_state_bytes state.old)).1 }
-    ensures stored { state.new ≡ state_bytes (of_state_bytes state.new) }
-{
-    next_u32::<R8>(state)
-}
-
-/// Takes the next two words of the generator with 8 rounds; the first is the low half of the result.
-#[unsafe(no_mangle)]
-pub extern "C" fn chacha8_rng_next_u64(state: &mut SerializedRngState) -> u64
-    ensures words { result ≡ (next_u64 4 (of_state_bytes state.old)).0 }
-    ensures moved { of_state_bytes state.new ≡ (next_u64 4 (of_state_bytes state.old)).1 }
-    ensures stored { state.new ≡ state_bytes (of_state_bytes state.new) }
-{
-    next_u64::<R8>(state)
-}
-
-/// Fills `output` with the bytes of the next words of the generator with 8 rounds, each little-endian (this
-/// crate). The bytes of the last word that `output` has no room for are lost; no bytes take no word. `output` and
-/// `state` do not overlap.
-#[unsafe(no_mangle)]
-pub extern "C" fn chacha8_rng_fill(state: &mut SerializedRngState, output: &mut [u8])
-    ensures bytes { output.new ≡ (fill 4 (of_state_bytes state.old) (length output.old)).0 }
-    ensures moved { of_state_bytes state.new
-        ≡ (fill 4 (of_state_bytes state.old) (length output.old)).1 }
-    ensures stored { state.new ≡ state_bytes (of_state_bytes state.new) }
-{
-    fill_bytes::<R8>(state, output);
-}
-
-/// Takes the next word of the generator with 12 rounds (this crate).
-#[unsafe(no_mangle)]
-pub extern "C" fn chacha12_rng_next_u32(state: &mut SerializedRngState) -> u32
-    ensures word { result ≡ (next_u32 6 (of_state_bytes state.old)).0 }
-    ensures moved { of_state_bytes state.new ≡ (next_u32 6 (of_state_bytes state.old)).1 }
-    ensures stored { state.new ≡ state_bytes (of_state_bytes state.new) }
-{
-    next_u32::<R12>(state)
-}
-
-/// Takes the next two words of the generator with 12 rounds; the first is the low half of the result.
-#[unsafe(no_mangle)]
-pub extern "C" fn chacha12_rng_next_u64(state: &mut SerializedRngState) -> u64
-    ensures words { result ≡ (next_u64 6 (of_state_bytes state.old)).0 }
-    ensures moved { of_state_bytes state.new ≡ (next_u64 6 (of_state_bytes state.old)).1 }
-    ensures stored { state.new ≡ state_bytes (of_state_bytes state.new) }
-{
-    next_u64::<R12>(state)
-}
-
-/// Fills `output` with the bytes of the next words of the generator with 12 rounds, each little-endian (this
-/// crate). The bytes of the last word that `output` has no room for are lost; no bytes take no word. `output` and
-/// `state` do not overlap.
-#[unsafe(no_mangle)]
-pub extern "C" fn chacha12_rng_fill(state: &mut SerializedRngState, output: &mut [u8])
-    ensures bytes { output.new ≡ (fill 6 (of_state_bytes state.old) (length output.old)).0 }
-    ensures moved { of_state_bytes state.new
-        ≡ (fill 6 (of_state_bytes state.old) (length output.old)).1 }
-    ensures stored { state.new ≡ state_bytes (of_state_bytes state.new) }
-{
-    fill_bytes::<R12>(state, output);
-}
-
-/// Takes the next word of the generator with 20 rounds (this crate).
-#[unsafe(no_mangle)]
-pub extern "C" fn chacha20_rng_next_u32(state: &mut SerializedRngState) -> u32
-    ensures word { result ≡ (next_u32 10 (of_state_bytes state.old)).0 }
-    ensures moved { of_state_bytes state.new ≡ (next_u32 10 (of_state_bytes state.old)).1 }
-    ensures stored { state.new ≡ state_bytes (of_state_bytes state.new) }
-{
-    next_u32::<R20>(state)
-}
-
-/// Takes the next two words of the generator with 20 rounds; the first is the low half of the result.
-#[unsafe(no_mangle)]
-pub extern "C" fn chacha20_rng_next_u64(state: &mut SerializedRngState) -> u64
-    ensures words { result ≡ (next_u64 10 (of_state_bytes state.old)).0 }
-    ensures moved { of_state_bytes state.new ≡ (next_u64 10 (of_state_bytes state.old)).1 }
-    ensures stored { state.new ≡ state_bytes (of_state_bytes state.new) }
-{
-    next_u64::<R20>(state)
-}
-
-/// Fills `output` with the bytes of the next words of the generator with 20 rounds, each little-endian (this
-/// crate). The bytes of the last word that `output` has no room for are lost; no bytes take no word. `output` and
-/// `state` do not overlap.
+/// Fills `output` with the bytes of the next words of `ChaCha20Rng`, each little-endian (this crate). The bytes of the
+/// last word that `output` has no room for are lost; no bytes take no word. `output` and `state` do not overlap.
 #[unsafe(no_mangle)]
 pub extern "C" fn chacha20_rng_fill(state: &mut SerializedRngState, output: &mut [u8])
     ensures bytes { output.new ≡ (fill 10 (of_state_bytes state.old) (length output.old)).0 }
@@ -200,41 +113,18 @@ pub extern "C" fn chacha20_rng_fill(state: &mut SerializedRngState, output: &mut
     if stateless::write_keystream::<Core>(&seed, &nonce, 4 * position, output) == 0 {
         *state = stored(&seed, stream, position + output.len().div_ceil(4) as u128);
     } else {
-        fill_bytes::<R20>(state, output);
+        fill_bytes(state, output);
     }
 }
 
-// The reads of a generator, which is then stored.
-
-fn next_u32<R: Rounds>(state: &mut SerializedRngState) -> u32
-    ensures word { result ≡ (next_u32 R.COUNT (of_state_bytes state.old)).0 }
-    ensures moved { of_state_bytes state.new ≡ (next_u32 R.COUNT (of_state_bytes state.old)).1 }
-    ensures stored { state.new ≡ state_bytes (of_state_bytes state.new) }
-{
-    let mut rng = Generator::<R>::deserialize_state(state);
-    let word = rng.next_u32();
-    *state = rng.serialize_state();
-    word
-}
-
-fn next_u64<R: Rounds>(state: &mut SerializedRngState) -> u64
-    ensures words { result ≡ (next_u64 R.COUNT (of_state_bytes state.old)).0 }
-    ensures moved { of_state_bytes state.new ≡ (next_u64 R.COUNT (of_state_bytes state.old)).1 }
-    ensures stored { state.new ≡ state_bytes (of_state_bytes state.new) }
-{
-    let mut rng = Generator::<R>::deserialize_state(state);
-    let words = rng.next_u64();
-    *state = rng.serialize_state();
-    words
-}
-
-fn fill_bytes<R: Rounds>(state: &mut SerializedRngState, output: &mut [u8])
-    ensures bytes { output.new ≡ (fill R.COUNT (of_state_bytes state.old) (length output.old)).0 }
+// A fill by the generator itself, which is then stored.
+fn fill_bytes(state: &mut SerializedRngState, output: &mut [u8])
+    ensures bytes { output.new ≡ (fill 10 (of_state_bytes state.old) (length output.old)).0 }
     ensures moved { of_state_bytes state.new
-        ≡ (fill R.COUNT (of_state_bytes state.old) (length output.old)).1 }
+        ≡ (fill 10 (of_state_bytes state.old) (length output.old)).1 }
     ensures stored { state.new ≡ state_bytes (of_state_bytes state.new) }
 {
-    let mut rng = Generator::<R>::deserialize_state(state);
+    let mut rng = Generator::deserialize_state(state);
     rng.fill_bytes(output);
     *state = rng.serialize_state();
 }

@@ -1,4 +1,4 @@
-//! How the backend makes blocks with vectors of 128 bits. `c/Makefile` replaces this file for those of 256.
+//! How the backend makes blocks with vectors of 128 bits. `c/proved.mk` changes this file for those of 256.
 
 pub(crate) type Group = chacha20::backends::Lanes4;
 

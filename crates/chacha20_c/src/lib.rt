@@ -1,6 +1,6 @@
 //! The ciphers and generators of `chacha20` for C. `c/chacha20.c` calls these exports from the functions of
 //! `include/chacha20.h`, after it has checked their pointers. No C program can link the exports themselves.
-//! `c/Makefile` makes a static library of this crate; here it is a library, so that `user_tests` can test the exports.
+//! `c/proved.mk` makes a static library of this crate; here it is a library, so that `user_tests` can test the exports.
 //!
 //! A slice is passed as a pointer and then its length, an array as a pointer. No pointer is null, even where a length
 //! is 0, and what a call writes overlaps no other argument. Arguments come in the order key, nonce, position, output,
@@ -8,7 +8,7 @@
 //!
 //! A cipher has no state here: each call names its key, its nonce and a position, which is a number of bytes from the
 //! first of the keystream. The legacy cipher's is the number of a block of 64 bytes, and a number of bytes from there
-//! on. The state of a generator is 49 bytes of the caller's, for any number of rounds: each read names its own.
+//! on. The state of a generator is 49 bytes of the caller's.
 #![tactic(auto)]
 
 pub mod authenticated;

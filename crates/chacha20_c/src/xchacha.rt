@@ -6,17 +6,17 @@ ghost use Rattle.chacha20.specs.Cipher.{limit_of};
 ghost use Rattle.chacha20.specs.XChaCha.{hchacha, subkey, subnonce};
 ghost use Rattle.chacha20_c.specs.Results.{Written, Xored, XoredInto};
 
-use crate::chacha;
-use chacha20::{Key, Nonce, R8, R12, R20, Rounds, XNonce, hchacha};
+use crate::chacha::{chacha20_keystream, chacha20_xor_between, chacha20_xor_in_place};
+use chacha20::{Key, Nonce, R20, XNonce, hchacha};
 
-// The key and the nonce under which ChaCha is XChaCha (draft-irtf-cfrg-xchacha, section 2.3).
+// The key and the nonce under which ChaCha20 is XChaCha20 (draft-irtf-cfrg-xchacha, section 2.3).
 
-pub(crate) fn subkey<R: Rounds>(key: &Key, nonce: &XNonce) -> Key
-    ensures { result ≡ subkey R.COUNT key.now nonce.now }
+pub(crate) fn subkey(key: &Key, nonce: &XNonce) -> Key
+    ensures { result ≡ subkey 10 key.now nonce.now }
 {
     let mut input = [0; 16];
     input.copy_from_slice(&nonce[..16]);
-    hchacha::<R>(key, &input)
+    hchacha::<R20>(key, &input)
 }
 
 #[tactic(auto, using(chacha20::proofs::StartLemmas::subnonce_written))]
@@ -26,146 +26,6 @@ pub(crate) fn subnonce(nonce: &XNonce) -> Nonce
     let mut short = [0; 12];
     short[4..].copy_from_slice(&nonce[16..]);
     short
-}
-
-fn xor_in_place<R: Rounds>(key: &Key, nonce: &XNonce, position: u64, data: &mut [u8]) -> u32
-    ensures { Xored (limit_of (modulus ietf)) (keystream (modulus ietf)
-        (block R.COUNT ietf (subkey R.COUNT key.now nonce.now) (subnonce nonce.now)))
-        position result «data».old «data».new }
-{
-    chacha::xor_in_place::<R>(&subkey::<R>(key, nonce), &subnonce(nonce), position, data)
-}
-
-fn xor_between<R: Rounds>(
-    key: &Key,
-    nonce: &XNonce,
-    position: u64,
-    output: &mut [u8],
-    input: &[u8],
-) -> u32
-    ensures { XoredInto (limit_of (modulus ietf)) (keystream (modulus ietf)
-        (block R.COUNT ietf (subkey R.COUNT key.now nonce.now) (subnonce nonce.now)))
-        position result input.now output.old output.new }
-{
-    chacha::xor_between::<R>(
-        &subkey::<R>(key, nonce),
-        &subnonce(nonce),
-        position,
-        output,
-        input,
-    )
-}
-
-fn write_keystream<R: Rounds>(key: &Key, nonce: &XNonce, position: u64, output: &mut [u8]) -> u32
-    ensures { Written (limit_of (modulus ietf)) (keystream (modulus ietf)
-        (block R.COUNT ietf (subkey R.COUNT key.now nonce.now) (subnonce nonce.now)))
-        position result output.old output.new }
-{
-    chacha::write_keystream::<R>(&subkey::<R>(key, nonce), &subnonce(nonce), position, output)
-}
-
-/// XChaCha with 8 rounds (this crate):
-/// XORs `data` in place with the keystream from byte `position` on.
-/// Returns 0. Where the bytes would pass the end of the stream, it returns 1 and writes nothing.
-/// `data` overlaps no other argument.
-#[unsafe(no_mangle)]
-pub extern "C" fn xchacha8_xor_in_place(
-    key: &Key,
-    nonce: &XNonce,
-    position: u64,
-    data: &mut [u8],
-) -> u32
-    ensures { Xored (limit_of (modulus ietf)) (keystream (modulus ietf)
-        (block 4 ietf (subkey 4 key.now nonce.now) (subnonce nonce.now)))
-        position result «data».old «data».new }
-{
-    xor_in_place::<R8>(key, nonce, position, data)
-}
-
-/// `xchacha8_xor_in_place` from `input` to `output`, which overlaps no other argument.
-/// Returns 0. Where the lengths differ or the bytes would pass the end of the stream, it returns 1 and writes nothing.
-#[unsafe(no_mangle)]
-pub extern "C" fn xchacha8_xor_between(
-    key: &Key,
-    nonce: &XNonce,
-    position: u64,
-    output: &mut [u8],
-    input: &[u8],
-) -> u32
-    ensures { XoredInto (limit_of (modulus ietf)) (keystream (modulus ietf)
-        (block 4 ietf (subkey 4 key.now nonce.now) (subnonce nonce.now)))
-        position result input.now output.old output.new }
-{
-    xor_between::<R8>(key, nonce, position, output, input)
-}
-
-/// The keystream of `xchacha8_xor_in_place`: writes its bytes over `output`.
-/// Returns 0. Where the bytes would pass the end of the stream, it returns 1 and writes nothing.
-/// `output` overlaps no other argument.
-#[unsafe(no_mangle)]
-pub extern "C" fn xchacha8_keystream(
-    key: &Key,
-    nonce: &XNonce,
-    position: u64,
-    output: &mut [u8],
-) -> u32
-    ensures { Written (limit_of (modulus ietf)) (keystream (modulus ietf)
-        (block 4 ietf (subkey 4 key.now nonce.now) (subnonce nonce.now)))
-        position result output.old output.new }
-{
-    write_keystream::<R8>(key, nonce, position, output)
-}
-
-/// XChaCha with 12 rounds (this crate):
-/// XORs `data` in place with the keystream from byte `position` on.
-/// Returns 0. Where the bytes would pass the end of the stream, it returns 1 and writes nothing.
-/// `data` overlaps no other argument.
-#[unsafe(no_mangle)]
-pub extern "C" fn xchacha12_xor_in_place(
-    key: &Key,
-    nonce: &XNonce,
-    position: u64,
-    data: &mut [u8],
-) -> u32
-    ensures { Xored (limit_of (modulus ietf)) (keystream (modulus ietf)
-        (block 6 ietf (subkey 6 key.now nonce.now) (subnonce nonce.now)))
-        position result «data».old «data».new }
-{
-    xor_in_place::<R12>(key, nonce, position, data)
-}
-
-/// `xchacha12_xor_in_place` from `input` to `output`, which overlaps no other argument.
-/// Returns 0. Where the lengths differ or the bytes would pass the end of the stream, it returns 1 and writes nothing.
-#[unsafe(no_mangle)]
-pub extern "C" fn xchacha12_xor_between(
-    key: &Key,
-    nonce: &XNonce,
-    position: u64,
-    output: &mut [u8],
-    input: &[u8],
-) -> u32
-    ensures { XoredInto (limit_of (modulus ietf)) (keystream (modulus ietf)
-        (block 6 ietf (subkey 6 key.now nonce.now) (subnonce nonce.now)))
-        position result input.now output.old output.new }
-{
-    xor_between::<R12>(key, nonce, position, output, input)
-}
-
-/// The keystream of `xchacha12_xor_in_place`: writes its bytes over `output`.
-/// Returns 0. Where the bytes would pass the end of the stream, it returns 1 and writes nothing.
-/// `output` overlaps no other argument.
-#[unsafe(no_mangle)]
-pub extern "C" fn xchacha12_keystream(
-    key: &Key,
-    nonce: &XNonce,
-    position: u64,
-    output: &mut [u8],
-) -> u32
-    ensures { Written (limit_of (modulus ietf)) (keystream (modulus ietf)
-        (block 6 ietf (subkey 6 key.now nonce.now) (subnonce nonce.now)))
-        position result output.old output.new }
-{
-    write_keystream::<R12>(key, nonce, position, output)
 }
 
 /// XChaCha20 (draft-irtf-cfrg-xchacha, section 2.3):
@@ -183,7 +43,7 @@ pub extern "C" fn xchacha20_xor_in_place(
         (block 10 ietf (subkey 10 key.now nonce.now) (subnonce nonce.now)))
         position result «data».old «data».new }
 {
-    xor_in_place::<R20>(key, nonce, position, data)
+    chacha20_xor_in_place(&subkey(key, nonce), &subnonce(nonce), position, data)
 }
 
 /// `xchacha20_xor_in_place` from `input` to `output`, which overlaps no other argument.
@@ -200,7 +60,13 @@ pub extern "C" fn xchacha20_xor_between(
         (block 10 ietf (subkey 10 key.now nonce.now) (subnonce nonce.now)))
         position result input.now output.old output.new }
 {
-    xor_between::<R20>(key, nonce, position, output, input)
+    chacha20_xor_between(
+        &subkey(key, nonce),
+        &subnonce(nonce),
+        position,
+        output,
+        input,
+    )
 }
 
 /// The keystream of `xchacha20_xor_in_place`: writes its bytes over `output`.
@@ -217,25 +83,7 @@ pub extern "C" fn xchacha20_keystream(
         (block 10 ietf (subkey 10 key.now nonce.now) (subnonce nonce.now)))
         position result output.old output.new }
 {
-    write_keystream::<R20>(key, nonce, position, output)
-}
-
-/// HChaCha with 8 rounds (this crate): writes the 32 bytes that it makes of a key and of 16 bytes more.
-/// It refuses nothing. `subkey` overlaps no other argument.
-#[unsafe(no_mangle)]
-pub extern "C" fn hchacha8(key: &Key, input: &[u8; 16], subkey: &mut Key)
-    ensures { subkey.new ≡ hchacha 4 key.now input.now }
-{
-    *subkey = hchacha::<R8>(key, input);
-}
-
-/// HChaCha with 12 rounds (this crate): writes the 32 bytes that it makes of a key and of 16 bytes more.
-/// It refuses nothing. `subkey` overlaps no other argument.
-#[unsafe(no_mangle)]
-pub extern "C" fn hchacha12(key: &Key, input: &[u8; 16], subkey: &mut Key)
-    ensures { subkey.new ≡ hchacha 6 key.now input.now }
-{
-    *subkey = hchacha::<R12>(key, input);
+    chacha20_keystream(&subkey(key, nonce), &subnonce(nonce), position, output)
 }
 
 /// HChaCha20 (draft-irtf-cfrg-xchacha, section 2.2): writes the 32 bytes that it makes of a key and of 16 bytes more.

@@ -1,6 +1,6 @@
 use Rattle.std.proofs.Common.{◌≡◌, ◌<◌, ℕ, slice_index}
 use Rattle.std.specs.Prelude.{◌↔◌}
-use Rattle.chacha20_c.proofs.authenticated.chacha_equal.Given as goal
+use Rattle.chacha20_c.proofs.authenticated.chacha20_verify.Given as goal
 
 abbrev pub invariant-each : goal.invariant-each
 invariant-each l =

@@ -2,7 +2,7 @@ use Rattle.std.proofs.Common.{◌≡◌, ◌∙◌, ℕ, length, bit_xor, bit_or
 use Rattle.std.specs.Int.Bits.{xor_assoc, xor_self, xor_zero_l, xor_zero_r}
 use Rattle.std.proofs.lemmas.Nat.{le_or_l, le_or_r}
 use Rattle.std.proofs.lemmas.Grind.{same_number_lists}
-use Rattle.chacha20_c.proofs.authenticated.chacha_equal.Goals as goal
+use Rattle.chacha20_c.proofs.authenticated.chacha20_verify.Goals as goal
 
 -- bytes without a difference
 xor-equal : (x y : ℕ) → bit_xor x y ≡ 0 → x ≡ y
@@ -27,8 +27,8 @@ each-preserved c =
           (ap (bit_xor x) (sym (same i (omega arith))) ∙ xor_self x),
     )
 
-pub returns-then-difference-eq0-clause-value : goal.returns-then-difference-eq0-clause-value
-returns-then-difference-eq0-clause-value c =
+pub returns-then-difference-eq0-clause-accepted : goal.returns-then-difference-eq0-clause-accepted
+returns-then-difference-eq0-clause-accepted c =
     let one = c.args.one.now in
     let other = c.args.other.now in
     let long : length one ≡ length other = omega arith in
