@@ -22,17 +22,17 @@
    - Positions and lengths count bytes, blocks of 64 bytes where a name has |block|, and words of 32
      bits where it has |word_pos|.
    - Data of length 0 may be null. With any other null pointer the behaviour is undefined.
-   - |output| may be |input|. Otherwise what is written overlaps no other argument. Authenticated
-     encryption and the ciphers refuse other overlap, and lengths above PTRDIFF_MAX, which no object
-     has. With overlap, the behaviour of the other functions is undefined. Inputs may overlap: a key
-     and a nonce may be parts of one buffer.
+   - |output| may be |input|. Outputs must not otherwise overlap any argument; data of length 0
+     overlap nothing. Authenticated encryption and the ciphers refuse other overlap, and lengths above
+     PTRDIFF_MAX, which no object has. For other functions both are undefined. Inputs may overlap: a
+     key and a nonce may be parts of one buffer.
    - Bytes need no alignment.
-   - No function allocates, takes a lock, throws or keeps anything between calls. Threads and signal
+   - No function allocates, takes a lock, throws or keeps state between calls. Threads and signal
      handlers may call any function at any time if none writes memory that another uses.
    - A call takes at most CHACHA20_STACK_BYTES of the stack. A signal handler with a stack of its own
-     needs these and sysconf(_SC_MINSIGSTKSZ) bytes; the constant SIGSTKSZ may be too small.
-   - Copies of keys and keystream stay in that part of the stack and in registers;
-     chacha_wipe_stack overwrites the stack.
+     needs that and sysconf(_SC_MINSIGSTKSZ) bytes; the constant SIGSTKSZ may be too small.
+   - Copies of keys and keystream may remain in that part of the stack and in registers;
+     chacha_wipe_stack overwrites the stack alone.
    - The proved code has no unwind tables. A thread that is cancelled asynchronously during a call
      may skip its cleanup handlers, and a backtrace from within a call can show keystream. */
 
@@ -77,8 +77,8 @@ extern "C" {
    for the dynamic linker, which may bind memcpy, memmove and memset in a program's first calls. */
 #define CHACHA20_STACK_BYTES 5888
 
-/* What a function that can refuse returns. After CHACHA20_REFUSED no byte has changed: the data are NOT
-   encrypted and must not be sent, or NOT decrypted. */
+/* What a function that can refuse returns. After CHACHA20_REFUSED nothing was written: the data are NOT
+   encrypted, or NOT decrypted. Don't send or use |output|. */
 #define CHACHA20_OK 0
 #define CHACHA20_REFUSED 1
 
@@ -149,14 +149,15 @@ int chacha20_aead_encrypt(const uint8_t key[CHACHA20_AT_LEAST 32],
    then decrypts |len| bytes to |output|.
 
    It returns CHACHA20_OK, or CHACHA20_REFUSED if the tag is wrong, and where chacha20_aead_encrypt
-   does, except that |tag| is an input, which may overlap all but |output|. The 16 bytes of the tag
-   taken from a total below 16 wrap, and are refused as a |len| that is too great. */
+   does, except that |tag| is an input, which may overlap all but |output|. Check that a
+   total has at least 16 bytes before you subtract those of the tag; a |len| that wrapped is refused. */
 int chacha20_aead_decrypt(const uint8_t key[CHACHA20_AT_LEAST 32],
                           const uint8_t nonce[CHACHA20_AT_LEAST 12], const uint8_t *aad,
                           size_t aad_len, uint8_t *output, const uint8_t *input, size_t len,
                           const uint8_t tag[CHACHA20_AT_LEAST 16]) CHACHA20_ATTR_SEAL;
 
-/* XChaCha20-Poly1305 (draft-irtf-cfrg-xchacha): a nonce of 24 bytes, which may be random. */
+/* XChaCha20-Poly1305 (draft-irtf-cfrg-xchacha): the same calls with a nonce of 24 bytes, which may be
+   random. One of 12 bytes is too short for that: count the messages. */
 int xchacha20_aead_encrypt(const uint8_t key[CHACHA20_AT_LEAST 32],
                            const uint8_t nonce[CHACHA20_AT_LEAST 24], const uint8_t *aad,
                            size_t aad_len, uint8_t *output, const uint8_t *input, size_t len,
@@ -172,11 +173,11 @@ void chacha_poly1305(const uint8_t key[CHACHA20_AT_LEAST 32], const uint8_t *inp
                      uint8_t tag[CHACHA20_AT_LEAST 16]) CHACHA20_ATTR_TAG;
 
 /* chacha20_verify returns CHACHA20_OK if |len| bytes are equal, and else CHACHA20_REFUSED. It reads all
-   bytes, wherever they differ: compare tags by it, not by memcmp. */
+   bytes, wherever they differ: compare tags with it, not with memcmp. */
 int chacha20_verify(const uint8_t *one, const uint8_t *other, size_t len) CHACHA20_ATTR_VERIFY;
 
-/* chacha_wipe_stack overwrites the stack below its caller, as deep as other calls of the caller left copies
-   of keys and keystream. Call it from the function that made these calls. */
+/* chacha_wipe_stack overwrites what the caller's earlier calls of this library left on the stack. Call it
+   from the function that made these calls. */
 void chacha_wipe_stack(void);
 
 /* Ciphers */
@@ -203,7 +204,8 @@ int chacha20_keystream(const uint8_t key[CHACHA20_AT_LEAST 32],
                        uint8_t *output, size_t len) CHACHA20_ATTR_KEYSTREAM;
 
 /* chacha20_check returns CHACHA20_OK if |len| bytes at |position| end within the keystream, and
-   CHACHA20_REFUSED otherwise. It serves every cipher with a nonce of 12 or 24 bytes. */
+   CHACHA20_REFUSED otherwise. It serves every cipher with a nonce of 12 or 24 bytes. The limit of
+   messages is CHACHA20_AEAD_LONGEST. */
 int chacha20_check(uint64_t position, size_t len) CHACHA20_ATTR_MUST_USE;
 
 /* chacha20_block_position returns the position of the first byte of |block|, 64 * |block|. If that is
@@ -266,18 +268,18 @@ void chacha_rng_from_seed(const uint8_t seed[CHACHA20_AT_LEAST 32],
 void chacha20_rng_fill(uint8_t state[CHACHA20_AT_LEAST 49], uint8_t *output, size_t len)
                        CHACHA20_ATTR_FILL;
 
-/* Words one by one, from an object that the caller owns: a fill makes 64 at once. No caller reads or
-   writes its members. Keep it secret, and wipe it after use; a copy repeats its words. An object of
-   zeros begins at word 0 of stream 0 of a seed of zeros, which is no secret. */
+/* Words one by one, from an object that the caller owns: a fill makes 64 at once. Don't access its
+   members. Keep it secret, and wipe it after use; a copy repeats its words. Never draw from a wiped
+   one: zeros are the generator of a seed of zeros, which is no secret. */
 typedef struct {
-    uint8_t words[256]; /* the last |unread| are, the others are zero */
+    uint8_t words[256]; /* the last |unread| bytes are unread, the others zero */
     uint8_t state[49];  /* of the word after them */
     size_t unread;
 } chacha20_words;
 
-/* chacha20_words_from_state begins at the next word of |state|. chacha20_words_next returns the next
-   word, and zeroes it in |words|. chacha20_words_to_state writes the state whose next word is that of
-   |words|. */
+/* chacha20_words_from_state begins at the next word of |state|, which doesn't move.
+   chacha20_words_next returns the next word, and zeroes it in |words|. chacha20_words_to_state writes
+   the state whose next word is that of |words|, to go on from there later. */
 void chacha20_words_from_state(chacha20_words *words, const uint8_t state[CHACHA20_AT_LEAST 49])
                                CHACHA20_ATTR_NONNULL;
 uint32_t chacha20_words_next(chacha20_words *words) CHACHA20_ATTR_NONNULL;
