@@ -26,7 +26,7 @@ $(OUT)/proved-with: $(call if_differs,$(PROVED_WITH),proved-with) | $(OUT)
 # The libraries are proved in the tree, where their proofs stay. Levels after the first have little left to prove, for which more
 # jobs would only load more. dash runs no EXIT trap on a signal, so signals have one of their own.
 $(BUILT) &: $(SOURCES) $(OUT)/proved-with proved.mk
-	cd ../crates/aead && $(RT) lib
+	cd ../crates/chacha20poly1305 && $(RT) lib
 	set -e; copy=$$(mktemp -d); crate=$$copy/crates/chacha20_c; trap 'rm -rf "$$copy"' EXIT; trap 'exit 1' HUP INT TERM; \
 	tar -C .. --exclude=must-fail $(LIBRARIES:%=--exclude=crates/%/out/incremental) -cf - $(CRATES:%=crates/%) | tar -C "$$copy" -xf -; \
 	for name in $(CRATES); do grep "^$$name:" ../crates.txt; done | sed 's/^chacha20_c:/chacha20_c staticlib:/' > "$$copy/crates.txt"; \

@@ -1,7 +1,7 @@
 -- Facts on what calls for messages say, so that a definition that leaves out the data or the tag doesn't check.
 use Rattle.std.proofs.Common.{◌≡◌, ◌≤◌, ◌+◌, ◌∙◌, ℕ, List, ◌++◌, length, refl, sym, ap, ap₂}
 use Rattle.chacha20.proofs.KeystreamLemmas.{xor_stream-xor_stream, length-xor_stream}
-use Rattle.aead.specs.Aead.{encrypted, poly1305_tag, sealed_message}
+use Rattle.chacha20poly1305.specs.Aead.{encrypted, poly1305_tag, sealed_message}
 use Rattle.chacha20_c.specs.Results.{Encrypted, EncryptedInto, Decrypted, DecryptedInto}
 
 module _ (limit : ℕ) (stream : ℕ → ℕ) (aad : List ℕ) where

@@ -2,7 +2,7 @@
 -- end at the limit or before it, and else 1, and then nothing is written.
 use Rattle.std.specs.Prelude.{ℕ, List, ◌≡◌, ◌↔◌, ◌⊎◌, ◌≤◌, ◌+◌, length}
 use Rattle.chacha20.specs.ChaCha.{stream_part, xor_stream}
-use Rattle.aead.specs.Aead.{encrypted, poly1305_tag}
+use Rattle.chacha20poly1305.specs.Aead.{encrypted, poly1305_tag}
 
 -- a call that is accepted exactly where P holds, and then leaves the bytes `made`
 pub record Answered (P : Type 0) (answer : ℕ) (made old new : List ℕ) : Type 0 where

@@ -9,7 +9,7 @@ ghost use Rattle.chacha20_c.specs.Results.{Decrypted, DecryptedInto, Encrypted, 
 
 use crate::backend::Backend;
 use crate::xchacha::{subkey, subnonce};
-use aead::{AeadError, ChaChaPoly1305};
+use chacha20poly1305::{Error, ChaChaPoly1305};
 use chacha20::{ChaChaCore, Ietf, Key, Nonce, R20, StreamCipherCoreWrapper, XNonce};
 use poly1305::{Tag, authenticate};
 
@@ -17,7 +17,7 @@ use poly1305::{Tag, authenticate};
 type Aead = ChaChaPoly1305<StreamCipherCoreWrapper<ChaChaCore<R20, Ietf, Backend>>>;
 
 // 0 and the tag for a message that was encrypted, and else 1.
-fn answer_with(made: Result<Tag, AeadError>, tag: &mut Tag) -> u32
+fn answer_with(made: Result<Tag, Error>, tag: &mut Tag) -> u32
     ensures value { result ≡ cond (is_ok made) 0 1 }
     ensures tag { IfOk made (λ t. tag.new ≡ t) }
     ensures refused { OnErr made (tag.new ≡ tag.old) }
@@ -32,7 +32,7 @@ fn answer_with(made: Result<Tag, AeadError>, tag: &mut Tag) -> u32
 }
 
 // 0 for a message that was decrypted, and else 1.
-fn answer(outcome: Result<(), AeadError>) -> u32
+fn answer(outcome: Result<(), Error>) -> u32
     ensures { result ≡ cond (is_ok outcome) 0 1 }
 {
     match outcome {

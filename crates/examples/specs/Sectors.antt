@@ -3,7 +3,7 @@ use Rattle.std.specs.Prelude.{◌≡◌, ◌<◌, ◌≤◌, ◌+◌, ◌*◌, �
 use Rattle.std.specs.List.{slice_range}
 use Rattle.std.specs.Int.{to_le_bytes, w32, w64}
 use Rattle.chacha20.specs.ChaCha.{chacha_stream, ietf}
-use Rattle.aead.specs.Aead.{encrypted, poly1305_tag}
+use Rattle.chacha20poly1305.specs.Aead.{encrypted, poly1305_tag}
 use Rattle.examples.specs.declared.sectors.Seal.{Seal}
 
 -- the number of a sector in 4 bytes and a version in 8, little-endian

@@ -1,6 +1,6 @@
 //! Frames under one key: a sender encrypts messages in order, and a receiver decrypts them in the same order.
 //!
-//! A frame is the ciphertext of a message and its tag of 16 bytes, by ChaCha20-Poly1305 (crate `aead`). Its nonce is
+//! A frame is the ciphertext of a message and its tag of 16 bytes, by ChaCha20-Poly1305 (crate `chacha20poly1305`). Its nonce is
 //! its channel, four bytes, and its number, eight little-endian bytes. Both sides count from 0, so no number is sent.
 //! The receiver accepts only the next frame: it refuses one that was changed or comes again, and each one after a frame
 //! that was lost. The contracts say which bytes are the next frame, not how hard these are to forge. For frames in any
@@ -15,7 +15,7 @@
 ghost use Rattle.std.specs.Prelude.{◌≡◌, ◌≢◌, ◌<◌, ◌≤◌, ◌↔◌, ◌+◌, ◌^◌, ℕ, List, length, IsOk, IsErrOf, OnOk, OnErr};
 ghost use Rattle.examples.specs.Frames.{Endpoint, nonce_of, frame_of, IsFrame, after};
 
-use aead::{AeadError, ChaCha20Poly1305};
+use chacha20poly1305::{Error, ChaCha20Poly1305};
 use chacha20::{Key, Nonce};
 use std::marker::Model;
 
@@ -216,12 +216,12 @@ pub fn decrypt_frame(
     aad: &[u8],
     frame: &[u8],
     message: &mut [u8],
-) -> Result<(), AeadError>
+) -> Result<(), Error>
     requires { length frame.now ≡ length message.old + 16 }
     ensures accepted { let sender : Endpoint =
         record { key = cipher.now; channel = channel.now; next = number } in
         IsOk result ↔ IsFrame sender aad.now frame.now }
-    ensures too_long { IsErrOf result AeadError.TooLong
+    ensures too_long { IsErrOf result Error.TooLong
         ↔ (274877906944 < 64 + length message.old) }
     ensures message { let sender : Endpoint =
         record { key = cipher.now; channel = channel.now; next = number } in

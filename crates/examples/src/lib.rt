@@ -7,7 +7,7 @@
 //! `proofs` has the answers that the prover needs, or that make its check quicker: often a line or two for a function.
 //!
 //! The proofs use only public contracts, definitions and lemmas: of `chacha20`, in `frames`, `packets` and `sectors`
-//! also of `aead`, and in `scalar` also of `chacha_base`.
+//! also of `chacha20poly1305`, and in `scalar` also of `chacha_base`.
 #![tactic(auto)]
 
 pub mod file;

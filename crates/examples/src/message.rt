@@ -1,6 +1,6 @@
 //! A message under a key and a nonce, in one call: by ChaCha20, by any other cipher, or with a number of rounds of your
 //! own. These are bare ciphers, which don't authenticate: whoever changes a bit of the ciphertext changes that bit of
-//! the text, and decryption doesn't notice. For messages that are sent or stored take the crate `aead`.
+//! the text, and decryption doesn't notice. For messages that are sent or stored take the crate `chacha20poly1305`.
 //!
 //! The contract of `encrypt` says:
 //!
@@ -36,7 +36,7 @@ pub fn encrypt(key: &Key, nonce: &Nonce, message: &mut [u8]) -> Result<(), Strea
 }
 
 /// Encrypts a message from block 1 on, so from byte 64 of the keystream (RFC 8439, section 2.4.2). Protocols do so that
-/// take block 0 for something else, as `aead` does. `Err` exactly where the message is longer than the 274877906880
+/// take block 0 for something else, as `chacha20poly1305` does. `Err` exactly where the message is longer than the 274877906880
 /// bytes that are left there; then it is as it was.
 pub fn encrypt_from_block_1(
     key: &Key,

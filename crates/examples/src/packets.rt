@@ -13,7 +13,7 @@ ghost use Rattle.examples.specs.Frames.{Endpoint, nonce_of, after};
 ghost use Rattle.examples.specs.Packets.{packet_of, number_of, IsPacket, IsOpen, taken};
 
 use crate::frames::{Channel, FrameError, Sender, decrypt_frame};
-use aead::ChaCha20Poly1305;
+use chacha20poly1305::ChaCha20Poly1305;
 use chacha20::Key;
 use std::marker::Model;
 

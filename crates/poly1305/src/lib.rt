@@ -10,7 +10,7 @@
 //! mac.update(second);
 //! let tag = mac.finish();
 //!
-//! let right = is_equal(tag, &received);
+//! let right = is_equal(&tag, &received);
 //! ```
 //!
 //! Whoever sees the tags of two messages under one key can forge others. The AEAD takes each message's key from the

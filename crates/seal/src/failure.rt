@@ -1,6 +1,6 @@
 //! Says on standard error why the program stops, in a sentence.
 
-use sealed::SealError;
+use sealed_file::SealError;
 use std::fmt::Display;
 use std::io;
 

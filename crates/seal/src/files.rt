@@ -2,7 +2,7 @@
 
 use crate::failure::{Failed, fail, fail_at, read, streamed, written};
 use chacha20::Key;
-use sealed::stream;
+use sealed_file::stream;
 use std::fs::{File, OpenOptions};
 use std::io::{ErrorKind, Write};
 use std::os::unix::fs::{MetadataExt, OpenOptionsExt};

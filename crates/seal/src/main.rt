@@ -8,7 +8,7 @@ mod progress;
 use chacha20::Key;
 use failure::{Failed, fail, read, streamed, usage, written};
 use progress::Progress;
-use sealed::{CHUNK, Salt, SealError, SealedReader, TAG, chunk, stream};
+use sealed_file::{CHUNK, Salt, SealError, SealedReader, TAG, chunk, stream};
 use std::fs::File;
 use std::io::{ErrorKind, Read, Seek, SeekFrom, Write};
 use std::process::ExitCode;

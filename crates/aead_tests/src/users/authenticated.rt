@@ -4,7 +4,7 @@
 ghost use Rattle.std.specs.Prelude.{◌≡◌, ◌≤◌, ◌+◌, ◌↔◌, length, IsOk, OnOk};
 ghost use Rattle.chacha20.specs.Cipher.{limit_of};
 
-use aead::{AeadError, ChaChaPoly1305};
+use chacha20poly1305::{Error, ChaChaPoly1305};
 use chacha20::backends::Lanes16;
 use chacha20::cipher::{KeyIvInit, StreamCipher};
 use chacha20::variants::Ietf;
@@ -19,7 +19,7 @@ fn there_and_back<C: KeyIvInit<Key = Key> + StreamCipher + Drop>(
     nonce: &C::Iv,
     aad: &[u8],
     message: &mut [u8],
-) -> Result<(), AeadError>
+) -> Result<(), Error>
     ensures accepted { IsOk result ↔ (64 + length message.old ≤ limit_of C.modulus) }
     ensures message { message.new ≡ message.old }
 {
@@ -77,7 +77,7 @@ fn decrypts_between<C: KeyIvInit<Key = Key> + StreamCipher + Drop>(
     aad: &[u8],
     sealed: &[u8; SEALED],
     len: usize,
-    (answer, text): (Result<(), AeadError>, &[u8]),
+    (answer, text): (Result<(), Error>, &[u8]),
 ) -> bool {
     let (mut output, len) = (*sealed, len.min(TEXT));
     let found = aead.decrypt(nonce, aad, &sealed[..len + 16], &mut output[..len]);
@@ -91,7 +91,7 @@ fn decrypts_in_place<C: KeyIvInit<Key = Key> + StreamCipher + Drop>(
     aad: &[u8],
     sealed: &[u8; SEALED],
     len: usize,
-    (answer, text): (Result<(), AeadError>, &[u8]),
+    (answer, text): (Result<(), Error>, &[u8]),
 ) -> bool {
     let (mut message, tag) = (*sealed, tag_of(sealed, len).to_le_bytes());
     let front = &mut message[..len.min(TEXT)];
@@ -106,7 +106,7 @@ fn decrypts<C: KeyIvInit<Key = Key> + StreamCipher + Drop>(
     aad: &[u8],
     sealed: &[u8; SEALED],
     len: usize,
-    expected: (Result<(), AeadError>, &[u8]),
+    expected: (Result<(), Error>, &[u8]),
 ) -> bool {
     decrypts_between(aead, nonce, aad, sealed, len, expected)
         & decrypts_in_place(aead, nonce, aad, sealed, len, expected)
@@ -123,7 +123,7 @@ fn is_sealed<C: KeyIvInit<Key = Key> + StreamCipher + Drop>(
 ) -> bool {
     let (mut forged, len) = (*sealed, text.len().min(TEXT));
     forged[len + 15] ^= 1;
-    let wrong = (Err(AeadError::WrongTag), forged.as_slice());
+    let wrong = (Err(Error::WrongTag), forged.as_slice());
     (encrypted_in_place(aead, nonce, aad, text) == *sealed)
         & decrypts(aead, nonce, aad, sealed, len, (Ok(()), text))
         & decrypts(aead, nonce, aad, &forged, len, wrong)
@@ -149,7 +149,7 @@ fn sealed<C: KeyIvInit<Key = Key> + StreamCipher + Drop>(
 // `names.rt` of `user_tests` has the names of these AEADs.
 
 fn by_chacha<R: Rounds>(key: &Key, nonce: &Nonce, aad: &[u8], text: &[u8]) -> Option<[u8; SEALED]> {
-    sealed::<StreamCipherCoreWrapper<ChaChaCore<R, Ietf, Lanes16>>>(key, nonce, aad, text)
+    sealed_file::<StreamCipherCoreWrapper<ChaChaCore<R, Ietf, Lanes16>>>(key, nonce, aad, text)
 }
 
 fn by_xchacha<R: Rounds>(
@@ -158,7 +158,7 @@ fn by_xchacha<R: Rounds>(
     aad: &[u8],
     text: &[u8],
 ) -> Option<[u8; SEALED]> {
-    sealed::<StreamCipherCoreWrapper<XChaChaCore<R, Lanes16>>>(key, nonce, aad, text)
+    sealed_file::<StreamCipherCoreWrapper<XChaChaCore<R, Lanes16>>>(key, nonce, aad, text)
 }
 
 // RFC 8439, sections 2.8.2 and A.5, and draft-irtf-cfrg-xchacha, section A.3.1.

@@ -2,12 +2,12 @@
 
 ghost use Rattle.std.specs.Prelude.{◌≡◌, ◌<◌, ◌^◌, ℕ, List, Some, length, take};
 ghost use Rattle.std.specs.Io.KnownBytes.{Appends};
-ghost use Rattle.sealed.specs.Sealed.{sealed};
+ghost use Rattle.sealed_file.specs.Sealed.{sealed};
 
 use super::unsteady::Unsteady;
 use chacha20::Key;
 use known_answers::published::COUNTING as KEY;
-use sealed::{CHUNK, Damage, Salt, SealError, TAG, decrypt, encrypt};
+use sealed_file::{CHUNK, Damage, Salt, SealError, TAG, decrypt, encrypt};
 use std::io::{Read, Write};
 
 // Scratch space. Its length is a parameter of functions, and so are those of other large arrays: that a slice of them

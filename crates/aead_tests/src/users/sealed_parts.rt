@@ -3,13 +3,13 @@
 ghost use Rattle.std.specs.Prelude.{◌≡◌, ◌<◌, ◌≤◌, ◌^◌, ℕ, List, length};
 ghost use Rattle.std.specs.List.{slice_range};
 ghost use Rattle.std.specs.Result.{IsOkAnd};
-ghost use Rattle.sealed.specs.Sealed.{sealed};
+ghost use Rattle.sealed_file.specs.Sealed.{sealed};
 
 use super::sealed_files::{Change, FILE, TEXT, TWO_FILES, apply, counted, two_files};
 use super::unsteady::Unsteady;
 use chacha20::Key;
 use known_answers::published::COUNTING as KEY;
-use sealed::{CHUNK, Damage, SealError, SealedReader, SealedSlice, TAG};
+use sealed_file::{CHUNK, Damage, SealError, SealedReader, SealedSlice, TAG};
 use std::fs::{File, OpenOptions, remove_file};
 use std::io::{self, Cursor, ErrorKind, Read, Seek, SeekFrom, Write};
 

@@ -8,7 +8,7 @@ fn is_right(key: &[u8; 32], text: &[u8], cut: usize, tag: &Tag) -> bool {
     let mut mac = Poly1305::new(key);
     mac.update(first);
     mac.update(rest);
-    is_equal(mac.finish(), tag) & is_equal(authenticate(key, text), tag)
+    is_equal(&mac.finish(), tag) & is_equal(&authenticate(key, text), tag)
 }
 
 // The first cut at which the tag is wrong.

@@ -1,10 +1,10 @@
 //! The examples of README and GUIDE, and of the comments of the calls that users make first.
 
-use aead::{AeadError, ChaCha20Poly1305, XChaCha20Poly1305};
+use chacha20poly1305::{Error, ChaCha20Poly1305, XChaCha20Poly1305};
 use chacha20::cipher::{KeyIvInit, StreamCipher, StreamCipherError, StreamCipherSeek};
 use chacha20::{ChaCha20, ChaCha20Rng, Key, Nonce, XNonce};
 use known_answers::published::{CIPHERTEXT, COUNTING, MESSAGE, NONCE, OF_20_ROUNDS, X_NONCE};
-use sealed::{CHUNK, Damage, SealError, SealedSlice, TAG};
+use sealed_file::{CHUNK, Damage, SealError, SealedSlice, TAG};
 use std::random::RandomSource;
 
 fn encrypted_and_decrypted(key: &Key, nonce: &Nonce) -> Result<[u8; 14], StreamCipherError> {
@@ -28,7 +28,7 @@ fn ciphers(rt: HostRuntime) {
     assert!(rt; same & (from_block_1(&COUNTING, &NONCE) == Ok(*CIPHERTEXT)));
 }
 
-fn there_and_back(key: &Key, nonce: &XNonce, aad: &[u8]) -> Result<[u8; 14], AeadError> {
+fn there_and_back(key: &Key, nonce: &XNonce, aad: &[u8]) -> Result<[u8; 14], Error> {
     let mut message = *b"attack at dawn";
     let cipher = XChaCha20Poly1305::new(key);
     let tag = cipher.encrypt_in_place_detached(nonce, aad, &mut message)?;
@@ -36,7 +36,7 @@ fn there_and_back(key: &Key, nonce: &XNonce, aad: &[u8]) -> Result<[u8; 14], Aea
     Ok(message)
 }
 
-fn sealed_and_opened(key: &Key, nonce: &Nonce) -> Result<[u8; 14], AeadError> {
+fn sealed_and_opened(key: &Key, nonce: &Nonce) -> Result<[u8; 14], Error> {
     let cipher = ChaCha20Poly1305::new(key);
     let mut sealed = [0; 14 + 16];
     cipher.encrypt(nonce, b"header", b"attack at dawn", &mut sealed)?;
@@ -73,10 +73,10 @@ fn in_memory(rt: &HostRuntime, key: &Key, text: &[u8]) -> Result<bool, SealError
     rt.fill_bytes(&mut salt).map_err(SealError::Read)?;
     let mut file = Vec::new(rt.alloc());
     let mut reader = text;
-    sealed::encrypt(key, &salt, &mut reader, &mut file, &mut [0; CHUNK + 1])?;
+    sealed_file::encrypt(key, &salt, &mut reader, &mut file, &mut [0; CHUNK + 1])?;
     let mut opened = Vec::new(rt.alloc());
     let mut reader = file.as_slice();
-    sealed::decrypt(key, &mut reader, &mut opened, &mut [0; CHUNK + TAG + 1])?;
+    sealed_file::decrypt(key, &mut reader, &mut opened, &mut [0; CHUNK + TAG + 1])?;
     Ok(are_right(key, text, file.as_slice(), opened.as_slice()))
 }
 

@@ -1,7 +1,7 @@
 //! Every public name by the crate's root and by its module, and which types the aliases name. Most names are only
 //! imported: that they are found is the test.
 
-use aead::{
+use chacha20poly1305::{
     ChaCha8Poly1305, ChaCha12Poly1305, ChaCha20Poly1305, ChaChaPoly1305, XChaCha8Poly1305,
     XChaCha12Poly1305, XChaCha20Poly1305,
 };

@@ -1,8 +1,8 @@
 use Rattle.std.proofs.Common.{◌≡◌, ◌+◌, ◌∙◌, ℕ, List, length, take, drop, arith, sym, ap, length-take-le}
 use Rattle.chacha20.proofs.KeystreamLemmas.{length-xor_stream}
 use Rattle.chacha20.specs.ChaCha.{chacha_stream, ietf}
-use Rattle.aead.specs.Aead.{encrypted, poly1305_tag, sealed_message}
-use Rattle.aead.proofs.AeadLemmas.{is-sealed_message, length-sealed_message, take-sealed_message, drop-sealed_message}
+use Rattle.chacha20poly1305.specs.Aead.{encrypted, poly1305_tag, sealed_message}
+use Rattle.chacha20poly1305.proofs.AeadLemmas.{is-sealed_message, length-sealed_message, take-sealed_message, drop-sealed_message}
 use Rattle.examples.specs.Frames.{nonce_of}
 use Rattle.examples.proofs.frames.decrypt_frame.Goals as goal
 

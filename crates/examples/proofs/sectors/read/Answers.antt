@@ -2,7 +2,7 @@ use Rattle.std.proofs.Common.{◌≡◌, ◌∙◌, rules, [], ℕ, List, arith,
 use Rattle.std.proofs.lemmas.Bool.{false≢true}
 use Rattle.chacha20.specs.ChaCha.{chacha_stream, ietf}
 use Rattle.chacha20.proofs.KeystreamLemmas.{xor_stream-xor_stream}
-use Rattle.aead.specs.Aead.{encrypted, poly1305_tag}
+use Rattle.chacha20poly1305.specs.Aead.{encrypted, poly1305_tag}
 use Rattle.examples.specs.Sectors.{nonce_of, sector, seal_of}
 use Rattle.examples.proofs.sectors.read.Goals as goal
 

@@ -1,4 +1,4 @@
-use Rattle.sealed.proofs.OpenLemmas.{only-front}
+use Rattle.sealed_file.proofs.OpenLemmas.{only-front}
 use Rattle.aead_tests.proofs.users.sealed_files.opens.Goals as goal
 
 pub returns : goal.returns

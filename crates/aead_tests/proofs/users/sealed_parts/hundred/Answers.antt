@@ -3,9 +3,9 @@ use Rattle.std.specs.List.{slice_range}
 use Rattle.std.specs.declared.result.Result.{Result}
 use Rattle.std.specs.declared.result.Result.TheVariants.{Ok, Err}
 use Rattle.std.specs.Result.{IsOkAnd}
-use Rattle.sealed.specs.Sealed.{sealed}
-use Rattle.sealed.proofs.FileLemmas.{has-salt}
-use Rattle.sealed.proofs.SliceLemmas.{part-within}
+use Rattle.sealed_file.specs.Sealed.{sealed}
+use Rattle.sealed_file.proofs.FileLemmas.{has-salt}
+use Rattle.sealed_file.proofs.SliceLemmas.{part-within}
 use Rattle.aead_tests.proofs.users.sealed_parts.hundred.Goals as goal
 
 weaker : {T E : Type 0} (r : Result T E) (P Q : T → Type 0) → ((x : T) → P x → Q x) → IsOkAnd r P → IsOkAnd r Q

@@ -3,7 +3,7 @@ use Rattle.std.proofs.lemmas.Bool.{false≢true}
 use Rattle.std.proofs.lemmas.List.{take-append-drop}
 use Rattle.std.specs.Int.{w64, to_le_bytes}
 use Rattle.chacha20.specs.ChaCha.{chacha_stream, ietf}
-use Rattle.aead.specs.Aead.{sealed_message}
+use Rattle.chacha20poly1305.specs.Aead.{sealed_message}
 use Rattle.examples.specs.Frames.{Endpoint, frame_of, IsFrame}
 use Rattle.examples.specs.Packets.{Inbox, packet_of, number_of, IsPacket, IsOpen}
 use Rattle.examples.proofs.packets.Receiver.receive.Goals as goal

@@ -1,0 +1,55 @@
+-- Tags and sealed messages. Proofs of callers may cite these.
+use Rattle.std.proofs.Common.{◌≡◌, ◌+◌, ◌∙◌, ◌++◌, ℕ, List, length, take, drop, arith, sym, ap, ap₂, refl, length-append, take_at, drop_at}
+use Rattle.std.proofs.lemmas.List.{take-append-drop}
+use Rattle.chacha20.specs.ChaCha.{xor_stream}
+use Rattle.chacha20.proofs.KeystreamLemmas.{length-xor_stream, xor_stream-xor_stream}
+use Rattle.poly1305.specs.Poly1305.{tag_from}
+use Rattle.chacha20poly1305.specs.Aead.{encrypted, poly1305_tag, sealed_message}
+
+pub length-poly1305_tag : (stream : ℕ → ℕ) (aad ciphertext : List ℕ) → length (poly1305_tag stream aad ciphertext) ≡ 16
+unfolding tag_from
+length-poly1305_tag stream aad ciphertext = refl
+
+pub length-sealed_message : (stream : ℕ → ℕ) (aad text : List ℕ)
+    → length (sealed_message stream aad text) ≡ length text + 16
+length-sealed_message stream aad text =
+    let ciphertext = encrypted stream text in
+    length-append ciphertext (poly1305_tag stream aad ciphertext)
+    ∙ ap₂ ◌+◌ (length-xor_stream stream 64 text) (length-poly1305_tag stream aad ciphertext)
+
+-- texts with one ciphertext are equal
+pub encrypted-injective : (stream : ℕ → ℕ) (xs ys : List ℕ) → encrypted stream xs ≡ encrypted stream ys → xs ≡ ys
+encrypted-injective stream xs ys same =
+    sym (xor_stream-xor_stream stream 64 xs) ∙ ap (xor_stream stream 64) same ∙ xor_stream-xor_stream stream 64 ys
+
+-- the ciphertext of a sealed message
+pub take-sealed_message : (stream : ℕ → ℕ) (aad text : List ℕ) (n : ℕ) → length text ≡ n
+    → take n (sealed_message stream aad text) ≡ encrypted stream text
+take-sealed_message stream aad text n long =
+    let ciphertext = encrypted stream text in
+    take_at ciphertext (poly1305_tag stream aad ciphertext) n (length-xor_stream stream 64 text ∙ long)
+
+-- the tag of a sealed message
+pub drop-sealed_message : (stream : ℕ → ℕ) (aad text : List ℕ) (n : ℕ) → length text ≡ n
+    → drop n (sealed_message stream aad text) ≡ poly1305_tag stream aad (encrypted stream text)
+drop-sealed_message stream aad text n long =
+    let ciphertext = encrypted stream text in
+    drop_at ciphertext (poly1305_tag stream aad ciphertext) n (length-xor_stream stream 64 text ∙ long)
+
+-- under one key, nonce and data, different texts have different sealed messages
+pub sealed_message-injective : (stream : ℕ → ℕ) (aad xs ys : List ℕ)
+    → sealed_message stream aad xs ≡ sealed_message stream aad ys → xs ≡ ys
+sealed_message-injective stream aad xs ys same =
+    let long : length xs ≡ length ys =
+    omega (arith, ap length same, length-sealed_message stream aad xs, length-sealed_message stream aad ys) in
+    encrypted-injective stream xs ys (sym (take-sealed_message stream aad xs (length ys) long)
+    ∙ ap (take (length ys)) same ∙ take-sealed_message stream aad ys (length ys) refl)
+
+-- a ciphertext and its tag are the sealed message of the decrypted text
+pub is-sealed_message : (stream : ℕ → ℕ) (aad input : List ℕ) (n : ℕ)
+    → drop n input ≡ poly1305_tag stream aad (take n input)
+    → input ≡ sealed_message stream aad (encrypted stream (take n input))
+is-sealed_message stream aad input n right =
+    sym (take-append-drop n input) ∙ ap (λ tag. take n input ++ tag) right
+    ∙ ap (λ ciphertext. ciphertext ++ poly1305_tag stream aad ciphertext)
+    (sym (xor_stream-xor_stream stream 64 (take n input)))

@@ -1,0 +1,16 @@
+use Rattle.std.proofs.Common.{◌≡◌, ◌∙◌, ap, arith, length, take}
+use Rattle.chacha20.specs.ChaCha.{keystream}
+use Rattle.chacha20poly1305.proofs.AeadLemmas.{length-sealed_message, take-sealed_message}
+use Rattle.chacha20poly1305.proofs.chacha_poly1305.ChaChaPoly1305.decrypt.Goals as goal
+
+pub returns-clause-decrypted : goal.returns-clause-decrypted
+returns-clause-decrypted g c text same =
+    let stream = keystream g.C.Keystream.modulus (g.C.KeyIvInit.blocks_of c.args.self.now c.args.nonce.now) in
+    let n = length c.args.output.now in
+    let size : length text ≡ n =
+    omega (arith, c.requires, ap length same, length-sealed_message stream c.args.aad.now text) in
+    c.decrypt_detached.ensures.decrypted text
+    (c.split_at.ensures.front ∙ ap (take n) same ∙ take-sealed_message stream c.args.aad.now text n size)
+
+pub returns-clause-text : goal.returns-clause-text
+returns-clause-text g c = rw (c.split_at.ensures.front) at c.decrypt_detached.ensures.text
