@@ -2,9 +2,11 @@
 //! (draft-irtf-cfrg-xchacha, section 2).
 //!
 //! ```text
-//! use chacha20poly1305::ChaCha20Poly1305;
+//! use chacha20poly1305::XChaCha20Poly1305;
 //!
-//! let cipher = ChaCha20Poly1305::new(&key);
+//! let key = XChaCha20Poly1305::generate_key(&rt)?;
+//! let nonce = XChaCha20Poly1305::generate_nonce(&rt)?;
+//! let cipher = XChaCha20Poly1305::new(&key);
 //! let tag = cipher.encrypt_in_place_detached(&nonce, aad, &mut message)?;
 //! cipher.decrypt_in_place_detached(&nonce, aad, &mut message, &tag)?;
 //! ```
@@ -23,13 +25,16 @@
 
 mod chacha_poly1305;
 mod error;
+mod generate;
 mod mac;
 mod message;
 mod named;
 
-pub use chacha_poly1305::{KeyedStream, ChaChaPoly1305};
+pub use chacha_poly1305::{ChaChaPoly1305, KeyedStream};
+pub use chacha20::{Key, Nonce, XNonce};
 pub use error::Error;
 pub use named::{
     ChaCha8Poly1305, ChaCha12Poly1305, ChaCha20Poly1305, XChaCha8Poly1305, XChaCha12Poly1305,
     XChaCha20Poly1305,
 };
+pub use poly1305::Tag;

@@ -33,11 +33,7 @@ pub fn front_len(len: usize) -> usize
 
 /// Writes block 0 into `front`, and behind it the front of the text, encrypted. The cipher, which is new, moves behind
 /// them. Fails if the text has more bytes than the keystream from block 1 on.
-pub fn begin<C: StreamCipher>(
-    cipher: &mut C,
-    text: &[u8],
-    front: &mut [u8],
-) -> Result<(), Error>
+pub fn begin<C: StreamCipher>(cipher: &mut C, text: &[u8], front: &mut [u8]) -> Result<(), Error>
     requires start { C.position cipher.old ≡ 0 }
     requires whole { length front.old % 64 ≡ 0 }
     requires some { 64 ≤ length front.old }

@@ -4,7 +4,7 @@ ghost use Rattle.std.specs.Prelude.{◌≡◌};
 ghost use Rattle.chacha20.specs.ChaCha.{chacha_stream, ietf};
 ghost use Rattle.chacha20.specs.XChaCha.{xchacha_stream};
 
-use crate::chacha_poly1305::{KeyedStream, ChaChaPoly1305};
+use crate::chacha_poly1305::{ChaChaPoly1305, KeyedStream};
 use chacha20::{ChaCha8, ChaCha12, ChaCha20, XChaCha8, XChaCha12, XChaCha20};
 
 /// ChaCha20-Poly1305 (RFC 8439, section 2.8), with a nonce of 12 bytes. A message has at most 274877906880 bytes.
