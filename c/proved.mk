@@ -7,7 +7,7 @@
 # of 256 bits. Left out are must-fail, and work on libraries that are whole.
 
 WIDE = x86-64-v3
-LIBRARIES = poly1305 chacha_base chacha20 aead
+LIBRARIES = poly1305 chacha_base chacha20 chacha20poly1305
 CRATES = $(LIBRARIES) chacha20_c
 SOURCES := $(sort $(shell find $(CRATES:%=../crates/%) \( -name out -o -name must-fail \) -prune -o -type f -print))
 BUILT = $(LEVELS:%=$(OUT)/built-%.a)
