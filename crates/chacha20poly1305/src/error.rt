@@ -14,7 +14,7 @@ pub enum Error {
 
 impl Display for Error {
     ghost use Rattle.std.specs.Prelude.{Some};
-    ghost use Rattle.chacha20poly1305.specs.Text.{error_text};
+    ghost use Rattle.chacha20poly1305.specs.ErrorText.{error_text};
 
     ghost output = { λ e. Some (error_text e) };
 

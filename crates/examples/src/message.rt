@@ -36,7 +36,7 @@ pub fn encrypt(key: &Key, nonce: &Nonce, message: &mut [u8]) -> Result<(), Strea
 }
 
 /// Encrypts a message from block 1 on, so from byte 64 of the keystream (RFC 8439, section 2.4.2). Protocols do so that
-/// take block 0 for something else, as `chacha20poly1305` does. `Err` exactly where the message is longer than the 274877906880
+/// take block 0 for something else, as AEADs do. `Err` exactly where the message is longer than the 274877906880
 /// bytes that are left there; then it is as it was.
 pub fn encrypt_from_block_1(
     key: &Key,

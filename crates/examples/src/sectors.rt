@@ -2,8 +2,8 @@
 //!
 //! If a sector were overwritten under the same nonce, the XOR (exclusive or) of its two ciphertexts would be the XOR of
 //! its two texts. So each write takes a new nonce. Beside the disk is a seal for each sector: its version, which every
-//! write raises by one, and its tag, by ChaCha20-Poly1305 (crate `chacha20poly1305`). The sector's number and version make the
-//! nonce. Seals aren't secret. Sector n has the 512 bytes of the disk from byte 512 · n on. The contracts say that a
+//! write raises by one, and its tag, by ChaCha20-Poly1305. The sector's number and version make the nonce. Seals aren't
+//! secret. Sector n has the 512 bytes of the disk from byte 512 · n on. The contracts say that a
 //! write takes a nonce that no sector has had, that a read gives what was written, and that a write leaves all other
 //! sectors as they are. A read refuses a sector that was changed, or that was moved to another place, even with its
 //! seal.
