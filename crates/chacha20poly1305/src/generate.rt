@@ -23,8 +23,8 @@ impl<C> ChaChaPoly1305<C> {
 }
 
 impl<C: KeyIvInit<Iv = XNonce>> ChaChaPoly1305<C> {
-    /// A nonce of 24 bytes from a source of random bytes. Fails where the source does, with its error. AEADs with nonces
-    /// of 12 bytes don't have this call: these are too short to be random.
+    /// A nonce of 24 bytes from a source of random bytes. Fails where the source does, with its error. AEADs with
+    /// nonces of 12 bytes don't have this call: these are too short to be random.
     pub fn generate_nonce<R: RandomSource>(source: &R) -> io::Result<XNonce> {
         let mut nonce = [0; 24];
         source.fill_bytes(&mut nonce)?;

@@ -4,14 +4,16 @@
 ghost use Rattle.std.specs.Prelude.{◌≡◌, ◌≤◌, ◌+◌, ◌↔◌, length, IsOk, OnOk};
 ghost use Rattle.chacha20.specs.Cipher.{limit_of};
 
-use chacha20poly1305::{Error, ChaChaPoly1305};
 use chacha20::backends::Lanes16;
 use chacha20::cipher::{KeyIvInit, StreamCipher};
 use chacha20::variants::Ietf;
 use chacha20::{
     ChaChaCore, Key, Nonce, R8, R12, R20, Rounds, StreamCipherCoreWrapper, XChaChaCore, XNonce,
 };
-use known_answers::published::{FROM_80, MESSAGE};
+use chacha20poly1305::{ChaChaPoly1305, Error, XChaCha20Poly1305};
+use known_answers::published::{COUNTING, FROM_80, MESSAGE};
+use std::io::{self, ErrorKind};
+use std::random::RandomSource;
 
 // Whatever the cipher and the message are: what is encrypted is decrypted, and the message is as it was.
 fn there_and_back<C: KeyIvInit<Key = Key> + StreamCipher + Drop>(
@@ -149,7 +151,7 @@ fn sealed<C: KeyIvInit<Key = Key> + StreamCipher + Drop>(
 // `names.rt` of `user_tests` has the names of these AEADs.
 
 fn by_chacha<R: Rounds>(key: &Key, nonce: &Nonce, aad: &[u8], text: &[u8]) -> Option<[u8; SEALED]> {
-    sealed_file::<StreamCipherCoreWrapper<ChaChaCore<R, Ietf, Lanes16>>>(key, nonce, aad, text)
+    sealed::<StreamCipherCoreWrapper<ChaChaCore<R, Ietf, Lanes16>>>(key, nonce, aad, text)
 }
 
 fn by_xchacha<R: Rounds>(
@@ -158,7 +160,7 @@ fn by_xchacha<R: Rounds>(
     aad: &[u8],
     text: &[u8],
 ) -> Option<[u8; SEALED]> {
-    sealed_file::<StreamCipherCoreWrapper<XChaChaCore<R, Lanes16>>>(key, nonce, aad, text)
+    sealed::<StreamCipherCoreWrapper<XChaChaCore<R, Lanes16>>>(key, nonce, aad, text)
 }
 
 // RFC 8439, sections 2.8.2 and A.5, and draft-irtf-cfrg-xchacha, section A.3.1.
@@ -178,6 +180,40 @@ fn are_published() -> bool {
 #[test]
 fn published(rt: HostRuntime) {
     assert!(rt; are_published());
+}
+
+// A source of the bytes 0, 1, 2 and so on, or of an error.
+#[derive(Clone, Copy)]
+struct Source {
+    fails: bool,
+}
+
+impl RandomSource for Source {
+    fn fill_bytes(&self, buf: &mut [u8]) -> io::Result<()> {
+        if self.fails {
+            return Err(io::Error::from(ErrorKind::Unsupported));
+        }
+        let n = buf.len().min(32);
+        buf[..n].copy_from_slice(&COUNTING[..n]);
+        Ok(())
+    }
+}
+
+// A key and a nonce of the source, or the kind of each error.
+fn generated(fails: bool) -> (Result<Key, ErrorKind>, Result<XNonce, ErrorKind>) {
+    let source = Source { fails };
+    let key = XChaCha20Poly1305::generate_key(&source);
+    let nonce = XChaCha20Poly1305::generate_nonce(&source);
+    (key.map_err(|e| e.kind()), nonce.map_err(|e| e.kind()))
+}
+
+#[test]
+fn random(rt: HostRuntime) {
+    let mut nonce = [0; 24];
+    nonce.copy_from_slice(&COUNTING[..24]);
+    assert!(rt; generated(false) == (Ok(COUNTING), Ok(nonce)));
+    let error = ErrorKind::Unsupported;
+    assert!(rt; generated(true) == (Err(error), Err(error)));
 }
 
 // All lengths of a front, and those around its bounds.
