@@ -1,8 +1,8 @@
 //! The examples of README and GUIDE, and of the comments of the calls that users make first.
 
-use chacha20poly1305::{Error, ChaCha20Poly1305, XChaCha20Poly1305};
 use chacha20::cipher::{KeyIvInit, StreamCipher, StreamCipherError, StreamCipherSeek};
 use chacha20::{ChaCha20, ChaCha20Rng, Key, Nonce, XNonce};
+use chacha20poly1305::{ChaCha20Poly1305, Error, XChaCha20Poly1305};
 use known_answers::published::{CIPHERTEXT, COUNTING, MESSAGE, NONCE, OF_20_ROUNDS, X_NONCE};
 use sealed_file::{CHUNK, Damage, SealError, SealedSlice, TAG};
 use std::random::RandomSource;

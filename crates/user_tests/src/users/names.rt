@@ -1,10 +1,6 @@
 //! Every public name by the crate's root and by its module, and which types the aliases name. Most names are only
 //! imported: that they are found is the test.
 
-use chacha20poly1305::{
-    ChaCha8Poly1305, ChaCha12Poly1305, ChaCha20Poly1305, ChaChaPoly1305, XChaCha8Poly1305,
-    XChaCha12Poly1305, XChaCha20Poly1305,
-};
 use chacha20::{
     BlockSizeUser, ChaCha8, ChaCha8Rng, ChaCha12, ChaCha12Rng, ChaCha20, ChaCha20Legacy,
     ChaCha20LegacyCore, ChaCha20Rng, ChaChaCore, ChaChaRng, CipherAnswer, CipherCall, Columns8,
@@ -15,6 +11,11 @@ use chacha20::{
     StreamCipherCounter, StreamCipherError, StreamCipherSeek, StreamCipherSeekCore, Variant,
     XChaCha8, XChaCha12, XChaCha20, XChaChaCore, XNonce, backends, cipher, hchacha, rand_core,
     run_cipher, run_rng, runs, variants,
+};
+use chacha20poly1305::{
+    ChaCha8Poly1305, ChaCha12Poly1305, ChaCha20Poly1305, ChaChaPoly1305, Error, Key as KeyOfAead,
+    KeyedStream, Nonce as NonceOfAead, Tag, XChaCha8Poly1305, XChaCha12Poly1305, XChaCha20Poly1305,
+    XNonce as XNonceOfAead,
 };
 use known_answers::R0;
 use known_answers::published::HCHACHA_INPUT;
@@ -104,27 +105,6 @@ fn in_full<'n>(
         ChaChaRng<R20, Lanes8>,
     ),
     &'n ([u8; 24], [u8; 32], [u8; 49]),
-) {
-    named
-}
-
-// The same of the AEADs.
-fn aeads_in_full<'n>(
-    named: (
-        &'n (ChaCha8Poly1305, ChaCha12Poly1305, ChaCha20Poly1305),
-        &'n (XChaCha8Poly1305, XChaCha12Poly1305, XChaCha20Poly1305),
-    ),
-) -> (
-    &'n (
-        ChaChaPoly1305<Cipher<ChaChaCore<R8, Ietf, Lanes16>>>,
-        ChaChaPoly1305<Cipher<ChaChaCore<R12, Ietf, Lanes16>>>,
-        ChaChaPoly1305<Cipher<ChaChaCore<R20, Ietf, Lanes16>>>,
-    ),
-    &'n (
-        ChaChaPoly1305<Cipher<XChaChaCore<R8, Lanes16>>>,
-        ChaChaPoly1305<Cipher<XChaChaCore<R12, Lanes16>>>,
-        ChaChaPoly1305<Cipher<XChaChaCore<R20, Lanes16>>>,
-    ),
 ) {
     named
 }
