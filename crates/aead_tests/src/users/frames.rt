@@ -3,7 +3,8 @@
 ghost use Rattle.std.specs.Prelude.{◌≡◌, ◌<◌, ◌+◌, ◌^◌, length, IsOk, OnOk};
 
 use crate::users::authenticated::{AAD, CIPHERTEXT_AND_TAG};
-use examples::frames::{Channel, FrameError, Receiver, Sender};
+use channel::frames::Receiver;
+use channel::{Channel, FrameError, Sender};
 use known_answers::published::{FROM_80, MESSAGE};
 
 // RFC 8439, section 2.8.2: the first four bytes of the nonce are the channel, the others the number.

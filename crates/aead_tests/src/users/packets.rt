@@ -2,8 +2,8 @@
 
 ghost use Rattle.std.specs.Prelude.{◌≡◌, ◌+◌, length, OnOk, IfOk, IsTrue};
 
-use examples::frames::{Channel, Sender};
-use examples::packets::{PacketError, Receiver, send};
+use channel::packets::{Receiver, send};
+use channel::{Channel, PacketError, Sender};
 use known_answers::published::FROM_80;
 
 // Made by OpenSSL 4.0, with the header as associated data.

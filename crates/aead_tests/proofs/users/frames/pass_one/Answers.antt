@@ -1,6 +1,6 @@
 use Rattle.std.proofs.Common.{◌≡◌, ◌<◌, ◌≤◌, ◌+◌, ◌^◌, ◌∙◌, ℕ, List, [], length, refl, sym, ap, arith}
 use Rattle.chacha20.proofs.ResultLemmas.{on_ok-holds, on_ok_given}
-use Rattle.examples.specs.Frames.{Endpoint, frame_of, IsFrame, after}
+use Rattle.channel.specs.Frames.{Endpoint, frame_of, IsFrame, after}
 use Rattle.aead_tests.proofs.users.frames.pass_one.Goals as goal
 
 -- the receiver accepts what the sender made

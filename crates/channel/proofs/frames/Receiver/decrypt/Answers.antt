@@ -1,7 +1,7 @@
 use Rattle.std.proofs.Common.{◌<◌, ◌+◌, ◌^◌, refl, sym, ap, subst, arith}
 use Rattle.std.proofs.lemmas.Bool.{false≢true}
-use Rattle.examples.specs.Frames.{Endpoint, IsFrame}
-use Rattle.examples.proofs.frames.Receiver.decrypt.Goals as goal
+use Rattle.channel.specs.Frames.{Endpoint, IsFrame}
+use Rattle.channel.proofs.frames.Receiver.decrypt.Goals as goal
 
 pub returns-in-Err-clause-accepted : goal.returns-in-Err-clause-accepted
 returns-in-Err-clause-accepted c = (

@@ -1,7 +1,7 @@
 -- Packets that come in any order: what is sent, and which ones a receiver takes.
 use Rattle.std.specs.Prelude.{◌≡◌, ◌<◌, ◌≤◌, ◌+◌, ◌++◌, ◌%◌, ◌^◌, ℕ, List, length, take, slice_index, slice_set}
 use Rattle.std.specs.Int.{to_le_bytes, from_le_bytes, w64}
-use Rattle.examples.specs.Frames.{Endpoint, frame_of}
+use Rattle.channel.specs.Frames.{Endpoint, frame_of}
 
 -- the next packet of a message: its number, and its frame with this header as associated data
 abbrev pub packet_of : Endpoint → List ℕ → List ℕ

@@ -2,11 +2,11 @@ use Rattle.std.proofs.Common.{◌≡◌, ◌++◌, ◌∙◌, ◌↔◌, ℕ, Li
 use Rattle.std.proofs.lemmas.Bool.{false≢true}
 use Rattle.std.proofs.lemmas.List.{take-append-drop}
 use Rattle.std.specs.Int.{w64, to_le_bytes}
-use Rattle.chacha20.specs.ChaCha.{chacha_stream, ietf}
+use Rattle.chacha20poly1305.specs.ChaCha.{chacha_stream, ietf}
 use Rattle.chacha20poly1305.specs.Aead.{sealed_message}
-use Rattle.examples.specs.Frames.{Endpoint, frame_of, IsFrame}
-use Rattle.examples.specs.Packets.{Inbox, packet_of, number_of, IsPacket, IsOpen}
-use Rattle.examples.proofs.packets.Receiver.receive.Goals as goal
+use Rattle.channel.specs.Frames.{Endpoint, frame_of, IsFrame}
+use Rattle.channel.specs.Packets.{Inbox, packet_of, number_of, IsPacket, IsOpen}
+use Rattle.channel.proofs.packets.Receiver.receive.Goals as goal
 
 -- a packet, taken apart: its header, its frame, and the number in the header; a receiver and what clauses see of it
 record Parts (packet header frame : List ℕ) (n : ℕ) (inside seen : Inbox) : Type 0 where

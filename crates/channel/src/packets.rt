@@ -9,12 +9,11 @@
 
 ghost use Rattle.std.specs.Prelude.{◌≡◌, ◌≢◌, ◌<◌, ◌≤◌, ◌+◌, ◌↔◌, ◌^◌, ℕ, List, length, take, replicate, IsOk, IsErrOf, OnOk, OnErr};
 ghost use Rattle.std.specs.Int.{w64, to_le_bytes};
-ghost use Rattle.examples.specs.Frames.{Endpoint, nonce_of, after};
-ghost use Rattle.examples.specs.Packets.{packet_of, number_of, IsPacket, IsOpen, taken};
+ghost use Rattle.channel.specs.Frames.{Endpoint, nonce_of, after};
+ghost use Rattle.channel.specs.Packets.{packet_of, number_of, IsPacket, IsOpen, taken};
 
 use crate::frames::{Channel, FrameError, Sender, decrypt_frame};
-use chacha20poly1305::ChaCha20Poly1305;
-use chacha20::Key;
+use chacha20poly1305::{ChaCha20Poly1305, Key};
 use std::marker::Model;
 
 /// Why a packet was refused. Nothing has changed.
@@ -59,7 +58,7 @@ pub struct Receiver {
 }
 
 impl Model for Receiver {
-    ghost use Rattle.examples.specs.Packets.{Inbox};
+    ghost use Rattle.channel.specs.Packets.{Inbox};
 
     ghost Value = { Inbox };
 

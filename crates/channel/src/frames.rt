@@ -13,10 +13,9 @@
 //! `specs/Frames.antt` defines the words of the contracts.
 
 ghost use Rattle.std.specs.Prelude.{◌≡◌, ◌≢◌, ◌<◌, ◌≤◌, ◌↔◌, ◌+◌, ◌^◌, ℕ, List, length, IsOk, IsErrOf, OnOk, OnErr};
-ghost use Rattle.examples.specs.Frames.{Endpoint, nonce_of, frame_of, IsFrame, after};
+ghost use Rattle.channel.specs.Frames.{Endpoint, nonce_of, frame_of, IsFrame, after};
 
-use chacha20poly1305::{Error, ChaCha20Poly1305};
-use chacha20::{Key, Nonce};
+use chacha20poly1305::{ChaCha20Poly1305, Error, Key, Nonce};
 use std::marker::Model;
 
 /// What names a direction, so that the frames of two directions differ in their nonces.
@@ -42,7 +41,7 @@ pub struct Sender {
 }
 
 impl Model for Sender {
-    ghost use Rattle.examples.specs.Frames.{Endpoint};
+    ghost use Rattle.channel.specs.Frames.{Endpoint};
 
     ghost Value = { Endpoint };
 
@@ -122,7 +121,7 @@ pub struct Receiver {
 }
 
 impl Model for Receiver {
-    ghost use Rattle.examples.specs.Frames.{Endpoint};
+    ghost use Rattle.channel.specs.Frames.{Endpoint};
 
     ghost Value = { Endpoint };
 

@@ -1,7 +1,7 @@
 use Rattle.std.proofs.Common.{◌≡◌, ◌++◌, ◌∙◌, ap, ap₂}
 use Rattle.std.specs.Int.{w64, to_le_bytes}
-use Rattle.examples.specs.Frames.{frame_of}
-use Rattle.examples.proofs.packets.send.Goals as goal
+use Rattle.channel.specs.Frames.{frame_of}
+use Rattle.channel.proofs.packets.send.Goals as goal
 
 pub returns-clause-packet : goal.returns-clause-packet
 returns-clause-packet c =

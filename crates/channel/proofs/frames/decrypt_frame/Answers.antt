@@ -1,10 +1,9 @@
-use Rattle.std.proofs.Common.{◌≡◌, ◌+◌, ◌∙◌, ℕ, List, length, take, drop, arith, sym, ap, length-take-le}
-use Rattle.chacha20.proofs.KeystreamLemmas.{length-xor_stream}
-use Rattle.chacha20.specs.ChaCha.{chacha_stream, ietf}
+use Rattle.std.proofs.Common.{◌≡◌, ◌+◌, ◌∙◌, ℕ, List, length, take, drop, arith, sym, ap}
+use Rattle.chacha20poly1305.specs.ChaCha.{chacha_stream, ietf}
 use Rattle.chacha20poly1305.specs.Aead.{encrypted, poly1305_tag, sealed_message}
 use Rattle.chacha20poly1305.proofs.AeadLemmas.{is-sealed_message, length-sealed_message, take-sealed_message, drop-sealed_message}
-use Rattle.examples.specs.Frames.{nonce_of}
-use Rattle.examples.proofs.frames.decrypt_frame.Goals as goal
+use Rattle.channel.specs.Frames.{nonce_of}
+use Rattle.channel.proofs.frames.decrypt_frame.Goals as goal
 
 -- a sealed message ends with the tag of what is before it
 ends-with-tag : (stream : ℕ → ℕ) (aad text bytes : List ℕ) (n : ℕ) → length bytes ≡ n + 16
@@ -23,7 +22,13 @@ returns-clause-accepted c =
     let is = rw (c.nonce_of.ensures.value) at c.decrypt.ensures.accepted in (
       λ ok. (
         encrypted stream (take n bytes),
-        omega (arith, (is.0 ok).0, length-xor_stream stream 64 (take n bytes), length-take-le n bytes, c.requires),
+        omega (
+          arith,
+          (is.0 ok).0,
+          c.requires,
+          ap length (is-sealed_message stream aad bytes n (is.0 ok).1),
+          length-sealed_message stream aad (encrypted stream (take n bytes)),
+        ),
         is-sealed_message stream aad bytes n (is.0 ok).1,
       ),
       λ framed.

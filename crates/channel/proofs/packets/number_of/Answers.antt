@@ -4,8 +4,8 @@ use Rattle.std.proofs.lemmas.Bool.{cases_lt}
 use Rattle.std.proofs.lemmas.List.{get_or-take}
 use Rattle.std.proofs.lemmas.Nat.{le_bytes_8}
 use Rattle.std.specs.Int.{w64, from_le_bytes}
-use Rattle.examples.specs.Packets.{number_of}
-use Rattle.examples.proofs.packets.number_of.Goals as goal
+use Rattle.channel.specs.Packets.{number_of}
+use Rattle.channel.proofs.packets.number_of.Goals as goal
 
 pub returns-clause-value : goal.returns-clause-value
 unfolding number_of
