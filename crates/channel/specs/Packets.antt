@@ -1,5 +1,5 @@
 -- Packets that come in any order: what is sent, and which ones a receiver takes.
-use Rattle.std.specs.Prelude.{◌≡◌, ◌<◌, ◌≤◌, ◌+◌, ◌++◌, ◌%◌, ◌^◌, ℕ, List, length, take, slice_index, slice_set}
+use Rattle.std.specs.Prelude.{◌≡◌, ◌<◌, ◌≤◌, ◌+◌, ◌++◌, ◌%◌, ◌^◌, ℕ, false, List, length, take, slice_index, slice_set}
 use Rattle.std.specs.Int.{to_le_bytes, from_le_bytes, w64}
 use Rattle.channel.specs.Frames.{Endpoint, frame_of}
 
@@ -20,8 +20,12 @@ pub record Inbox : Type 0 where
 -- these bytes are packet n of some message, under the receiver's key and channel
 abbrev pub IsPacket : Inbox → ℕ → List ℕ → Type 0
 IsPacket r n bytes =
-    let sender : Endpoint = record { key = r.key; channel = r.channel; next = n } in
+    let sender : Endpoint = record { key = r.key; channel = r.channel; next = n; finished = false } in
     (message : List ℕ) × (length message ≤ 274877906880) × (bytes ≡ packet_of sender message)
+
+-- it has room for a header and a tag, and the output for its message
+abbrev pub Fits : List ℕ → List ℕ → Type 0
+Fits packet output = (24 ≤ length packet) × (length packet ≤ length output + 24)
 
 -- its number is open: the slot of n has no number from n on, and a sender uses n
 abbrev pub IsOpen : Inbox → ℕ → Type 0

@@ -1,43 +1,48 @@
 //! Frames under one key: a sender encrypts messages in order, and a receiver decrypts them in the same order.
 //!
-//! A frame is the ciphertext of a message and its tag of 16 bytes, by ChaCha20-Poly1305 (crate `chacha20poly1305`). Its nonce is
-//! its channel, four bytes, and its number, eight little-endian bytes. Both sides count from 0, so no number is sent.
-//! The receiver accepts only the next frame: it refuses one that was changed or comes again, and each one after a frame
-//! that was lost. The contracts say which bytes are the next frame, not how hard these are to forge. For frames in any
-//! order see `packets.rt`.
+//! A frame is the ciphertext of a message and its tag of 16 bytes, by ChaCha20-Poly1305. Its nonce is its channel, four
+//! bytes, and its number, eight little-endian bytes. Both sides count from 0, so no number is sent. The receiver accepts
+//! only the next frame: it refuses one that was changed or comes again, and each one after a frame that was lost. The
+//! contracts say which bytes are the next frame, not how hard these are to forge. For frames in any order see `packets`.
+//!
+//! `finish` makes the last frame, by XChaCha20-Poly1305 under the same key. XChaCha20 derives a subkey from the first 16
+//! bytes of the nonce. Here these are a counter of 0 and the nonce of number 2^64 - 1, which no other frame uses, so the
+//! subkey is as good as 32 bytes of keystream that nothing else uses. The last 8 bytes are the frame's number.
+//!
+//! If the messages don't tell which frame is the last, try both, and at the end of the transport ask `is_finished`:
+//! `false` says that the channel was cut.
+//!
+//! ```text
+//! match receiver.decrypt(aad, frame, message) {
+//!     Err(FrameError::Forged) => receiver.finish(aad, frame, message),
+//!     other => other,
+//! }
+//! ```
 //!
 //! No two frames have the same nonce if you keep two rules. Give each direction its own channel: two senders on one
 //! channel would use the same nonces. And let a sender that was stopped go on where it was: after `encrypt` store what
-//! `next` returns, then send the frame, and later call `resume`.
+//! `next` returns, then send the frame, and later call `resume`. After `finish` store that the channel is over: `resume`
+//! would go on behind its end.
 //!
 //! `specs/Frames.antt` defines the words of the contracts.
 
-ghost use Rattle.std.specs.Prelude.{◌≡◌, ◌≢◌, ◌<◌, ◌≤◌, ◌↔◌, ◌+◌, ◌^◌, ℕ, List, length, IsOk, IsErrOf, OnOk, OnErr};
-ghost use Rattle.channel.specs.Frames.{Endpoint, nonce_of, frame_of, IsFrame, after};
+ghost use Rattle.std.specs.Prelude.{◌≡◌, ◌≢◌, ◌<◌, ◌≤◌, ◌↔◌, ◌+◌, ◌^◌, ℕ, true, false, List, length, take, drop, IsOk, IfOk, IsErrOf, OnOk, OnErr};
+ghost use Rattle.channel.specs.Frames.{Endpoint, HasNext, nonce_of, frame_of, IsFrame, after, last_nonce_of, last_frame_of, IsLastFrame, after_last};
 
-use chacha20poly1305::{ChaCha20Poly1305, Error, Key, Nonce};
+use crate::error::FrameError;
+use chacha20poly1305::{ChaCha20Poly1305, Error, Key, Nonce, XChaCha20Poly1305, XNonce};
 use std::marker::Model;
 
 /// What names a direction, so that the frames of two directions differ in their nonces.
 pub type Channel = [u8; 4];
 
-/// Why a call refused a message or a frame. It has changed nothing.
-#[derive(Clone, Copy, Debug, PartialEq, Eq)]
-pub enum FrameError {
-    /// All numbers below 2^64 - 1 are used: take another key.
-    NumbersUsedUp,
-    /// The message has more than 274877906880 bytes, the most for one nonce: cut it into several.
-    TooLong,
-    /// The bytes are not the next frame of any message.
-    Forged,
-}
-
 /// Encrypts messages, each as the frame with the next number.
 #[derive(Drop)]
 pub struct Sender {
-    cipher: ChaCha20Poly1305,
+    key: Key,
     channel: Channel,
     next: u64,
+    finished: bool,
 }
 
 impl Model for Sender {
@@ -45,25 +50,26 @@ impl Model for Sender {
 
     ghost Value = { Endpoint };
 
-    ghost view = { λ s. record { key = s.cipher; channel = s.channel; next = s.next } };
+    ghost view = { λ s. record { key = s.key; channel = s.channel; next = s.next; finished = s.finished } };
 }
 
 impl Sender {
     /// A sender whose first frame has number 0. No other sender may have this key and this channel.
     pub fn new(key: &Key, channel: &Channel) -> Self
-        ensures { result ≡ record { key = key.now; channel = channel.now; next = 0 } }
+        ensures { result ≡ record { key = key.now; channel = channel.now; next = 0; finished = false } }
     {
         Sender::resume(key, channel, 0)
     }
 
     /// A sender whose first frame has this number: what `next` returned, or more.
     pub fn resume(key: &Key, channel: &Channel, next: u64) -> Self
-        ensures { result ≡ record { key = key.now; channel = channel.now; next = next } }
+        ensures { result ≡ record { key = key.now; channel = channel.now; next = next; finished = false } }
     {
         Sender {
-            cipher: ChaCha20Poly1305::new(key),
+            key: *key,
             channel: *channel,
             next,
+            finished: false,
         }
     }
 
@@ -74,9 +80,16 @@ impl Sender {
         self.next
     }
 
+    /// Whether it has made the last frame.
+    pub fn is_finished(&self) -> bool
+        ensures { result ≡ self.now.finished }
+    {
+        self.finished
+    }
+
     /// Encrypts a message: writes its frame, which has 16 bytes more. The tag also covers `aad`, which isn't written
-    /// and may be empty. `Err` exactly where the numbers are used up or the message is longer than 274877906880 bytes;
-    /// then nothing changes.
+    /// and may be empty. `Err` exactly where the sender is finished, the numbers are used up or the message is longer
+    /// than 274877906880 bytes; then nothing changes.
     pub fn encrypt(
         &mut self,
         aad: &[u8],
@@ -85,11 +98,12 @@ impl Sender {
     ) -> Result<(), FrameError>
         requires { length frame.old ≡ length message.now + 16 }
         ensures accepted { IsOk result
-            ↔ ((self.old.next + 1 < 2 ^ 64) × (length message.now ≤ 274877906880)) }
+            ↔ (HasNext self.old × (length message.now ≤ 274877906880)) }
+        ensures finished { IsErrOf result FrameError.Finished ↔ (self.old.finished ≡ true) }
         ensures used_up { IsErrOf result FrameError.NumbersUsedUp
-            ↔ (self.old.next + 1 ≡ 2 ^ 64) }
+            ↔ ((self.old.finished ≡ false) × (self.old.next + 1 ≡ 2 ^ 64)) }
         ensures too_long { IsErrOf result FrameError.TooLong
-            ↔ ((self.old.next + 1 < 2 ^ 64) × (274877906880 < length message.now)) }
+            ↔ (HasNext self.old × (274877906880 < length message.now)) }
         ensures frame { OnOk result (frame.new ≡ frame_of self.old aad.now message.now) }
         ensures next { OnOk result (self.new ≡ after self.old) }
         // No frame before had this nonce.
@@ -97,13 +111,40 @@ impl Sender {
             → nonce_of self.old.channel n ≢ nonce_of self.old.channel self.old.next) }
         ensures refused { OnErr result ((frame.new ≡ frame.old) × (self.new ≡ self.old)) }
     {
-        let Some(after) = self.next.checked_add(1) else {
-            return Err(FrameError::NumbersUsedUp);
-        };
+        let after = number_after(self.next, self.finished)?;
         let nonce = nonce_of(&self.channel, self.next);
-        match self.cipher.encrypt(&nonce, aad, message, frame) {
+        match ChaCha20Poly1305::new(&self.key).encrypt(&nonce, aad, message, frame) {
             Ok(()) => {
                 self.next = after;
+                Ok(())
+            }
+            Err(_) => Err(FrameError::TooLong),
+        }
+    }
+
+    /// Encrypts a message as the last frame, as `encrypt` does any other. After it both calls fail.
+    pub fn finish(&mut self, aad: &[u8], message: &[u8], frame: &mut [u8]) -> Result<(), FrameError>
+        requires { length frame.old ≡ length message.now + 16 }
+        ensures accepted { IsOk result
+            ↔ (HasNext self.old × (length message.now ≤ 274877906880)) }
+        ensures finished { IsErrOf result FrameError.Finished ↔ (self.old.finished ≡ true) }
+        ensures used_up { IsErrOf result FrameError.NumbersUsedUp
+            ↔ ((self.old.finished ≡ false) × (self.old.next + 1 ≡ 2 ^ 64)) }
+        ensures too_long { IsErrOf result FrameError.TooLong
+            ↔ (HasNext self.old × (274877906880 < length message.now)) }
+        ensures frame { OnOk result (frame.new ≡ last_frame_of self.old aad.now message.now) }
+        ensures next { OnOk result (self.new ≡ after_last self.old) }
+        // No last frame before had this nonce, if the sender was resumed behind one. For other frames see `apart`.
+        ensures fresh { OnOk result ((n : ℕ) → n < self.old.next
+            → last_nonce_of self.old.channel n ≢ last_nonce_of self.old.channel self.old.next) }
+        ensures refused { OnErr result ((frame.new ≡ frame.old) × (self.new ≡ self.old)) }
+    {
+        let after = number_after(self.next, self.finished)?;
+        let nonce = last_nonce_of(&self.channel, self.next);
+        match XChaCha20Poly1305::new(&self.key).encrypt(&nonce, aad, message, frame) {
+            Ok(()) => {
+                self.next = after;
+                self.finished = true;
                 Ok(())
             }
             Err(_) => Err(FrameError::TooLong),
@@ -114,10 +155,11 @@ impl Sender {
 /// Decrypts the frames of a sender, in their order.
 #[derive(Drop)]
 pub struct Receiver {
-    cipher: ChaCha20Poly1305,
+    key: Key,
     channel: Channel,
     // The number of the frame that it expects.
     expected: u64,
+    finished: bool,
 }
 
 impl Model for Receiver {
@@ -125,25 +167,26 @@ impl Model for Receiver {
 
     ghost Value = { Endpoint };
 
-    ghost view = { λ r. record { key = r.cipher; channel = r.channel; next = r.expected } };
+    ghost view = { λ r. record { key = r.key; channel = r.channel; next = r.expected; finished = r.finished } };
 }
 
 impl Receiver {
     /// A receiver whose first frame has number 0.
     pub fn new(key: &Key, channel: &Channel) -> Self
-        ensures { result ≡ record { key = key.now; channel = channel.now; next = 0 } }
+        ensures { result ≡ record { key = key.now; channel = channel.now; next = 0; finished = false } }
     {
         Receiver::resume(key, channel, 0)
     }
 
     /// A receiver whose first frame has this number.
     pub fn resume(key: &Key, channel: &Channel, next: u64) -> Self
-        ensures { result ≡ record { key = key.now; channel = channel.now; next = next } }
+        ensures { result ≡ record { key = key.now; channel = channel.now; next = next; finished = false } }
     {
         Receiver {
-            cipher: ChaCha20Poly1305::new(key),
+            key: *key,
             channel: *channel,
             expected: next,
+            finished: false,
         }
     }
 
@@ -154,8 +197,16 @@ impl Receiver {
         self.expected
     }
 
+    /// Whether it has accepted the last frame. If not where the transport ends, the channel was cut.
+    pub fn is_finished(&self) -> bool
+        ensures { result ≡ self.now.finished }
+    {
+        self.finished
+    }
+
     /// Decrypts the next frame: writes the message from which a sender with this key, channel and number made it. `Err`
-    /// exactly where the numbers are used up or the bytes are not such a frame; then nothing changes.
+    /// exactly where the receiver is finished, the numbers are used up or the bytes are not such a frame; then nothing
+    /// changes.
     pub fn decrypt(
         &mut self,
         aad: &[u8],
@@ -163,28 +214,19 @@ impl Receiver {
         message: &mut [u8],
     ) -> Result<(), FrameError>
         requires { length frame.now ≡ length message.old + 16 }
-        ensures accepted { IsOk result
-            ↔ ((self.old.next + 1 < 2 ^ 64) × IsFrame self.old aad.now frame.now) }
+        ensures accepted { IsOk result ↔ (HasNext self.old × IsFrame self.old aad.now frame.now) }
+        ensures finished { IsErrOf result FrameError.Finished ↔ (self.old.finished ≡ true) }
         ensures used_up { IsErrOf result FrameError.NumbersUsedUp
-            ↔ (self.old.next + 1 ≡ 2 ^ 64) }
+            ↔ ((self.old.finished ≡ false) × (self.old.next + 1 ≡ 2 ^ 64)) }
         ensures forged { IsErrOf result FrameError.Forged
-            ↔ ((self.old.next + 1 < 2 ^ 64) × ¬ IsFrame self.old aad.now frame.now) }
+            ↔ (HasNext self.old × ¬ IsFrame self.old aad.now frame.now) }
         ensures message { (text : List ℕ) → frame.now ≡ frame_of self.old aad.now text
             → OnOk result (message.new ≡ text) }
         ensures next { OnOk result (self.new ≡ after self.old) }
         ensures refused { OnErr result ((message.new ≡ message.old) × (self.new ≡ self.old)) }
     {
-        let Some(after) = self.expected.checked_add(1) else {
-            return Err(FrameError::NumbersUsedUp);
-        };
-        match decrypt_frame(
-            &self.cipher,
-            &self.channel,
-            self.expected,
-            aad,
-            frame,
-            message,
-        ) {
+        let after = number_after(self.expected, self.finished)?;
+        match decrypt_frame(&self.key, &self.channel, self.expected, aad, frame, message) {
             Ok(()) => {
                 self.expected = after;
                 Ok(())
@@ -192,6 +234,46 @@ impl Receiver {
             Err(_) => Err(FrameError::Forged),
         }
     }
+
+    /// Decrypts the last frame, as `decrypt` does any other, if it is the next. After it both calls fail.
+    pub fn finish(&mut self, aad: &[u8], frame: &[u8], message: &mut [u8]) -> Result<(), FrameError>
+        requires { length frame.now ≡ length message.old + 16 }
+        ensures accepted { IsOk result
+            ↔ (HasNext self.old × IsLastFrame self.old aad.now frame.now) }
+        ensures finished { IsErrOf result FrameError.Finished ↔ (self.old.finished ≡ true) }
+        ensures used_up { IsErrOf result FrameError.NumbersUsedUp
+            ↔ ((self.old.finished ≡ false) × (self.old.next + 1 ≡ 2 ^ 64)) }
+        ensures forged { IsErrOf result FrameError.Forged
+            ↔ (HasNext self.old × ¬ IsLastFrame self.old aad.now frame.now) }
+        ensures message { (text : List ℕ) → frame.now ≡ last_frame_of self.old aad.now text
+            → OnOk result (message.new ≡ text) }
+        ensures next { OnOk result (self.new ≡ after_last self.old) }
+        ensures refused { OnErr result ((message.new ≡ message.old) × (self.new ≡ self.old)) }
+    {
+        let after = number_after(self.expected, self.finished)?;
+        match decrypt_last_frame(&self.key, &self.channel, self.expected, aad, frame, message) {
+            Ok(()) => {
+                self.expected = after;
+                self.finished = true;
+                Ok(())
+            }
+            Err(_) => Err(FrameError::Forged),
+        }
+    }
+}
+
+// The number after that of the next frame. Fails where no frame can follow.
+fn number_after(next: u64, finished: bool) -> Result<u64, FrameError>
+    ensures accepted { IsOk result ↔ ((finished ≡ false) × (next + 1 < 2 ^ 64)) }
+    ensures finished { IsErrOf result FrameError.Finished ↔ (finished ≡ true) }
+    ensures used_up { IsErrOf result FrameError.NumbersUsedUp
+        ↔ ((finished ≡ false) × (next + 1 ≡ 2 ^ 64)) }
+    ensures after { IfOk result (λ after. after ≡ next + 1) }
+{
+    if finished {
+        return Err(FrameError::Finished);
+    }
+    next.checked_add(1).ok_or(FrameError::NumbersUsedUp)
 }
 
 /// The nonce of a frame. No other channel and no other number below 2^64 has it.
@@ -206,10 +288,25 @@ pub fn nonce_of(channel: &Channel, number: u64) -> Nonce
     nonce
 }
 
+/// The nonce of a last frame. No other channel and no other number below 2^64 has it, and no other frame has a nonce
+/// that equals bytes 4 to 16 of it.
+pub fn last_nonce_of(channel: &Channel, number: u64) -> XNonce
+    ensures value { result ≡ last_nonce_of channel.now number }
+    ensures distinct { (other : List ℕ) (i : ℕ) → length other ≡ 4 → i < 2 ^ 64
+        → last_nonce_of other i ≡ result → (other ≡ channel.now) × (i ≡ number) }
+    ensures apart { (other : List ℕ) (i : ℕ) → length other ≡ 4 → i + 1 < 2 ^ 64
+        → nonce_of other i ≢ drop 4 (take 16 result) }
+{
+    let mut nonce = [0; 24];
+    nonce[4..16].copy_from_slice(&nonce_of(channel, u64::MAX));
+    nonce[16..].copy_from_slice(&number.to_le_bytes());
+    nonce
+}
+
 /// Decrypts the frame with this number. `Err` exactly where the bytes are not that frame of any message; then nothing
 /// changes. No frame has a message of more than 2^38 - 64 bytes: that error is `TooLong`, any other `WrongTag`.
-pub fn decrypt_frame(
-    cipher: &ChaCha20Poly1305,
+pub(crate) fn decrypt_frame(
+    key: &Key,
     channel: &Channel,
     number: u64,
     aad: &[u8],
@@ -218,15 +315,37 @@ pub fn decrypt_frame(
 ) -> Result<(), Error>
     requires { length frame.now ≡ length message.old + 16 }
     ensures accepted { let sender : Endpoint =
-        record { key = cipher.now; channel = channel.now; next = number } in
+        record { key = key.now; channel = channel.now; next = number; finished = false } in
         IsOk result ↔ IsFrame sender aad.now frame.now }
-    ensures too_long { IsErrOf result Error.TooLong
-        ↔ (274877906944 < 64 + length message.old) }
     ensures message { let sender : Endpoint =
-        record { key = cipher.now; channel = channel.now; next = number } in
+        record { key = key.now; channel = channel.now; next = number; finished = false } in
         (text : List ℕ) → frame.now ≡ frame_of sender aad.now text
         → OnOk result (message.new ≡ text) }
     ensures refused { OnErr result (message.new ≡ message.old) }
 {
-    cipher.decrypt(&nonce_of(channel, number), aad, frame, message)
+    let nonce = nonce_of(channel, number);
+    ChaCha20Poly1305::new(key).decrypt(&nonce, aad, frame, message)
+}
+
+// The same of the last frame.
+fn decrypt_last_frame(
+    key: &Key,
+    channel: &Channel,
+    number: u64,
+    aad: &[u8],
+    frame: &[u8],
+    message: &mut [u8],
+) -> Result<(), Error>
+    requires { length frame.now ≡ length message.old + 16 }
+    ensures accepted { let sender : Endpoint =
+        record { key = key.now; channel = channel.now; next = number; finished = false } in
+        IsOk result ↔ IsLastFrame sender aad.now frame.now }
+    ensures message { let sender : Endpoint =
+        record { key = key.now; channel = channel.now; next = number; finished = false } in
+        (text : List ℕ) → frame.now ≡ last_frame_of sender aad.now text
+        → OnOk result (message.new ≡ text) }
+    ensures refused { OnErr result (message.new ≡ message.old) }
+{
+    let nonce = last_nonce_of(channel, number);
+    XChaCha20Poly1305::new(key).decrypt(&nonce, aad, frame, message)
 }

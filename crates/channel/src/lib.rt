@@ -1,8 +1,9 @@
 //! Frames and packets.
 #![tactic(auto)]
 
+mod error;
 pub mod frames;
 pub mod packets;
 
-pub use frames::{Channel, FrameError, Sender};
-pub use packets::PacketError;
+pub use error::{FrameError, PacketError};
+pub use frames::{Channel, Sender};

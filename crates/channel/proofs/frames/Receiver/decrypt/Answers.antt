@@ -1,6 +1,6 @@
-use Rattle.std.proofs.Common.{◌<◌, ◌+◌, ◌^◌, refl, sym, ap, subst, arith}
+use Rattle.std.proofs.Common.{refl, sym, subst}
 use Rattle.std.proofs.lemmas.Bool.{false≢true}
-use Rattle.channel.specs.Frames.{Endpoint, IsFrame}
+use Rattle.channel.specs.Frames.{HasNext, IsFrame}
 use Rattle.channel.proofs.frames.Receiver.decrypt.Goals as goal
 
 pub returns-in-Err-clause-accepted : goal.returns-in-Err-clause-accepted
@@ -12,6 +12,5 @@ returns-in-Err-clause-accepted c = (
 
 pub returns-in-Err-clause-forged : goal.returns-in-Err-clause-forged
 returns-in-Err-clause-forged c =
-    let fits : c.args.self.now.next + 1 < 2 ^ 64 =
-    omega (arith, c.in-Some.ensures, ap (λ (r : Endpoint). r.next) c.self.view_is) in
-    (λ _. (fits, λ framed. false≢true ((returns-in-Err-clause-accepted c).1 (fits, framed))), λ _. refl)
+    let opened = subst HasNext c.self.view_is (c.in_ok-after.ensures.accepted.0 refl) in
+    (λ _. (opened, λ framed. false≢true ((returns-in-Err-clause-accepted c).1 (opened, framed))), λ _. refl)
