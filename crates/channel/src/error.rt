@@ -31,7 +31,7 @@ pub enum PacketError {
 
 impl Display for FrameError {
     ghost use Rattle.std.specs.Prelude.{Some};
-    ghost use Rattle.channel.specs.Text.{frame_error_text};
+    ghost use Rattle.channel.specs.ErrorText.{frame_error_text};
 
     ghost output = { λ e. Some (frame_error_text e) };
 
@@ -49,7 +49,7 @@ impl Error for FrameError {}
 
 impl Display for PacketError {
     ghost use Rattle.std.specs.Prelude.{Some};
-    ghost use Rattle.channel.specs.Text.{packet_error_text};
+    ghost use Rattle.channel.specs.ErrorText.{packet_error_text};
 
     ghost output = { λ e. Some (packet_error_text e) };
 
