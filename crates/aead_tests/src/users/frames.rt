@@ -6,7 +6,7 @@ ghost use Rattle.channel.specs.Frames.{HasNext, after};
 
 use crate::users::authenticated::{AAD, CIPHERTEXT_AND_TAG};
 use channel::frames::Receiver;
-use channel::{Channel, FrameError, PacketError, Sender};
+use channel::{Channel, FrameError, Sender};
 use known_answers::published::{FROM_80, MESSAGE};
 
 // RFC 8439, section 2.8.2: the first four bytes of the nonce are the channel, the others the number.
@@ -87,6 +87,7 @@ fn pass_last(
 // Whether three messages pass, and both sides have counted them.
 fn three_pass(sender: &mut Sender, receiver: &mut Receiver, next: u64) -> bool
     requires { sender.old ≡ receiver.old }
+    ensures { sender.new ≡ receiver.new }
 {
     let mut messages = [[7; 100]; 3];
     pass(sender, receiver, &mut messages).is_ok() & ([sender.next(), receiver.next()] == [next; 2])
@@ -176,12 +177,6 @@ fn ending(rt: HostRuntime) {
         let written = if received.is_ok() { *b"hello" } else { [0; 5] };
         assert!(rt; made & (received == *answer) & (message == written));
     }
-}
-
-#[test]
-fn errors(rt: HostRuntime) {
-    assert!(rt; format!("{}", FrameError::Finished).unwrap() == "the last frame has passed");
-    assert!(rt; format!("{}", PacketError::TooShort).unwrap() == "the packet is too short");
 }
 
 // What comes to a receiver: the channel, the number, a byte in which a bit is turned, and whether it is accepted.
