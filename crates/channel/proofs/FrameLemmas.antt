@@ -17,7 +17,7 @@ ends-with-tag stream aad text bytes n long same =
 
 pub opens : (stream : ℕ → ℕ) (aad bytes : List ℕ) (n : ℕ) → length bytes ≡ n + 16
     → ((64 + n ≤ 274877906944) × (drop n bytes ≡ poly1305_tag stream aad (take n bytes)))
-        ↔ ((message : List ℕ) × (length message ≤ 274877906880) × (bytes ≡ sealed_message stream aad message))
+    ↔ ((message : List ℕ) × (length message ≤ 274877906880) × (bytes ≡ sealed_message stream aad message))
 opens stream aad bytes n long = (
   λ right.
       let text = encrypted stream (take n bytes) in
@@ -39,9 +39,11 @@ pub last-same : (xs ys : List ℕ) (i j : ℕ) → length xs ≡ 4 → length ys
 unfolding last_nonce_of
 last-same xs ys i j x_long y_long i_fits j_fits same =
     let max : ℕ = 2 ^ 64 - 1 in
-    let long = ap (λ n. suc (suc (suc (suc n)))) (length-nonce_of xs max x_long ∙ sym (length-nonce_of ys max y_long)) in
-    let parts = ending-same_64 (replicate 4 0 ++ nonce_of xs max) (replicate 4 0 ++ nonce_of ys max) i j long i_fits
-    j_fits same in
+    let long = ap (λ n. suc (suc (suc (suc n))))
+    (length-nonce_of xs max x_long ∙ sym (length-nonce_of ys max y_long)) in
+    let zeros = λ (nonce : List ℕ). replicate 4 0 ++ nonce in
+    let parts =
+    ending-same_64 (zeros (nonce_of xs max)) (zeros (nonce_of ys max)) i j long i_fits j_fits same in
     let channels = ending-same_64 xs ys max max (x_long ∙ sym y_long) (omega arith) (omega arith)
     (ap (drop 4) parts.0) in
     (channels.0, parts.1)

@@ -1,7 +1,7 @@
 -- Packets that come in any order: what is sent, and which ones a receiver takes.
-use Rattle.std.specs.Prelude.{◌≡◌, ◌<◌, ◌≤◌, ◌+◌, ◌++◌, ◌%◌, ◌^◌, ℕ, false, List, length, take, slice_index, slice_set}
+use Rattle.std.specs.Prelude.{◌≡◌, ◌<◌, ◌≤◌, ◌+◌, ◌++◌, ◌%◌, ◌^◌, ℕ, List, length, take, slice_index, slice_set}
 use Rattle.std.specs.Int.{to_le_bytes, from_le_bytes, w64}
-use Rattle.channel.specs.Frames.{Endpoint, frame_of}
+use Rattle.channel.specs.Frames.{Endpoint, endpoint, frame_of}
 
 -- the next packet of a message: its number, and its frame with this header as associated data
 abbrev pub packet_of : Endpoint → List ℕ → List ℕ
@@ -20,8 +20,8 @@ pub record Inbox : Type 0 where
 -- these bytes are packet n of some message, under the receiver's key and channel
 abbrev pub IsPacket : Inbox → ℕ → List ℕ → Type 0
 IsPacket r n bytes =
-    let sender : Endpoint = record { key = r.key; channel = r.channel; next = n; finished = false } in
-    (message : List ℕ) × (length message ≤ 274877906880) × (bytes ≡ packet_of sender message)
+    (message : List ℕ) × (length message ≤ 274877906880)
+    × (bytes ≡ packet_of (endpoint r.key r.channel n) message)
 
 -- it has room for a header and a tag, and the output for its message
 abbrev pub Fits : List ℕ → List ℕ → Type 0

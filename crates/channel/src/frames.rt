@@ -1,18 +1,18 @@
 //! Frames under one key: a sender encrypts messages in order, and a receiver decrypts them in the same order.
 //!
 //! A frame is the ciphertext of a message and its tag of 16 bytes, by ChaCha20-Poly1305. Its nonce is its channel, four
-//! bytes, and its number, eight little-endian bytes. Both sides count from 0, so no number is sent. The receiver accepts
-//! only the next frame: it refuses one that was changed or comes again, and each one after a frame that was lost. The
-//! contracts say which bytes are the next frame, not how hard these are to forge. For frames in any order see `packets`.
+//! bytes, and its number, eight little-endian bytes. Both sides count from 0, so no number is sent. The receiver
+//! accepts only the next frame: it refuses one that was changed or comes again, and each one after a frame that was
+//! lost. The contracts say which bytes are the next frame, not how hard these are to forge.
 //!
-//! `finish` makes the last frame, by XChaCha20-Poly1305 under the same key. XChaCha20 derives a subkey from the first 16
-//! bytes of the nonce. Here these are a counter of 0 and the nonce of number 2^64 - 1, which no other frame uses, so the
-//! subkey is as good as 32 bytes of keystream that nothing else uses. The last 8 bytes are the frame's number.
+//! `finish` makes the last frame, by XChaCha20-Poly1305 under the same key. XChaCha20 derives a subkey from the first
+//! 16 bytes of its nonce. Here these are a counter of 0 and the nonce of number 2^64 - 1, which no other frame uses: so
+//! the subkey is as good as 32 bytes of keystream that nothing else uses. The last 8 bytes are the frame's number.
 //!
-//! If the messages don't tell which frame is the last, try both, and at the end of the transport ask `is_finished`:
-//! `false` says that the channel was cut.
+//! If the messages don't tell which frame is the last, try both. Where the transport ends, `is_finished` tells a
+//! channel that ended from one that was cut.
 //!
-//! ```text
+//! ```rust
 //! match receiver.decrypt(aad, frame, message) {
 //!     Err(FrameError::Forged) => receiver.finish(aad, frame, message),
 //!     other => other,
@@ -21,13 +21,13 @@
 //!
 //! No two frames have the same nonce if you keep two rules. Give each direction its own channel: two senders on one
 //! channel would use the same nonces. And let a sender that was stopped go on where it was: after `encrypt` store what
-//! `next` returns, then send the frame, and later call `resume`. After `finish` store that the channel is over: `resume`
-//! would go on behind its end.
+//! `next` returns, then send the frame, and later call `resume`. After `finish` also store that the channel is over,
+//! since a resumed sender isn't finished.
 //!
 //! `specs/Frames.antt` defines the words of the contracts.
 
 ghost use Rattle.std.specs.Prelude.{◌≡◌, ◌≢◌, ◌<◌, ◌≤◌, ◌↔◌, ◌+◌, ◌^◌, ℕ, true, false, List, length, take, drop, IsOk, IfOk, IsErrOf, OnOk, OnErr};
-ghost use Rattle.channel.specs.Frames.{Endpoint, HasNext, nonce_of, frame_of, IsFrame, after, last_nonce_of, last_frame_of, IsLastFrame, after_last};
+ghost use Rattle.channel.specs.Frames.{endpoint, HasNext, nonce_of, frame_of, IsFrame, after, last_nonce_of, last_frame_of, IsLastFrame, after_last};
 
 use crate::error::FrameError;
 use chacha20poly1305::{ChaCha20Poly1305, Error, Key, Nonce, XChaCha20Poly1305, XNonce};
@@ -50,20 +50,21 @@ impl Model for Sender {
 
     ghost Value = { Endpoint };
 
-    ghost view = { λ s. record { key = s.key; channel = s.channel; next = s.next; finished = s.finished } };
+    ghost view = { λ s.
+        record { key = s.key; channel = s.channel; next = s.next; finished = s.finished } };
 }
 
 impl Sender {
     /// A sender whose first frame has number 0. No other sender may have this key and this channel.
     pub fn new(key: &Key, channel: &Channel) -> Self
-        ensures { result ≡ record { key = key.now; channel = channel.now; next = 0; finished = false } }
+        ensures { result ≡ endpoint key.now channel.now 0 }
     {
         Sender::resume(key, channel, 0)
     }
 
     /// A sender whose first frame has this number: what `next` returned, or more.
     pub fn resume(key: &Key, channel: &Channel, next: u64) -> Self
-        ensures { result ≡ record { key = key.now; channel = channel.now; next = next; finished = false } }
+        ensures { result ≡ endpoint key.now channel.now next }
     {
         Sender {
             key: *key,
@@ -167,20 +168,21 @@ impl Model for Receiver {
 
     ghost Value = { Endpoint };
 
-    ghost view = { λ r. record { key = r.key; channel = r.channel; next = r.expected; finished = r.finished } };
+    ghost view = { λ r.
+        record { key = r.key; channel = r.channel; next = r.expected; finished = r.finished } };
 }
 
 impl Receiver {
     /// A receiver whose first frame has number 0.
     pub fn new(key: &Key, channel: &Channel) -> Self
-        ensures { result ≡ record { key = key.now; channel = channel.now; next = 0; finished = false } }
+        ensures { result ≡ endpoint key.now channel.now 0 }
     {
         Receiver::resume(key, channel, 0)
     }
 
     /// A receiver whose first frame has this number.
     pub fn resume(key: &Key, channel: &Channel, next: u64) -> Self
-        ensures { result ≡ record { key = key.now; channel = channel.now; next = next; finished = false } }
+        ensures { result ≡ endpoint key.now channel.now next }
     {
         Receiver {
             key: *key,
@@ -304,7 +306,7 @@ pub fn last_nonce_of(channel: &Channel, number: u64) -> XNonce
 }
 
 /// Decrypts the frame with this number. `Err` exactly where the bytes are not that frame of any message; then nothing
-/// changes. No frame has a message of more than 2^38 - 64 bytes: that error is `TooLong`, any other `WrongTag`.
+/// changes.
 pub(crate) fn decrypt_frame(
     key: &Key,
     channel: &Channel,
@@ -314,12 +316,10 @@ pub(crate) fn decrypt_frame(
     message: &mut [u8],
 ) -> Result<(), Error>
     requires { length frame.now ≡ length message.old + 16 }
-    ensures accepted { let sender : Endpoint =
-        record { key = key.now; channel = channel.now; next = number; finished = false } in
-        IsOk result ↔ IsFrame sender aad.now frame.now }
-    ensures message { let sender : Endpoint =
-        record { key = key.now; channel = channel.now; next = number; finished = false } in
-        (text : List ℕ) → frame.now ≡ frame_of sender aad.now text
+    ensures accepted { IsOk result
+        ↔ IsFrame (endpoint key.now channel.now number) aad.now frame.now }
+    ensures message { (text : List ℕ)
+        → frame.now ≡ frame_of (endpoint key.now channel.now number) aad.now text
         → OnOk result (message.new ≡ text) }
     ensures refused { OnErr result (message.new ≡ message.old) }
 {
@@ -337,12 +337,10 @@ fn decrypt_last_frame(
     message: &mut [u8],
 ) -> Result<(), Error>
     requires { length frame.now ≡ length message.old + 16 }
-    ensures accepted { let sender : Endpoint =
-        record { key = key.now; channel = channel.now; next = number; finished = false } in
-        IsOk result ↔ IsLastFrame sender aad.now frame.now }
-    ensures message { let sender : Endpoint =
-        record { key = key.now; channel = channel.now; next = number; finished = false } in
-        (text : List ℕ) → frame.now ≡ last_frame_of sender aad.now text
+    ensures accepted { IsOk result
+        ↔ IsLastFrame (endpoint key.now channel.now number) aad.now frame.now }
+    ensures message { (text : List ℕ)
+        → frame.now ≡ last_frame_of (endpoint key.now channel.now number) aad.now text
         → OnOk result (message.new ≡ text) }
     ensures refused { OnErr result (message.new ≡ message.old) }
 {

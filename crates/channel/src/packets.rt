@@ -1,9 +1,10 @@
 //! Packets under one key over a channel that loses, doubles and reorders them, as IPsec, DTLS and WireGuard have it.
 //!
 //! A packet is a header, its number in eight little-endian bytes, and the frame of this number, whose tag also covers
-//! the header (`frames.rt`, whose rules hold here too). The receiver accepts packets in any order and none twice. It
+//! the header (`frames`, whose rules hold here too). The receiver accepts packets in any order and none twice. It
 //! has 64 slots, one for each remainder modulo 64, and a number is open if it is greater than the last one in its slot.
 //! So each packet that is less than 64 behind the newest is accepted, once. A forged packet doesn't move this window.
+//! Packets have no last one: `finish` is for frames.
 //!
 //! `specs/Frames.antt` and `specs/Packets.antt` define the words of the contracts.
 

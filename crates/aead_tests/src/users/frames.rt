@@ -150,6 +150,34 @@ fn frame_of(number: u64, last: bool, frame: &mut [u8; 21]) -> bool {
     }
 }
 
+// Takes the next frame, the last or another, as the head of `frames` says.
+fn take_next(
+    receiver: &mut Receiver,
+    aad: &[u8],
+    frame: &[u8],
+    message: &mut [u8],
+) -> Result<(), FrameError>
+    requires { length frame.now ≡ length message.old + 16 }
+{
+    match receiver.decrypt(aad, frame, message) {
+        Err(FrameError::Forged) => receiver.finish(aad, frame, message),
+        other => other,
+    }
+}
+
+#[test]
+fn either(rt: HostRuntime) {
+    let mut receiver = Receiver::new(&[1; 32], &[2; 4]);
+    let (mut frame, mut message) = ([0; 21], [0; 5]);
+    for number in 0..3 {
+        let made = frame_of(number, number == 2, &mut frame);
+        let received = take_next(&mut receiver, b"aad", &frame, &mut message);
+        assert!(rt; made & received.is_ok() & (receiver.is_finished() == (number == 2)));
+    }
+    let received = take_next(&mut receiver, b"aad", &frame, &mut message);
+    assert!(rt; received == Err(FrameError::Finished));
+}
+
 // What comes to a receiver: the number, whether it is a last frame, and whether it is taken for one; and the answer.
 static ENDING: [(u64, bool, bool, Result<(), FrameError>); 8] = [
     (0, true, false, Err(FrameError::Forged)),

@@ -10,7 +10,8 @@ returns-clause-value c =
     let front = c.copy_from_slice in
     let back = c.copy_from_slice-2 in
     let zeros = λ (xs : List ℕ). 0 ∷ 0 ∷ 0 ∷ 0 ∷ xs in
-    put_mid-at 16 8 (zeros front.new.self) (replicate 8 0) back.new.self (ap (λ n. suc (suc (suc (suc n)))) front.ensures.len)
+    put_mid-at 16 8 (zeros front.new.self) (replicate 8 0) back.new.self
+    (ap (λ n. suc (suc (suc (suc n)))) front.ensures.len)
     ∙ ap₂ (λ xs ys. zeros xs ++ ys) (front.ensures.after ∙ c.nonce_of.ensures.value)
     (append-nil back.new.self ∙ back.ensures.after ∙ c.to_le_bytes.ensures)
 

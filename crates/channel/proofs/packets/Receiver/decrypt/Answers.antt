@@ -1,9 +1,9 @@
-use Rattle.std.proofs.Common.{◌≡◌, ◌++◌, ◌∙◌, ◌↔◌, ℕ, List, take, drop, false, sym, ap, ap₂, subst₂}
+use Rattle.std.proofs.Common.{◌≡◌, ◌++◌, ◌∙◌, ◌↔◌, ℕ, List, take, drop, sym, ap, ap₂, subst₂}
 use Rattle.std.proofs.lemmas.List.{take-append-drop}
 use Rattle.std.specs.Int.{w64, to_le_bytes}
 use Rattle.chacha20poly1305.specs.ChaCha.{chacha_stream, ietf}
 use Rattle.chacha20poly1305.specs.Aead.{sealed_message}
-use Rattle.channel.specs.Frames.{Endpoint, frame_of, IsFrame}
+use Rattle.channel.specs.Frames.{Endpoint, endpoint, frame_of, IsFrame}
 use Rattle.channel.specs.Packets.{Inbox, packet_of, number_of, IsPacket}
 use Rattle.channel.proofs.packets.Receiver.decrypt.Goals as goal
 
@@ -26,10 +26,10 @@ module _ {packet header frame : List ℕ} {n : ℕ} {inside seen : Inbox}
       p.back ∙ ap (drop 8) sent ∙ ap (λ h. sealed_message (stream h) h text) same
       ∙ ap (λ h. sealed_message (stream h) header text) (p.front ∙ sym p.number)
 
-  is-packet : IsFrame (record { key = inside.key; channel = inside.channel; next = n; finished = false }) header frame
+  is-packet : IsFrame (endpoint inside.key inside.channel n) header frame
       ↔ IsPacket seen (number_of packet) packet
   is-packet =
-      let sender : Endpoint = record { key = inside.key; channel = inside.channel; next = n; finished = false } in (
+      let sender = endpoint inside.key inside.channel n in (
         λ f. subst₂ (λ r m. IsPacket r m packet) p.view p.value (
           f.0,
           f.1,
@@ -53,9 +53,10 @@ returns-clause-accepted c =
       value = c.number_of.ensures.value;
       number = c.number_of.ensures.header;
       view = c.self.view_is;
-    } in
-    (λ ok. (is-packet p).0 (c.decrypt_frame.ensures.accepted.0 ok),
-     λ sent. c.decrypt_frame.ensures.accepted.1 ((is-packet p).1 sent))
+    } in (
+      λ ok. (is-packet p).0 (c.decrypt_frame.ensures.accepted.0 ok),
+      λ sent. c.decrypt_frame.ensures.accepted.1 ((is-packet p).1 sent),
+    )
 
 pub returns-clause-message : goal.returns-clause-message
 returns-clause-message c sender text key channel sent =
@@ -69,9 +70,7 @@ returns-clause-message c sender text key channel sent =
       number = c.number_of.ensures.header;
       view = c.self.view_is;
     } in
-    let at : List ℕ → List ℕ → Endpoint =
-    λ k d. record { key = k; channel = d; next = c.number_of.result; finished = false } in
     c.decrypt_frame.ensures.message text
     (frame-in p sender text sent
-    ∙ ap₂ (λ k d. frame_of (at k d) c.split_at.result.0.now text)
+    ∙ ap₂ (λ k d. frame_of (endpoint k d c.number_of.result) c.split_at.result.0.now text)
     (key ∙ ap (λ (r : Inbox). r.key) (sym p.view)) (channel ∙ ap (λ (r : Inbox). r.channel) (sym p.view)))
