@@ -6,7 +6,7 @@ mod sealed_parts;
 mod tags;
 mod unsteady;
 
-// The tests of `examples`, each under the name of its example.
+// The tests of `channel` and `examples`, each under the name of its module or example.
 mod frames;
 mod packets;
 mod sectors;

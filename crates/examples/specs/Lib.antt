@@ -1,4 +1,2 @@
-pub mod Frames
 pub mod Log
-pub mod Packets
 pub mod Sectors

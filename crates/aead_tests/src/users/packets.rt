@@ -1,9 +1,9 @@
-//! Packets: a known value, in another order, twice, changed, and at the window's edges.
+//! Packets: a known value, in another order, twice, changed, at the window's edges, and of all short lengths.
 
-ghost use Rattle.std.specs.Prelude.{◌≡◌, ◌+◌, length, OnOk, IfOk, IsTrue};
+ghost use Rattle.std.specs.Prelude.{◌≡◌, OnOk, IfOk, IsTrue};
 
-use examples::frames::{Channel, Sender};
-use examples::packets::{PacketError, Receiver, send};
+use channel::packets::{Receiver, send};
+use channel::{Channel, FrameError, PacketError, Sender};
 use known_answers::published::FROM_80;
 
 // Made by OpenSSL 4.0, with the header as associated data.
@@ -24,8 +24,6 @@ fn twice(
     message: &mut [u8],
     copy: &mut [u8],
 ) -> Result<bool, PacketError>
-    requires message { length packet.now ≡ length message.old + 24 }
-    requires copy { length packet.now ≡ length copy.old + 24 }
     ensures refused { IfOk result (λ refused. IsTrue refused) }
     ensures copy { OnOk result (copy.new ≡ copy.old) }
 {
@@ -68,8 +66,8 @@ fn receive(
         packet[turned] ^= 1;
     }
     let mut message = [0; 5];
-    receiver.receive(&packet, &mut message)?;
-    if sent.is_ok() & (message == *b"hello") {
+    let len = receiver.receive(&packet, &mut message)?;
+    if sent.is_ok() & (len == 5) & (message == *b"hello") {
         Ok(())
     } else {
         Err(PacketError::Forged)
@@ -83,4 +81,43 @@ fn coming(rt: HostRuntime) {
         assert!(rt; receive(&mut receiver, channel, *number, *turned) == *answer);
     }
     assert!(rt; receiver.receive(&[0xff; 29], &mut [0; 5]) == Err(PacketError::Replayed));
+}
+
+// A packet of five bytes, cut, and an output of zeros and this length: the answer, and the output after it.
+static LENGTHS: [(usize, usize, Result<usize, PacketError>, [u8; 7]); 9] = [
+    (0, 7, Err(PacketError::TooShort), [0; 7]),
+    (7, 7, Err(PacketError::TooShort), [0; 7]),
+    (8, 7, Err(PacketError::TooShort), [0; 7]),
+    (23, 7, Err(PacketError::TooShort), [0; 7]),
+    (23, 0, Err(PacketError::TooShort), [0; 7]),
+    (24, 0, Err(PacketError::Forged), [0; 7]),
+    (29, 4, Err(PacketError::OutputTooShort), [0; 7]),
+    (29, 6, Ok(5), *b"hello\0\0"),
+    (29, 4, Err(PacketError::OutputTooShort), [0; 7]), // also where it comes again
+];
+
+#[test]
+fn lengths(rt: HostRuntime) {
+    let mut receiver = Receiver::new(&[1; 32], &HERE);
+    let mut packet = [0; 29];
+    let sent = send(&mut Sender::new(&[1; 32], &HERE), b"hello", &mut packet);
+    assert!(rt; sent.is_ok());
+    for (len, room, answer, output) in &LENGTHS {
+        let mut space = [0; 7];
+        let received = receiver.receive(&packet[..*len], &mut space[..*room]);
+        assert!(rt; (received == *answer) & (space == *output));
+    }
+}
+
+// An empty message, and a finished sender.
+#[test]
+fn ends(rt: HostRuntime) {
+    let mut sender = Sender::new(&[1; 32], &HERE);
+    let mut packet = [0; 24];
+    let sent = send(&mut sender, b"", &mut packet);
+    let received = Receiver::new(&[1; 32], &HERE).receive(&packet, &mut []);
+    assert!(rt; sent.is_ok() & (received == Ok(0)));
+    let ended = sender.finish(b"", b"", &mut [0; 16]);
+    let refused = send(&mut sender, b"", &mut packet);
+    assert!(rt; ended.is_ok() & (refused == Err(FrameError::Finished)));
 }

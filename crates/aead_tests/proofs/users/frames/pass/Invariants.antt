@@ -6,4 +6,5 @@ invariant-each l = record {
   messages : l.messages ≡ l.initial.messages;
   same : l.sender ≡ l.receiver;
   counted : l.sender.next ≡ l.initial.sender.next + l.i;
+  unfinished : l.sender.finished ≡ l.initial.sender.finished;
 }

@@ -1,14 +1,13 @@
-use Rattle.std.proofs.Common.{◌≡◌, ◌<◌, ◌≤◌, ◌+◌, ◌^◌, ◌∙◌, ℕ, List, [], length, refl, sym, ap, arith}
+use Rattle.std.proofs.Common.{◌≡◌, ◌≤◌, ◌∙◌, ℕ, List, [], length, refl, sym, ap, subst}
 use Rattle.chacha20.proofs.ResultLemmas.{on_ok-holds, on_ok_given}
-use Rattle.examples.specs.Frames.{Endpoint, frame_of, IsFrame, after}
+use Rattle.channel.specs.Frames.{Endpoint, HasNext, frame_of, IsFrame, after}
 use Rattle.aead_tests.proofs.users.frames.pass_one.Goals as goal
 
 -- the receiver accepts what the sender made
 accepts : (sender receiver : Endpoint) (message frame : List ℕ) → sender ≡ receiver → frame ≡ frame_of sender [] message
-    → (sender.next + 1 < 2 ^ 64) × (length message ≤ 274877906880)
-    → (receiver.next + 1 < 2 ^ 64) × IsFrame receiver [] frame
+    → HasNext sender × (length message ≤ 274877906880) → HasNext receiver × IsFrame receiver [] frame
 accepts sender receiver message frame same sent fits = (
-  omega (arith, fits.0, ap (λ e. e.next) same),
+  subst HasNext same fits.0,
   (message, fits.1, sent ∙ ap (λ side. frame_of side [] message) same),
 )
 
@@ -30,4 +29,4 @@ returns-clause-same c =
 
 pub returns-clause-counted : goal.returns-clause-counted
 returns-clause-counted c =
-    on_ok_given c.decrypt.result (λ ok next. ap (λ e. e.next) c.in_ok-encrypt.ensures.next) c.decrypt.ensures.next
+    on_ok_given c.decrypt.result (λ ok next. c.in_ok-encrypt.ensures.next) c.decrypt.ensures.next
