@@ -60,11 +60,20 @@ impl Display for Damage {
             Damage::NotSealed => f.write_str("not a sealed file"),
             Damage::OtherVersion => f.write_str("sealed in another version of the format"),
             Damage::CutHeader => f.write_str("the file ends in its header"),
-            Damage::WrongChunk(0) | Damage::WrongEnd(0) => f.write_str(
-                "wrong key, or chunk 0 is damaged, or the file ends early",
-            ),
-            Damage::WrongChunk(number) | Damage::WrongEnd(number) => {
-                write!(f, "chunk {number} is damaged, or the file ends early")
+            Damage::WrongChunk(0) => {
+                f.write_str("the key is wrong, or bytes 0 to 65535 are damaged")
+            }
+            Damage::WrongChunk(number) => {
+                let start = u128::from(*number) * 65536;
+                let end = start + 65535;
+                write!(f, "bytes {start} to {end} are damaged")
+            }
+            Damage::WrongEnd(0) => {
+                f.write_str("the key is wrong, or the end from byte 0 on is damaged or cut")
+            }
+            Damage::WrongEnd(number) => {
+                let start = u128::from(*number) * 65536;
+                write!(f, "the end from byte {start} on is damaged or cut")
             }
         }
     }
