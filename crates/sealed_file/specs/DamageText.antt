@@ -3,6 +3,8 @@ use Rattle.std.specs.Prelude.{ℕ, zero, suc, ◌+◌, ◌*◌, List, ◌++◌, 
 use Rattle.std.specs.Fmt.{decimal}
 use Rattle.sealed_file.specs.declared.error.Damage.{Damage}
 use Rattle.sealed_file.specs.declared.error.Damage.TheVariants.{NotSealed, OtherVersion, CutHeader, WrongChunk, WrongEnd}
+use Rattle.sealed_file.specs.declared.error.SliceError.{SliceError}
+use Rattle.sealed_file.specs.declared.error.SliceError.TheVariants.{PastEnd, Damaged}
 
 -- of a chunk that others follow, by the bytes of its text
 abbrev pub chunk_text : ℕ → List ℕ
@@ -22,3 +24,7 @@ damage_text OtherVersion = codes "sealed in another version of the format"
 damage_text CutHeader = codes "the file ends in its header"
 damage_text (WrongChunk i) = chunk_text i
 damage_text (WrongEnd i) = end_text i
+
+abbrev pub slice_error_text : SliceError → List ℕ
+slice_error_text PastEnd = codes "past the end of the text"
+slice_error_text (Damaged damage) = damage_text damage

@@ -49,6 +49,15 @@ pub enum SealError {
     TooLong,
 }
 
+/// Why a range of the text of a file in memory was not read.
+#[derive(Clone, Copy, Debug, PartialEq, Eq)]
+pub enum SliceError {
+    /// The range ends past the end of the text.
+    PastEnd,
+    /// A chunk of the range isn't right, or the file has no header.
+    Damaged(Damage),
+}
+
 impl Display for Damage {
     ghost use Rattle.std.specs.Prelude.{Some};
     ghost use Rattle.sealed_file.specs.DamageText.{damage_text};
@@ -80,3 +89,29 @@ impl Display for Damage {
 }
 
 impl Error for Damage {}
+
+impl Display for SliceError {
+    ghost use Rattle.std.specs.Prelude.{Some};
+    ghost use Rattle.sealed_file.specs.DamageText.{slice_error_text};
+
+    ghost output = { λ error. Some (slice_error_text error) };
+
+    fn fmt<W: fmt::Write>(&self, f: &mut Formatter<W>) -> fmt::Result {
+        match self {
+            SliceError::PastEnd => f.write_str("past the end of the text"),
+            SliceError::Damaged(damage) => damage.fmt(f),
+        }
+    }
+}
+
+impl Error for SliceError {}
+
+impl From<Damage> for SliceError {
+    ghost from_gives = { λ damage error. error ≡ SliceError.Damaged damage };
+
+    fn from(damage: Damage) -> SliceError
+        ensures { result ≡ SliceError.Damaged damage }
+    {
+        SliceError::Damaged(damage)
+    }
+}
