@@ -5,6 +5,7 @@ pub mod FrontLemmas
 pub mod HeaderLemmas
 pub mod NonceLemmas
 pub mod OpenLemmas
+pub mod OpenRangeLemmas
 pub mod RangeLemmas
 pub mod ReaderLemmas
 pub mod SeekLemmas

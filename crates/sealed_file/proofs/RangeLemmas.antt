@@ -1,7 +1,7 @@
 -- A range of a text, read chunk by chunk.
-use Rattle.std.proofs.Common.{◌≡◌, ◌≢◌, ◌<◌, ◌≤◌, ◌+◌, ◌-◌, ◌*◌, ◌/◌, ◌∙◌, ℕ, zero, suc, List, [], ◌++◌, length, take, drop, min, nat_eq, arith, refl, sym, ap, ap₂, subst, add-one, append_assoc, append-nil, drop-drop, inl, inr, eq-or-lt_of_le, length-append, length-drop, length-take, length-take-le, take_at, drop_at, take_all, take-add, take-take}
+use Rattle.std.proofs.Common.{◌≡◌, ◌<◌, ◌≤◌, ◌+◌, ◌-◌, ◌*◌, ◌/◌, ◌∙◌, ℕ, zero, suc, List, [], ◌++◌, length, take, drop, min, nat_eq, arith, refl, sym, ap, ap₂, subst, append_assoc, append-nil, drop-drop, inl, inr, eq-or-lt_of_le, length-append, length-drop, length-take, take_at, drop_at, take_all, take-add, take-take}
 use Rattle.std.proofs.lemmas.Bool.{cases_lt}
-use Rattle.std.proofs.lemmas.List.{drop_all, take-append-le, drop-append-le, take_rest}
+use Rattle.std.proofs.lemmas.List.{drop_all, drop-append-le, take_rest}
 use borrow.Rule.Slice.PartMut.{put_mid, put_same}
 use Rattle.sealed_file.specs.declared.error.Damage.{Damage}
 use Rattle.sealed_file.specs.Sealed.{chunk, chunk_at, last_in, text_of, last_of, piece, last_number, sealed, place, damage_at, StopsAtEnd, AreRight, CopiesFrom, ReadsRange, ReadsPart, StopsAtDamage, IsNoChunk}
@@ -12,7 +12,7 @@ use Rattle.sealed_file.proofs.ChunkLemmas.{length-chunk, piece-front, piece-next
 
 -- Numbers, apart from the lists, for speed.
 
-text-of-is : (len : ℕ) → 32 < len → text_of len ≡ len - 32 - 16 * (last_of len + 1)
+pub text-of-is : (len : ℕ) → 32 < len → text_of len ≡ len - 32 - 16 * (last_of len + 1)
 text-of-is len some = omega (arith, some)
 
 stops-is : (w start len i text n t last : ℕ) → (32 < len → t ≡ len - 32 - 16 * (last + 1)) → last ≡ (len - 33) / 65552
@@ -29,6 +29,15 @@ stops-at-end w start len i text n at size count less = elim (cases_lt (start + n
   | inl before ↦
       inl (stops-is w start len i text n (text_of len) (last_of len) (text-of-is len) refl at size count less before)
   | inr end ↦ inr end
+]
+
+-- a read of a range isn't empty
+pub some-read : (start n w len : ℕ) → (n < w → StopsAtEnd start n len) → 0 < w → start + w ≤ text_of len → 0 < n
+some-read start n w len stops room within = elim (eq-or-lt_of_le {n = 0} {m = n} (omega arith)) [
+  | inl none ↦
+      let end = stops (omega (arith, none, room)) in
+      elim end [ inl chunk ↦ absurd (omega (arith, chunk, none)) | inr text ↦ absurd (omega (arith, text, none, room, within)) ]
+  | inr some ↦ some
 ]
 
 -- of a range of w bytes, of which k came from the first n chunks: the number of the next chunk, the text of these, and
@@ -58,10 +67,10 @@ next-count start k m n w len t last text all end within count room size copied =
     let t_is = all (omega (arith, size)) in
     omega (arith, t_is, end, within, count, room, size, copied)
 
-text-of-less : (len : ℕ) → text_of len ≤ len - 32
+pub text-of-less : (len : ℕ) → text_of len ≤ len - 32
 text-of-less len = omega arith
 
-put-rest : (k : ℕ) (xs ys : List ℕ) → put_mid k (length xs - k) xs ys ≡ take k xs ++ ys
+pub put-rest : (k : ℕ) (xs ys : List ℕ) → put_mid k (length xs - k) xs ys ≡ take k xs ++ ys
 put-rest k xs ys =
     ap (λ zs. take k xs ++ (ys ++ zs)) (drop_all (length xs - k) (drop k xs) (omega (arith, length-drop k xs)))
     ∙ ap (λ zs. take k xs ++ zs) (append-nil ys)

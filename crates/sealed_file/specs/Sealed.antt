@@ -94,6 +94,10 @@ last_of bytes = (bytes - 33) / 65552
 abbrev pub text_of : ℕ → ℕ
 text_of bytes = bytes - 32 - 16 * div_ceil (bytes - 32) 65552
 
+-- how many bytes chunk i has in such a file
+abbrev pub chunk_size : ℕ → ℕ → ℕ
+chunk_size bytes i = min 65552 (bytes - place i)
+
 abbrev pub last_in : List ℕ → ℕ
 last_in file = last_of (length file)
 

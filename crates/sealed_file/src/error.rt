@@ -58,6 +58,15 @@ pub enum SliceError {
     Damaged(Damage),
 }
 
+/// Why a range of the text of a file behind a reader was not read.
+#[derive(Debug, Drop)]
+pub enum ReaderError {
+    /// The range ends past the end of the text.
+    PastEnd,
+    /// The reader failed, or a chunk of the range isn't right.
+    Failed(SealError),
+}
+
 impl Display for Damage {
     ghost use Rattle.std.specs.Prelude.{Some};
     ghost use Rattle.sealed_file.specs.DamageText.{damage_text};
@@ -107,11 +116,25 @@ impl Display for SliceError {
 impl Error for SliceError {}
 
 impl From<Damage> for SliceError {
-    ghost from_gives = { λ damage error. error ≡ SliceError.Damaged damage };
+    ghost use Rattle.sealed_file.specs.declared.error.SliceError.TheVariants.{Damaged};
+
+    ghost from_gives = { λ damage error. error ≡ Damaged damage };
 
     fn from(damage: Damage) -> SliceError
-        ensures { result ≡ SliceError.Damaged damage }
+        ensures { result ≡ Damaged damage }
     {
         SliceError::Damaged(damage)
+    }
+}
+
+impl From<SealError> for ReaderError {
+    ghost use Rattle.sealed_file.specs.declared.error.ReaderError.TheVariants.{Failed};
+
+    ghost from_gives = { λ failure error. error ≡ Failed failure };
+
+    fn from(error: SealError) -> ReaderError
+        ensures { result ≡ Failed error }
+    {
+        ReaderError::Failed(error)
     }
 }

@@ -1,4 +1,4 @@
-use Rattle.std.proofs.Common.{◌≡◌, ◌<◌, ◌≤◌, ◌+◌, ◌-◌, ◌*◌, ◌/◌, ◌∙◌, length, min, arith, subst, sym}
+use Rattle.std.proofs.Common.{◌≡◌, ◌+◌, length, arith, subst}
 use Rattle.sealed_file.specs.Sealed.{ReadsRange}
 use Rattle.sealed_file.proofs.RangeLemmas.{range-none, range-more, range-stops}
 use Rattle.sealed_file.proofs.slice.read_range.Goals as goal

@@ -1,5 +1,4 @@
 use Rattle.std.proofs.Common.{◌≡◌, ◌≤◌, ◌+◌, ◌∙◌, length, ap, subst, sym, refl, true≢false}
-use Rattle.sealed_file.specs.declared.error.SliceError.TheVariants.{PastEnd, Damaged}
 use Rattle.sealed_file.specs.Sealed.{StopsAtDamage}
 use Rattle.sealed_file.proofs.FileLemmas.{own-is, own-salt}
 use Rattle.sealed_file.proofs.RangeLemmas.{range-text, range-right}
