@@ -4,13 +4,13 @@
 ghost use Rattle.std.specs.Prelude.{◌≡◌, ◌≤◌, ◌+◌, ◌↔◌, length, IsOk, OnOk};
 ghost use Rattle.chacha20.specs.Cipher.{limit_of};
 
-use chacha20poly1305::{Error, ChaChaPoly1305};
 use chacha20::backends::Lanes16;
 use chacha20::cipher::{KeyIvInit, StreamCipher};
 use chacha20::variants::Ietf;
 use chacha20::{
     ChaChaCore, Key, Nonce, R8, R12, R20, Rounds, StreamCipherCoreWrapper, XChaChaCore, XNonce,
 };
+use chacha20poly1305::{ChaChaPoly1305, Error};
 use known_answers::published::{FROM_80, MESSAGE};
 
 // Whatever the cipher and the message are: what is encrypted is decrypted, and the message is as it was.
@@ -149,7 +149,7 @@ fn sealed<C: KeyIvInit<Key = Key> + StreamCipher + Drop>(
 // `names.rt` of `user_tests` has the names of these AEADs.
 
 fn by_chacha<R: Rounds>(key: &Key, nonce: &Nonce, aad: &[u8], text: &[u8]) -> Option<[u8; SEALED]> {
-    sealed_file::<StreamCipherCoreWrapper<ChaChaCore<R, Ietf, Lanes16>>>(key, nonce, aad, text)
+    sealed::<StreamCipherCoreWrapper<ChaChaCore<R, Ietf, Lanes16>>>(key, nonce, aad, text)
 }
 
 fn by_xchacha<R: Rounds>(
@@ -158,7 +158,7 @@ fn by_xchacha<R: Rounds>(
     aad: &[u8],
     text: &[u8],
 ) -> Option<[u8; SEALED]> {
-    sealed_file::<StreamCipherCoreWrapper<XChaChaCore<R, Lanes16>>>(key, nonce, aad, text)
+    sealed::<StreamCipherCoreWrapper<XChaChaCore<R, Lanes16>>>(key, nonce, aad, text)
 }
 
 // RFC 8439, sections 2.8.2 and A.5, and draft-irtf-cfrg-xchacha, section A.3.1.
