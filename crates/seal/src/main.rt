@@ -6,11 +6,11 @@ mod files;
 mod progress;
 
 use chacha20::Key;
-use failure::{Failed, fail, read, streamed, usage, written};
+use failure::{Failed, fail, streamed, usage, written};
 use progress::Progress;
-use sealed_file::{CHUNK, Salt, SealError, SealedReader, TAG, chunk, stream};
+use sealed_file::{CHUNK, ReaderError, Salt, SealError, SealedReader, TAG, chunk, stream};
 use std::fs::File;
-use std::io::{ErrorKind, Read, Seek, SeekFrom, Write};
+use std::io::{Read, Write};
 use std::process::ExitCode;
 use std::{env, fs, io};
 
@@ -139,14 +139,14 @@ fn print_part(
     len: u64,
 ) -> Result<(), Failed> {
     check_end(rt, from, reader.text_len(), start, len)?;
-    read(rt, from, reader.seek(SeekFrom::Start(start)))?;
     let mut writer = io::writer(rt);
-    let mut left = len;
+    let (mut at, mut left) = (start, len);
     for _ in 0..len {
         if left == 0 {
             break;
         }
-        let n = print_piece(rt, reader, from, left, &mut writer)?;
+        let n = print_piece(rt, reader, from, at, left, &mut writer)?;
+        at = at.saturating_add(n);
         left = left.saturating_sub(n);
     }
     written(rt, OUTPUT, writer.flush())
@@ -163,27 +163,32 @@ fn check_end(
     if start <= text_len && len <= text_len - start {
         return Ok(());
     }
-    let what = "START + LEN is past the end: by its length, ";
-    let _ = eprintln!(rt; "seal: {what}{from} has {text_len} bytes of text");
-    Err(Failed)
+    Err(past_end(rt, from, text_len))
 }
 
-// Prints at most so many bytes of what the reader has next, and returns how many.
+fn past_end(rt: &HostRuntime, from: &str, text_len: u64) -> Failed {
+    let what = "START + LEN is past the end: by its length, ";
+    let _ = eprintln!(rt; "seal: {what}{from} has {text_len} bytes of text");
+    Failed
+}
+
+// Prints at most so many bytes of text from a place on, and returns how many.
 fn print_piece<W: Write>(
     rt: &HostRuntime,
     reader: &mut SealedReader<'_, File>,
     from: &str,
+    at: u64,
     most: u64,
     writer: &mut W,
 ) -> Result<u64, Failed> {
     let mut piece = [0; 8192];
     let window = &mut piece[..most.min(8192) as usize];
-    match reader.read_text(window) {
-        Ok(0) => read(rt, from, Err(io::Error::from(ErrorKind::UnexpectedEof))),
-        Ok(n) => {
-            streamed(rt, from, OUTPUT, chunk::write_whole(writer, &window[..n]))?;
-            Ok(n as u64)
+    match reader.read_exact_at(at, window) {
+        Ok(()) => {
+            streamed(rt, from, OUTPUT, chunk::write_whole(writer, window))?;
+            Ok(window.len() as u64)
         }
-        Err(e) => streamed(rt, from, OUTPUT, Err(e)),
+        Err(ReaderError::PastEnd) => Err(past_end(rt, from, reader.text_len())),
+        Err(ReaderError::Failed(e)) => streamed(rt, from, OUTPUT, Err(e)),
     }
 }

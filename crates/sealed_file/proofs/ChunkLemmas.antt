@@ -87,12 +87,12 @@ chunk-tag key salt i last text nonce head bytes nonce_is head_is same =
 
 -- Pieces of a text.
 
-piece-front : (m rest : List ℕ) (i : ℕ) → 65536 * suc i ≤ length m → piece (m ++ rest) i ≡ piece m i
+pub piece-front : (m rest : List ℕ) (i : ℕ) → 65536 * suc i ≤ length m → piece (m ++ rest) i ≡ piece m i
 piece-front m rest i fits =
     ap (take 65536) (drop-append-le (65536 * i) m rest (omega (arith, fits)))
     ∙ take-append-le 65536 (drop (65536 * i) m) rest (omega (arith, fits, length-drop (65536 * i) m))
 
-piece-next : (m rest : List ℕ) (i : ℕ) → length m ≡ 65536 * i → piece (m ++ rest) i ≡ take 65536 rest
+pub piece-next : (m rest : List ℕ) (i : ℕ) → length m ≡ 65536 * i → piece (m ++ rest) i ≡ take 65536 rest
 piece-next m rest i long = ap (take 65536) (drop_at m rest (65536 * i) long)
 
 pub length-piece-at : (text : List ℕ) (i : ℕ) → length (piece text i) ≡ min (length text - 65536 * i) 65536

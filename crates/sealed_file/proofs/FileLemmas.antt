@@ -210,11 +210,15 @@ pub has-salt : (key salt text file : List ℕ) → length salt ≡ 16 → file �
 has-salt key salt text file size is = (body key salt text, size, is ∙ sealed-is key salt text)
 
 -- so it has one salt
+pub own-is : (key salt salt' text file : List ℕ) → length salt' ≡ 16 → take 32 file ≡ header salt
+    → file ≡ sealed key salt' text → salt' ≡ salt
+own-is key salt salt' text file size begins is =
+    let header' = front-is file salt' (has-salt key salt' text file size is) in ap (drop 16) (sym header' ∙ begins)
+
 pub own-salt : (key salt salt' text file : List ℕ) → length salt' ≡ 16 → take 32 file ≡ header salt
     → file ≡ sealed key salt' text → file ≡ sealed key salt text
 own-salt key salt salt' text file size begins is =
-    let header' = front-is file salt' (has-salt key salt' text file size is) in
-    let same : salt' ≡ salt = ap (drop 16) (sym header' ∙ begins) in is ∙ ap (λ s. sealed key s text) same
+    is ∙ ap (λ s. sealed key s text) (own-is key salt salt' text file size begins is)
 
 pub salt-of : (key salt text : List ℕ) → length salt ≡ 16 → slice_range (sealed key salt text) 16 32 ≡ salt
 salt-of key salt text size =

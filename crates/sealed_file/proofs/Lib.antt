@@ -5,6 +5,8 @@ pub mod FrontLemmas
 pub mod HeaderLemmas
 pub mod NonceLemmas
 pub mod OpenLemmas
+pub mod OpenRangeLemmas
+pub mod RangeLemmas
 pub mod ReaderLemmas
 pub mod SeekLemmas
 pub mod SliceLemmas

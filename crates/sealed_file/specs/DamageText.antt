@@ -1,18 +1,30 @@
 -- How damage prints.
-use Rattle.std.specs.Prelude.{ℕ, zero, suc, List, ◌++◌, codes}
+use Rattle.std.specs.Prelude.{ℕ, zero, suc, ◌+◌, ◌*◌, List, ◌++◌, codes}
 use Rattle.std.specs.Fmt.{decimal}
 use Rattle.sealed_file.specs.declared.error.Damage.{Damage}
 use Rattle.sealed_file.specs.declared.error.Damage.TheVariants.{NotSealed, OtherVersion, CutHeader, WrongChunk, WrongEnd}
+use Rattle.sealed_file.specs.declared.error.SliceError.{SliceError}
+use Rattle.sealed_file.specs.declared.error.SliceError.TheVariants.{PastEnd, Damaged}
 
--- of a chunk that isn't right
+-- of a chunk that others follow, by the bytes of its text
 abbrev pub chunk_text : ℕ → List ℕ
-chunk_text zero = codes "wrong key, or chunk 0 is damaged, or the file ends early"
+chunk_text zero = codes "the key is wrong, or bytes 0 to 65535 are damaged"
 chunk_text (suc i) =
-    codes "chunk " ++ (decimal (suc i) ++ codes " is damaged, or the file ends early")
+    codes "bytes " ++ (decimal (suc i * 65536) ++ (codes " to " ++ (decimal (suc i * 65536 + 65535)
+    ++ codes " are damaged")))
+
+-- of the last chunk
+abbrev pub end_text : ℕ → List ℕ
+end_text zero = codes "the key is wrong, or the end from byte 0 on is damaged or cut"
+end_text (suc i) = codes "the end from byte " ++ (decimal (suc i * 65536) ++ codes " on is damaged or cut")
 
 abbrev pub damage_text : Damage → List ℕ
 damage_text NotSealed = codes "not a sealed file"
 damage_text OtherVersion = codes "sealed in another version of the format"
 damage_text CutHeader = codes "the file ends in its header"
 damage_text (WrongChunk i) = chunk_text i
-damage_text (WrongEnd i) = chunk_text i
+damage_text (WrongEnd i) = end_text i
+
+abbrev pub slice_error_text : SliceError → List ℕ
+slice_error_text PastEnd = codes "past the end of the text"
+slice_error_text (Damaged damage) = damage_text damage

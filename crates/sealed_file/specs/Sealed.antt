@@ -94,6 +94,10 @@ last_of bytes = (bytes - 33) / 65552
 abbrev pub text_of : ℕ → ℕ
 text_of bytes = bytes - 32 - 16 * div_ceil (bytes - 32) 65552
 
+-- how many bytes chunk i has in such a file
+abbrev pub chunk_size : ℕ → ℕ → ℕ
+chunk_size bytes i = min 65552 (bytes - place i)
+
 abbrev pub last_in : List ℕ → ℕ
 last_in file = last_of (length file)
 
@@ -140,3 +144,28 @@ abbrev pub IsPart : List ℕ → ℕ → List ℕ → List ℕ → ℕ → Type 
 IsPart text start old new n =
     let i = min (start / 65536) (last_number text) in
     CopiesFrom (take (65536 * (i + 1)) text) start old new n
+
+-- n bytes of text from byte `start` on end where the chunk does, or at the end of the text of a file of so many bytes
+abbrev pub StopsAtEnd : ℕ → ℕ → ℕ → Type 0
+StopsAtEnd start n bytes = (start + n ≡ 65536 * (start / 65536 + 1)) ⊎ (text_of bytes ≤ start + n)
+
+-- n chunks of a file from number i on are right, and this is their text
+abbrev pub AreRight : List ℕ → List ℕ → List ℕ → ℕ → ℕ → List ℕ → Type 0
+AreRight key salt file i n text =
+    (length text ≤ 65536 * n)
+    × ((j : ℕ) → j < n
+    → chunk_at file (i + j) ≡ chunk key salt (i + j) (nat_eq (i + j) (last_in file)) (piece text j))
+
+-- n chunks, from that of byte `start` on, are right, and k bytes of their text have come to a window's front
+abbrev pub ReadsRange : List ℕ → List ℕ → List ℕ → ℕ → List ℕ → List ℕ → ℕ → ℕ → Type 0
+ReadsRange key salt file start old new n k =
+    let i = start / 65536 in
+    (text : List ℕ) × AreRight key salt file i n text × CopiesFrom text (start - 65536 * i) old new k
+
+-- what is wrong with the first chunk of a range that isn't right. The text of the chunks before it, k bytes, has come
+-- to the window's front.
+abbrev pub StopsAtDamage : List ℕ → List ℕ → List ℕ → ℕ → List ℕ → List ℕ → Damage → Type 0
+StopsAtDamage key salt file start old new damage =
+    (n : ℕ) × (let i = start / 65536 + n in let k = 65536 * i - start in let last = nat_eq i (last_in file) in
+    ReadsRange key salt file start old new n k × (k < length old)
+    × (damage ≡ damage_at i last) × IsNoChunk key salt i last (chunk_at file i))

@@ -1,6 +1,6 @@
 -- What a reader gives at a place of its file. The first arguments are `remaining`, `stream_position` and `stream_bytes`
 -- of the standard library's `Read` and `Seek`.
-use Rattle.std.specs.Prelude.{◌≡◌, ◌<◌, ◌⊎◌, ℕ, Bool, List, length, Some, IfSome}
+use Rattle.std.specs.Prelude.{◌≡◌, ◌≢◌, ◌<◌, ◌⊎◌, ℕ, Bool, List, length, Some, IfSome}
 use Rattle.std.specs.declared.option.Option.{Option}
 use Rattle.std.specs.Io.KnownBytes.{Keeps, Consumes, IsAtEnd}
 use Rattle.std.specs.Io.Seek.{StaysAt}
@@ -19,12 +19,14 @@ GivesAt {R} remaining position file old new place bytes =
     (there : R) × GoesTo position file old there place
     × Consumes (remaining there) (remaining new) bytes
 
--- a reader went to the place of chunk i, and gave 65552 bytes, or all that it had left, which aren't this chunk
+-- a reader went to the place of chunk i, and gave 65552 bytes, or all that it had left. These aren't this chunk, or
+-- aren't so many as the file's length tells.
 abbrev pub GivesNoChunk : {R : Type 0} → (R → Option (List ℕ)) → (R → Option ℕ)
-    → (R → Option (List ℕ)) → R → R → List ℕ → List ℕ → ℕ → Bool → Type 0
-GivesNoChunk remaining position file old new key salt i last =
+    → (R → Option (List ℕ)) → R → R → List ℕ → List ℕ → ℕ → Bool → ℕ → Type 0
+GivesNoChunk remaining position file old new key salt i last size =
     (bytes : List ℕ) × GivesAt remaining position file old new (place i) bytes
-    × (length bytes < 65552 → IsAtEnd (remaining new)) × IsNoChunk key salt i last bytes
+    × (length bytes < 65552 → IsAtEnd (remaining new))
+    × (IsNoChunk key salt i last bytes ⊎ (length bytes ≢ size))
 
 -- a reader stayed where it was, or went to the place of chunk i and gave less than a whole chunk
 abbrev pub StopsShort : {R : Type 0} → (R → Option (List ℕ)) → (R → Option ℕ)

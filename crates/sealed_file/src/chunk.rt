@@ -7,8 +7,8 @@ ghost use Rattle.sealed_file.specs.declared.error.Damage.{Damage};
 ghost use Rattle.sealed_file.specs.Sealed.{header, chunk_nonce, chunk, kind_of, HasSalt, IsHeaderDamage};
 
 use crate::error::{Damage, SealError};
-use chacha20poly1305::XChaCha20Poly1305;
 use chacha20::{Key, XNonce};
+use chacha20poly1305::XChaCha20Poly1305;
 use std::io::{self, ErrorKind, Write};
 
 /// 16 random bytes, which no other file under the key may have.

@@ -31,7 +31,7 @@ pub mod slice;
 pub mod stream;
 
 pub use chunk::{CHUNK, Salt, TAG};
-pub use error::{Damage, SealError};
+pub use error::{Damage, ReaderError, SealError, SliceError};
 pub use places::text_len;
 pub use reader::SealedReader;
 pub use slice::SealedSlice;

@@ -1,7 +1,7 @@
 //! Where a sealed file has its chunks, by its length.
 
 ghost use Rattle.std.specs.Prelude.{◌≡◌, ◌<◌, ◌≤◌, ◌^◌, ℕ, List, length};
-ghost use Rattle.sealed_file.specs.Sealed.{place, last_of, text_of, sealed};
+ghost use Rattle.sealed_file.specs.Sealed.{place, last_of, chunk_size, text_of, sealed};
 
 /// How many bytes of text a sealed file of `file` bytes has. Also where no sealed file has this length, the result is
 /// at most `file`.
@@ -29,4 +29,12 @@ pub(crate) fn chunk_place(number: u64) -> u64
     ensures { result ≡ place number }
 {
     32 + 65552 * number
+}
+
+/// How many bytes a chunk has in a file of so many bytes.
+pub(crate) fn chunk_size(file: u64, number: u64) -> usize
+    requires { place number < 2 ^ 64 }
+    ensures { result ≡ chunk_size file number }
+{
+    file.saturating_sub(chunk_place(number)).min(65552) as usize
 }

@@ -5,8 +5,9 @@
 //! the others of `specs/Seeking.antt`. Whatever is handed out is text of a chunk that the reader gave in this call or
 //! an earlier one, and whose tag was right under this key, this salt and the chunk's number.
 
-ghost use Rattle.std.specs.Prelude.{◌≡◌, ◌≢◌, ◌<◌, ◌≤◌, ◌^◌, ◌⊎◌, Some, None, length, take, IfOk, OnOk, IfErr, OnErr, IfSome};
+ghost use Rattle.std.specs.Prelude.{◌≡◌, ◌≢◌, ◌<◌, ◌≤◌, ◌+◌, ◌^◌, ◌⊎◌, ◌↔◌, ℕ, Some, None, length, take, nat_eq, IfOk, OnOk, IfErr, OnErr, IfSome};
 ghost use Rattle.std.specs.Option.{ForSome};
+ghost use Rattle.std.specs.Result.{IsErrOf};
 ghost use Rattle.std.specs.declared.io.Error.{Error};
 ghost use Rattle.std.specs.Io.{ReadsAtMost};
 ghost use Rattle.std.specs.Io.Cursor.{IsSeekResult, IsSeekFromEnd};
@@ -14,13 +15,14 @@ ghost use Rattle.std.specs.Io.KnownBytes.{Keeps, ReadConsumes};
 ghost use Rattle.std.specs.Io.Seek.{SeekMoves};
 ghost use Rattle.std.specs.IoError.{error_kind};
 ghost use Rattle.sealed_file.specs.declared.error.Damage.{Damage};
-ghost use Rattle.sealed_file.specs.Sealed.{header, chunk, place, text_of, damage_at, kind_of, CopiesFrom};
+ghost use Rattle.sealed_file.specs.declared.error.SealError.{SealError};
+ghost use Rattle.sealed_file.specs.Sealed.{header, chunk, place, last_of, chunk_size, text_of, damage_at, kind_of, CopiesFrom, StopsAtEnd};
 ghost use Rattle.sealed_file.specs.Seeking.{GivesAt, GivesNoChunk, GivesNoHeader, StopsShort};
 
 use crate::chunk::{Salt, TAG, open_chunk};
-use crate::error::{Damage, SealError};
-use crate::places::{chunk_place, last_chunk, text_len};
-use crate::slice::copy_text;
+use crate::error::{Damage, ReaderError, SealError};
+use crate::places::{chunk_place, chunk_size, last_chunk, text_len};
+use crate::slice::{copy_text, is_within};
 use crate::stream::{fill, read_header};
 use chacha20::Key;
 use std::io::{self, ErrorKind, Read, Seek, SeekFrom};
@@ -39,7 +41,7 @@ pub struct SealedReader<'b, R> {
     held: Option<Held>,
     buf: &'b mut [u8],
     ghost space: { length buf.now ≡ 65552 },
-    ghost within: { ForSome held (λ h. h.len ≤ 65536) },
+    ghost size: { ForSome held (λ h. h.len + 16 ≡ chunk_size file_len h.number) },
 }
 
 // The chunk whose text stands in the front of the buffer.
@@ -50,7 +52,7 @@ struct Held {
 }
 
 impl<'b, R: Read + Seek> SealedReader<'b, R> {
-    ghost use Rattle.sealed_file.specs.SealedReader.{file, inner, position, held, number, is_last, ReadsHeld, KeepsRight};
+    ghost use Rattle.sealed_file.specs.SealedReader.{file, inner, position, held, number, is_last, ReadsHeld, KeepsRight, OpensRange, StopsAtChunk};
 
     /// Reads the length and the header of the file, wherever its reader is, and stands at the front of the text. `buf`
     /// is scratch space of `CHUNK + TAG` bytes.
@@ -105,12 +107,15 @@ impl<'b, R: Read + Seek> SealedReader<'b, R> {
             → (damage ≡ damage_at (number self.old) (is_last self.old))
             × GivesNoChunk R.remaining R.stream_position R.stream_bytes
             (inner self.old) (inner self.new)
-            (file self.old).key (file self.old).salt (number self.old) (is_last self.old)) }
+            (file self.old).key (file self.old).salt (number self.old) (is_last self.old)
+            (chunk_size (file self.old).len (number self.old))) }
         ensures stopped { IfErr result (λ e. (error : Error) → e ≡ SealError.Read error
             → StopsShort R.remaining R.stream_position R.stream_bytes
             (inner self.old) (inner self.new) (number self.old)) }
         ensures failed { OnErr result ((window.new ≡ window.old) × (held self.new ≡ None)
             × (position self.new ≡ position self.old)) }
+        ensures end { IfOk result (λ n. n < length window.old
+            → StopsAtEnd (position self.old) n (file self.old).len) }
         ensures retried { IfErr result (λ e. kind_of e ≢ ErrorKind.Interrupted) }
         ensures not_write { IfErr result (λ e. (error : Error) → e ≢ SealError.Write error) }
         ensures not_long { IfErr result (λ e. e ≢ SealError.TooLong) }
@@ -125,6 +130,83 @@ impl<'b, R: Read + Seek> SealedReader<'b, R> {
         Ok(n)
     }
 
+    /// Fills the window with text from byte `start` on, wherever it stands, and opens each chunk of this range once,
+    /// but for one that it holds, and no other. Fails with `PastEnd` if and only if the range ends past the end of the
+    /// text; then nothing is read or changed. After another error, the window's front has the text of the chunks before
+    /// the one that failed, and the call may be tried again. The position stays.
+    pub fn read_exact_at(&mut self, start: u64, window: &mut [u8]) -> Result<(), ReaderError>
+        ensures past_end { IsErrOf result ReaderError.PastEnd
+            ↔ (text_of (file self.old).len < start + length window.old) }
+        ensures unchanged { IsErrOf result ReaderError.PastEnd → (window.new ≡ window.old)
+            × (held self.new ≡ held self.old) × (inner self.new ≡ inner self.old) }
+        ensures read { OnOk result ((n : ℕ)
+            × OpensRange R.remaining R.stream_position R.stream_bytes self.old self.new
+            start window.old window.new n (length window.old)) }
+        ensures damaged { let f = file self.old in (damage : Damage)
+            → IsErrOf result (ReaderError.Failed (SealError.Damaged damage))
+            → StopsAtChunk R.remaining R.stream_position R.stream_bytes self.old
+            start window.old window.new (λ there i. let last = nat_eq i (last_of f.len) in
+            (damage ≡ damage_at i last)
+            × GivesNoChunk R.remaining R.stream_position R.stream_bytes
+            (inner there) (inner self.new) f.key f.salt i last (chunk_size f.len i)) }
+        ensures stopped { (error : Error)
+            → IsErrOf result (ReaderError.Failed (SealError.Read error))
+            → StopsAtChunk R.remaining R.stream_position R.stream_bytes self.old
+            start window.old window.new (λ there i.
+            StopsShort R.remaining R.stream_position R.stream_bytes
+            (inner there) (inner self.new) i) }
+        ensures failed { IfErr result (λ e. (error : SealError) → e ≡ ReaderError.Failed error
+            → (held self.new ≡ None) × (kind_of error ≢ ErrorKind.Interrupted)
+            × (error ≢ SealError.TooLong) × ((cause : Error) → error ≢ SealError.Write cause)) }
+        ensures same { (file self.new ≡ file self.old) × (position self.new ≡ position self.old) }
+    {
+        if !is_within(start, window.len(), self.text_len()) {
+            return Err(ReaderError::PastEnd);
+        }
+        let position = self.position;
+        self.position = start;
+        let done = self.read_full(window);
+        self.position = position;
+        match done {
+            Ok(()) => Ok(()),
+            Err(e) => Err(ReaderError::Failed(e)),
+        }
+    }
+
+    // Reads from chunk after chunk until the window is full.
+    fn read_full(&mut self, window: &mut [u8]) -> Result<(), SealError>
+        requires { position self.old + length window.old ≤ text_of (file self.old).len }
+        ensures read { OnOk result ((n : ℕ)
+            × OpensRange R.remaining R.stream_position R.stream_bytes self.old self.new
+            (position self.old) window.old window.new n (length window.old)) }
+        ensures damaged { let f = file self.old in IfErr result (λ e. (damage : Damage)
+            → e ≡ SealError.Damaged damage
+            → StopsAtChunk R.remaining R.stream_position R.stream_bytes self.old
+            (position self.old) window.old window.new (λ there i. let last = nat_eq i (last_of f.len) in
+            (damage ≡ damage_at i last)
+            × GivesNoChunk R.remaining R.stream_position R.stream_bytes
+            (inner there) (inner self.new) f.key f.salt i last (chunk_size f.len i))) }
+        ensures stopped { IfErr result (λ e. (error : Error) → e ≡ SealError.Read error
+            → StopsAtChunk R.remaining R.stream_position R.stream_bytes self.old
+            (position self.old) window.old window.new (λ there i.
+            StopsShort R.remaining R.stream_position R.stream_bytes
+            (inner there) (inner self.new) i)) }
+        ensures failed { OnErr result (held self.new ≡ None) }
+        ensures retried { IfErr result (λ e. kind_of e ≢ ErrorKind.Interrupted) }
+        ensures not_write { IfErr result (λ e. (error : Error) → e ≢ SealError.Write error) }
+        ensures not_long { IfErr result (λ e. e ≢ SealError.TooLong) }
+        ensures same_file { file self.new ≡ file self.old }
+    {
+        let mut done = 0;
+        'chunks: while done < window.len() {
+            match self.read_text(&mut window[done..]) {
+                Ok(n) => done += n,
+                Err(e) => return Err(e),
+            }
+        }
+        Ok(())
+    }
+
     // Copies from the text that it holds.
     fn copy(&self, len: usize, from: u64, window: &mut [u8]) -> usize
         requires { len ≤ 65536 }
@@ -136,7 +218,7 @@ impl<'b, R: Read + Seek> SealedReader<'b, R> {
     // Holds a chunk, and returns the length of its text.
     fn open(&mut self, number: u64, last: bool) -> Result<usize, SealError>
         requires { place number < 2 ^ 64 }
-        ensures held { IfOk result (λ n. (n ≤ 65536)
+        ensures held { IfOk result (λ n. (n + 16 ≡ chunk_size (file self.old).len number)
             × (held self.new ≡ Some (number, take n self.new.buf.now))) }
         ensures opened { IfOk result (λ n. let text = take n self.new.buf.now in
             (held self.new ≡ held self.old)
@@ -147,7 +229,8 @@ impl<'b, R: Read + Seek> SealedReader<'b, R> {
             → (damage ≡ damage_at number last)
             × GivesNoChunk R.remaining R.stream_position R.stream_bytes
             (inner self.old) (inner self.new)
-            (file self.old).key (file self.old).salt number last) }
+            (file self.old).key (file self.old).salt number last
+            (chunk_size (file self.old).len number)) }
         ensures stopped { IfErr result (λ e. (error : Error) → e ≡ SealError.Read error
             → StopsShort R.remaining R.stream_position R.stream_bytes
             (inner self.old) (inner self.new) number) }
@@ -166,8 +249,8 @@ impl<'b, R: Read + Seek> SealedReader<'b, R> {
     // Opens a chunk, and holds it.
     fn refill(&mut self, number: u64, last: bool) -> Result<usize, SealError>
         requires { place number < 2 ^ 64 }
-        ensures held { IfOk result (λ n. (n ≤ 65536) × (0 < number → 0 < n)
-            × (held self.new ≡ Some (number, take n self.new.buf.now))) }
+        ensures held { IfOk result (λ n. (n + 16 ≡ chunk_size (file self.old).len number)
+            × (0 < number → 0 < n) × (held self.new ≡ Some (number, take n self.new.buf.now))) }
         ensures right { IfOk result (λ n. let text = take n self.new.buf.now in
             GivesAt R.remaining R.stream_position R.stream_bytes
             (inner self.old) (inner self.new) (place number)
@@ -176,7 +259,8 @@ impl<'b, R: Read + Seek> SealedReader<'b, R> {
             → (damage ≡ damage_at number last)
             × GivesNoChunk R.remaining R.stream_position R.stream_bytes
             (inner self.old) (inner self.new)
-            (file self.old).key (file self.old).salt number last) }
+            (file self.old).key (file self.old).salt number last
+            (chunk_size (file self.old).len number)) }
         ensures stopped { IfErr result (λ e. (error : Error) → e ≡ SealError.Read error
             → StopsShort R.remaining R.stream_position R.stream_bytes
             (inner self.old) (inner self.new) number) }
@@ -187,11 +271,13 @@ impl<'b, R: Read + Seek> SealedReader<'b, R> {
         ensures same { (file self.new ≡ file self.old) × (position self.new ≡ position self.old) }
     {
         self.held = None;
+        let size = chunk_size(self.file_len, number);
         let len = load(
             &self.key,
             &self.salt,
             number,
             last,
+            size,
             &mut self.inner,
             self.buf,
         )?;
@@ -238,25 +324,26 @@ fn read_start<R: Read + Seek>(reader: &mut R) -> Result<(Salt, u64), SealError>
     Ok((salt, file_len))
 }
 
-// Opens a chunk in the buffer, and returns the length of its text.
+// Opens a chunk of so many bytes in the buffer, and returns the length of its text.
 fn load<R: Read + Seek>(
     key: &Key,
     salt: &Salt,
     number: u64,
     last: bool,
+    size: usize,
     inner: &mut R,
     buf: &mut [u8],
 ) -> Result<usize, SealError>
     requires place { place number < 2 ^ 64 }
     requires buffer { length buf.old ≡ 65552 }
-    ensures size { IfOk result (λ n. (n ≤ 65536) × (0 < number → 0 < n)) }
+    ensures size { IfOk result (λ n. (n + 16 ≡ size) × (0 < number → 0 < n)) }
     ensures right { IfOk result (λ n. GivesAt R.remaining R.stream_position R.stream_bytes
         inner.old inner.new (place number)
         (chunk key.now salt.now number last (take n buf.new))) }
     ensures damaged { IfErr result (λ e. (damage : Damage) → e ≡ SealError.Damaged damage
         → (damage ≡ damage_at number last)
         × GivesNoChunk R.remaining R.stream_position R.stream_bytes
-        inner.old inner.new key.now salt.now number last) }
+        inner.old inner.new key.now salt.now number last size) }
     ensures stopped { IfErr result (λ e. (error : Error) → e ≡ SealError.Read error
         → StopsShort R.remaining R.stream_position R.stream_bytes inner.old inner.new number) }
     ensures retried { IfErr result (λ e. kind_of e ≢ ErrorKind.Interrupted) }
@@ -265,6 +352,9 @@ fn load<R: Read + Seek>(
 {
     go_to(inner, SeekFrom::Start(chunk_place(number)))?;
     let bytes = fill(inner, buf, 0)?;
+    if bytes != size {
+        return Err(SealError::Damaged(Damage::of_chunk(number, last)));
+    }
     if !open_chunk(key, salt, number, last, &mut buf[..bytes]) {
         return Err(SealError::Damaged(Damage::of_chunk(number, last)));
     }
@@ -285,6 +375,8 @@ impl<R: Read + Seek> Read for SealedReader<'_, R> {
             (KeepsRight R.remaining R.stream_position R.stream_bytes self.old self.new) }
         ensures failed { OnErr result ((buf.new ≡ buf.old) × (held self.new ≡ None)
             × (position self.new ≡ position self.old)) }
+        ensures end { IfOk result (λ n. n < length buf.old
+            → StopsAtEnd (position self.old) n (file self.old).len) }
         ensures damaged { IfErr result (λ e. (error_kind e ≡ ErrorKind.InvalidData)
             ⊎ StopsShort R.remaining R.stream_position R.stream_bytes
             (inner self.old) (inner self.new) (number self.old)) }
@@ -341,6 +433,21 @@ impl From<SealError> for io::Error {
             SealError::Read(e) | SealError::Write(e) => e,
             SealError::Damaged(_) => io::Error::new(ErrorKind::InvalidData, "damaged sealed file"),
             SealError::TooLong => io::Error::from(ErrorKind::TimedOut),
+        }
+    }
+}
+
+impl From<ReaderError> for io::Error {
+    /// An error of the kind `UnexpectedEof` for `PastEnd`, else the one that a `SealError` becomes.
+    fn from(error: ReaderError) -> io::Error
+        ensures past_end { error ≡ ReaderError.PastEnd
+            → error_kind result ≡ ErrorKind.UnexpectedEof }
+        ensures failed { (e : SealError) → error ≡ ReaderError.Failed e
+            → error_kind result ≡ kind_of e }
+    {
+        match error {
+            ReaderError::PastEnd => io::Error::from(ErrorKind::UnexpectedEof),
+            ReaderError::Failed(e) => io::Error::from(e),
         }
     }
 }

@@ -1,11 +1,13 @@
 //! A sealed file in memory, whose text is read from any place.
 
-ghost use Rattle.std.specs.Prelude.{◌≡◌, ◌≤◌, ◌-◌, ◌*◌, ◌/◌, ◌↔◌, ℕ, List, length, take, min, nat_eq, IsOk, IfOk, IfErr, OnErr};
-ghost use Rattle.std.specs.Result.{IsOkAnd};
-ghost use Rattle.sealed_file.specs.Sealed.{header, chunk_at, last_in, text_of, damage_at, sealed, HasSalt, IsHeaderDamage, IsNoChunk, CopiesFrom, ReadsPart, IsPart};
+ghost use Rattle.std.specs.Prelude.{◌≡◌, ◌<◌, ◌≤◌, ◌+◌, ◌-◌, ◌*◌, ◌/◌, ◌↔◌, ℕ, List, length, take, min, nat_eq, IsTrue, IsOk, IfOk, OnOk, IfErr, OnErr};
+ghost use Rattle.std.specs.List.{slice_range};
+ghost use Rattle.std.specs.Result.{IsErrOf, IsOkAnd};
+ghost use Rattle.sealed_file.specs.declared.error.Damage.{Damage};
+ghost use Rattle.sealed_file.specs.Sealed.{header, chunk_at, last_in, text_of, damage_at, sealed, HasSalt, IsHeaderDamage, IsNoChunk, CopiesFrom, ReadsPart, IsPart, ReadsRange, StopsAtDamage, StopsAtEnd};
 
 use crate::chunk::{CHUNK, Salt, TAG, open_chunk, salt_of};
-use crate::error::Damage;
+use crate::error::{Damage, SliceError};
 use crate::places::{chunk_place, last_chunk, text_len};
 use chacha20::Key;
 
@@ -59,12 +61,74 @@ impl<'f> SealedSlice<'f> {
             IfErr result (λ e. (e ≡ damage_at i last)
             × IsNoChunk s.key s.salt i last (chunk_at s.file i)) }
         ensures unchanged { OnErr result (window.new ≡ window.old) }
+        ensures end { IfOk result (λ n. n < length window.old
+            → StopsAtEnd start n (length (parts self.now).file)) }
         ensures text { let s = parts self.now in (salt text : List ℕ) → length salt ≡ 16
             → s.file ≡ sealed s.key salt text
             → IsOkAnd result (IsPart text start window.old window.new) }
     {
         read_from(&self.key, &self.salt, self.file, start, window)
     }
+
+    /// Fills the window with text from byte `start` on, and opens each chunk of this range once, and no other. Fails
+    /// with `PastEnd` if and only if the range ends past the end of the text; the window is then unchanged. Otherwise
+    /// fails if and only if a chunk of the range isn't right; the window's front then has the text of the chunks
+    /// before it.
+    pub fn read_exact_at(&self, start: u64, window: &mut [u8]) -> Result<(), SliceError>
+        ensures past_end { IsErrOf result SliceError.PastEnd
+            ↔ (text_of (length (parts self.now).file) < start + length window.old) }
+        ensures unchanged { IsErrOf result SliceError.PastEnd → window.new ≡ window.old }
+        ensures read { let s = parts self.now in OnOk result ((n : ℕ)
+            × ReadsRange s.key s.salt s.file start window.old window.new n (length window.old)) }
+        ensures damaged { let s = parts self.now in (damage : Damage)
+            → IsErrOf result (SliceError.Damaged damage)
+            → StopsAtDamage s.key s.salt s.file start window.old window.new damage }
+        ensures accepted { let s = parts self.now in (salt text : List ℕ) → length salt ≡ 16
+            → s.file ≡ sealed s.key salt text
+            → IsOk result ↔ (start + length window.old ≤ length text) }
+        ensures text { let s = parts self.now in (salt text : List ℕ) → length salt ≡ 16
+            → s.file ≡ sealed s.key salt text
+            → OnOk result (window.new ≡ slice_range text start (start + length window.old)) }
+    {
+        if !is_within(start, window.len(), self.text_len()) {
+            return Err(SliceError::PastEnd);
+        }
+        match read_range(&self.key, &self.salt, self.file, start, window) {
+            Ok(()) => Ok(()),
+            Err(damage) => Err(SliceError::Damaged(damage)),
+        }
+    }
+}
+
+/// Whether a range ends at the end of a text or before it.
+pub(crate) fn is_within(start: u64, len: usize, text_len: u64) -> bool
+    ensures { IsTrue result ↔ (start + len ≤ text_len) }
+{
+    start <= text_len && len as u64 <= text_len - start
+}
+
+// Reads from chunk after chunk until the window is full.
+fn read_range(
+    key: &Key,
+    salt: &Salt,
+    file: &[u8],
+    start: u64,
+    window: &mut [u8],
+) -> Result<(), Damage>
+    requires { start + length window.old ≤ text_of (length file.now) }
+    ensures read { OnOk result ((n : ℕ) × ReadsRange key.now salt.now file.now start
+        window.old window.new n (length window.old)) }
+    ensures damaged { IfErr result
+        (StopsAtDamage key.now salt.now file.now start window.old window.new) }
+{
+    let mut done = 0;
+    'chunks: while done < window.len() {
+        match read_from(key, salt, file, start + done as u64, &mut window[done..]) {
+            Ok(n) => done += n,
+            Err(damage) => return Err(damage),
+        }
+    }
+    Ok(())
 }
 
 // `read_at` of the parts.
@@ -81,6 +145,8 @@ fn read_from(
         let last = nat_eq i (last_in file.now) in IfErr result (λ e. (e ≡ damage_at i last)
         × IsNoChunk key.now salt.now i last (chunk_at file.now i)) }
     ensures unchanged { OnErr result (window.new ≡ window.old) }
+    ensures end { IfOk result (λ n. n < length window.old
+        → StopsAtEnd start n (length file.now)) }
     ensures text { (text : List ℕ) → file.now ≡ sealed key.now salt.now text
         → IsOkAnd result (IsPart text start window.old window.new) }
 {

@@ -1,15 +1,16 @@
 //! Parts of sealed files: in memory, behind a reader that fails, and in a `File`.
 
-ghost use Rattle.std.specs.Prelude.{◌≡◌, ◌<◌, ◌≤◌, ◌^◌, ℕ, List, length};
+ghost use Rattle.std.specs.Prelude.{◌≡◌, ◌<◌, ◌^◌, ℕ, List, length, OnOk};
 ghost use Rattle.std.specs.List.{slice_range};
-ghost use Rattle.std.specs.Result.{IsOkAnd};
 ghost use Rattle.sealed_file.specs.Sealed.{sealed};
 
 use super::sealed_files::{Change, FILE, TEXT, TWO_FILES, apply, counted, two_files};
 use super::unsteady::Unsteady;
 use chacha20::Key;
 use known_answers::published::COUNTING as KEY;
-use sealed_file::{CHUNK, Damage, SealError, SealedReader, SealedSlice, TAG};
+use sealed_file::{
+    CHUNK, Damage, ReaderError, SealError, SealedReader, SealedSlice, SliceError, TAG,
+};
 use std::fs::{File, OpenOptions, remove_file};
 use std::io::{self, Cursor, ErrorKind, Read, Seek, SeekFrom, Write};
 
@@ -26,14 +27,13 @@ fn reader(file: &[u8]) -> Unsteady<Cursor<&[u8]>> {
 // The scratch space of a reader.
 const BUFFER: usize = CHUNK + TAG;
 
-// Of a sealed file whose text is long enough, its bytes 1000 to 1100.
-fn hundred(key: &Key, file: &[u8], window: &mut [u8; 100]) -> Result<usize, Damage>
-    ensures { (salt text : List ℕ) → length salt ≡ 16
-        → file.now ≡ sealed key.now salt text → 1100 ≤ length text
-        → IsOkAnd result (λ n. window.new ≡ slice_range text 1000 1100) }
+// Of a sealed file, bytes 65500 to 65600 of its text, which stand in two chunks.
+fn hundred(key: &Key, file: &[u8], window: &mut [u8; 100]) -> Result<(), SliceError>
+    ensures { (salt text : List ℕ) → length salt ≡ 16 → file.now ≡ sealed key.now salt text
+        → OnOk result (window.new ≡ slice_range text 65500 65600) }
 {
     let slice = SealedSlice::new(key, file)?;
-    slice.read_at(1000, window)
+    slice.read_exact_at(65500, window)
 }
 
 // Whether a read at a place gave what the text has there, up to the end of the window or of the chunk.
@@ -103,7 +103,7 @@ fn unnamed(rt: &HostRuntime) -> io::Result<File> {
 
 fn reads_hundred(text: &[u8], file: &[u8]) -> bool {
     let mut window = [0; 100];
-    hundred(&KEY, file, &mut window).is_ok() & (text.get(1000..1100) == Some(&window[..]))
+    hundred(&KEY, file, &mut window).is_ok() & (text.get(65500..65600) == Some(&window[..]))
 }
 
 fn unnamed_is_read(rt: &HostRuntime, text: &[u8], file: &[u8]) -> bool {
@@ -284,4 +284,162 @@ fn wrong_damage_in<const N: usize, const B: usize>() -> usize
 fn damaged_parts_are_refused(rt: HostRuntime) {
     let wrong = wrong_damage_in::<TEXT, TWO_FILES>();
     assert!(rt; wrong == DAMAGED.len(), "{wrong}");
+}
+
+// What is said of a range.
+#[derive(Clone, Copy, PartialEq)]
+enum Range {
+    Read,
+    PastEnd,
+    Damaged(Damage),
+    Failed,
+}
+
+fn said_in_memory(file: &[u8], start: u64, window: &mut [u8]) -> Result<(), SliceError> {
+    SealedSlice::new(&KEY, file)?.read_exact_at(start, window)
+}
+
+fn range_in_memory(file: &[u8], start: u64, window: &mut [u8]) -> Range {
+    match said_in_memory(file, start, window) {
+        Ok(()) => Range::Read,
+        Err(SliceError::PastEnd) => Range::PastEnd,
+        Err(SliceError::Damaged(damage)) => Range::Damaged(damage),
+    }
+}
+
+fn said_behind<R: Read + Seek, const B: usize>(
+    inner: &mut R,
+    start: u64,
+    window: &mut [u8],
+) -> Result<(), ReaderError>
+    requires { B ≡ 65552 }
+{
+    let mut buf = [0; B];
+    SealedReader::new(&KEY, inner, &mut buf)?.read_exact_at(start, window)
+}
+
+fn range_behind<R: Read + Seek>(inner: &mut R, start: u64, window: &mut [u8]) -> Range {
+    match said_behind::<_, BUFFER>(inner, start, window) {
+        Ok(()) => Range::Read,
+        Err(ReaderError::PastEnd) => Range::PastEnd,
+        Err(ReaderError::Failed(SealError::Damaged(damage))) => Range::Damaged(damage),
+        Err(ReaderError::Failed(_)) => Range::Failed,
+    }
+}
+
+// A file, the start and the length of a range, what is said of it, and how much of it is read.
+static RANGES: [(Change, u64, usize, Range, usize); 15] = [
+    (Change::Cut(FILE), 65500, 100, Range::Read, 100),
+    (Change::Cut(FILE), 0, TEXT, Range::Read, TEXT),
+    (Change::Cut(FILE), 199999, 1, Range::Read, 1),
+    (Change::Cut(FILE), 199999, 2, Range::PastEnd, 0),
+    (Change::Cut(FILE), 200000, 0, Range::Read, 0),
+    (Change::Cut(FILE), 200001, 0, Range::PastEnd, 0),
+    (Change::Cut(FILE), u64::MAX, 1, Range::PastEnd, 0),
+    (
+        Change::Turned(65584),
+        65500,
+        100,
+        Range::Damaged(Damage::WrongChunk(1)),
+        36,
+    ),
+    (
+        Change::Turned(65584),
+        0,
+        TEXT,
+        Range::Damaged(Damage::WrongChunk(1)),
+        65536,
+    ),
+    (Change::Turned(65584), 65436, 100, Range::Read, 100),
+    (Change::Turned(65584), 70000, 0, Range::Read, 0),
+    (Change::Turned(65584), 131072, 68928, Range::Read, 68928),
+    (
+        Change::Turned(65584),
+        70000,
+        100,
+        Range::Damaged(Damage::WrongChunk(1)),
+        0,
+    ),
+    (
+        Change::Turned(200095),
+        131072,
+        68928,
+        Range::Damaged(Damage::WrongEnd(3)),
+        65536,
+    ),
+    (
+        Change::Turned(0),
+        0,
+        1,
+        Range::Damaged(Damage::NotSealed),
+        0,
+    ),
+];
+
+// Whether a window has n bytes of text from a place on, and behind them what it had.
+fn holds(window: &[u8], text: &[u8], start: u64, n: usize) -> bool {
+    let start = start.min(text.len() as u64) as usize;
+    (window.get(..n) == text.get(start..start.saturating_add(n)))
+        & window
+            .get(n..)
+            .unwrap_or(&[])
+            .iter()
+            .all(|byte| *byte == 255)
+}
+
+// Whether both calls say this of a range, and read so much of it.
+fn is_said(text: &[u8], file: &[u8], start: u64, window: &mut [u8], said: Range, n: usize) -> bool {
+    window.fill(255);
+    let in_memory = (range_in_memory(file, start, window) == said) & holds(window, text, start, n);
+    window.fill(255);
+    let behind = (range_behind(&mut reader(file), start, window) == said)
+        & holds(window, text, start, n);
+    in_memory & behind
+}
+
+// The number of the first range of which another thing is said, or how many there are.
+fn wrong_range(text: &mut [u8], files: &mut [u8], bytes: &mut [u8], window: &mut [u8]) -> usize {
+    let sealed = two_files(text, files);
+    for i in 0..RANGES.len() {
+        let (change, start, size, said, n) = &RANGES[i];
+        let len = apply(files, *change, bytes);
+        let file = bytes.get(..len).unwrap_or(&[]);
+        let window = window.get_mut(..*size).unwrap_or(&mut []);
+        if !sealed | !is_said(text, file, *start, window, *said, *n) {
+            return i;
+        }
+    }
+    RANGES.len()
+}
+
+fn wrong_range_in<const N: usize, const B: usize>() -> usize
+    requires text { N < 2 ^ 63 }
+    requires files { B < 2 ^ 63 }
+{
+    wrong_range(&mut [0; N], &mut [0; B], &mut [0; B], &mut [0; N])
+}
+
+#[test]
+fn ranges(rt: HostRuntime) {
+    let wrong = wrong_range_in::<TEXT, TWO_FILES>();
+    assert!(rt; wrong == RANGES.len(), "{wrong}");
+}
+
+// Each chunk of a range is opened once. The first two seeks are those of `new`; two are repeated.
+fn is_opened_once(text: &mut [u8], file: &mut [u8], window: &mut [u8]) -> bool {
+    let sealed = counted(text, file);
+    let mut inner = reader(file);
+    sealed & (range_behind(&mut inner, 0, window) == Range::Read) & (inner.seeks == 8)
+}
+
+fn is_opened_once_in<const N: usize, const F: usize>() -> bool
+    requires text { N < 2 ^ 63 }
+    requires file { F < 2 ^ 63 }
+{
+    is_opened_once(&mut [0; N], &mut [0; F], &mut [0; N])
+}
+
+#[test]
+fn a_chunk_of_a_range_is_opened_once(rt: HostRuntime) {
+    assert!(rt; is_opened_once_in::<TEXT, FILE>());
 }

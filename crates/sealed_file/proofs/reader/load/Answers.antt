@@ -1,4 +1,4 @@
-use Rattle.std.proofs.Common.{◌≤◌, length, length-take, length-take-le, take, arith, inr, subst}
+use Rattle.std.proofs.Common.{◌≤◌, length, length-take, length-take-le, take, arith, inl, inr, subst, sym, ◌∙◌}
 use Rattle.std.specs.Io.KnownBytes.{Consumes}
 use Rattle.sealed_file.proofs.SeekLemmas.{of-read, went-to, first-read, opened-in}
 use Rattle.sealed_file.proofs.reader.load.Goals as goal
@@ -46,7 +46,7 @@ returns-then-not-open_chunk-clause-damaged g c damage same =
     let a = g.R.Read.remaining c.go_to.new.inner in
     let b = g.R.Read.remaining c.fill.new.reader in
     let fits : n ≤ length buf = omega (arith, c.in_ok-bytes.ensures.bounds.1, c.fill.auto.buf) in (
-      cc (same, c.of_chunk.ensures),
+      cc (same, c.of_chunk-then-not-open_chunk.ensures),
       (
         take n buf,
         (
@@ -58,6 +58,30 @@ returns-then-not-open_chunk-clause-damaged g c damage same =
           first-read a b (take n buf) c.in_ok-bytes.ensures.read,
         ),
         λ short. c.in_ok-bytes.ensures.end (omega (arith, short, length-take-le n buf fits, c.requires.buffer)),
-        c.open_chunk.ensures.wrong c.if-not-open_chunk.true,
+        inl (c.open_chunk.ensures.wrong c.if-not-open_chunk.true),
+      ),
+    )
+
+pub returns-then-bytes-size-clause-damaged : goal.returns-then-bytes-size-clause-damaged
+returns-then-bytes-size-clause-damaged g c damage same =
+    let n = c.in_ok-bytes.bytes in
+    let buf = c.fill.new.buf in
+    let a = g.R.Read.remaining c.go_to.new.inner in
+    let b = g.R.Read.remaining c.fill.new.reader in
+    let fits : n ≤ length buf = omega (arith, c.in_ok-bytes.ensures.bounds.1, c.fill.auto.buf) in
+    let wide = length-take-le n buf fits in (
+      cc (same, c.of_chunk.ensures),
+      (
+        take n buf,
+        (
+          c.go_to.new.inner,
+          (
+            went-to _ _ _ _ _ c.in_ok-go_to.ensures.moves c.chunk_place.ensures,
+            c.in_ok-go_to.ensures.file,
+          ),
+          first-read a b (take n buf) c.in_ok-bytes.ensures.read,
+        ),
+        λ short. c.in_ok-bytes.ensures.end (omega (arith, short, wide, c.requires.buffer)),
+        inr (λ whole. c.if-bytes-size.true (sym wide ∙ whole)),
       ),
     )

@@ -3,6 +3,7 @@ use Rattle.std.specs.Int.{w64}
 use Rattle.std.proofs.Math.Facts.{Fits-of_lt}
 use Rattle.sealed_file.specs.Sealed.{chunk, chunk_at, last_in, piece, last_number, damage_at, IsNoChunk, ReadsPart}
 use Rattle.sealed_file.proofs.SliceLemmas.{before-start, below-start, copied-fits, text-fits, last-in, chunk-in, number-fits, number-within, part-read, reads-part, some-in}
+use Rattle.sealed_file.proofs.RangeLemmas.{reads-size}
 use Rattle.sealed_file.proofs.slice.read_from.Goals as goal
 
 pub returns-then-not-open_chunk-clause-text : goal.returns-then-not-open_chunk-clause-text
@@ -128,3 +129,11 @@ returns-clause-text c text is =
     part-read c.args.key.now c.args.salt.now text c.args.file.now c.told-salt is c.args.start
     (min (c.args.start / 65536) (last_in c.args.file.now)) c.copy_text.result c.args.window.now
     c.copy_text.new.window refl (returns-clause-read c)
+
+pub returns-clause-end : goal.returns-clause-end
+returns-clause-end c =
+    reads-size c.args.key.now c.args.salt.now c.args.file.now (min (c.args.start / 65536) (last_in c.args.file.now))
+    c.args.start c.copy_text.result c.args.window.now c.copy_text.new.window refl (returns-clause-read c)
+
+pub returns-then-not-open_chunk-clause-end : goal.returns-then-not-open_chunk-clause-end
+returns-then-not-open_chunk-clause-end c = tt

@@ -1,7 +1,8 @@
-use Rattle.std.proofs.Common.{◌≡◌, ◌<◌, ◌+◌, ◌-◌, ◌*◌, ◌/◌, ◌∙◌, Some, min, nat_eq, length, length-take-le, take, arith, ap, inl, inr, subst, sym}
-use Rattle.sealed_file.specs.Sealed.{chunk, place, last_of, CopiesFrom}
+use Rattle.std.proofs.Common.{◌≡◌, ◌<◌, ◌+◌, ◌-◌, ◌*◌, ◌/◌, ◌∙◌, Some, min, nat_eq, length, length-take-le, take, arith, ap, inl, inr, refl, subst, sym}
+use Rattle.sealed_file.specs.Sealed.{chunk, place, last_of, chunk_size, CopiesFrom}
 use Rattle.sealed_file.specs.Seeking.{GivesAt}
 use Rattle.sealed_file.specs.SealedReader.{inner, number}
+use Rattle.sealed_file.proofs.RangeLemmas.{stops-at-end}
 use Rattle.sealed_file.proofs.reader.SealedReader.read_text.Goals as goal
 
 pub returns-clause-read : goal.returns-clause-read
@@ -11,10 +12,15 @@ returns-clause-read g c =
     let text = take c.in_ok-len.len c.open.new.self.buf.now in
     let window = c.args.window.now in
     let moved = c.in_ok-len.ensures.same.1 in
+    let new = c.open.new.self in
+    let size : length text ≡ c.in_ok-len.len =
+    length-take-le c.in_ok-len.len new.buf.now (omega (arith, c.in_ok-len.ensures.held.0, new.space)) in
     let at : c.min-number.result ≡ number old =
     c.min-number.ensures ∙ ap (min (old.position / 65536)) c.last_chunk-last.ensures.value in (
       text,
       c.in_ok-len.ensures.held.1 ∙ ap (λ k. Some (k, text)) at,
+      subst (λ k. length text + 16 ≡ chunk_size old.file_len k) at
+          (ap (λ l. l + 16) size ∙ c.in_ok-len.ensures.held.0),
       subst (λ k. CopiesFrom text (old.position - 65536 * k) window c.copy-n.new.window n) at
           (subst (λ p. CopiesFrom text (p - 65536 * c.min-number.result) window c.copy-n.new.window n) moved
           c.copy-n.ensures),
@@ -44,3 +50,10 @@ returns-clause-opened g c =
         λ more. omega (arith, size, some (subst (λ k. 0 < k) (sym at) more)),
       )
     ]
+
+pub returns-clause-end : goal.returns-clause-end
+returns-clause-end g c less =
+    let old = c.args.self.now in
+    let (text, keeps, wide, copies, moved) = returns-clause-read g c in
+    stops-at-end (length c.args.window.now) old.position old.file_len (number old) (length text) c.copy-n.result refl
+    wide copies.0 less
