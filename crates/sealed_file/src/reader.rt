@@ -182,8 +182,8 @@ impl<'b, R: Read + Seek> SealedReader<'b, R> {
         ensures damaged { let f = file self.old in IfErr result (λ e. (damage : Damage)
             → e ≡ SealError.Damaged damage
             → StopsAtChunk R.remaining R.stream_position R.stream_bytes self.old
-            (position self.old) window.old window.new (λ there i. let last = nat_eq i (last_of f.len) in
-            (damage ≡ damage_at i last)
+            (position self.old) window.old window.new (λ there i.
+            let last = nat_eq i (last_of f.len) in (damage ≡ damage_at i last)
             × GivesNoChunk R.remaining R.stream_position R.stream_bytes
             (inner there) (inner self.new) f.key f.salt i last (chunk_size f.len i))) }
         ensures stopped { IfErr result (λ e. (error : Error) → e ≡ SealError.Read error

@@ -41,7 +41,8 @@ pub returns-clause-read : goal.returns-clause-read
 returns-clause-read g c =
     let (n, count, at, same, opened) = c.chunks.invariant in
     let start = c.args.self.now.position in
-    let full : c.chunks.done ≡ length c.args.window.now = omega (arith, count, c.chunks-test.false, c.chunks.auto.window) in (
+    let full : c.chunks.done ≡ length c.args.window.now =
+    omega (arith, count, c.chunks-test.false, c.chunks.auto.window) in (
       n,
       subst (λ k. OpensRange g.R.Read.remaining g.R.Seek.stream_position g.R.Seek.stream_bytes c.args.self.now
           c.chunks.self start c.args.window.now c.chunks.window n k) full
@@ -96,7 +97,8 @@ chunks-smaller g c =
     let left : length (take (length mid - k) (drop k mid)) ≡ length mid - k =
     ap length (take_rest mid k) ∙ length-drop k mid in
     let room : 0 < length (take (length mid - k) (drop k mid)) = omega (arith, left, c.chunks-test.true) in
-    let within : position c.chunks.self + length (take (length mid - k) (drop k mid)) ≤ text_of (file c.chunks.self).len =
+    let within : position c.chunks.self + length (take (length mid - k) (drop k mid))
+    ≤ text_of (file c.chunks.self).len =
     subst (λ f. position c.chunks.self + length (take (length mid - k) (drop k mid)) ≤ text_of f.len) (sym same)
     (fits-left c.args.self.now.position k (position c.chunks.self) _ _ _ _ at left c.chunks.auto.window
     c.chunks-test.true c.requires) in
