@@ -31,7 +31,8 @@ module _ (R : Type 0) (remaining : R → Option (List ℕ)) (stream_position : R
       → number there ≡ start / 65536 + n
   number-next there start k n w len at same count room within =
       ap (λ p. min (p / 65536) (last_of (file there).len)) at ∙ ap (λ l. min ((start + k) / 65536) (last_of l)) same
-      ∙ next-number start k n w len (text_of len) (last_of len) (text-of-is len) refl (text-of-less len) within count room
+      ∙ next-number start k n w len (text_of len) (last_of len) (text-of-is len) refl (text-of-less len) within
+      count room
 
   pub open-more : (r there s : SealedReader R) (start k m n : ℕ) (old mid tail : List ℕ) → length mid ≡ length old
       → k ≡ min (length old) (65536 * (start / 65536 + n) - start) → k < length old
@@ -58,7 +59,8 @@ module _ (R : Type 0) (remaining : R → Option (List ℕ)) (stream_position : R
       let offset : position there - 65536 * number there ≡ start - 65536 * q - length text =
       begins ∙ next-offset start k n w count room ∙ ap (λ t. start - 65536 * q - t) (sym full) in
       let counted : k + m ≡ min w (65536 * (q + (n + 1)) - start) =
-      next-count start k m n w len (text_of len) (last_of len) (length more) (text-of-is len) refl within count room size
+      next-count start k m n w len (text_of len) (last_of len) (length more) (text-of-is len) refl within count room
+      size
       (copies.0 ∙ ap (λ l. min l (length more - (position there - 65536 * number there))) (ap length rest ∙ left)
       ∙ ap (λ o. min (w - k) (length more - o)) begins) in (
         subst (λ j. k + m ≡ min w (65536 * (q + j) - start)) (add-one n) counted,

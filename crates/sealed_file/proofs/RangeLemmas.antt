@@ -36,7 +36,10 @@ pub some-read : (start n w len : ℕ) → (n < w → StopsAtEnd start n len) →
 some-read start n w len stops room within = elim (eq-or-lt_of_le {n = 0} {m = n} (omega arith)) [
   | inl none ↦
       let end = stops (omega (arith, none, room)) in
-      elim end [ inl chunk ↦ absurd (omega (arith, chunk, none)) | inr text ↦ absurd (omega (arith, text, none, room, within)) ]
+      elim end [
+        | inl chunk ↦ absurd (omega (arith, chunk, none))
+        | inr text ↦ absurd (omega (arith, text, none, room, within))
+      ]
   | inr some ↦ some
 ]
 
@@ -77,7 +80,8 @@ put-rest k xs ys =
 
 -- what is copied from behind a text's end on, of another text that follows
 
-drop-behind : (text more : List ℕ) (from : ℕ) → drop from (text ++ more) ≡ drop from text ++ drop (from - length text) more
+drop-behind : (text more : List ℕ) (from : ℕ)
+    → drop from (text ++ more) ≡ drop from text ++ drop (from - length text) more
 drop-behind text more from = elim (cases_lt from (length text)) [
   | inl less ↦
       let none : from - length text ≡ 0 = omega (arith, less) in
@@ -257,7 +261,8 @@ module _ (key salt text file : List ℕ) (size : length salt ≡ 16) (is : file 
       let same : (j : ℕ) → j < n → piece found j ≡ piece rest j =
       λ j less. let here = right j less in
       let within : q + j ≤ last_number text =
-      subst (λ k. q + j ≤ k) (last-in key salt text file size is) (within-here key salt file (q + j) (piece found j) here) in
+      subst (λ k. q + j ≤ k) (last-in key salt text file size is)
+      (within-here key salt file (q + j) (piece found j) here) in
       let place : 65536 * q + 65536 * j ≡ 65536 * (q + j) = omega arith in
       chunk-same key salt (q + j) (nat_eq (q + j) (last_in file)) (piece found j) (piece text (q + j))
       (sym here ∙ chunk-in key salt text file size is (q + j) within)

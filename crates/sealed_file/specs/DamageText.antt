@@ -16,7 +16,8 @@ chunk_text (suc i) =
 -- of the last chunk
 abbrev pub end_text : ℕ → List ℕ
 end_text zero = codes "the key is wrong, or the end from byte 0 on is damaged or cut"
-end_text (suc i) = codes "the end from byte " ++ (decimal (suc i * 65536) ++ codes " on is damaged or cut")
+end_text (suc i) =
+    codes "the end from byte " ++ (decimal (suc i * 65536) ++ codes " on is damaged or cut")
 
 abbrev pub damage_text : Damage → List ℕ
 damage_text NotSealed = codes "not a sealed file"

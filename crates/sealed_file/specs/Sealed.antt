@@ -160,12 +160,19 @@ AreRight key salt file i n text =
 abbrev pub ReadsRange : List ℕ → List ℕ → List ℕ → ℕ → List ℕ → List ℕ → ℕ → ℕ → Type 0
 ReadsRange key salt file start old new n k =
     let i = start / 65536 in
-    (text : List ℕ) × AreRight key salt file i n text × CopiesFrom text (start - 65536 * i) old new k
+    (text : List ℕ) × AreRight key salt file i n text
+    × CopiesFrom text (start - 65536 * i) old new k
+
+-- n chunks, from that of byte `start` on, have bytes of a range of this size; an empty range has none
+abbrev pub AreOfRange : ℕ → ℕ → ℕ → Type 0
+AreOfRange start size n = 0 < n → 65536 * (start / 65536 + (n - 1)) - start < size
 
 -- what is wrong with the first chunk of a range that isn't right. The text of the chunks before it, k bytes, has come
 -- to the window's front.
 abbrev pub StopsAtDamage : List ℕ → List ℕ → List ℕ → ℕ → List ℕ → List ℕ → Damage → Type 0
 StopsAtDamage key salt file start old new damage =
-    (n : ℕ) × (let i = start / 65536 + n in let k = 65536 * i - start in let last = nat_eq i (last_in file) in
+    (n : ℕ) × (let i = start / 65536 + n in
+    let k = 65536 * i - start in
+    let last = nat_eq i (last_in file) in
     ReadsRange key salt file start old new n k × (k < length old)
     × (damage ≡ damage_at i last) × IsNoChunk key salt i last (chunk_at file i))

@@ -16,7 +16,8 @@
 //! that a signal interrupts is repeated, so no error is of the kind `Interrupted`, after which callers repeat their
 //! call.
 //!
-//! `SealedSlice` reads any part of the text of a file in memory, and `SealedReader` of one behind a reader that seeks.
+//! `SealedSlice` reads any part of the text of a file in memory, and `SealedReader` of one behind a reader that seeks:
+//! `read_exact_at` fills a window.
 //! Both check only the chunks that hold the part, so they don't notice damage elsewhere, nor a cut before they read the
 //! end.
 //!

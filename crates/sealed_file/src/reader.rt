@@ -16,7 +16,7 @@ ghost use Rattle.std.specs.Io.Seek.{SeekMoves};
 ghost use Rattle.std.specs.IoError.{error_kind};
 ghost use Rattle.sealed_file.specs.declared.error.Damage.{Damage};
 ghost use Rattle.sealed_file.specs.declared.error.SealError.{SealError};
-ghost use Rattle.sealed_file.specs.Sealed.{header, chunk, place, last_of, chunk_size, text_of, damage_at, kind_of, CopiesFrom, StopsAtEnd};
+ghost use Rattle.sealed_file.specs.Sealed.{header, chunk, place, last_of, chunk_size, text_of, damage_at, kind_of, AreOfRange, CopiesFrom, StopsAtEnd};
 ghost use Rattle.sealed_file.specs.Seeking.{GivesAt, GivesNoChunk, GivesNoHeader, StopsShort};
 
 use crate::chunk::{Salt, TAG, open_chunk};
@@ -139,7 +139,7 @@ impl<'b, R: Read + Seek> SealedReader<'b, R> {
             ↔ (text_of (file self.old).len < start + length window.old) }
         ensures unchanged { IsErrOf result ReaderError.PastEnd → (window.new ≡ window.old)
             × (held self.new ≡ held self.old) × (inner self.new ≡ inner self.old) }
-        ensures read { OnOk result ((n : ℕ)
+        ensures read { OnOk result ((n : ℕ) × AreOfRange start (length window.old) n
             × OpensRange R.remaining R.stream_position R.stream_bytes self.old self.new
             start window.old window.new n (length window.old)) }
         ensures damaged { let f = file self.old in (damage : Damage)
@@ -176,14 +176,14 @@ impl<'b, R: Read + Seek> SealedReader<'b, R> {
     // Reads from chunk after chunk until the window is full.
     fn read_full(&mut self, window: &mut [u8]) -> Result<(), SealError>
         requires { position self.old + length window.old ≤ text_of (file self.old).len }
-        ensures read { OnOk result ((n : ℕ)
+        ensures read { OnOk result ((n : ℕ) × AreOfRange (position self.old) (length window.old) n
             × OpensRange R.remaining R.stream_position R.stream_bytes self.old self.new
             (position self.old) window.old window.new n (length window.old)) }
         ensures damaged { let f = file self.old in IfErr result (λ e. (damage : Damage)
             → e ≡ SealError.Damaged damage
             → StopsAtChunk R.remaining R.stream_position R.stream_bytes self.old
-            (position self.old) window.old window.new (λ there i. let last = nat_eq i (last_of f.len) in
-            (damage ≡ damage_at i last)
+            (position self.old) window.old window.new (λ there i.
+            let last = nat_eq i (last_of f.len) in (damage ≡ damage_at i last)
             × GivesNoChunk R.remaining R.stream_position R.stream_bytes
             (inner there) (inner self.new) f.key f.salt i last (chunk_size f.len i))) }
         ensures stopped { IfErr result (λ e. (error : Error) → e ≡ SealError.Read error

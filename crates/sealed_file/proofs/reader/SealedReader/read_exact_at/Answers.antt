@@ -10,8 +10,9 @@ returns-in-Err-clause-stopped g c error is = c.in-Err.ensures.stopped error (cc 
 
 pub returns-in-Ok-clause-read : goal.returns-in-Ok-clause-read
 returns-in-Ok-clause-read g c =
-    let (n, read) = c.in-Ok.ensures.read in (
+    let (n, part, read) = c.in-Ok.ensures.read in (
       n,
+      part,
       range-as g.row.R.Denot g.R.Read.remaining g.R.Seek.stream_position g.R.Seek.stream_bytes c.args.self.now
           c.read_full-done.new.self _ c.args.start n _ _ _ refl refl refl read,
     )

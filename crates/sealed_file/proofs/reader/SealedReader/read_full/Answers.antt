@@ -14,6 +14,7 @@ fits-left start k at left mid old t place rest same room within = omega (arith, 
 pub chunks-init : goal.chunks-init
 chunks-init g c = (
   0,
+  λ some. absurd (omega (arith, some)),
   omega arith,
   omega arith,
   refl,
@@ -23,7 +24,7 @@ chunks-init g c = (
 
 pub chunks-preserved : goal.chunks-preserved
 chunks-preserved g c =
-    let (n, count, at, same, opened) = c.chunks.invariant in
+    let (n, part, count, at, same, opened) = c.chunks.invariant in
     let read = c.in-Ok.ensures.read in
     let next = open-more g.row.R.Denot g.R.Read.remaining g.R.Seek.stream_position g.R.Seek.stream_bytes
     c.args.self.now c.chunks.self c.read_text.new.self c.args.self.now.position c.chunks.done c.in-Ok.n n
@@ -31,6 +32,7 @@ chunks-preserved g c =
     (omega (arith, c.chunks-test.true, c.chunks.auto.window)) c.requires at same opened read c.in-Ok.ensures.opened
     c.read_text.ensures.same_file in (
       suc n,
+      λ some. omega (arith, count, c.chunks-test.true, c.chunks.auto.window),
       next.0,
       omega (arith, read.4, at),
       c.read_text.ensures.same_file ∙ same,
@@ -39,10 +41,12 @@ chunks-preserved g c =
 
 pub returns-clause-read : goal.returns-clause-read
 returns-clause-read g c =
-    let (n, count, at, same, opened) = c.chunks.invariant in
+    let (n, part, count, at, same, opened) = c.chunks.invariant in
     let start = c.args.self.now.position in
-    let full : c.chunks.done ≡ length c.args.window.now = omega (arith, count, c.chunks-test.false, c.chunks.auto.window) in (
+    let full : c.chunks.done ≡ length c.args.window.now =
+    omega (arith, count, c.chunks-test.false, c.chunks.auto.window) in (
       n,
+      part,
       subst (λ k. OpensRange g.R.Read.remaining g.R.Seek.stream_position g.R.Seek.stream_bytes c.args.self.now
           c.chunks.self start c.args.window.now c.chunks.window n k) full
           (open-range g.row.R.Denot g.R.Read.remaining g.R.Seek.stream_position g.R.Seek.stream_bytes c.args.self.now
@@ -50,15 +54,15 @@ returns-clause-read g c =
     )
 
 pub returns-clause-same_file : goal.returns-clause-same_file
-returns-clause-same_file g c = let (n, count, at, same, opened) = c.chunks.invariant in same
+returns-clause-same_file g c = let (n, part, count, at, same, opened) = c.chunks.invariant in same
 
 pub returns-in-Err-clause-same_file : goal.returns-in-Err-clause-same_file
 returns-in-Err-clause-same_file g c =
-    let (n, count, at, same, opened) = c.chunks.invariant in c.read_text.ensures.same_file ∙ same
+    let (n, part, count, at, same, opened) = c.chunks.invariant in c.read_text.ensures.same_file ∙ same
 
 pub returns-in-Err-clause-damaged : goal.returns-in-Err-clause-damaged
 returns-in-Err-clause-damaged g c damage is =
-    let (n, count, at, same, opened) = c.chunks.invariant in
+    let (n, part, count, at, same, opened) = c.chunks.invariant in
     let f = file c.args.self.now in
     let there = c.chunks.self in
     open-stops g.row.R.Denot g.R.Read.remaining g.R.Seek.stream_position g.R.Seek.stream_bytes
@@ -78,7 +82,7 @@ returns-in-Err-clause-damaged g c damage is =
 
 pub returns-in-Err-clause-stopped : goal.returns-in-Err-clause-stopped
 returns-in-Err-clause-stopped g c error is =
-    let (n, count, at, same, opened) = c.chunks.invariant in
+    let (n, part, count, at, same, opened) = c.chunks.invariant in
     open-stops g.row.R.Denot g.R.Read.remaining g.R.Seek.stream_position g.R.Seek.stream_bytes
     c.args.self.now c.chunks.self c.args.self.now.position c.chunks.done n c.args.window.now c.chunks.window
     c.read_text.new.window
@@ -90,13 +94,14 @@ returns-in-Err-clause-stopped g c error is =
 
 pub chunks-smaller : goal.chunks-smaller
 chunks-smaller g c =
-    let (n, count, at, same, opened) = c.chunks.invariant in
+    let (n, part, count, at, same, opened) = c.chunks.invariant in
     let k = c.chunks.done in
     let mid = c.chunks.window in
     let left : length (take (length mid - k) (drop k mid)) ≡ length mid - k =
     ap length (take_rest mid k) ∙ length-drop k mid in
     let room : 0 < length (take (length mid - k) (drop k mid)) = omega (arith, left, c.chunks-test.true) in
-    let within : position c.chunks.self + length (take (length mid - k) (drop k mid)) ≤ text_of (file c.chunks.self).len =
+    let within : position c.chunks.self + length (take (length mid - k) (drop k mid))
+    ≤ text_of (file c.chunks.self).len =
     subst (λ f. position c.chunks.self + length (take (length mid - k) (drop k mid)) ≤ text_of f.len) (sym same)
     (fits-left c.args.self.now.position k (position c.chunks.self) _ _ _ _ at left c.chunks.auto.window
     c.chunks-test.true c.requires) in

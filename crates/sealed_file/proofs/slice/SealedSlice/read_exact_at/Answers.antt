@@ -8,7 +8,8 @@ pub returns-then-not-is_within-clause-accepted : goal.returns-then-not-is_within
 returns-then-not-is_within-clause-accepted c salt text size is = (
   λ ok. absurd (true≢false (sym ok)),
   λ fits. absurd (true≢false (sym (c.is_within.ensures.1
-      (subst (λ k. c.args.start + length c.args.window.now ≤ k) (sym (c.text_len.ensures.exact _ salt text size is)) fits))
+      (subst (λ k. c.args.start + length c.args.window.now ≤ k)
+      (sym (c.text_len.ensures.exact _ salt text size is)) fits))
       ∙ c.if-not-is_within.true)),
 )
 
@@ -23,7 +24,8 @@ pub returns-in-Ok-clause-text : goal.returns-in-Ok-clause-text
 returns-in-Ok-clause-text c salt text size is =
     let s = c.args.self.now in
     let (n, read) = c.in-Ok.ensures.read in
-    range-text s.key s.salt text s.file.now (sym (ap length (own-is s.key s.salt salt text s.file.now size s.begins is)) ∙ size)
+    range-text s.key s.salt text s.file.now
+    (sym (ap length (own-is s.key s.salt salt text s.file.now size s.begins is)) ∙ size)
     (own-salt s.key s.salt salt text s.file.now size s.begins is) c.args.start n c.args.window.now
     c.read_range.new.window read
 
@@ -38,7 +40,8 @@ pub returns-in-Err-clause-accepted : goal.returns-in-Err-clause-accepted
 returns-in-Err-clause-accepted c salt text size is = (
   λ ok. absurd (true≢false (sym ok)),
   λ fits. let s = c.args.self.now in
-      absurd (range-right s.key s.salt text s.file.now (sym (ap length (own-is s.key s.salt salt text s.file.now size s.begins is)) ∙ size)
+      absurd (range-right s.key s.salt text s.file.now
+      (sym (ap length (own-is s.key s.salt salt text s.file.now size s.begins is)) ∙ size)
       (own-salt s.key s.salt salt text s.file.now size s.begins is) c.args.start c.args.window.now
       c.read_range.new.window c.in-Err.damage c.in-Err.ensures.damaged fits),
 )
