@@ -1,6 +1,8 @@
 //! Keys and files of the program.
 
-use crate::failure::{Failed, fail, fail_at, read, streamed, written};
+use crate::failure::{Failed, fail, fail_at, read, streamed, usage, written};
+use crate::input::Input;
+use crate::key::{self, LINE};
 use chacha20::Key;
 use sealed_file::stream;
 use std::fs::{File, OpenOptions};
@@ -8,6 +10,26 @@ use std::io::{ErrorKind, Write};
 use std::os::unix::fs::{MetadataExt, OpenOptionsExt};
 use std::random::RandomSource;
 use std::{fs, io};
+
+/// The word of a call for standard input or output.
+pub const STANDARD: &str = "-";
+
+/// What a sentence calls standard output.
+pub const OUTPUT: &str = "standard output";
+
+/// The name of IN or KEYFILE in a sentence.
+pub fn input_name(path: &str) -> &str {
+    if path == STANDARD {
+        "standard input"
+    } else {
+        path
+    }
+}
+
+/// The name of OUT in a sentence.
+pub fn output_name(path: &str) -> &str {
+    if path == STANDARD { OUTPUT } else { path }
+}
 
 /// Random bytes.
 pub fn random<const N: usize>(rt: &HostRuntime) -> Result<[u8; N], Failed> {
@@ -18,10 +40,16 @@ pub fn random<const N: usize>(rt: &HostRuntime) -> Result<[u8; N], Failed> {
     }
 }
 
-/// Writes a new key of 32 random bytes, which its owner alone may read. Fails if the file is there.
+/// Writes a new key of 32 random bytes as text, to a file which its owner alone may read, or to standard output.
+/// Fails if the file is there.
 pub fn new_key(rt: &HostRuntime, path: &str) -> Result<(), Failed> {
-    let key = random::<32>(rt)?;
-    written(rt, path, write_new(rt, path, &key))
+    let line = key::line_of(&random(rt)?);
+    let done = if path == STANDARD {
+        rt.stdout().write_all(&line)
+    } else {
+        write_new(rt, path, &line)
+    };
+    written(rt, output_name(path), done)
 }
 
 fn write_new(rt: &HostRuntime, path: &str, bytes: &[u8]) -> io::Result<()> {
@@ -40,24 +68,26 @@ fn write_synced(file: &mut File, bytes: &[u8]) -> io::Result<()> {
     file.sync_all()
 }
 
-/// Reads a key. Fails if the file has another length than 32 bytes.
+/// Reads a key. Fails if the file isn't a key.
 pub fn read_key(rt: &HostRuntime, path: &str) -> Result<Key, Failed> {
-    // One byte more than a key, so that a longer file is noticed.
-    let mut bytes = [0; 33];
+    // One byte more than a line that ends with `\r\n`, so that a longer file is noticed.
+    let mut bytes = [0; LINE + 2];
     let len = read_start(rt, path, &mut bytes)?;
-    let bytes = &bytes[..len.min(33)];
-    if bytes.len() != 32 {
-        return Err(fail(rt, "the key file ", path, " doesn't have 32 bytes"));
+    match key::key_of(&bytes[..len.min(LINE + 2)]) {
+        Some(key) => Ok(key),
+        None => {
+            let after = " holds no key: a key file has exactly 32 bytes, or one line of \
+                         seal-key-v1: and 44 characters of base64";
+            Err(fail(rt, "KEYFILE ", input_name(path), after))
+        }
     }
-    let mut key = [0; 32];
-    key.copy_from_slice(bytes);
-    Ok(key)
 }
 
 // Fills a buffer with the first bytes of a file, and returns how many there are.
 fn read_start(rt: &HostRuntime, path: &str, bytes: &mut [u8]) -> Result<usize, Failed> {
-    let mut file = open(rt, path)?;
-    streamed(rt, path, path, stream::fill(&mut file, bytes, 0))
+    let mut file = Input::open(rt, path)?;
+    let name = input_name(path);
+    streamed(rt, name, name, stream::fill(&mut file, bytes, 0))
 }
 
 /// Opens a file to read it.
@@ -69,6 +99,15 @@ pub fn open(rt: &HostRuntime, path: &str) -> Result<File, Failed> {
 fn stat(rt: &HostRuntime, path: &str) -> io::Result<(u64, u64, bool)> {
     let it = fs::metadata(rt, path)?;
     Ok((it.dev(), it.ino(), it.is_file()))
+}
+
+/// Fails if KEYFILE and IN are both standard input.
+pub fn check_inputs(rt: &HostRuntime, key: &str, from: &str) -> Result<(), Failed> {
+    if key == STANDARD && from == STANDARD {
+        let after = ": standard input can't be both";
+        return Err(usage(rt, "KEYFILE and IN are both ", STANDARD, after));
+    }
+    Ok(())
 }
 
 /// Fails if `to` exists and is IN or KEYFILE, or not a regular file.
@@ -88,8 +127,11 @@ pub fn check_target(rt: &HostRuntime, key: &str, from: &str, to: &str) -> Result
     }
 }
 
-// Whether a path has this device and inode.
+// Whether a path has this device and inode. Standard input hasn't.
 fn is_same(rt: &HostRuntime, path: &str, dev: u64, ino: u64) -> Result<bool, Failed> {
+    if path == STANDARD {
+        return Ok(false);
+    }
     let (its_dev, its_ino, _) = read(rt, path, stat(rt, path))?;
     Ok(its_dev == dev && its_ino == ino)
 }

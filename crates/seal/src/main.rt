@@ -3,10 +3,14 @@
 
 mod failure;
 mod files;
+mod input;
+mod key;
+mod pages;
 mod progress;
 
 use chacha20::Key;
-use failure::{Failed, fail, read, streamed, usage, written};
+use failure::{Failed, miscounted, read, streamed, usage, written};
+use files::{OUTPUT, STANDARD, input_name, output_name};
 use progress::Progress;
 use sealed_file::{CHUNK, Salt, SealError, SealedReader, TAG, chunk, stream};
 use std::fs::File;
@@ -14,7 +18,12 @@ use std::io::{ErrorKind, Read, Seek, SeekFrom, Write};
 use std::process::ExitCode;
 use std::{env, fs, io};
 
-const OUTPUT: &str = "standard output";
+// The words of the calls.
+const KEY: [&str; 1] = ["KEYFILE"];
+
+const TRANSFORM: [&str; 3] = ["KEYFILE", "IN", "OUT"];
+
+const CAT: [&str; 4] = ["KEYFILE", "IN", "START", "LEN"];
 
 fn main(rt: HostRuntime) -> io::Result<ExitCode> {
     let words: Vec<String> = env::args(&rt)?.collect(rt.alloc())?;
@@ -26,37 +35,108 @@ fn main(rt: HostRuntime) -> io::Result<ExitCode> {
 
 fn run(rt: &HostRuntime, words: &[String]) -> Result<(), Failed> {
     let [_, call, words @ ..] = words else {
-        return Err(usage(rt));
+        return Err(usage(rt, "", "no call", " is given"));
     };
     match call.as_str() {
+        "help" => help(rt, words),
+        "--help" | "-h" => say(rt, call.as_str(), words, pages::HELP),
+        "--version" => say(rt, call.as_str(), words, pages::VERSION),
+        call if asks_help(words) => help_of(rt, call),
+        call => act(rt, call, words),
+    }
+}
+
+fn act(rt: &HostRuntime, call: &str, words: &[String]) -> Result<(), Failed> {
+    check_options(rt, words)?;
+    match call {
         "key" => new_key(rt, words),
         "encrypt" => transform(rt, true, words),
         "decrypt" => transform(rt, false, words),
         "cat" => cat(rt, words),
-        _ => Err(usage(rt)),
+        _ => Err(no_call(rt, call)),
+    }
+}
+
+fn no_call(rt: &HostRuntime, word: &str) -> Failed {
+    usage(rt, "", word, " is not a call")
+}
+
+// Fails at a word that looks like an option. A file's name may begin with `./-`.
+fn check_options(rt: &HostRuntime, words: &[String]) -> Result<(), Failed> {
+    for word in words {
+        let word = word.as_str();
+        if word.starts_with('-') && word != STANDARD {
+            return Err(usage(rt, "", word, " is not an option"));
+        }
+    }
+    Ok(())
+}
+
+fn print_text(rt: &HostRuntime, text: &str) -> Result<(), Failed> {
+    written(rt, OUTPUT, rt.stdout().write_all(text.as_bytes()))
+}
+
+// Prints the answer to a call that takes no words.
+fn say(rt: &HostRuntime, call: &str, words: &[String], text: &str) -> Result<(), Failed> {
+    if words.is_empty() {
+        print_text(rt, text)
+    } else {
+        Err(miscounted(rt, call, &[], words))
+    }
+}
+
+// Whether only help follows a call.
+fn asks_help(words: &[String]) -> bool {
+    match words {
+        [word] => matches!(word.as_str(), "--help" | "-h"),
+        _ => false,
+    }
+}
+
+fn help(rt: &HostRuntime, words: &[String]) -> Result<(), Failed> {
+    match words {
+        [] => print_text(rt, pages::HELP),
+        [call] => help_of(rt, call.as_str()),
+        _ => Err(miscounted(rt, "help", &["CALL"], words)),
+    }
+}
+
+fn help_of(rt: &HostRuntime, call: &str) -> Result<(), Failed> {
+    match pages::page(call) {
+        Some(text) => print_text(rt, text),
+        None => Err(no_call(rt, call)),
     }
 }
 
 fn new_key(rt: &HostRuntime, words: &[String]) -> Result<(), Failed> {
     match words {
         [key] => files::new_key(rt, key.as_str()),
-        _ => Err(usage(rt)),
+        _ => Err(miscounted(rt, "key", &KEY, words)),
     }
 }
 
-fn number(rt: &HostRuntime, word: &str) -> Result<u64, Failed> {
+fn number(rt: &HostRuntime, name: &str, word: &str) -> Result<u64, Failed> {
     match word.parse() {
         Ok(number) => Ok(number),
-        Err(_) => Err(fail(rt, "", word, " is not a number of bytes")),
+        Err(_) => {
+            let what = "which is not a number of bytes below 2^64; see seal --help";
+            let _ = eprintln!(rt; "seal: {name} is {word}, {what}");
+            Err(Failed)
+        }
     }
 }
 
-// Encrypts or decrypts IN into a new file beside OUT, and then renames it to OUT.
+// Encrypts or decrypts IN to standard output, or into a new file beside OUT that it then renames to OUT.
 fn transform(rt: &HostRuntime, encrypts: bool, words: &[String]) -> Result<(), Failed> {
     let [key, from, to] = words else {
-        return Err(usage(rt));
+        let call = if encrypts { "encrypt" } else { "decrypt" };
+        return Err(miscounted(rt, call, &TRANSFORM, words));
     };
     let (key, from, to) = (key.as_str(), from.as_str(), to.as_str());
+    files::check_inputs(rt, key, from)?;
+    if to == STANDARD {
+        return write(rt, encrypts, key, from, to, &mut rt.stdout());
+    }
     files::check_target(rt, key, from, to)?;
     let path = files::beside(rt, to)?;
     replace(rt, encrypts, key, from, to, path.as_str())
@@ -82,19 +162,19 @@ fn replace(
     done
 }
 
-fn write(
+fn write<W: Write>(
     rt: &HostRuntime,
     encrypts: bool,
     key: &str,
     from: &str,
     to: &str,
-    file: &mut File,
+    writer: &mut W,
 ) -> Result<(), Failed> {
     let secret = files::read_key(rt, key)?;
     let salt = files::random(rt)?;
-    let mut reader = Progress::open(rt, from)?;
-    let done = stream_by(encrypts, &secret, &salt, &mut reader, file);
-    streamed(rt, from, to, done)
+    let mut reader = Progress::open(rt, from, to)?;
+    let done = stream_by(encrypts, &secret, &salt, &mut reader, writer);
+    streamed(rt, input_name(from), output_name(to), done)
 }
 
 // Encrypts or decrypts. A file that is decrypted has its own salt.
@@ -115,10 +195,10 @@ fn stream_by<R: Read, W: Write>(
 // Prints a part of a file's text.
 fn cat(rt: &HostRuntime, words: &[String]) -> Result<(), Failed> {
     let [key, from, start, len] = words else {
-        return Err(usage(rt));
+        return Err(miscounted(rt, "cat", &CAT, words));
     };
-    let start = number(rt, start.as_str())?;
-    let len = number(rt, len.as_str())?;
+    let start = number(rt, "START", start.as_str())?;
+    let len = number(rt, "LEN", len.as_str())?;
     let secret = files::read_key(rt, key.as_str())?;
     print(rt, &secret, from.as_str(), start, len)
 }

@@ -1,18 +1,18 @@
 //! A reader that says on a terminal how far it is.
 
 use crate::failure::{Failed, read};
-use crate::files;
-use std::fs::File;
+use crate::files::{STANDARD, input_name};
+use crate::input::Input;
+use std::io;
 use std::io::{IsTerminal, Read};
-use std::{fs, io};
 
 const STEP: u64 = 1 << 26;
 
 /// Prints a line on standard error, where that is a terminal and the file has a length, after each 64 MiB.
 #[derive(Drop)]
-pub struct Progress<'a, R> {
+pub struct Progress<'a> {
     rt: &'a HostRuntime,
-    inner: R,
+    inner: Input,
     // The length of the file, which is 0 for a pipe.
     len: u64,
     read: u64,
@@ -21,23 +21,21 @@ pub struct Progress<'a, R> {
     shows: bool,
 }
 
-impl<'a> Progress<'a, File> {
-    /// Opens a file.
-    pub fn open(rt: &'a HostRuntime, path: &str) -> Result<Progress<'a, File>, Failed> {
-        let len = read(rt, path, fs::metadata(rt, path))?.len();
-        let inner = files::open(rt, path)?;
+impl<'a> Progress<'a> {
+    /// Opens IN. With OUT on standard output, shows nothing, since both may be the same terminal.
+    pub fn open(rt: &'a HostRuntime, from: &str, to: &str) -> Result<Progress<'a>, Failed> {
+        let inner = Input::open(rt, from)?;
+        let len = read(rt, input_name(from), inner.len())?;
         Ok(Progress {
             rt,
             inner,
             len,
             read: 0,
             next: STEP,
-            shows: len > 0 && rt.stderr().is_terminal(),
+            shows: len > 0 && to != STANDARD && rt.stderr().is_terminal(),
         })
     }
-}
 
-impl<R> Progress<'_, R> {
     fn count(&mut self, n: u64) {
         self.read = self.read.saturating_add(n);
         if self.shows && self.read >= self.next {
@@ -48,7 +46,7 @@ impl<R> Progress<'_, R> {
     }
 }
 
-impl<R: Read> Read for Progress<'_, R> {
+impl Read for Progress<'_> {
     fn read(&mut self, buf: &mut [u8]) -> io::Result<usize> {
         let n = self.inner.read(buf)?;
         self.count(n as u64);
