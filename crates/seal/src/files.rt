@@ -90,8 +90,11 @@ fn read_start(rt: &HostRuntime, path: &str, bytes: &mut [u8]) -> Result<usize, F
     streamed(rt, name, name, stream::fill(&mut file, bytes, 0))
 }
 
-/// Opens a file to read it.
+/// Opens a file to read it at any place, so not standard input.
 pub fn open(rt: &HostRuntime, path: &str) -> Result<File, Failed> {
+    if path == STANDARD {
+        return Err(usage(rt, "IN of cat is ", path, ", and must be a file"));
+    }
     read(rt, path, fs::open(rt, path))
 }
 

@@ -61,12 +61,11 @@ fn no_call(rt: &HostRuntime, word: &str) -> Failed {
     usage(rt, "", word, " is not a call")
 }
 
-// Fails at a word that looks like an option. A file's name may begin with `./-`.
+// Fails at a word that looks like an option, `-` and a letter or another `-`. A file's name may begin with `./-`.
 fn check_options(rt: &HostRuntime, words: &[String]) -> Result<(), Failed> {
     for word in words {
-        let word = word.as_str();
-        if word.starts_with('-') && word != STANDARD {
-            return Err(usage(rt, "", word, " is not an option"));
+        if let [b'-', b'-' | b'A'..=b'Z' | b'a'..=b'z', ..] = word.as_bytes() {
+            return Err(usage(rt, "", word.as_str(), " is not an option"));
         }
     }
     Ok(())
