@@ -31,12 +31,10 @@ pub fn miscounted(rt: &HostRuntime, call: &str, names: &[&str], words: &[String]
     if let Some(name) = names.get(words.len()) {
         return usage(rt, call, " lacks ", name);
     }
-    let word = match words.get(names.len()) {
-        Some(word) => word.as_str(),
-        None => "nothing",
-    };
-    let _ = eprintln!(rt; "seal: {word} is a word too many for {call}; see seal --help");
-    Failed
+    match words {
+        [.., word] => usage(rt, call, " has a word too many: ", word.as_str()),
+        [] => Failed,
+    }
 }
 
 /// What a read of a file gave.

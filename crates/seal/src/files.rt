@@ -1,7 +1,6 @@
 //! Keys and files of the program.
 
-use crate::failure::{Failed, fail, fail_at, read, streamed, usage, written};
-use crate::input::Input;
+use crate::failure::{Failed, fail, fail_at, read, streamed, written};
 use crate::key::{self, LINE};
 use chacha20::Key;
 use sealed_file::stream;
@@ -11,24 +10,15 @@ use std::os::unix::fs::{MetadataExt, OpenOptionsExt};
 use std::random::RandomSource;
 use std::{fs, io};
 
-/// The word of a call for standard input or output.
+/// IN or OUT of a call that is standard input or output.
 pub const STANDARD: &str = "-";
 
 /// What a sentence calls standard output.
 pub const OUTPUT: &str = "standard output";
 
-/// The name of IN or KEYFILE in a sentence.
-pub fn input_name(path: &str) -> &str {
-    if path == STANDARD {
-        "standard input"
-    } else {
-        path
-    }
-}
-
-/// The name of OUT in a sentence.
-pub fn output_name(path: &str) -> &str {
-    if path == STANDARD { OUTPUT } else { path }
+/// What a sentence calls IN or OUT, with the name of the standard stream that it may be.
+pub fn name_of<'a>(path: &'a str, stream: &'a str) -> &'a str {
+    if path == STANDARD { stream } else { path }
 }
 
 /// Random bytes.
@@ -44,12 +34,10 @@ pub fn random<const N: usize>(rt: &HostRuntime) -> Result<[u8; N], Failed> {
 /// Fails if the file is there.
 pub fn new_key(rt: &HostRuntime, path: &str) -> Result<(), Failed> {
     let line = key::line_of(&random(rt)?);
-    let done = if path == STANDARD {
-        rt.stdout().write_all(&line)
-    } else {
-        write_new(rt, path, &line)
-    };
-    written(rt, output_name(path), done)
+    if path == STANDARD {
+        return written(rt, OUTPUT, rt.stdout().write_all(&line));
+    }
+    written(rt, path, write_new(rt, path, &line))
 }
 
 fn write_new(rt: &HostRuntime, path: &str, bytes: &[u8]) -> io::Result<()> {
@@ -78,23 +66,19 @@ pub fn read_key(rt: &HostRuntime, path: &str) -> Result<Key, Failed> {
         None => {
             let after = " holds no key: a key file has exactly 32 bytes, or one line of \
                          seal-key-v1: and 44 characters of base64";
-            Err(fail(rt, "KEYFILE ", input_name(path), after))
+            Err(fail(rt, "KEYFILE ", path, after))
         }
     }
 }
 
 // Fills a buffer with the first bytes of a file, and returns how many there are.
 fn read_start(rt: &HostRuntime, path: &str, bytes: &mut [u8]) -> Result<usize, Failed> {
-    let mut file = Input::open(rt, path)?;
-    let name = input_name(path);
-    streamed(rt, name, name, stream::fill(&mut file, bytes, 0))
+    let mut file = open(rt, path)?;
+    streamed(rt, path, path, stream::fill(&mut file, bytes, 0))
 }
 
-/// Opens a file to read it at any place, so not standard input.
+/// Opens a file to read it.
 pub fn open(rt: &HostRuntime, path: &str) -> Result<File, Failed> {
-    if path == STANDARD {
-        return Err(usage(rt, "IN of cat is ", path, ", and must be a file"));
-    }
     read(rt, path, fs::open(rt, path))
 }
 
@@ -104,15 +88,6 @@ fn stat(rt: &HostRuntime, path: &str) -> io::Result<(u64, u64, bool)> {
     Ok((it.dev(), it.ino(), it.is_file()))
 }
 
-/// Fails if KEYFILE and IN are both standard input.
-pub fn check_inputs(rt: &HostRuntime, key: &str, from: &str) -> Result<(), Failed> {
-    if key == STANDARD && from == STANDARD {
-        let after = ": standard input can't be both";
-        return Err(usage(rt, "KEYFILE and IN are both ", STANDARD, after));
-    }
-    Ok(())
-}
-
 /// Fails if `to` exists and is IN or KEYFILE, or not a regular file.
 pub fn check_target(rt: &HostRuntime, key: &str, from: &str, to: &str) -> Result<(), Failed> {
     let (dev, ino, is_file) = match stat(rt, to) {
@@ -120,7 +95,8 @@ pub fn check_target(rt: &HostRuntime, key: &str, from: &str, to: &str) -> Result
         Err(e) if e.kind() == ErrorKind::NotFound => return Ok(()),
         Err(e) => return written(rt, to, Err(e)),
     };
-    if is_same(rt, key, dev, ino)? || is_same(rt, from, dev, ino)? {
+    let reads_file = from != STANDARD;
+    if is_same(rt, key, dev, ino)? || (reads_file && is_same(rt, from, dev, ino)?) {
         return Err(fail(rt, "OUT ", to, " is the same file as IN or KEYFILE"));
     }
     if is_file {
@@ -130,11 +106,8 @@ pub fn check_target(rt: &HostRuntime, key: &str, from: &str, to: &str) -> Result
     }
 }
 
-// Whether a path has this device and inode. Standard input hasn't.
+// Whether a path has this device and inode.
 fn is_same(rt: &HostRuntime, path: &str, dev: u64, ino: u64) -> Result<bool, Failed> {
-    if path == STANDARD {
-        return Ok(false);
-    }
     let (its_dev, its_ino, _) = read(rt, path, stat(rt, path))?;
     Ok(its_dev == dev && its_ino == ino)
 }

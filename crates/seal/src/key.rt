@@ -23,17 +23,13 @@ pub fn key_of(file: &[u8]) -> Option<Key> {
         key.copy_from_slice(file);
         return Some(key);
     }
-    let text = without_newline(file).strip_prefix(&PREFIX)?;
-    match STANDARD.decode_slice(text, &mut key) {
+    let line = match file {
+        [line @ .., b'\r', b'\n'] => line,
+        [line @ .., b'\n'] => line,
+        _ => file,
+    };
+    match STANDARD.decode_slice(line.strip_prefix(&PREFIX)?, &mut key) {
         Ok(32) => Some(key),
         _ => None,
-    }
-}
-
-fn without_newline(line: &[u8]) -> &[u8] {
-    match line {
-        [text @ .., b'\r', b'\n'] => text,
-        [text @ .., b'\n'] => text,
-        _ => line,
     }
 }

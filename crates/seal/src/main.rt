@@ -3,14 +3,13 @@
 
 mod failure;
 mod files;
-mod input;
 mod key;
 mod pages;
 mod progress;
 
 use chacha20::Key;
 use failure::{Failed, miscounted, read, streamed, usage, written};
-use files::{OUTPUT, STANDARD, input_name, output_name};
+use files::{OUTPUT, STANDARD, name_of};
 use progress::Progress;
 use sealed_file::{CHUNK, Salt, SealError, SealedReader, TAG, chunk, stream};
 use std::fs::File;
@@ -37,73 +36,40 @@ fn run(rt: &HostRuntime, words: &[String]) -> Result<(), Failed> {
     let [_, call, words @ ..] = words else {
         return Err(usage(rt, "", "no call", " is given"));
     };
-    match call.as_str() {
-        "help" => help(rt, words),
-        "--help" | "-h" => say(rt, call.as_str(), words, pages::HELP),
-        "--version" => say(rt, call.as_str(), words, pages::VERSION),
-        call if asks_help(words) => help_of(rt, call),
-        call => act(rt, call, words),
-    }
-}
-
-fn act(rt: &HostRuntime, call: &str, words: &[String]) -> Result<(), Failed> {
     check_options(rt, words)?;
-    match call {
+    match call.as_str() {
         "key" => new_key(rt, words),
         "encrypt" => transform(rt, true, words),
         "decrypt" => transform(rt, false, words),
         "cat" => cat(rt, words),
-        _ => Err(no_call(rt, call)),
+        call => about(rt, call, words),
     }
-}
-
-fn no_call(rt: &HostRuntime, word: &str) -> Failed {
-    usage(rt, "", word, " is not a call")
 }
 
 // Fails at a word that looks like an option, `-` and a letter or another `-`. A file's name may begin with `./-`.
 fn check_options(rt: &HostRuntime, words: &[String]) -> Result<(), Failed> {
     for word in words {
         if let [b'-', b'-' | b'A'..=b'Z' | b'a'..=b'z', ..] = word.as_bytes() {
-            return Err(usage(rt, "", word.as_str(), " is not an option"));
+            return Err(usage(rt, "", word.as_str(), " is not an option here"));
         }
     }
     Ok(())
 }
 
-fn print_text(rt: &HostRuntime, text: &str) -> Result<(), Failed> {
-    written(rt, OUTPUT, rt.stdout().write_all(text.as_bytes()))
-}
-
-// Prints the answer to a call that takes no words.
-fn say(rt: &HostRuntime, call: &str, words: &[String], text: &str) -> Result<(), Failed> {
-    if words.is_empty() {
-        print_text(rt, text)
-    } else {
-        Err(miscounted(rt, call, &[], words))
-    }
-}
-
-// Whether only help follows a call.
-fn asks_help(words: &[String]) -> bool {
+// Prints what the program is, or what a call does.
+fn about(rt: &HostRuntime, call: &str, words: &[String]) -> Result<(), Failed> {
+    let topic = match words {
+        [topic] if call == "help" => topic.as_str(),
+        _ => call,
+    };
+    let Some(text) = pages::page(topic) else {
+        return Err(usage(rt, "", topic, " is not a call"));
+    };
     match words {
-        [word] => matches!(word.as_str(), "--help" | "-h"),
-        _ => false,
-    }
-}
-
-fn help(rt: &HostRuntime, words: &[String]) -> Result<(), Failed> {
-    match words {
-        [] => print_text(rt, pages::HELP),
-        [call] => help_of(rt, call.as_str()),
-        _ => Err(miscounted(rt, "help", &["CALL"], words)),
-    }
-}
-
-fn help_of(rt: &HostRuntime, call: &str) -> Result<(), Failed> {
-    match pages::page(call) {
-        Some(text) => print_text(rt, text),
-        None => Err(no_call(rt, call)),
+        [.., word] if call != "help" || words.len() > 1 => {
+            Err(usage(rt, call, " has a word too many: ", word.as_str()))
+        }
+        _ => written(rt, OUTPUT, rt.stdout().write_all(text.as_bytes())),
     }
 }
 
@@ -117,11 +83,7 @@ fn new_key(rt: &HostRuntime, words: &[String]) -> Result<(), Failed> {
 fn number(rt: &HostRuntime, name: &str, word: &str) -> Result<u64, Failed> {
     match word.parse() {
         Ok(number) => Ok(number),
-        Err(_) => {
-            let what = "which is not a number of bytes below 2^64; see seal --help";
-            let _ = eprintln!(rt; "seal: {name} is {word}, {what}");
-            Err(Failed)
-        }
+        Err(_) => Err(usage(rt, name, " is not a number of bytes below 2^64: ", word)),
     }
 }
 
@@ -132,7 +94,6 @@ fn transform(rt: &HostRuntime, encrypts: bool, words: &[String]) -> Result<(), F
         return Err(miscounted(rt, call, &TRANSFORM, words));
     };
     let (key, from, to) = (key.as_str(), from.as_str(), to.as_str());
-    files::check_inputs(rt, key, from)?;
     if to == STANDARD {
         return write(rt, encrypts, key, from, to, &mut rt.stdout());
     }
@@ -173,7 +134,8 @@ fn write<W: Write>(
     let salt = files::random(rt)?;
     let mut reader = Progress::open(rt, from, to)?;
     let done = stream_by(encrypts, &secret, &salt, &mut reader, writer);
-    streamed(rt, input_name(from), output_name(to), done)
+    let from = name_of(from, "standard input");
+    streamed(rt, from, name_of(to, OUTPUT), done)
 }
 
 // Encrypts or decrypts. A file that is decrypted has its own salt.

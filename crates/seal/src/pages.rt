@@ -1,10 +1,9 @@
 //! What the program says of itself.
 
-/// The answer to `seal --version`.
-pub const VERSION: &str = "seal 0.9.0\n";
+const VERSION: &str = "seal 0.9.0\n";
 
-/// The answer to `seal --help`: at most 24 lines of 80 columns.
-pub const HELP: &str = "\
+// At most 24 lines of 80 columns.
+const HELP: &str = "\
 seal encrypts files, and notices each change when it decrypts them.
 
   seal key KEYFILE               writes a new key, a line of text, to a new file
@@ -13,9 +12,9 @@ seal encrypts files, and notices each change when it decrypts them.
   seal cat KEYFILE IN START LEN  decrypts LEN bytes from byte START on, and
                                  prints them; the first byte of the text is 0
   seal help CALL                 says more of key, encrypt, decrypt or cat
-  seal --version                 prints the version
+  seal --version
 
-IN, OUT and KEYFILE may be -, which is standard input or output; cat's IN can't.
+IN and OUT may be -, which is standard input or output, but not the IN of cat.
 An existing OUT is replaced at the end. After an error it is as it was, and with
 OUT - the text that was printed is the front of the right one. The status is 0,
 or 1 after an error, which standard error tells in a sentence.
@@ -42,7 +41,7 @@ seal encrypt KEYFILE IN OUT
 
 Encrypts IN, which may be -, standard input, to OUT, which may be -, standard
 output. OUT has 32 bytes more, and 16 for each 65536 bytes of IN, rounded up.
-KEYFILE is what seal key wrote, 32 raw bytes, or -.
+KEYFILE is what seal key wrote, or a file of exactly 32 bytes.
 
   seal encrypt my.key notes.txt notes.sealed
   tar c photos | seal encrypt my.key - photos.sealed
@@ -70,14 +69,15 @@ ends before. IN is a file that can be read at any place, so not a pipe.
   seal cat my.key notes.sealed 1000 80
 ";
 
-/// The answer to `seal help CALL`.
+/// The answer to a call, or to `help` of one.
 pub fn page(call: &str) -> Option<&'static str> {
     match call {
         "key" => Some(KEY),
         "encrypt" => Some(ENCRYPT),
         "decrypt" => Some(DECRYPT),
         "cat" => Some(CAT),
-        "help" => Some(HELP),
+        "help" | "--help" | "-h" => Some(HELP),
+        "--version" => Some(VERSION),
         _ => None,
     }
 }

@@ -1,10 +1,10 @@
 //! A reader that says on a terminal how far it is.
 
 use crate::failure::{Failed, read};
-use crate::files::{STANDARD, input_name};
-use crate::input::Input;
-use std::io;
+use crate::files::{self, STANDARD};
+use std::fs::File;
 use std::io::{IsTerminal, Read};
+use std::{fs, io};
 
 const STEP: u64 = 1 << 26;
 
@@ -12,7 +12,8 @@ const STEP: u64 = 1 << 26;
 #[derive(Drop)]
 pub struct Progress<'a> {
     rt: &'a HostRuntime,
-    inner: Input,
+    // IN, or nothing for standard input.
+    file: Option<File>,
     // The length of the file, which is 0 for a pipe.
     len: u64,
     read: u64,
@@ -24,16 +25,24 @@ pub struct Progress<'a> {
 impl<'a> Progress<'a> {
     /// Opens IN. With OUT on standard output, shows nothing, since both may be the same terminal.
     pub fn open(rt: &'a HostRuntime, from: &str, to: &str) -> Result<Progress<'a>, Failed> {
-        let inner = Input::open(rt, from)?;
-        let len = read(rt, input_name(from), inner.len())?;
-        Ok(Progress {
+        if from == STANDARD {
+            return Ok(Progress::new(rt, None, 0, false));
+        }
+        let len = read(rt, from, fs::metadata(rt, from))?.len();
+        let file = files::open(rt, from)?;
+        let shows = len > 0 && to != STANDARD && rt.stderr().is_terminal();
+        Ok(Progress::new(rt, Some(file), len, shows))
+    }
+
+    fn new(rt: &'a HostRuntime, file: Option<File>, len: u64, shows: bool) -> Progress<'a> {
+        Progress {
             rt,
-            inner,
+            file,
             len,
             read: 0,
             next: STEP,
-            shows: len > 0 && to != STANDARD && rt.stderr().is_terminal(),
-        })
+            shows,
+        }
     }
 
     fn count(&mut self, n: u64) {
@@ -48,7 +57,10 @@ impl<'a> Progress<'a> {
 
 impl Read for Progress<'_> {
     fn read(&mut self, buf: &mut [u8]) -> io::Result<usize> {
-        let n = self.inner.read(buf)?;
+        let n = match &mut self.file {
+            Some(file) => file.read(buf)?,
+            None => self.rt.stdin().read(buf)?,
+        };
         self.count(n as u64);
         Ok(n)
     }
