@@ -13,6 +13,9 @@ use std::{fs, io};
 /// IN or OUT of a call that is standard input or output.
 pub const STANDARD: &str = "-";
 
+/// What a sentence calls standard input.
+pub const INPUT: &str = "standard input";
+
 /// What a sentence calls standard output.
 pub const OUTPUT: &str = "standard output";
 

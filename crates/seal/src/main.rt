@@ -9,7 +9,7 @@ mod progress;
 
 use chacha20::Key;
 use failure::{Failed, miscounted, read, streamed, usage, written};
-use files::{OUTPUT, STANDARD, name_of};
+use files::{INPUT, OUTPUT, STANDARD, name_of};
 use progress::Progress;
 use sealed_file::{CHUNK, Salt, SealError, SealedReader, TAG, chunk, stream};
 use std::fs::File;
@@ -94,6 +94,10 @@ fn transform(rt: &HostRuntime, encrypts: bool, words: &[String]) -> Result<(), F
         return Err(miscounted(rt, call, &TRANSFORM, words));
     };
     let (key, from, to) = (key.as_str(), from.as_str(), to.as_str());
+    if from == STANDARD {
+        // The file that is opened next takes the place of an input that is closed.
+        read(rt, INPUT, rt.stdin().read(&mut []))?;
+    }
     if to == STANDARD {
         return write(rt, encrypts, key, from, to, &mut rt.stdout());
     }
@@ -134,8 +138,7 @@ fn write<W: Write>(
     let salt = files::random(rt)?;
     let mut reader = Progress::open(rt, from, to)?;
     let done = stream_by(encrypts, &secret, &salt, &mut reader, writer);
-    let from = name_of(from, "standard input");
-    streamed(rt, from, name_of(to, OUTPUT), done)
+    streamed(rt, name_of(from, INPUT), name_of(to, OUTPUT), done)
 }
 
 // Encrypts or decrypts. A file that is decrypted has its own salt.
