@@ -1,6 +1,7 @@
 //! Keys and files of the program.
 
 use crate::failure::{Failed, fail, fail_at, read, streamed, written};
+use crate::key::{self, LINE};
 use chacha20::Key;
 use sealed_file::stream;
 use std::fs::{File, OpenOptions};
@@ -8,6 +9,20 @@ use std::io::{ErrorKind, Write};
 use std::os::unix::fs::{MetadataExt, OpenOptionsExt};
 use std::random::RandomSource;
 use std::{fs, io};
+
+/// IN or OUT of a call that is standard input or output.
+pub const STANDARD: &str = "-";
+
+/// What a sentence calls standard input.
+pub const INPUT: &str = "standard input";
+
+/// What a sentence calls standard output.
+pub const OUTPUT: &str = "standard output";
+
+/// What a sentence calls IN or OUT, with the name of the standard stream that it may be.
+pub fn name_of<'a>(path: &'a str, stream: &'a str) -> &'a str {
+    if path == STANDARD { stream } else { path }
+}
 
 /// Random bytes.
 pub fn random<const N: usize>(rt: &HostRuntime) -> Result<[u8; N], Failed> {
@@ -18,10 +33,14 @@ pub fn random<const N: usize>(rt: &HostRuntime) -> Result<[u8; N], Failed> {
     }
 }
 
-/// Writes a new key of 32 random bytes, which its owner alone may read. Fails if the file is there.
+/// Writes a new key of 32 random bytes as text, to a file which its owner alone may read, or to standard output.
+/// Fails if the file is there.
 pub fn new_key(rt: &HostRuntime, path: &str) -> Result<(), Failed> {
-    let key = random::<32>(rt)?;
-    written(rt, path, write_new(rt, path, &key))
+    let line = key::line_of(&random(rt)?);
+    if path == STANDARD {
+        return written(rt, OUTPUT, rt.stdout().write_all(&line));
+    }
+    written(rt, path, write_new(rt, path, &line))
 }
 
 fn write_new(rt: &HostRuntime, path: &str, bytes: &[u8]) -> io::Result<()> {
@@ -40,18 +59,19 @@ fn write_synced(file: &mut File, bytes: &[u8]) -> io::Result<()> {
     file.sync_all()
 }
 
-/// Reads a key. Fails if the file has another length than 32 bytes.
+/// Reads a key. Fails if the file isn't a key.
 pub fn read_key(rt: &HostRuntime, path: &str) -> Result<Key, Failed> {
-    // One byte more than a key, so that a longer file is noticed.
-    let mut bytes = [0; 33];
+    // One byte more than a line that ends with `\r\n`, so that a longer file is noticed.
+    let mut bytes = [0; LINE + 2];
     let len = read_start(rt, path, &mut bytes)?;
-    let bytes = &bytes[..len.min(33)];
-    if bytes.len() != 32 {
-        return Err(fail(rt, "the key file ", path, " doesn't have 32 bytes"));
+    match key::key_of(&bytes[..len.min(LINE + 2)]) {
+        Some(key) => Ok(key),
+        None => {
+            let after = " holds no key: a key file has exactly 32 bytes, or one line of \
+                         seal-key-v1: and 44 characters of base64";
+            Err(fail(rt, "KEYFILE ", path, after))
+        }
     }
-    let mut key = [0; 32];
-    key.copy_from_slice(bytes);
-    Ok(key)
 }
 
 // Fills a buffer with the first bytes of a file, and returns how many there are.
@@ -78,7 +98,8 @@ pub fn check_target(rt: &HostRuntime, key: &str, from: &str, to: &str) -> Result
         Err(e) if e.kind() == ErrorKind::NotFound => return Ok(()),
         Err(e) => return written(rt, to, Err(e)),
     };
-    if is_same(rt, key, dev, ino)? || is_same(rt, from, dev, ino)? {
+    let reads_file = from != STANDARD;
+    if is_same(rt, key, dev, ino)? || (reads_file && is_same(rt, from, dev, ino)?) {
         return Err(fail(rt, "OUT ", to, " is the same file as IN or KEYFILE"));
     }
     if is_file {

@@ -3,10 +3,13 @@
 
 mod failure;
 mod files;
+mod key;
+mod pages;
 mod progress;
 
 use chacha20::Key;
-use failure::{Failed, fail, streamed, usage, written};
+use failure::{Failed, miscounted, read, streamed, usage, written};
+use files::{INPUT, OUTPUT, STANDARD, name_of};
 use progress::Progress;
 use sealed_file::{CHUNK, ReaderError, Salt, SealError, SealedReader, TAG, chunk, stream};
 use std::fs::File;
@@ -14,7 +17,12 @@ use std::io::{Read, Write};
 use std::process::ExitCode;
 use std::{env, fs, io};
 
-const OUTPUT: &str = "standard output";
+// The words of the calls.
+const KEY: [&str; 1] = ["KEYFILE"];
+
+const TRANSFORM: [&str; 3] = ["KEYFILE", "IN", "OUT"];
+
+const CAT: [&str; 4] = ["KEYFILE", "IN", "START", "LEN"];
 
 fn main(rt: HostRuntime) -> io::Result<ExitCode> {
     let words: Vec<String> = env::args(&rt)?.collect(rt.alloc())?;
@@ -26,37 +34,73 @@ fn main(rt: HostRuntime) -> io::Result<ExitCode> {
 
 fn run(rt: &HostRuntime, words: &[String]) -> Result<(), Failed> {
     let [_, call, words @ ..] = words else {
-        return Err(usage(rt));
+        return Err(usage(rt, "", "no call", " is given"));
     };
+    check_options(rt, words)?;
     match call.as_str() {
         "key" => new_key(rt, words),
         "encrypt" => transform(rt, true, words),
         "decrypt" => transform(rt, false, words),
         "cat" => cat(rt, words),
-        _ => Err(usage(rt)),
+        call => about(rt, call, words),
+    }
+}
+
+// Fails at a word that looks like an option, `-` and a letter or another `-`. A file's name may begin with `./-`.
+fn check_options(rt: &HostRuntime, words: &[String]) -> Result<(), Failed> {
+    for word in words {
+        if let [b'-', b'-' | b'A'..=b'Z' | b'a'..=b'z', ..] = word.as_bytes() {
+            return Err(usage(rt, "", word.as_str(), " is not an option here"));
+        }
+    }
+    Ok(())
+}
+
+// Prints what the program is, or what a call does.
+fn about(rt: &HostRuntime, call: &str, words: &[String]) -> Result<(), Failed> {
+    let topic = match words {
+        [topic] if call == "help" => topic.as_str(),
+        _ => call,
+    };
+    let Some(text) = pages::page(topic) else {
+        return Err(usage(rt, "", topic, " is not a call"));
+    };
+    match words {
+        [.., word] if call != "help" || words.len() > 1 => {
+            Err(usage(rt, call, " has a word too many: ", word.as_str()))
+        }
+        _ => written(rt, OUTPUT, rt.stdout().write_all(text.as_bytes())),
     }
 }
 
 fn new_key(rt: &HostRuntime, words: &[String]) -> Result<(), Failed> {
     match words {
         [key] => files::new_key(rt, key.as_str()),
-        _ => Err(usage(rt)),
+        _ => Err(miscounted(rt, "key", &KEY, words)),
     }
 }
 
-fn number(rt: &HostRuntime, word: &str) -> Result<u64, Failed> {
+fn number(rt: &HostRuntime, name: &str, word: &str) -> Result<u64, Failed> {
     match word.parse() {
         Ok(number) => Ok(number),
-        Err(_) => Err(fail(rt, "", word, " is not a number of bytes")),
+        Err(_) => Err(usage(rt, name, " is not a number of bytes below 2^64: ", word)),
     }
 }
 
-// Encrypts or decrypts IN into a new file beside OUT, and then renames it to OUT.
+// Encrypts or decrypts IN to standard output, or into a new file beside OUT that it then renames to OUT.
 fn transform(rt: &HostRuntime, encrypts: bool, words: &[String]) -> Result<(), Failed> {
     let [key, from, to] = words else {
-        return Err(usage(rt));
+        let call = if encrypts { "encrypt" } else { "decrypt" };
+        return Err(miscounted(rt, call, &TRANSFORM, words));
     };
     let (key, from, to) = (key.as_str(), from.as_str(), to.as_str());
+    if from == STANDARD {
+        // The file that is opened next takes the place of an input that is closed.
+        read(rt, INPUT, rt.stdin().read(&mut []))?;
+    }
+    if to == STANDARD {
+        return write(rt, encrypts, key, from, to, &mut rt.stdout());
+    }
     files::check_target(rt, key, from, to)?;
     let path = files::beside(rt, to)?;
     replace(rt, encrypts, key, from, to, path.as_str())
@@ -82,19 +126,19 @@ fn replace(
     done
 }
 
-fn write(
+fn write<W: Write>(
     rt: &HostRuntime,
     encrypts: bool,
     key: &str,
     from: &str,
     to: &str,
-    file: &mut File,
+    writer: &mut W,
 ) -> Result<(), Failed> {
     let secret = files::read_key(rt, key)?;
     let salt = files::random(rt)?;
-    let mut reader = Progress::open(rt, from)?;
-    let done = stream_by(encrypts, &secret, &salt, &mut reader, file);
-    streamed(rt, from, to, done)
+    let mut reader = Progress::open(rt, from, to)?;
+    let done = stream_by(encrypts, &secret, &salt, &mut reader, writer);
+    streamed(rt, name_of(from, INPUT), name_of(to, OUTPUT), done)
 }
 
 // Encrypts or decrypts. A file that is decrypted has its own salt.
@@ -115,10 +159,10 @@ fn stream_by<R: Read, W: Write>(
 // Prints a part of a file's text.
 fn cat(rt: &HostRuntime, words: &[String]) -> Result<(), Failed> {
     let [key, from, start, len] = words else {
-        return Err(usage(rt));
+        return Err(miscounted(rt, "cat", &CAT, words));
     };
-    let start = number(rt, start.as_str())?;
-    let len = number(rt, len.as_str())?;
+    let start = number(rt, "START", start.as_str())?;
+    let len = number(rt, "LEN", len.as_str())?;
     let secret = files::read_key(rt, key.as_str())?;
     print(rt, &secret, from.as_str(), start, len)
 }

@@ -1,7 +1,7 @@
 //! A reader that says on a terminal how far it is.
 
 use crate::failure::{Failed, read};
-use crate::files;
+use crate::files::{self, STANDARD};
 use std::fs::File;
 use std::io::{IsTerminal, Read};
 use std::{fs, io};
@@ -10,9 +10,10 @@ const STEP: u64 = 1 << 26;
 
 /// Prints a line on standard error, where that is a terminal and the file has a length, after each 64 MiB.
 #[derive(Drop)]
-pub struct Progress<'a, R> {
+pub struct Progress<'a> {
     rt: &'a HostRuntime,
-    inner: R,
+    // IN, or nothing for standard input.
+    file: Option<File>,
     // The length of the file, which is 0 for a pipe.
     len: u64,
     read: u64,
@@ -21,23 +22,29 @@ pub struct Progress<'a, R> {
     shows: bool,
 }
 
-impl<'a> Progress<'a, File> {
-    /// Opens a file.
-    pub fn open(rt: &'a HostRuntime, path: &str) -> Result<Progress<'a, File>, Failed> {
-        let len = read(rt, path, fs::metadata(rt, path))?.len();
-        let inner = files::open(rt, path)?;
-        Ok(Progress {
+impl<'a> Progress<'a> {
+    /// Opens IN. With OUT on standard output, shows nothing, since both may be the same terminal.
+    pub fn open(rt: &'a HostRuntime, from: &str, to: &str) -> Result<Progress<'a>, Failed> {
+        if from == STANDARD {
+            return Ok(Progress::new(rt, None, 0, false));
+        }
+        let len = read(rt, from, fs::metadata(rt, from))?.len();
+        let file = files::open(rt, from)?;
+        let shows = len > 0 && to != STANDARD && rt.stderr().is_terminal();
+        Ok(Progress::new(rt, Some(file), len, shows))
+    }
+
+    fn new(rt: &'a HostRuntime, file: Option<File>, len: u64, shows: bool) -> Progress<'a> {
+        Progress {
             rt,
-            inner,
+            file,
             len,
             read: 0,
             next: STEP,
-            shows: len > 0 && rt.stderr().is_terminal(),
-        })
+            shows,
+        }
     }
-}
 
-impl<R> Progress<'_, R> {
     fn count(&mut self, n: u64) {
         self.read = self.read.saturating_add(n);
         if self.shows && self.read >= self.next {
@@ -48,9 +55,12 @@ impl<R> Progress<'_, R> {
     }
 }
 
-impl<R: Read> Read for Progress<'_, R> {
+impl Read for Progress<'_> {
     fn read(&mut self, buf: &mut [u8]) -> io::Result<usize> {
-        let n = self.inner.read(buf)?;
+        let n = match &mut self.file {
+            Some(file) => file.read(buf)?,
+            None => self.rt.stdin().read(buf)?,
+        };
         self.count(n as u64);
         Ok(n)
     }
