@@ -4,8 +4,9 @@ ghost use Rattle.std.specs.Prelude.{◌≡◌, ◌<◌, ℕ, ◌+◌, ◌*◌, [
 ghost use Rattle.chacha_base.specs.ChaCha.{columns, diagonals, rounds};
 ghost use Rattle.chacha_base.specs.Lanes.{block_in_columns, quad, words_at, block_in_rows};
 
-use crate::backends::group::{BlockBuffer, Group, write_block};
-use crate::backends::vector::{ByBytes, ColumnVector, FourVectors, Vector, quarter_round, sums};
+use crate::backends::buffer::{BlockBuffer, write_block};
+use crate::backends::group::Group;
+use crate::backends::vector::{FourVectors, Vector, quarter_round, sums};
 use crate::rounds::Steps;
 
 /// States in columns, one in each lane: vector r of column k has word 4 r + k of each state.
@@ -48,7 +49,7 @@ fn column<V: Vector>(state: &[u32; 16], last_rows: &[[u32; 4]], k: usize) -> Fou
 //   w2:  20  21  22  23         02  12  22  32
 //   w3:  30  31  32  33         03  13  23  33
 #[inline(always)]
-fn transposed<V: ColumnVector>(w0: V, w1: V, w2: V, w3: V) -> FourVectors<V>
+fn transposed<V: Vector>(w0: V, w1: V, w2: V, w3: V) -> FourVectors<V>
     ensures first { (g : ℕ) → g < V.QUADS
         → quad (V.lane result.0) g ≡ words_at V.lane w0 w1 w2 w3 (4 * g) }
     ensures second { (g : ℕ) → g < V.QUADS
@@ -75,7 +76,7 @@ type RowParts<V> = (
 
 // Turns blocks in columns into blocks in rows.
 #[inline(always)]
-fn in_rows<V: ColumnVector>(states: Columns<V>) -> RowParts<V>
+fn in_rows<V: Vector>(states: Columns<V>) -> RowParts<V>
     ensures first { (g : ℕ) → g < V.QUADS
         → block_in_rows V.lane result.0 g ≡ block_in_columns V.lane states (4 * g) }
     ensures second { (g : ℕ) → g < V.QUADS
@@ -114,7 +115,7 @@ fn write_blocks<V: Vector, B: BlockBuffer>(rows: RowParts<V>, g: usize, buffers:
     write_block(rows.3, g, &mut buffers[3]);
 }
 
-impl<V: ColumnVector> Group for Columns<V> {
+impl<V: Vector> Group for Columns<V> {
     ghost BLOCKS = { 4 * V.QUADS };
 
     ghost ROUND_STEPS = { 4 };
@@ -130,10 +131,10 @@ impl<V: ColumnVector> Group for Columns<V> {
     fn column_round(self, steps: &mut Steps) -> Columns<V> {
         let Columns(k, l, m, n) = self;
         Columns(
-            quarter_round::<V, ByBytes>(k, steps),
-            quarter_round::<V, ByBytes>(l, steps),
-            quarter_round::<V, ByBytes>(m, steps),
-            quarter_round::<V, ByBytes>(n, steps),
+            quarter_round::<V, true>(k, steps),
+            quarter_round::<V, true>(l, steps),
+            quarter_round::<V, true>(m, steps),
+            quarter_round::<V, true>(n, steps),
         )
     }
 
@@ -141,10 +142,10 @@ impl<V: ColumnVector> Group for Columns<V> {
     fn diagonal_round(self, steps: &mut Steps) -> Columns<V> {
         let Columns(k, l, m, n) = self;
         // The fourth diagonal first: it needs word a of the column that was computed last, and a is ready first.
-        let s = quarter_round::<V, ByBytes>(FourVectors(n.0, k.1, l.2, m.3), steps);
-        let p = quarter_round::<V, ByBytes>(FourVectors(k.0, l.1, m.2, n.3), steps);
-        let q = quarter_round::<V, ByBytes>(FourVectors(l.0, m.1, n.2, k.3), steps);
-        let r = quarter_round::<V, ByBytes>(FourVectors(m.0, n.1, k.2, l.3), steps);
+        let s = quarter_round::<V, true>(FourVectors(n.0, k.1, l.2, m.3), steps);
+        let p = quarter_round::<V, true>(FourVectors(k.0, l.1, m.2, n.3), steps);
+        let q = quarter_round::<V, true>(FourVectors(l.0, m.1, n.2, k.3), steps);
+        let r = quarter_round::<V, true>(FourVectors(m.0, n.1, k.2, l.3), steps);
         Columns(
             FourVectors(p.0, s.1, r.2, q.3),
             FourVectors(q.0, p.1, s.2, r.3),

@@ -42,31 +42,28 @@ pub trait Vector: Copy {
         requires { g < QUADS }
         ensures { quad (slice_index result) 0 ≡ quad (lane self) g };
 
-    ghost quads_at_most: { QUADS ≤ 4 };
-}
-
-/// What only columns need of a vector. Each impl has the rotations that are fastest for its width.
-///
-/// LLVM moves a permutation of bytes through an XOR of words if an operand is itself a permutation, and then permutes
-/// both operands. It leaves an XOR of bytes or of 16-bit halves alone.
-pub trait ColumnVector: Vector {
-    /// The words in each lane XORed and rotated to the left by 16.
+    /// `xor_rotated` by 16, as is fastest in columns of this width.
+    ///
+    /// LLVM moves a permutation of bytes through an XOR of words if an operand is itself a permutation, and then
+    /// permutes both operands. It leaves an XOR of bytes or of 16-bit halves alone.
     fn xor_rotated_16(self, other: Self) -> Self
-        ensures { (j : ℕ) → j < 4 * Self.QUADS
-            → Self.lane result j ≡ rotl (bit_xor (Self.lane self j) (Self.lane other j)) 16 };
+        ensures { (j : ℕ) → j < 4 * QUADS
+            → lane result j ≡ rotl (bit_xor (lane self j) (lane other j)) 16 };
 
-    /// The same, rotated by 8.
+    /// The same, by 8.
     fn xor_rotated_8(self, other: Self) -> Self
-        ensures { (j : ℕ) → j < 4 * Self.QUADS
-            → Self.lane result j ≡ rotl (bit_xor (Self.lane self j) (Self.lane other j)) 8 };
+        ensures { (j : ℕ) → j < 4 * QUADS
+            → lane result j ≡ rotl (bit_xor (lane self j) (lane other j)) 8 };
 
     /// Interleaves each quad with the same quad of another vector: the first vector has the first two words of both, by
     /// turns, and the second the last two.
     fn interleaved(self, other: Self) -> (Self, Self)
-        ensures low { (g : ℕ) → g < Self.QUADS → quad (Self.lane result.0) g
-            ≡ interleaved_low (quad (Self.lane self) g) (quad (Self.lane other) g) }
-        ensures high { (g : ℕ) → g < Self.QUADS → quad (Self.lane result.1) g
-            ≡ interleaved_high (quad (Self.lane self) g) (quad (Self.lane other) g) };
+        ensures low { (g : ℕ) → g < QUADS → quad (lane result.0) g
+            ≡ interleaved_low (quad (lane self) g) (quad (lane other) g) }
+        ensures high { (g : ℕ) → g < QUADS → quad (lane result.1) g
+            ≡ interleaved_high (quad (lane self) g) (quad (lane other) g) };
+
+    ghost quads_at_most: { QUADS ≤ 4 };
 }
 
 /// Words a, b, c and d of a quarter round in each lane. In rows these are the rows of states, in columns a column or a
@@ -86,52 +83,36 @@ impl<V: Copy> Clone for FourVectors<V> {
 
 impl<V: Copy> Copy for FourVectors<V> {}
 
-/// How a quarter round rotates words by 16 and by 8, so by whole bytes.
-pub trait RotateBytes<V: Vector> {
-    /// The words in each lane XORed and rotated to the left by 16.
-    fn xor_rotated_16(one: V, other: V) -> V
-        ensures { (j : ℕ) → j < 4 * V.QUADS
-            → V.lane result j ≡ rotl (bit_xor (V.lane one j) (V.lane other j)) 16 };
-
-    /// The same, rotated by 8.
-    fn xor_rotated_8(one: V, other: V) -> V
-        ensures { (j : ℕ) → j < 4 * V.QUADS
-            → V.lane result j ≡ rotl (bit_xor (V.lane one j) (V.lane other j)) 8 };
-}
-
-/// By shifts, which is faster in rows.
-pub struct ByShifts;
-
-impl<V: Vector> RotateBytes<V> for ByShifts {
-    #[inline(always)]
-    fn xor_rotated_16(one: V, other: V) -> V {
+// The words in each lane XORed and rotated to the left by 16.
+#[inline(always)]
+fn xor_rotated_16<V: Vector, const IN_COLUMNS: bool>(one: V, other: V) -> V
+    ensures { (j : ℕ) → j < 4 * V.QUADS
+        → V.lane result j ≡ rotl (bit_xor (V.lane one j) (V.lane other j)) 16 }
+{
+    if IN_COLUMNS {
+        one.xor_rotated_16(other)
+    } else {
         one.xor_rotated(other, 16)
     }
+}
 
-    #[inline(always)]
-    fn xor_rotated_8(one: V, other: V) -> V {
+// The same by 8.
+#[inline(always)]
+fn xor_rotated_8<V: Vector, const IN_COLUMNS: bool>(one: V, other: V) -> V
+    ensures { (j : ℕ) → j < 4 * V.QUADS
+        → V.lane result j ≡ rotl (bit_xor (V.lane one j) (V.lane other j)) 8 }
+{
+    if IN_COLUMNS {
+        one.xor_rotated_8(other)
+    } else {
         one.xor_rotated(other, 8)
     }
 }
 
-/// By permutations of bytes or halves, which are faster in columns.
-pub struct ByBytes;
-
-impl<V: ColumnVector> RotateBytes<V> for ByBytes {
-    #[inline(always)]
-    fn xor_rotated_16(one: V, other: V) -> V {
-        one.xor_rotated_16(other)
-    }
-
-    #[inline(always)]
-    fn xor_rotated_8(one: V, other: V) -> V {
-        one.xor_rotated_8(other)
-    }
-}
-
-/// A quarter round in each lane (RFC 8439, section 2.1). They count as one. `B` rotates by 16 and by 8.
+/// A quarter round in each lane (RFC 8439, section 2.1). They count as one. Rows rotate by shifts alone; columns rotate
+/// by 16 and by 8 as is fastest for their width.
 #[inline(always)]
-pub fn quarter_round<V: Vector, B: RotateBytes<V>>(
+pub fn quarter_round<V: Vector, const IN_COLUMNS: bool>(
     start: FourVectors<V>,
     steps: &mut Steps,
 ) -> FourVectors<V>
@@ -141,11 +122,11 @@ pub fn quarter_round<V: Vector, B: RotateBytes<V>>(
 {
     let FourVectors(a, b, c, d) = start;
     let a1 = a.plus(b);
-    let d1 = B::xor_rotated_16(d, a1);
+    let d1 = xor_rotated_16::<V, IN_COLUMNS>(d, a1);
     let c1 = c.plus(d1);
     let b1 = b.xor_rotated(c1, 12);
     let a2 = a1.plus(b1);
-    let d2 = B::xor_rotated_8(d1, a2);
+    let d2 = xor_rotated_8::<V, IN_COLUMNS>(d1, a2);
     let c2 = c1.plus(d2);
     let b2 = b1.xor_rotated(c2, 7);
     steps.add_round();
@@ -224,9 +205,7 @@ impl Vector for u32x4 {
     fn quad(self, _g: usize) -> u32x4 {
         self
     }
-}
 
-impl ColumnVector for u32x4 {
     // By shifts: below x86-64-v3, halves or bytes take 1.07 to 1.12 of the time.
     #[inline(always)]
     fn xor_rotated_16(self, other: u32x4) -> u32x4 {
@@ -290,9 +269,7 @@ impl Vector for u32x8 {
             _ => self.swizzle([4, 5, 6, 7]),
         }
     }
-}
 
-impl ColumnVector for u32x8 {
     #[inline(always)]
     fn xor_rotated_16(self, other: u32x8) -> u32x8 {
         let one = u16x16::from_le_bytes(self.to_le_bytes());
@@ -363,9 +340,7 @@ impl Vector for u32x16 {
             _ => self.swizzle([12, 13, 14, 15]),
         }
     }
-}
 
-impl ColumnVector for u32x16 {
     #[inline(always)]
     fn xor_rotated_16(self, other: u32x16) -> u32x16 {
         let one = u16x32::from_le_bytes(self.to_le_bytes());
