@@ -6,7 +6,7 @@ ghost use Rattle.chacha_base.specs.Lanes.{block_in_columns, quad, words_at, bloc
 
 use crate::backends::buffer::{BlockBuffer, write_block};
 use crate::backends::group::Group;
-use crate::backends::vector::{FourVectors, Vector, quarter_round, sums};
+use crate::backends::vector::{ByBytes, FourVectors, Vector, quarter_round, sums};
 use crate::rounds::Steps;
 
 /// States in columns, one in each lane: vector r of column k has word 4 r + k of each state.
@@ -131,10 +131,10 @@ impl<V: Vector> Group for Columns<V> {
     fn column_round(self, steps: &mut Steps) -> Columns<V> {
         let Columns(k, l, m, n) = self;
         Columns(
-            quarter_round::<V, true>(k, steps),
-            quarter_round::<V, true>(l, steps),
-            quarter_round::<V, true>(m, steps),
-            quarter_round::<V, true>(n, steps),
+            quarter_round::<V, ByBytes>(k, steps),
+            quarter_round::<V, ByBytes>(l, steps),
+            quarter_round::<V, ByBytes>(m, steps),
+            quarter_round::<V, ByBytes>(n, steps),
         )
     }
 
@@ -142,10 +142,10 @@ impl<V: Vector> Group for Columns<V> {
     fn diagonal_round(self, steps: &mut Steps) -> Columns<V> {
         let Columns(k, l, m, n) = self;
         // The fourth diagonal first: it needs word a of the column that was computed last, and a is ready first.
-        let s = quarter_round::<V, true>(FourVectors(n.0, k.1, l.2, m.3), steps);
-        let p = quarter_round::<V, true>(FourVectors(k.0, l.1, m.2, n.3), steps);
-        let q = quarter_round::<V, true>(FourVectors(l.0, m.1, n.2, k.3), steps);
-        let r = quarter_round::<V, true>(FourVectors(m.0, n.1, k.2, l.3), steps);
+        let s = quarter_round::<V, ByBytes>(FourVectors(n.0, k.1, l.2, m.3), steps);
+        let p = quarter_round::<V, ByBytes>(FourVectors(k.0, l.1, m.2, n.3), steps);
+        let q = quarter_round::<V, ByBytes>(FourVectors(l.0, m.1, n.2, k.3), steps);
+        let r = quarter_round::<V, ByBytes>(FourVectors(m.0, n.1, k.2, l.3), steps);
         Columns(
             FourVectors(p.0, s.1, r.2, q.3),
             FourVectors(q.0, p.1, s.2, r.3),

@@ -1,6 +1,6 @@
 //! What the kernel needs of a group of blocks, in rows or in columns, and groups of two parts.
 
-ghost use Rattle.std.specs.Prelude.{◌≡◌, ◌≤◌, ◌<◌, ℕ, ◌+◌, ◌-◌, ◌*◌, nat_lt, if◌then◌else◌, [], length, slice_get, slice_index_or, Some};
+ghost use Rattle.std.specs.Prelude.{◌≡◌, ◌≤◌, ◌<◌, ℕ, ◌+◌, ◌-◌, ◌*◌, nat_lt, if◌then◌else◌, List, [], length, slice_get, slice_index_or, Some};
 ghost use Rattle.chacha_base.specs.ChaCha.{columns, diagonals, rounds, add_states};
 ghost use Rattle.chacha_base.specs.Lanes.{with_last_row};
 

@@ -5,7 +5,7 @@ ghost use Rattle.chacha_base.specs.Lanes.{quad, state_row, rows_rotated, block_i
 
 use crate::backends::buffer::{BlockBuffer, write_block};
 use crate::backends::group::Group;
-use crate::backends::vector::{FourVectors, Vector, quarter_round, sums};
+use crate::backends::vector::{ByShifts, FourVectors, Vector, quarter_round, sums};
 use crate::rounds::Steps;
 
 /// States in rows, one in each quad. A round of the diagonals first rotates the rows, so that each diagonal becomes a
@@ -80,7 +80,7 @@ impl<V: Vector, const FIXED_ROW: usize> Group for Rows<V, FIXED_ROW> {
     #[inline(always)]
     fn column_round(self, steps: &mut Steps) -> Rows<V, FIXED_ROW> {
         let Rows(rows) = self;
-        Rows(quarter_round::<V, false>(rows, steps))
+        Rows(quarter_round::<V, ByShifts>(rows, steps))
     }
 
     #[inline(always)]
@@ -88,7 +88,7 @@ impl<V: Vector, const FIXED_ROW: usize> Group for Rows<V, FIXED_ROW> {
         let Rows(rows) = self;
         let left = 4 - FIXED_ROW % 4;
         let diagonalized = rows_rotated(rows, left, left + 1, left + 2, left + 3);
-        let mixed = quarter_round::<V, false>(diagonalized, steps);
+        let mixed = quarter_round::<V, ByShifts>(diagonalized, steps);
         let right = 4 + FIXED_ROW % 4;
         Rows(rows_rotated(mixed, right, right - 1, right - 2, right - 3))
     }

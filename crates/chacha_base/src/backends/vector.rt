@@ -83,36 +83,52 @@ impl<V: Copy> Clone for FourVectors<V> {
 
 impl<V: Copy> Copy for FourVectors<V> {}
 
-// The words in each lane XORed and rotated to the left by 16.
-#[inline(always)]
-fn xor_rotated_16<V: Vector, const IN_COLUMNS: bool>(one: V, other: V) -> V
-    ensures { (j : ℕ) → j < 4 * V.QUADS
-        → V.lane result j ≡ rotl (bit_xor (V.lane one j) (V.lane other j)) 16 }
-{
-    if IN_COLUMNS {
-        one.xor_rotated_16(other)
-    } else {
-        one.xor_rotated(other, 16)
-    }
+/// How a quarter round rotates words by 16 and by 8, so by whole bytes.
+pub trait RotateBytes<V: Vector> {
+    /// The words in each lane XORed and rotated to the left by 16.
+    fn xor_rotated_16(one: V, other: V) -> V
+        ensures { (j : ℕ) → j < 4 * V.QUADS
+            → V.lane result j ≡ rotl (bit_xor (V.lane one j) (V.lane other j)) 16 };
+
+    /// The same, rotated by 8.
+    fn xor_rotated_8(one: V, other: V) -> V
+        ensures { (j : ℕ) → j < 4 * V.QUADS
+            → V.lane result j ≡ rotl (bit_xor (V.lane one j) (V.lane other j)) 8 };
 }
 
-// The same by 8.
-#[inline(always)]
-fn xor_rotated_8<V: Vector, const IN_COLUMNS: bool>(one: V, other: V) -> V
-    ensures { (j : ℕ) → j < 4 * V.QUADS
-        → V.lane result j ≡ rotl (bit_xor (V.lane one j) (V.lane other j)) 8 }
-{
-    if IN_COLUMNS {
-        one.xor_rotated_8(other)
-    } else {
+/// By shifts, which is faster in rows.
+pub struct ByShifts;
+
+impl<V: Vector> RotateBytes<V> for ByShifts {
+    #[inline(always)]
+    fn xor_rotated_16(one: V, other: V) -> V {
+        one.xor_rotated(other, 16)
+    }
+
+    #[inline(always)]
+    fn xor_rotated_8(one: V, other: V) -> V {
         one.xor_rotated(other, 8)
     }
 }
 
-/// A quarter round in each lane (RFC 8439, section 2.1). They count as one. Rows rotate by shifts alone; columns rotate
-/// by 16 and by 8 as is fastest for their width.
+/// By permutations of bytes or halves, which are faster in columns.
+pub struct ByBytes;
+
+impl<V: Vector> RotateBytes<V> for ByBytes {
+    #[inline(always)]
+    fn xor_rotated_16(one: V, other: V) -> V {
+        one.xor_rotated_16(other)
+    }
+
+    #[inline(always)]
+    fn xor_rotated_8(one: V, other: V) -> V {
+        one.xor_rotated_8(other)
+    }
+}
+
+/// A quarter round in each lane (RFC 8439, section 2.1). They count as one. `B` rotates by 16 and by 8.
 #[inline(always)]
-pub fn quarter_round<V: Vector, const IN_COLUMNS: bool>(
+pub fn quarter_round<V: Vector, B: RotateBytes<V>>(
     start: FourVectors<V>,
     steps: &mut Steps,
 ) -> FourVectors<V>
@@ -122,11 +138,11 @@ pub fn quarter_round<V: Vector, const IN_COLUMNS: bool>(
 {
     let FourVectors(a, b, c, d) = start;
     let a1 = a.plus(b);
-    let d1 = xor_rotated_16::<V, IN_COLUMNS>(d, a1);
+    let d1 = B::xor_rotated_16(d, a1);
     let c1 = c.plus(d1);
     let b1 = b.xor_rotated(c1, 12);
     let a2 = a1.plus(b1);
-    let d2 = xor_rotated_8::<V, IN_COLUMNS>(d1, a2);
+    let d2 = B::xor_rotated_8(d1, a2);
     let c2 = c1.plus(d2);
     let b2 = b1.xor_rotated(c2, 7);
     steps.add_round();
