@@ -26,8 +26,8 @@
 
 mod chacha;
 mod chacha_core;
+mod facts;
 mod legacy;
-mod named;
 mod rng;
 pub mod runs;
 mod xchacha;

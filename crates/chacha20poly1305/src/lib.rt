@@ -25,6 +25,7 @@
 
 mod chacha_poly1305;
 mod error;
+mod facts;
 mod generate;
 mod mac;
 mod message;

@@ -1,10 +1,6 @@
-//! The AEADs, and facts that tie each to the keystream of the RFC or the draft.
+//! The AEADs.
 
-ghost use Rattle.std.specs.Prelude.{◌≡◌};
-ghost use Rattle.chacha20.specs.ChaCha.{chacha_stream, ietf};
-ghost use Rattle.chacha20.specs.XChaCha.{xchacha_stream};
-
-use crate::chacha_poly1305::{ChaChaPoly1305, KeyedStream};
+use crate::chacha_poly1305::ChaChaPoly1305;
 use chacha20::{ChaCha8, ChaCha12, ChaCha20, XChaCha8, XChaCha12, XChaCha20};
 
 /// ChaCha20-Poly1305 (RFC 8439, section 2.8), with a nonce of 12 bytes. A message has at most 274877906880 bytes.
@@ -25,13 +21,3 @@ pub type XChaCha8Poly1305 = ChaChaPoly1305<XChaCha8>;
 
 /// XChaCha20-Poly1305 with 12 rounds (this crate).
 pub type XChaCha12Poly1305 = ChaChaPoly1305<XChaCha12>;
-
-// The keystream of each. A named type with a wrong cipher would break one of these.
-fn streams()
-    ensures chacha20 { ⟦<ChaCha20Poly1305 as KeyedStream>⟧.stream ≡ chacha_stream 10 ietf }
-    ensures xchacha20 { ⟦<XChaCha20Poly1305 as KeyedStream>⟧.stream ≡ xchacha_stream 10 }
-    ensures chacha8 { ⟦<ChaCha8Poly1305 as KeyedStream>⟧.stream ≡ chacha_stream 4 ietf }
-    ensures chacha12 { ⟦<ChaCha12Poly1305 as KeyedStream>⟧.stream ≡ chacha_stream 6 ietf }
-    ensures xchacha8 { ⟦<XChaCha8Poly1305 as KeyedStream>⟧.stream ≡ xchacha_stream 4 }
-    ensures xchacha12 { ⟦<XChaCha12Poly1305 as KeyedStream>⟧.stream ≡ xchacha_stream 6 }
-{}

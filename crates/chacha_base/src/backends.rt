@@ -11,6 +11,7 @@
 //!
 //! The number in a name counts the words of a vector (`Lanes4`, `Lanes8`, `Lanes16`), or blocks (`Rows8`, `Columns8`).
 
+mod buffer;
 mod columns;
 mod columns8;
 mod group;

@@ -4,8 +4,9 @@ ghost use Rattle.std.specs.Prelude.{◌≡◌, ◌<◌, ℕ, ◌+◌, ◌*◌, [
 ghost use Rattle.chacha_base.specs.ChaCha.{columns, diagonals, rounds};
 ghost use Rattle.chacha_base.specs.Lanes.{block_in_columns, quad, words_at, block_in_rows};
 
-use crate::backends::group::{BlockBuffer, Group, write_block};
-use crate::backends::vector::{ByBytes, ColumnVector, FourVectors, Vector, quarter_round, sums};
+use crate::backends::buffer::{BlockBuffer, write_block};
+use crate::backends::group::Group;
+use crate::backends::vector::{ByBytes, FourVectors, Vector, quarter_round, sums};
 use crate::rounds::Steps;
 
 /// States in columns, one in each lane: vector r of column k has word 4 r + k of each state.
@@ -48,7 +49,7 @@ fn column<V: Vector>(state: &[u32; 16], last_rows: &[[u32; 4]], k: usize) -> Fou
 //   w2:  20  21  22  23         02  12  22  32
 //   w3:  30  31  32  33         03  13  23  33
 #[inline(always)]
-fn transposed<V: ColumnVector>(w0: V, w1: V, w2: V, w3: V) -> FourVectors<V>
+fn transposed<V: Vector>(w0: V, w1: V, w2: V, w3: V) -> FourVectors<V>
     ensures first { (g : ℕ) → g < V.QUADS
         → quad (V.lane result.0) g ≡ words_at V.lane w0 w1 w2 w3 (4 * g) }
     ensures second { (g : ℕ) → g < V.QUADS
@@ -75,7 +76,7 @@ type RowParts<V> = (
 
 // Turns blocks in columns into blocks in rows.
 #[inline(always)]
-fn in_rows<V: ColumnVector>(states: Columns<V>) -> RowParts<V>
+fn in_rows<V: Vector>(states: Columns<V>) -> RowParts<V>
     ensures first { (g : ℕ) → g < V.QUADS
         → block_in_rows V.lane result.0 g ≡ block_in_columns V.lane states (4 * g) }
     ensures second { (g : ℕ) → g < V.QUADS
@@ -114,7 +115,7 @@ fn write_blocks<V: Vector, B: BlockBuffer>(rows: RowParts<V>, g: usize, buffers:
     write_block(rows.3, g, &mut buffers[3]);
 }
 
-impl<V: ColumnVector> Group for Columns<V> {
+impl<V: Vector> Group for Columns<V> {
     ghost BLOCKS = { 4 * V.QUADS };
 
     ghost ROUND_STEPS = { 4 };

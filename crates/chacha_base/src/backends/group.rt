@@ -1,12 +1,11 @@
 //! What the kernel needs of a group of blocks, in rows or in columns, and groups of two parts.
 
-ghost use Rattle.std.specs.Prelude.{◌≡◌, ◌≤◌, ◌<◌, ℕ, ◌+◌, ◌-◌, ◌*◌, nat_lt, if◌then◌else◌, List, [], length, slice_get, slice_index, slice_index_or, Some};
-ghost use Rattle.chacha_base.specs.ChaCha.{bytes, columns, diagonals, rounds, add_states};
-ghost use Rattle.chacha_base.specs.Lanes.{quad, with_last_row, block_in_rows};
+ghost use Rattle.std.specs.Prelude.{◌≡◌, ◌≤◌, ◌<◌, ℕ, ◌+◌, ◌-◌, ◌*◌, nat_lt, if◌then◌else◌, List, [], length, slice_get, slice_index_or, Some};
+ghost use Rattle.chacha_base.specs.ChaCha.{columns, diagonals, rounds, add_states};
+ghost use Rattle.chacha_base.specs.Lanes.{with_last_row};
 
-use crate::backends::vector::{FourVectors, Vector};
+use crate::backends::buffer::BlockBuffer;
 use crate::rounds::Steps;
-use std::simd::prelude::*;
 
 /// The states of consecutive blocks. They go through the rounds together, and become the blocks.
 pub trait Group: Sized {
@@ -71,9 +70,9 @@ pub trait Group: Sized {
 }
 
 /// Two groups whose rounds alternate. The blocks of the second come after those of the first.
-pub struct Interleaved<G, H>(G, H);
+pub struct Pair<G, H>(G, H);
 
-impl<G: Group, H: Group> Group for Interleaved<G, H> {
+impl<G: Group, H: Group> Group for Pair<G, H> {
     ghost BLOCKS = { G.BLOCKS + H.BLOCKS };
 
     ghost ROUND_STEPS = { G.ROUND_STEPS + H.ROUND_STEPS };
@@ -87,100 +86,40 @@ impl<G: Group, H: Group> Group for Interleaved<G, H> {
     }
 
     #[inline(always)]
-    fn column_round(self, steps: &mut Steps) -> Interleaved<G, H> {
-        let Interleaved(front, back) = self;
-        Interleaved(front.column_round(steps), back.column_round(steps))
+    fn column_round(self, steps: &mut Steps) -> Pair<G, H> {
+        let Pair(front, back) = self;
+        Pair(front.column_round(steps), back.column_round(steps))
     }
 
     #[inline(always)]
-    fn diagonal_round(self, steps: &mut Steps) -> Interleaved<G, H> {
-        let Interleaved(front, back) = self;
-        Interleaved(front.diagonal_round(steps), back.diagonal_round(steps))
+    fn diagonal_round(self, steps: &mut Steps) -> Pair<G, H> {
+        let Pair(front, back) = self;
+        Pair(front.diagonal_round(steps), back.diagonal_round(steps))
     }
 
     #[inline(always)]
-    fn start(state: &[u32; 16], last_rows: &[[u32; 4]]) -> Interleaved<G, H> {
+    fn start(state: &[u32; 16], last_rows: &[[u32; 4]]) -> Pair<G, H> {
         let (front, back) = last_rows.split_at(G::blocks(last_rows.len()));
-        Interleaved(G::start(state, front), H::start(state, back))
+        Pair(G::start(state, front), H::start(state, back))
     }
 
     #[inline(always)]
-    fn copied(&self) -> Interleaved<G, H> {
-        Interleaved(self.0.copied(), self.1.copied())
+    fn copied(&self) -> Pair<G, H> {
+        Pair(self.0.copied(), self.1.copied())
     }
 
     #[inline(always)]
-    fn sums(self, other: Interleaved<G, H>) -> Interleaved<G, H> {
-        let Interleaved(front, back) = self;
-        let Interleaved(other_front, other_back) = other;
-        Interleaved(front.sums(other_front), back.sums(other_back))
+    fn sums(self, other: Pair<G, H>) -> Pair<G, H> {
+        let Pair(front, back) = self;
+        let Pair(other_front, other_back) = other;
+        Pair(front.sums(other_front), back.sums(other_back))
     }
 
     #[inline(always)]
     fn store<B: BlockBuffer>(self, buffers: &mut [B]) {
-        let Interleaved(front, back) = self;
+        let Pair(front, back) = self;
         let (front_buffers, back_buffers) = buffers.split_at_mut(G::blocks(buffers.len()));
         front.store(front_buffers);
         back.store(back_buffers);
     }
-}
-
-/// Room for a block, as words or as bytes.
-pub trait BlockBuffer {
-    // The buffer that holds these words.
-    ghost of_words: { List ℕ → Self };
-
-    /// Writes a state of which each vector is a row.
-    fn write_rows(&mut self, rows: FourVectors<u32x4>)
-        ensures { self.new ≡ of_words (block_in_rows slice_index rows 0) };
-}
-
-impl BlockBuffer for [u32; 16] {
-    ghost of_words = { λ words. words };
-
-    #[inline(always)]
-    fn write_rows(&mut self, rows: FourVectors<u32x4>) {
-        // One write of sixteen words: with four writes of a row, small fills took 2 percent longer.
-        let [a0, a1, a2, a3] = rows.0.to_array();
-        let [b0, b1, b2, b3] = rows.1.to_array();
-        let [c0, c1, c2, c3] = rows.2.to_array();
-        let [d0, d1, d2, d3] = rows.3.to_array();
-        *self = [
-            a0, a1, a2, a3, b0, b1, b2, b3, c0, c1, c2, c3, d0, d1, d2, d3,
-        ];
-    }
-}
-
-impl BlockBuffer for [u8; 64] {
-    ghost of_words = { bytes };
-
-    #[inline(always)]
-    fn write_rows(&mut self, rows: FourVectors<u32x4>) {
-        let (front, back) = self.split_at_mut(32);
-        let (a, b) = front.split_at_mut(16);
-        let (c, d) = back.split_at_mut(16);
-        write_row(rows.0, a);
-        write_row(rows.1, b);
-        write_row(rows.2, c);
-        write_row(rows.3, d);
-    }
-}
-
-// Writes a row of words as bytes.
-#[inline(always)]
-fn write_row(words: u32x4, output: &mut [u8])
-    requires { length output.old ≡ 16 }
-    ensures { output.new ≡ bytes (quad (slice_index words) 0) }
-{
-    words.to_le_bytes().copy_to_slice(output);
-}
-
-/// Writes one of the states of which four vectors hold the rows.
-#[inline(always)]
-pub fn write_block<V: Vector, B: BlockBuffer>(rows: FourVectors<V>, g: usize, buffer: &mut B)
-    requires { g < V.QUADS }
-    ensures { buffer.new ≡ B.of_words (block_in_rows V.lane rows g) }
-{
-    let FourVectors(a, b, c, d) = rows;
-    buffer.write_rows(FourVectors(a.quad(g), b.quad(g), c.quad(g), d.quad(g)));
 }

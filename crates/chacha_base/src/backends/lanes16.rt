@@ -5,7 +5,7 @@ ghost use Rattle.chacha_base.specs.Counts.{Grows, for_tail, tail_of_16};
 ghost use Rattle.chacha_base.specs.State.{state_after, AreNextBlocks};
 
 use crate::backends::columns::Columns;
-use crate::backends::group::Interleaved;
+use crate::backends::group::Pair;
 use crate::backends::kernel::{write_buffer, write_group, write_one};
 use crate::backends::narrow::{Four, One, write_narrow_tail, write_up_to_8};
 use crate::cipher::{ParBlocksSizeUser, RngBackend, StreamCipherBackend};
@@ -20,9 +20,9 @@ use std::simd::prelude::*;
 pub struct Lanes16;
 
 // Eight and sixteen blocks in rows, by groups of four side by side.
-type Eight = Interleaved<Four, Four>;
+type Eight = Pair<Four, Four>;
 
-type Sixteen = Interleaved<Eight, Eight>;
+type Sixteen = Pair<Eight, Eight>;
 
 impl ParBlocksSizeUser for Lanes16 {
     ghost use Rattle.std.proofs.Common.{lit≤};
@@ -77,20 +77,4 @@ impl<R: Rounds> RngBackend<R> for Lanes16 {
     fn gen_ks_blocks(state: &mut [u32; 16], buffer: &mut [u32; 64], steps: &mut Steps) {
         write_buffer::<R, Four>(state, buffer, steps);
     }
-}
-
-// The numbers of this backend, stated once more: a change of one in the code and in its own clauses fails here.
-fn lanes16_numbers<R: Rounds, V: Variant>(
-    state: &mut [u32; 16],
-    blocks: &mut [[u8; 64]],
-    steps: &mut Steps,
-)
-    requires { length blocks.old < 16 }
-    ensures width { ⟦<Lanes16 as ParBlocksSizeUser>⟧.PAR_BLOCKS ≡ 16 }
-    ensures par { ⟦<Lanes16 as StreamCipherBackend<R, V>>⟧.PAR_STEPS ≡ 8 }
-    ensures one { ⟦<Lanes16 as StreamCipherBackend<R, V>>⟧.ONE_STEPS ≡ 2 }
-    ensures rng { ⟦<Lanes16 as RngBackend<R>>⟧.RNG_STEPS ≡ 2 }
-    ensures tail { steps.new.rounds ≡ steps.old.rounds + tail_of_16 (length blocks.old) * R.COUNT }
-{
-    <Lanes16 as StreamCipherBackend<R, V>>::gen_tail_blocks(state, blocks, steps);
 }

@@ -5,7 +5,7 @@ ghost use Rattle.chacha_base.specs.Counts.{Grows, for_tail};
 ghost use Rattle.chacha_base.specs.State.{state_after, AreNextBlocks};
 
 use crate::backends::columns::Columns;
-use crate::backends::group::Interleaved;
+use crate::backends::group::Pair;
 use crate::backends::kernel::{write_buffer, write_group, write_one, write_tail};
 use crate::backends::rows::Rows;
 use crate::cipher::{ParBlocksSizeUser, RngBackend, StreamCipherBackend};
@@ -22,9 +22,9 @@ pub struct Lanes4;
 // One, two and four blocks in rows, each block in vectors of its own.
 type One = Rows<u32x4, 1>;
 
-type Two = Interleaved<One, One>;
+type Two = Pair<One, One>;
 
-type Four = Interleaved<Two, Two>;
+type Four = Pair<Two, Two>;
 
 impl ParBlocksSizeUser for Lanes4 {
     ghost use Rattle.std.proofs.Common.{lit≤};
@@ -75,20 +75,4 @@ impl<R: Rounds> RngBackend<R> for Lanes4 {
     fn gen_ks_blocks(state: &mut [u32; 16], buffer: &mut [u32; 64], steps: &mut Steps) {
         write_buffer::<R, Four>(state, buffer, steps);
     }
-}
-
-// The numbers of this backend, stated once more: a change of one in the code and in its own clauses fails here.
-fn lanes4_numbers<R: Rounds, V: Variant>(
-    state: &mut [u32; 16],
-    blocks: &mut [[u8; 64]],
-    steps: &mut Steps,
-)
-    requires { length blocks.old < 4 }
-    ensures width { ⟦<Lanes4 as ParBlocksSizeUser>⟧.PAR_BLOCKS ≡ 4 }
-    ensures par { ⟦<Lanes4 as StreamCipherBackend<R, V>>⟧.PAR_STEPS ≡ 8 }
-    ensures one { ⟦<Lanes4 as StreamCipherBackend<R, V>>⟧.ONE_STEPS ≡ 8 }
-    ensures rng { ⟦<Lanes4 as RngBackend<R>>⟧.RNG_STEPS ≡ 8 }
-    ensures tail { steps.new.rounds ≡ steps.old.rounds + min 1 (length blocks.old) * 8 * R.COUNT }
-{
-    <Lanes4 as StreamCipherBackend<R, V>>::gen_tail_blocks(state, blocks, steps);
 }

@@ -4,7 +4,7 @@ ghost use Rattle.std.specs.Prelude.{◌≡◌, ◌<◌, ◌+◌, ◌*◌, min, l
 ghost use Rattle.chacha_base.specs.Counts.{Grows, for_tail};
 ghost use Rattle.chacha_base.specs.State.{state_after, AreNextBlocks};
 
-use crate::backends::group::Interleaved;
+use crate::backends::group::Pair;
 use crate::backends::kernel::{write_buffer, write_group, write_one, write_tail};
 use crate::backends::rows::Rows;
 use crate::cipher::{ParBlocksSizeUser, RngBackend, StreamCipherBackend};
@@ -20,7 +20,7 @@ pub struct Lanes8;
 // Four blocks in rows, the same row of two in each vector.
 type Two = Rows<u32x8, 1>;
 
-type Four = Interleaved<Two, Two>;
+type Four = Pair<Two, Two>;
 
 impl ParBlocksSizeUser for Lanes8 {
     ghost use Rattle.std.proofs.Common.{lit≤};
@@ -71,20 +71,4 @@ impl<R: Rounds> RngBackend<R> for Lanes8 {
     fn gen_ks_blocks(state: &mut [u32; 16], buffer: &mut [u32; 64], steps: &mut Steps) {
         write_buffer::<R, Four>(state, buffer, steps);
     }
-}
-
-// The numbers of this backend, stated once more: a change of one in the code and in its own clauses fails here.
-fn lanes8_numbers<R: Rounds, V: Variant>(
-    state: &mut [u32; 16],
-    blocks: &mut [[u8; 64]],
-    steps: &mut Steps,
-)
-    requires { length blocks.old < 4 }
-    ensures width { ⟦<Lanes8 as ParBlocksSizeUser>⟧.PAR_BLOCKS ≡ 4 }
-    ensures par { ⟦<Lanes8 as StreamCipherBackend<R, V>>⟧.PAR_STEPS ≡ 4 }
-    ensures one { ⟦<Lanes8 as StreamCipherBackend<R, V>>⟧.ONE_STEPS ≡ 4 }
-    ensures rng { ⟦<Lanes8 as RngBackend<R>>⟧.RNG_STEPS ≡ 4 }
-    ensures tail { steps.new.rounds ≡ steps.old.rounds + min 1 (length blocks.old) * 4 * R.COUNT }
-{
-    <Lanes8 as StreamCipherBackend<R, V>>::gen_tail_blocks(state, blocks, steps);
 }

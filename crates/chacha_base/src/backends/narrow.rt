@@ -5,7 +5,7 @@ ghost use Rattle.std.specs.Prelude.{◌≡◌, ◌≤◌, ℕ, ◌+◌, ◌*◌,
 ghost use Rattle.chacha_base.specs.State.{state_after, AreNextBlocks};
 ghost use Rattle.chacha_base.specs.Counts.{Grows, for_tail, tail_rounds};
 
-use crate::backends::group::{Group, Interleaved};
+use crate::backends::group::{Group, Pair};
 use crate::backends::kernel::write_tail;
 use crate::backends::rows::Rows;
 use crate::rounds::{Rounds, Steps};
@@ -20,7 +20,7 @@ pub type Two = Rows<u32x8, 1>;
 
 pub type Four = Rows<u32x16, 1>;
 
-pub type Six = Interleaved<Four, Two>;
+pub type Six = Pair<Four, Two>;
 
 /// As `write_tail`, for a backend whose single block takes two quarter rounds in a double round. Its tails of seven
 /// and eight blocks take `UP_TO_8`.

@@ -3,7 +3,8 @@
 ghost use Rattle.std.specs.Prelude.{◌≡◌, ◌<◌, ℕ, ◌*◌, [], ◌∷◌, slice_index};
 ghost use Rattle.chacha_base.specs.Lanes.{quad, state_row, rows_rotated, block_in_rows};
 
-use crate::backends::group::{BlockBuffer, Group, write_block};
+use crate::backends::buffer::{BlockBuffer, write_block};
+use crate::backends::group::Group;
 use crate::backends::vector::{ByShifts, FourVectors, Vector, quarter_round, sums};
 use crate::rounds::Steps;
 

@@ -4,7 +4,7 @@ ghost use Rattle.std.specs.Prelude.{◌≡◌, ◌<◌, ◌+◌, ◌*◌, min, l
 ghost use Rattle.chacha_base.specs.Counts.{Grows, for_tail};
 ghost use Rattle.chacha_base.specs.State.{state_after, AreNextBlocks};
 
-use crate::backends::group::Interleaved;
+use crate::backends::group::Pair;
 use crate::backends::kernel::{write_buffer, write_group, write_one, write_tail};
 use crate::backends::rows::Rows;
 use crate::cipher::{ParBlocksSizeUser, RngBackend, StreamCipherBackend};
@@ -20,11 +20,11 @@ pub struct Rows8;
 // Four blocks in rows, each in vectors of its own, and eight. Row 0 stays, as in the Rust crate's code for NEON.
 type One = Rows<u32x4, 0>;
 
-type Two = Interleaved<One, One>;
+type Two = Pair<One, One>;
 
-type Four = Interleaved<Two, Two>;
+type Four = Pair<Two, Two>;
 
-type Eight = Interleaved<Four, Four>;
+type Eight = Pair<Four, Four>;
 
 impl ParBlocksSizeUser for Rows8 {
     ghost use Rattle.std.proofs.Common.{lit≤};
@@ -75,20 +75,4 @@ impl<R: Rounds> RngBackend<R> for Rows8 {
     fn gen_ks_blocks(state: &mut [u32; 16], buffer: &mut [u32; 64], steps: &mut Steps) {
         write_buffer::<R, Four>(state, buffer, steps);
     }
-}
-
-// The numbers of this backend, stated once more: a change of one in the code and in its own clauses fails here.
-fn rows8_numbers<R: Rounds, V: Variant>(
-    state: &mut [u32; 16],
-    blocks: &mut [[u8; 64]],
-    steps: &mut Steps,
-)
-    requires { length blocks.old < 8 }
-    ensures width { ⟦<Rows8 as ParBlocksSizeUser>⟧.PAR_BLOCKS ≡ 8 }
-    ensures par { ⟦<Rows8 as StreamCipherBackend<R, V>>⟧.PAR_STEPS ≡ 16 }
-    ensures one { ⟦<Rows8 as StreamCipherBackend<R, V>>⟧.ONE_STEPS ≡ 16 }
-    ensures rng { ⟦<Rows8 as RngBackend<R>>⟧.RNG_STEPS ≡ 8 }
-    ensures tail { steps.new.rounds ≡ steps.old.rounds + min 1 (length blocks.old) * 16 * R.COUNT }
-{
-    <Rows8 as StreamCipherBackend<R, V>>::gen_tail_blocks(state, blocks, steps);
 }

@@ -42,31 +42,28 @@ pub trait Vector: Copy {
         requires { g < QUADS }
         ensures { quad (slice_index result) 0 ≡ quad (lane self) g };
 
-    ghost quads_at_most: { QUADS ≤ 4 };
-}
-
-/// What only columns need of a vector. Each impl has the rotations that are fastest for its width.
-///
-/// LLVM moves a permutation of bytes through an XOR of words if an operand is itself a permutation, and then permutes
-/// both operands. It leaves an XOR of bytes or of 16-bit halves alone.
-pub trait ColumnVector: Vector {
-    /// The words in each lane XORed and rotated to the left by 16.
+    /// `xor_rotated` by 16, as is fastest in columns of this width.
+    ///
+    /// LLVM moves a permutation of bytes through an XOR of words if an operand is itself a permutation, and then
+    /// permutes both operands. It leaves an XOR of bytes or of 16-bit halves alone.
     fn xor_rotated_16(self, other: Self) -> Self
-        ensures { (j : ℕ) → j < 4 * Self.QUADS
-            → Self.lane result j ≡ rotl (bit_xor (Self.lane self j) (Self.lane other j)) 16 };
+        ensures { (j : ℕ) → j < 4 * QUADS
+            → lane result j ≡ rotl (bit_xor (lane self j) (lane other j)) 16 };
 
-    /// The same, rotated by 8.
+    /// The same, by 8.
     fn xor_rotated_8(self, other: Self) -> Self
-        ensures { (j : ℕ) → j < 4 * Self.QUADS
-            → Self.lane result j ≡ rotl (bit_xor (Self.lane self j) (Self.lane other j)) 8 };
+        ensures { (j : ℕ) → j < 4 * QUADS
+            → lane result j ≡ rotl (bit_xor (lane self j) (lane other j)) 8 };
 
     /// Interleaves each quad with the same quad of another vector: the first vector has the first two words of both, by
     /// turns, and the second the last two.
     fn interleaved(self, other: Self) -> (Self, Self)
-        ensures low { (g : ℕ) → g < Self.QUADS → quad (Self.lane result.0) g
-            ≡ interleaved_low (quad (Self.lane self) g) (quad (Self.lane other) g) }
-        ensures high { (g : ℕ) → g < Self.QUADS → quad (Self.lane result.1) g
-            ≡ interleaved_high (quad (Self.lane self) g) (quad (Self.lane other) g) };
+        ensures low { (g : ℕ) → g < QUADS → quad (lane result.0) g
+            ≡ interleaved_low (quad (lane self) g) (quad (lane other) g) }
+        ensures high { (g : ℕ) → g < QUADS → quad (lane result.1) g
+            ≡ interleaved_high (quad (lane self) g) (quad (lane other) g) };
+
+    ghost quads_at_most: { QUADS ≤ 4 };
 }
 
 /// Words a, b, c and d of a quarter round in each lane. In rows these are the rows of states, in columns a column or a
@@ -117,7 +114,7 @@ impl<V: Vector> RotateBytes<V> for ByShifts {
 /// By permutations of bytes or halves, which are faster in columns.
 pub struct ByBytes;
 
-impl<V: ColumnVector> RotateBytes<V> for ByBytes {
+impl<V: Vector> RotateBytes<V> for ByBytes {
     #[inline(always)]
     fn xor_rotated_16(one: V, other: V) -> V {
         one.xor_rotated_16(other)
@@ -224,9 +221,7 @@ impl Vector for u32x4 {
     fn quad(self, _g: usize) -> u32x4 {
         self
     }
-}
 
-impl ColumnVector for u32x4 {
     // By shifts: below x86-64-v3, halves or bytes take 1.07 to 1.12 of the time.
     #[inline(always)]
     fn xor_rotated_16(self, other: u32x4) -> u32x4 {
@@ -290,9 +285,7 @@ impl Vector for u32x8 {
             _ => self.swizzle([4, 5, 6, 7]),
         }
     }
-}
 
-impl ColumnVector for u32x8 {
     #[inline(always)]
     fn xor_rotated_16(self, other: u32x8) -> u32x8 {
         let one = u16x16::from_le_bytes(self.to_le_bytes());
@@ -363,9 +356,7 @@ impl Vector for u32x16 {
             _ => self.swizzle([12, 13, 14, 15]),
         }
     }
-}
 
-impl ColumnVector for u32x16 {
     #[inline(always)]
     fn xor_rotated_16(self, other: u32x16) -> u32x16 {
         let one = u16x32::from_le_bytes(self.to_le_bytes());

@@ -1,9 +1,6 @@
 //! Sizes of blocks, keys, nonces and parallel calls.
 
-ghost use Rattle.std.specs.Prelude.{◌≡◌, ◌≤◌, ℕ};
-
-use crate::cipher::StreamCipherSeekCore;
-use crate::wrapper::StreamCipherCoreWrapper;
+ghost use Rattle.std.specs.Prelude.{◌≤◌, ℕ};
 
 /// The size of a block in bytes.
 pub trait BlockSizeUser {
@@ -40,9 +37,3 @@ pub trait ParBlocksSizeUser {
 
     ghost par_blocks_at_most: { PAR_BLOCKS ≤ 16 };
 }
-
-// The sizes of a cipher are those of its core, whatever the core is.
-fn sizes_of_cipher<C: StreamCipherSeekCore + KeySizeUser + IvSizeUser>()
-    ensures key { ⟦<StreamCipherCoreWrapper<C> as KeySizeUser>⟧.KEY_SIZE ≡ C.KEY_SIZE }
-    ensures nonce { ⟦<StreamCipherCoreWrapper<C> as IvSizeUser>⟧.IV_SIZE ≡ C.IV_SIZE }
-{}
