@@ -6,7 +6,7 @@ use Rattle.chacha20.specs.Generator.{fill}
 use Rattle.chacha20.proofs.ReadLemmas.{filled-over}
 use Rattle.chacha20.proofs.rng.ChaChaRng.fill_bytes.Goals as goal
 
--- of a slice of len bytes, the r behind whole words [edit]
+-- of a slice of len bytes, the r behind whole words
 some_left : (r : ℕ) (empty : Bool) → empty ≡ (r == 0) → empty ≡ false → 0 < r
 some_left r empty test part = grind (arith, common_steps)
 

@@ -5,10 +5,10 @@ use Rattle.chacha_base.proofs.CountsLemmas.{grows-rest, grows-bytes}
 use Rattle.chacha_base.proofs.KeystreamLemmas.{xor_stream-parts}
 use Rattle.chacha_base.proofs.wrapper.StreamCipherCoreWrapperStreamCipher.try_apply_keystream_counted.Goals as goal
 
--- Three calls, one after another: what is left of the buffered block, whole blocks, a last part. [edit]
--- Each goes on where the one before it ended, and keeps the fixed part. [edit]
--- The last two calls count. The buffered block was counted when it was made. [edit]
--- Their bounds add up to those of an application to so many bytes. [edit]
+-- Three calls, one after another: what is left of the buffered block, whole blocks, a last part.
+-- Each goes on where the one before it ended, and keeps the fixed part.
+-- The last two calls count. The buffered block was counted when it was made.
+-- Their bounds add up to those of an application to so many bytes.
 pub returns-in-Ok : goal.returns-in-Ok
 returns-in-Ok g c =
     let modulus = g.C.Keystream.modulus in

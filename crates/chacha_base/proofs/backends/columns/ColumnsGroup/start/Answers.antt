@@ -1,7 +1,7 @@
 use Rattle.chacha_base.proofs.RowLemmas.{of_columns-same, column_of-same}
 use Rattle.chacha_base.proofs.backends.columns.ColumnsGroup.start.Goals as goal
 
--- answered for speed [edit]
+-- answered for speed
 pub returns : goal.returns
 returns g c j h =
     of_columns-same

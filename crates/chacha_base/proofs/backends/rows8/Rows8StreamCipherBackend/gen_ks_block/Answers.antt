@@ -1,6 +1,6 @@
 use Rattle.chacha_base.proofs.backends.rows8.Rows8StreamCipherBackend.gen_ks_block.Goals as goal
 
--- answered for speed [edit]
+-- answered for speed
 pub returns-clause-block : goal.returns-clause-block
 returns-clause-block g c = c.write_one.ensures.block
 
