@@ -21,18 +21,18 @@ if_differs = $(shell printf '%s\n' $(1) | cmp -s - $(OUT)/$(2) || echo FORCE)
 PROVED_WITH := $(call line_of,RT,$(RT),$(shell $(RT) version 2> /dev/null | head -n 1),proved-with) \
 	$(call quoted,WIDE: $(WIDE)) $(call quoted,sources: $(SOURCES))
 $(OUT)/proved-with: $(call if_differs,$(PROVED_WITH),proved-with) | $(OUT)
-	printf '%s\n' $(PROVED_WITH) > $@
+	@printf '%s\n' $(PROVED_WITH) > $@
 
 # The libraries are proved in the tree, where their proofs stay. Levels after the first have little left to prove, for which more
 # jobs would only load more. dash runs no EXIT trap on a signal, so signals have one of their own.
 $(BUILT) &: $(SOURCES) $(OUT)/proved-with proved.mk
-	cd ../crates/chacha20poly1305 && $(RT) lib
-	set -e; copy=$$(mktemp -d); crate=$$copy/crates/chacha20_c; trap 'rm -rf "$$copy"' EXIT; trap 'exit 1' HUP INT TERM; \
+	@echo 'proving the libraries, in ../crates'; cd ../crates/chacha20poly1305 && $(RT) lib
+	@set -e; copy=$$(mktemp -d); crate=$$copy/crates/chacha20_c; trap 'rm -rf "$$copy"' EXIT; trap 'exit 1' HUP INT TERM; \
 	tar -C .. --exclude=must-fail $(LIBRARIES:%=--exclude=crates/%/out/incremental) -cf - $(CRATES:%=crates/%) | tar -C "$$copy" -xf -; \
 	for name in $(CRATES); do grep "^$$name:" ../crates.txt; done | sed 's/^chacha20_c:/chacha20_c staticlib:/' > "$$copy/crates.txt"; \
 	jobs=; for level in $(LEVELS); do \
 		case ' $(WIDE) ' in *" $$level "*) change='s/Lanes4;/Lanes16;/; s/= true;/= false;/' ;; *) change= ;; esac; \
-		sed "$$change" ../crates/chacha20_c/src/level.rt > "$$crate/src/level.rt"; \
+		echo "proving and building for $$level"; sed "$$change" ../crates/chacha20_c/src/level.rt > "$$crate/src/level.rt"; \
 		(cd "$$crate" && $(RT) lib $$jobs --target $(TARGET) --cpu $$level); jobs='--jobs 1'; \
 		cp "$$crate/out/libchacha20_c.a" $(OUT)/built-$$level.a; \
 	done
