@@ -135,7 +135,7 @@ impl Sender {
             ↔ (HasNext self.old × (274877906880 < length message.now)) }
         ensures frame { OnOk result (frame.new ≡ last_frame_of self.old aad.now message.now) }
         ensures next { OnOk result (self.new ≡ after_last self.old) }
-        // No last frame before had this nonce, if the sender was resumed behind one. For other frames see `apart`.
+        // No last frame with a lower number has this nonce. For other frames see `apart` of `last_nonce_of`.
         ensures fresh { OnOk result ((n : ℕ) → n < self.old.next
             → last_nonce_of self.old.channel n ≢ last_nonce_of self.old.channel self.old.next) }
         ensures refused { OnErr result ((frame.new ≡ frame.old) × (self.new ≡ self.old)) }
