@@ -1,10 +1,7 @@
 -- What proofs of callers cite.
-pub mod PartLemmas
 pub mod RepeatedLemmas
-pub mod ResultLemmas
 pub mod SeekLemmas
-pub mod ReaderLemmas
-pub mod VecLemmas
+pub mod StdLemmas
 pub use Rattle.chacha_base.proofs.KeystreamLemmas
 pub use Rattle.chacha_base.proofs.PieceLemmas
 pub use Rattle.chacha_base.proofs.CipherLemmas

@@ -100,16 +100,6 @@ reads-folded {A} {x = x} step none read k g moved folded answer after =
       after ∙ ap (λ s. (read s).1) moved ∙ ap (λ (a : List A × GeneratorState). a.1) all,
     )
 
--- k words, read one by one
-pub reads-next_u32 : (n k : ℕ) (g : GeneratorState) → g.word_pos < positions
-    → repeated (next_u32 n) k g ≡ (stream_part (word n g) g.word_pos k, at_word_pos g (g.word_pos + k))
-reads-next_u32 n zero g below = let here : (g.word_pos + 0) % positions ≡ g.word_pos = omega (arith, below) in rw here
-reads-next_u32 n (suc k) g below =
-    let w = g.word_pos in
-    let wrapped : (w + 1) % positions % positions ≡ (w + 1) % positions = omega arith in
-    let after : ((w + 1) % positions + k) % positions ≡ (w + suc k) % positions = omega arith in
-    rw (reads-next_u32 n k (at_word_pos g (w + 1)) (omega arith), words-same n g _ _ k wrapped, after)
-
 -- a fill of whole words
 pub fill-words : (n k : ℕ) (g : GeneratorState)
     → fill n g (4 * k) ≡ (bytes (stream_part (word n g) g.word_pos k), at_word_pos g (g.word_pos + k))
@@ -119,13 +109,6 @@ fill-words n k g =
     let whole = take_all (4 * k) (bytes words)
     (omega (arith, length-bytes words, length-stream_part (word n g) g.word_pos k)) in
     rw (count, whole)
-
--- a fill has as many bytes as are wanted
-pub length-fill : (n len : ℕ) (g : GeneratorState) → length (fill n g len).0 ≡ len
-length-fill n len g =
-    let words = stream_part (word n g) g.word_pos ((len + 3) / 4) in
-    length-take-le len (bytes words)
-    (omega (arith, length-bytes words, length-stream_part (word n g) g.word_pos ((len + 3) / 4)))
 
 -- a fill of whole words, and then another, are one fill
 pub fill-add : (n k len : ℕ) (g : GeneratorState)
@@ -146,21 +129,6 @@ fill-add n k len g =
     let after : (w + (k + m)) % positions ≡ ((w + k) % positions + m) % positions = omega arith in
     let again = words-same n g _ _ m wrapped in
     rw (none, count, whole, stream_part-add (word n g) w k m, bytes-append front behind, cut, again, after)
-
--- the bytes of a fill behind its first k words are a fill from word k on
-pub fill-window : (n k len : ℕ) (g : GeneratorState)
-    → slice_range (fill n g (4 * k + len)).0 (4 * k) (4 * k + len) ≡ (fill n (at_word_pos g (g.word_pos + k)) len).0
-fill-window n k len g =
-    let front = bytes (stream_part (word n g) g.word_pos k) in
-    let rest = (fill n (at_word_pos g (g.word_pos + k)) len).0 in
-    let long : length front ≡ 4 * k =
-    omega (arith, length-bytes (stream_part (word n g) g.word_pos k), length-stream_part (word n g) g.word_pos k) in
-    let whole : (fill n g (4 * k + len)).0 ≡ front ++ rest =
-    ap (λ (a : List ℕ × GeneratorState). a.0) (fill-add n k len g)
-    ∙ ap (λ (a : List ℕ × GeneratorState). a.0 ++ (fill n a.1 len).0) (fill-words n k g) in
-    ap (λ xs. slice_range xs (4 * k) (4 * k + len)) whole
-    ∙ ap (take (4 * k + len - 4 * k)) (drop_at front rest (4 * k) long)
-    ∙ take_all (4 * k + len - 4 * k) rest (omega (arith, length-fill n len (at_word_pos g (g.word_pos + k))))
 
 -- the same of two calls, one after another
 pub fill-then : {h i : GeneratorState} {xs ys : List ℕ} (n k len : ℕ) (g : GeneratorState)

@@ -11,7 +11,7 @@ use Rattle.chacha_base.proofs.ListLemmas.{part_long}
 use Rattle.chacha_base.specs.Cipher.{Cipher, signed_position}
 use Rattle.chacha_base.specs.ChaCha.{xor_stream}
 use Rattle.chacha_base.proofs.KeystreamLemmas.{xor_stream-append, length-xor_stream, xor_stream-xor_stream}
-use Rattle.chacha20.proofs.ResultLemmas.{on_ok_given}
+use Rattle.chacha20.proofs.StdLemmas.{on_ok_given}
 use Rattle.chacha20.specs.declared.runs.CipherCall.{CipherCall}
 use Rattle.chacha20.specs.declared.runs.CipherCall.TheVariants.{Apply, Seek, SeekI32}
 use Rattle.chacha20.specs.declared.runs.CipherAnswer.{CipherAnswer}

@@ -21,10 +21,3 @@ pub chacha-sought : {at_new sought : List ℕ} {now p : ℕ} (n : ℕ) (layout :
     ≡ xor_stream (chacha_stream n layout key nonce) p xs
 chacha-sought n layout key nonce xs =
     keystream-sought (λ s q. xor_stream s q xs) (state_block n layout) (modulus layout)
-
--- the same of an XChaCha cipher, whose blocks have the layout `ietf`
-pub xchacha-sought : {at_new sought : List ℕ} {now p : ℕ} (n : ℕ) (key nonce xs : List ℕ)
-    → state_block n ietf at_new ≡ block n ietf (subkey n key nonce) (subnonce nonce) → sought ≡ at_new → now ≡ p
-    → xor_stream (keystream (modulus ietf) (state_block n ietf sought)) now xs
-    ≡ xor_stream (xchacha_stream n key nonce) p xs
-xchacha-sought n key nonce = chacha-sought n ietf (subkey n key nonce) (subnonce nonce)

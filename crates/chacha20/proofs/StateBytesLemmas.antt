@@ -7,7 +7,7 @@ use Rattle.std.proofs.lemmas.Grind.{or_after_shift}
 use Rattle.std.proofs.lemmas.Nat.{and_mask, le_bytes_8, from_le_bytes-to_le_bytes_8}
 use Rattle.std.specs.Int.{w64, to_le_bytes, from_le_bytes}
 use borrow.Rule.Slice.PartMut.{put_mid}
-use Rattle.chacha20.proofs.PartLemmas.{put_mid-at}
+use Rattle.chacha20.proofs.StdLemmas.{put_mid-at}
 use Rattle.chacha20.specs.Generator.{GeneratorState, positions, at_word_pos, state_bytes, of_state_bytes}
 use Rattle.chacha_base.proofs.BytesLemmas.{Bytes}
 use Rattle.chacha_base.proofs.ListLemmas.{by_words, part_long}

@@ -17,11 +17,6 @@ length-sealed_message stream aad text =
     length-append ciphertext (poly1305_tag stream aad ciphertext)
     ∙ ap₂ ◌+◌ (length-xor_stream stream 64 text) (length-poly1305_tag stream aad ciphertext)
 
--- texts with one ciphertext are equal
-pub encrypted-injective : (stream : ℕ → ℕ) (xs ys : List ℕ) → encrypted stream xs ≡ encrypted stream ys → xs ≡ ys
-encrypted-injective stream xs ys same =
-    sym (xor_stream-xor_stream stream 64 xs) ∙ ap (xor_stream stream 64) same ∙ xor_stream-xor_stream stream 64 ys
-
 -- the ciphertext of a sealed message
 pub take-sealed_message : (stream : ℕ → ℕ) (aad text : List ℕ) (n : ℕ) → length text ≡ n
     → take n (sealed_message stream aad text) ≡ encrypted stream text
@@ -35,15 +30,6 @@ pub drop-sealed_message : (stream : ℕ → ℕ) (aad text : List ℕ) (n : ℕ)
 drop-sealed_message stream aad text n long =
     let ciphertext = encrypted stream text in
     drop_at ciphertext (poly1305_tag stream aad ciphertext) n (length-xor_stream stream 64 text ∙ long)
-
--- under one key, nonce and data, different texts have different sealed messages
-pub sealed_message-injective : (stream : ℕ → ℕ) (aad xs ys : List ℕ)
-    → sealed_message stream aad xs ≡ sealed_message stream aad ys → xs ≡ ys
-sealed_message-injective stream aad xs ys same =
-    let long : length xs ≡ length ys =
-    omega (arith, ap length same, length-sealed_message stream aad xs, length-sealed_message stream aad ys) in
-    encrypted-injective stream xs ys (sym (take-sealed_message stream aad xs (length ys) long)
-    ∙ ap (take (length ys)) same ∙ take-sealed_message stream aad ys (length ys) refl)
 
 -- a ciphertext and its tag are the sealed message of the decrypted text
 pub is-sealed_message : (stream : ℕ → ℕ) (aad input : List ℕ) (n : ℕ)

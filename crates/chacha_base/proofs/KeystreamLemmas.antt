@@ -148,19 +148,6 @@ take-stream_part stream p n k inside =
     let zeros = take-replicate {X = ℕ} n k 0 inside in
     rw (← xor_stream-zeros stream p k, take-xor_stream, zeros, xor_stream-zeros stream p n)
 
--- those from element n on
-pub drop-stream_part : (stream : ℕ → ℕ) (p n k : ℕ)
-    → drop n (stream_part stream p k) ≡ stream_part stream (p + n) (k - n)
-drop-stream_part stream p n k =
-    let zeros = drop-replicate {X = ℕ} n k 0 in
-    rw (← xor_stream-zeros stream p k, drop-xor_stream, zeros, xor_stream-zeros stream (p + n) (k - n))
-
--- the window of n elements from element m on
-pub window-stream_part : (stream : ℕ → ℕ) (p m n k : ℕ) → m + n ≤ k
-    → take n (drop m (stream_part stream p k)) ≡ stream_part stream (p + m) n
-window-stream_part stream p m n k inside =
-    rw (drop-stream_part, take-stream_part stream (p + m) n (k - m) (omega arith))
-
 module _ (modulus : ℕ) (block : ℕ → List ℕ) where
   -- a counter that has wrapped gives the same stream
   pub keystream-wrapped : (c p : ℕ) (xs : List ℕ) → p ≡ 64 * c
@@ -201,20 +188,6 @@ module _ (modulus : ℕ) (block : ℕ → List ℕ) where
       xor_stream-part c 0 key xs (omega arith) (λ i less.
       let here : i ≡ 0 + i = omega arith in ap₂ slice_index made here)
       ∙ ap (λ p. xor_stream (keystream modulus block) p xs) front
-
--- how many bytes a block has
-pub length-block : (n : ℕ) (layout : Layout) (key nonce : List ℕ) (c : ℕ) → length (block n layout key nonce c) ≡ 64
-unfolding add_states
-length-block n layout key nonce c = refl
-
--- the first n bytes of the block of a counter, which wraps
-pub stream_part-block : (modulus : ℕ) (block : ℕ → List ℕ) (c n : ℕ) → n ≤ 64 → length (block (c % modulus)) ≡ 64
-    → stream_part (keystream modulus block) (64 * c) n ≡ take n (block (c % modulus))
-stream_part-block modulus block c n inside long =
-    let bytes = block (c % modulus) in
-    let size = length-take-le n bytes (omega (arith, inside, long)) in
-    sym (streamed_is (keystream modulus block) (64 * c) n (take n bytes) size
-    (λ i less. get_or-take n bytes i 0 less ∙ keystream_byte modulus block c i (omega arith)))
 
 -- element i of a list of blocks, combined with the block of the i-th counter from c on
 abbrev pub combined : (modulus : ℕ) (block : ℕ → List ℕ) (c : ℕ) (blocks : List (List ℕ)) → ℕ → List ℕ

@@ -42,7 +42,3 @@ pub piece-long : {X : Type 0} (done n : ℕ) (xs : List X) → done + n ≤ leng
     → length (take (done + n - done) (drop done xs)) ≡ n
 piece-long done n xs inside =
     let wide : done + n - done ≡ n = omega arith in part_long done (done + n - done) xs (omega arith) ∙ wide
-
-pub piece-fits : (now p done n size len limit : ℕ) → now ≡ p + done → size ≡ n → done + n ≤ len → p + len ≤ limit
-    → now + size ≤ limit
-piece-fits now p done n size len limit place long inside fits = omega arith

@@ -2,7 +2,7 @@
 -- last frame.
 use Rattle.std.proofs.Common.{◌≡◌, ◌<◌, ◌≤◌, ◌+◌, ◌-◌, ◌^◌, ◌∙◌, ◌++◌, ◌↔◌, ℕ, suc, List, length, take, drop, replicate, arith, sym, ap, length-append, take_at}
 use Rattle.std.specs.Int.{to_le_bytes, w64}
-use Rattle.chacha20poly1305.proofs.PartLemmas.{ending-same_64}
+use Rattle.chacha20poly1305.proofs.StdLemmas.{ending-same_64}
 use Rattle.channel.specs.Frames.{nonce_of, last_nonce_of}
 use Rattle.chacha20poly1305.specs.Aead.{encrypted, poly1305_tag, sealed_message}
 use Rattle.chacha20poly1305.proofs.AeadLemmas.{is-sealed_message, length-sealed_message, take-sealed_message, drop-sealed_message}

@@ -1,3 +1,4 @@
+pub mod BufferLemmas
 pub mod ChunkLemmas
 pub mod FileLemmas
 pub mod FormatVectors
@@ -6,7 +7,6 @@ pub mod HeaderLemmas
 pub mod NonceLemmas
 pub mod OpenLemmas
 pub mod OpenRangeLemmas
+pub mod PlaceLemmas
 pub mod RangeLemmas
-pub mod ReaderLemmas
-pub mod SeekLemmas
 pub mod SliceLemmas

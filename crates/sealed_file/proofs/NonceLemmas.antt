@@ -1,6 +1,6 @@
 -- The number of a chunk and its mark, in the last 8 bytes of its nonce.
 use Rattle.std.proofs.Common.{◌≡◌, ◌<◌, ◌+◌, ◌^◌, ℕ, Bool, true, false, List, if◌then◌else◌, length, arith, refl}
-use Rattle.chacha20.proofs.PartLemmas.{ending-same_64}
+use Rattle.chacha20.proofs.StdLemmas.{ending-same_64}
 use Rattle.sealed_file.specs.Sealed.{chunk_nonce}
 
 number-same : (i j : ℕ) (a b : Bool) → i < 2 ^ 56 → j < 2 ^ 56

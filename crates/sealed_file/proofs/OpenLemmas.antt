@@ -14,7 +14,7 @@ use Rattle.sealed_file.specs.Sealed.{header, chunk, chunks, sealed, IsDamage, Is
 use Rattle.sealed_file.proofs.ChunkLemmas.{chunks-more, sealed-end, length-chunk}
 use Rattle.sealed_file.proofs.FileLemmas.{damage-refuses, one-text, right-front}
 use Rattle.sealed_file.proofs.FrontLemmas.{front-more, text-left}
-use Rattle.sealed_file.proofs.ReaderLemmas.{Consumes-held, Consumes-some}
+use Rattle.sealed_file.proofs.BufferLemmas.{Consumes-held, Consumes-some}
 
 -- what follows from each refusal
 pub refusal-weaker : {T : Type 0} (P Q : Damage → Type 0) (r : Result T SealError)

@@ -1,5 +1,5 @@
 use Rattle.std.proofs.Common.{◌++◌, ◌∷◌, ◌∙◌, ℕ, suc, List, take, drop, replicate, ap, ap₂, append-nil}
-use Rattle.chacha20poly1305.proofs.PartLemmas.{put_mid-at}
+use Rattle.chacha20poly1305.proofs.StdLemmas.{put_mid-at}
 use Rattle.channel.specs.Frames.{last_nonce_of}
 use Rattle.channel.proofs.FrameLemmas.{last-same, last-apart}
 use Rattle.channel.proofs.frames.last_nonce_of.Goals as goal

@@ -1,5 +1,5 @@
 use Rattle.std.proofs.Common.{◌++◌, ◌∙◌, replicate, sym, ap₂, append-nil}
-use Rattle.chacha20poly1305.proofs.PartLemmas.{put_mid-at, ending-same_64}
+use Rattle.chacha20poly1305.proofs.StdLemmas.{put_mid-at, ending-same_64}
 use Rattle.channel.proofs.frames.nonce_of.Goals as goal
 
 pub returns-clause-value : goal.returns-clause-value

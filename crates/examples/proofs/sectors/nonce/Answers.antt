@@ -1,7 +1,7 @@
 use Rattle.std.proofs.Common.{[], ◌++◌, ◌∙◌, replicate, refl, ap₂}
 use Rattle.std.specs.Int.{to_le_bytes, w32}
 use borrow.Rule.Slice.PartMut.{put_mid}
-use Rattle.chacha20.proofs.PartLemmas.{ending-same_32, ending-same_64}
+use Rattle.chacha20.proofs.StdLemmas.{ending-same_32, ending-same_64}
 use Rattle.examples.proofs.sectors.nonce.Goals as goal
 
 pub returns-clause-value : goal.returns-clause-value

@@ -2,7 +2,7 @@ use Rattle.std.proofs.Common.{inl, inr, ◌≡◌, ◌<◌, ◌+◌, ◌-◌, �
 use Rattle.std.proofs.lemmas.Bool.{cases_lt}
 use borrow.Rule.Slice.PartMut.{put_mid}
 use Rattle.chacha20.specs.ChaCha.{chacha_stream, ietf}
-use Rattle.chacha20.proofs.PartLemmas.{slice_range-before, slice_range-behind, slice_range-written}
+use Rattle.chacha20.proofs.StdLemmas.{slice_range-before, slice_range-behind, slice_range-written}
 use Rattle.chacha20poly1305.specs.Aead.{encrypted, poly1305_tag}
 use Rattle.examples.specs.declared.sectors.Seal.{Seal}
 use Rattle.examples.specs.Sectors.{nonce_of, sector, seal_of}

@@ -1,6 +1,6 @@
 use Rattle.std.proofs.Common.{◌≡◌, ◌++◌, ◌∙◌, ◌+◌, ◌^◌, if◌then◌else◌, w64, replicate, sym, ap, ap₂, append-nil}
 use Rattle.std.specs.Int.{to_le_bytes}
-use Rattle.chacha20.proofs.PartLemmas.{put_mid-at}
+use Rattle.chacha20.proofs.StdLemmas.{put_mid-at}
 use Rattle.sealed_file.proofs.NonceLemmas.{nonce-same}
 use Rattle.sealed_file.proofs.chunk.chunk_nonce.Goals.{then-last, else-last}
 use Rattle.sealed_file.proofs.chunk.chunk_nonce.Goals as goal

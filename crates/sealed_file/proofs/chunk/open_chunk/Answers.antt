@@ -2,7 +2,7 @@ use Rattle.std.proofs.Common.{◌≡◌, ◌∙◌, ◌++◌, ◌-◌, IsOk, ari
 use Rattle.std.proofs.lemmas.List.{take-append-drop, take_rest}
 use Rattle.chacha20.specs.XChaCha.{xchacha_stream}
 use Rattle.chacha20.proofs.KeystreamLemmas.{xor_stream-xor_stream}
-use Rattle.chacha20.proofs.ResultLemmas.{on_ok-holds, on_err-holds}
+use Rattle.chacha20.proofs.StdLemmas.{on_ok-holds, on_err-holds}
 use Rattle.chacha20poly1305.specs.Aead.{encrypted, poly1305_tag}
 use Rattle.sealed_file.specs.Sealed.{chunk}
 use Rattle.sealed_file.proofs.ChunkLemmas.{chunk-is, chunk-tag, length-chunk}

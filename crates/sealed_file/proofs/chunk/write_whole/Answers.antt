@@ -2,7 +2,7 @@ use Rattle.std.proofs.Common.{length, length-drop, take, arith, sym, ap, subst}
 use Rattle.std.proofs.lemmas.List.{take_rest}
 use Rattle.std.specs.Io.KnownBytes.{Appends}
 use Rattle.std.proofs.KnownBytes.{Appends-kept}
-use Rattle.chacha20.proofs.ReaderLemmas.{Appends-more}
+use Rattle.chacha20.proofs.StdLemmas.{Appends-more}
 use Rattle.sealed_file.proofs.chunk.write_whole.Goals as goal
 use Rattle.sealed_file.proofs.chunk.write_whole.Goals.{in-Ok, in-Err}
 

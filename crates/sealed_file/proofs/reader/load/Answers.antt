@@ -1,6 +1,6 @@
 use Rattle.std.proofs.Common.{◌≤◌, length, length-take, length-take-le, take, arith, inl, inr, subst, sym, ◌∙◌}
 use Rattle.std.specs.Io.KnownBytes.{Consumes}
-use Rattle.sealed_file.proofs.SeekLemmas.{of-read, went-to, first-read, opened-in}
+use Rattle.sealed_file.proofs.PlaceLemmas.{of-read, went-to, first-read, opened-in}
 use Rattle.sealed_file.proofs.reader.load.Goals as goal
 
 pub returns-clause-right : goal.returns-clause-right

@@ -1,6 +1,6 @@
 use Rattle.std.proofs.KnownBytes.{Keeps-trans}
 use Rattle.sealed_file.proofs.OpenLemmas.{passed-on}
-use Rattle.sealed_file.proofs.SeekLemmas.{went-back, length-told}
+use Rattle.sealed_file.proofs.PlaceLemmas.{went-back, length-told}
 use Rattle.sealed_file.proofs.reader.read_start.Goals as goal
 
 pub returns-clause-header : goal.returns-clause-header

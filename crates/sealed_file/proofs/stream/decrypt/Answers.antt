@@ -6,7 +6,7 @@ use Rattle.sealed_file.specs.Sealed.{header, chunks}
 use Rattle.sealed_file.proofs.ChunkLemmas.{as-chunk, no-chunk-as, chunks-more, length-chunk, length-chunks}
 use Rattle.sealed_file.proofs.FrontLemmas.{long-text}
 use Rattle.sealed_file.proofs.OpenLemmas.{HasDamage, refusal-weaker, passed-on, on_ok-passed, damage-refused, header-damage, text-of, opened, damaged-last, damaged-mid, none-written, right-before, right-last, right-mid, split-full}
-use Rattle.sealed_file.proofs.ReaderLemmas.{Consumes-held, first-byte}
+use Rattle.sealed_file.proofs.BufferLemmas.{Consumes-held, first-byte}
 use Rattle.sealed_file.proofs.stream.decrypt.Goals as goal
 
 pub chunks-init : goal.chunks-init

@@ -5,7 +5,7 @@ use Rattle.std.proofs.KnownBytes.{Appends-trans, Consumes-trans, Consumes-nil, C
 use Rattle.sealed_file.specs.Sealed.{header}
 use Rattle.sealed_file.proofs.ChunkLemmas.{as-chunk, chunks-more, sealed-end}
 use Rattle.sealed_file.proofs.FrontLemmas.{front-before, front-header, front-last, front-mid, long-text, never-long, split-text}
-use Rattle.sealed_file.proofs.ReaderLemmas.{Consumes-held, first-byte}
+use Rattle.sealed_file.proofs.BufferLemmas.{Consumes-held, first-byte}
 use Rattle.sealed_file.proofs.stream.encrypt.Goals as goal
 
 pub chunks-init : goal.chunks-init

@@ -2,7 +2,7 @@ use Rattle.std.proofs.Common.{◌-◌, rules, length, take, ap, sym, subst, ◌�
 use Rattle.std.proofs.lemmas.Slice.{take-put_mid_below}
 use Rattle.std.specs.Io.KnownBytes.{Consumes}
 use Rattle.std.proofs.KnownBytes.{Consumes-trans, Consumes-kept}
-use Rattle.sealed_file.proofs.ReaderLemmas.{take-put_mid}
+use Rattle.sealed_file.proofs.BufferLemmas.{take-put_mid}
 use Rattle.sealed_file.proofs.stream.fill.Goals.{in-Ok, in-Err}
 use borrow.Rule.Slice.PartMut.{put_mid}
 use Rattle.sealed_file.proofs.stream.fill.Goals as goal

@@ -1,5 +1,5 @@
 use Rattle.std.proofs.Common.{◌≡◌, ◌≤◌, ◌∙◌, ℕ, List, [], length, refl, ap, subst}
-use Rattle.chacha20.proofs.ResultLemmas.{on_ok-holds, on_ok_given}
+use Rattle.chacha20.proofs.StdLemmas.{on_ok-holds, on_ok_given}
 use Rattle.channel.specs.Frames.{Endpoint, HasNext, last_frame_of, IsLastFrame}
 use Rattle.aead_tests.proofs.users.frames.pass_last.Goals as goal
 

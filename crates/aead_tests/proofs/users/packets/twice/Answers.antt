@@ -1,5 +1,5 @@
 use Rattle.std.specs.Prelude.{IsOk}
-use Rattle.chacha20.proofs.ResultLemmas.{on_err-holds, is_err-holds}
+use Rattle.chacha20.proofs.StdLemmas.{on_err-holds, is_err-holds}
 use Rattle.aead_tests.proofs.users.packets.twice.Goals as goal
 
 pub returns-clause-refused : goal.returns-clause-refused

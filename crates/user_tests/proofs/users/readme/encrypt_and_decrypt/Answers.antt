@@ -1,6 +1,6 @@
 use Rattle.std.proofs.Common.{refl}
 use Rattle.chacha20.proofs.KeystreamLemmas.{xor_stream-xor_stream, length-xor_stream}
-use Rattle.chacha20.proofs.ResultLemmas.{on_ok-holds}
+use Rattle.chacha20.proofs.StdLemmas.{on_ok-holds}
 use Rattle.user_tests.proofs.users.readme.encrypt_and_decrypt.Goals as goal
 
 pub returns : goal.returns

@@ -1,11 +1,15 @@
--- Lists that are written part by part. Proofs of callers may cite these, for a nonce that is made of parts; here the
--- 49 bytes of a state are written so.
-use Rattle.std.proofs.Common.{◌≡◌, ◌<◌, ◌≤◌, ◌+◌, ◌-◌, ◌^◌, ◌∙◌, ℕ, zero, suc, List, [], ◌∷◌, ◌++◌, length, take, drop, drop-drop, arith, refl, sym, ap, ap₂, take_at, drop_at, length-take-le}
+-- What isn't about ChaCha: parts of lists, what a loop over writes wrote, and calls that are accepted or refused.
+use Rattle.std.proofs.Common.{◌≡◌, ◌<◌, ◌≤◌, ◌+◌, ◌-◌, ◌^◌, ◌∙◌, ℕ, List, ◌++◌, length, take, drop, Result, Ok, Err, OnOk, IsOk, arith, refl, sym, ap, ap₂, subst, take_at, drop_at, length-take-le}
+use Rattle.std.proofs.lemmas.Bool.{false≢true}
 use Rattle.std.proofs.lemmas.Nat.{from_le_bytes-to_le_bytes_4, from_le_bytes-to_le_bytes_8}
-use Rattle.std.proofs.lemmas.List.{take_rest}
 use Rattle.std.proofs.lemmas.Slice.{between_is, take-put_mid_below, drop-put_mid}
+use Rattle.std.proofs.KnownBytes.{Appends-trans}
+use Rattle.std.proofs.Math.Seq.{take-add}
+use Rattle.std.specs.Prelude.{OnErr, is_err, IsTrue}
 use Rattle.std.specs.List.{slice_range}
 use Rattle.std.specs.Int.{Width, w32, w64, from_le_bytes, to_le_bytes}
+use Rattle.std.specs.Io.KnownBytes.{Appends}
+use Rattle.std.specs.declared.option.Option.{Option}
 use borrow.Rule.Slice.PartMut.{put_mid}
 
 -- a part written where it belongs
@@ -52,22 +56,30 @@ slice_range-written n w xs ys rest long inside =
     let wide : n + w - n ≡ length ys = omega (arith, long) in
     ap (take (n + w - n)) (drop_at (take n xs) _ n (length-take-le n xs inside)) ∙ take_at ys rest _ (sym wide)
 
--- a part of a part
-take-take : {X : Type 0} (e k : ℕ) (xs : List X) → e ≤ k → take e (take k xs) ≡ take e xs
-take-take zero k xs inside = refl
-take-take (suc e) (suc k) [] inside = refl
-take-take (suc e) (suc k) (x ∷ xs) inside = ap (λ t. x ∷ t) (take-take e k xs (omega (arith, inside)))
-take-take (suc e) zero xs inside = absurd (omega (arith, inside))
+-- a writer that has got the first bytes of a text and now n of the rest has got the first m
+pub Appends-more : (a b c : Option (List ℕ)) (bytes rest : List ℕ) (done n m : ℕ) → rest ≡ drop done bytes
+    → m ≡ done + n → Appends a b (take done bytes) → Appends b c (take n rest) → Appends a c (take m bytes)
+Appends-more a b c bytes rest done n m behind sum before more =
+    let joined = ap (λ ys. take done bytes ++ take n ys) behind ∙ sym (take-add done n bytes)
+    ∙ ap (λ k. take k bytes) (sym sum) in
+    subst (Appends a c) joined (Appends-trans a b c _ _ before more)
 
-pub slice_range-slice_range : {X : Type 0} (a b m e : ℕ) (xs : List X) → a + e ≤ b
-    → slice_range (slice_range xs a b) m e ≡ slice_range xs (a + m) (a + e)
-slice_range-slice_range a b m e xs inside =
-    let wide : e - m ≡ a + e - (a + m) = omega arith in
-    between_is (slice_range xs a b) m e
-    ∙ ap (drop m) (take-take e (b - a) (drop a xs) (omega (arith, inside))) ∙ sym (between_is (drop a xs) m e)
-    ∙ ap₂ take wide (drop-drop m a xs)
+-- a call that is accepted has what it ensures on `Ok`
+pub on_ok-holds : {T E P : Type 0} (r : Result T E) → IsOk r → OnOk r P → P
+on_ok-holds (Ok x) accepted holds = holds
+on_ok-holds (Err e) accepted holds = elim (false≢true accepted) [ ]
 
--- what is behind a header of n elements
-pub slice_range-rest : {X : Type 0} (n : ℕ) (header rest : List X) → length header ≡ n
-    → slice_range (header ++ rest) n (length (header ++ rest)) ≡ rest
-slice_range-rest n header rest long = take_rest (header ++ rest) n ∙ drop_at header rest n long
+-- and what follows from that, where it is accepted
+pub on_ok_given : {T E P Q : Type 0} (r : Result T E) → (IsOk r → P → Q) → OnOk r P → OnOk r Q
+on_ok_given (Ok x) next holds = next refl holds
+on_ok_given (Err e) next holds = tt
+
+-- a call that isn't accepted has what it ensures on `Err`
+pub on_err-holds : {T E P : Type 0} (r : Result T E) → (IsOk r → ⊥) → OnErr r P → P
+on_err-holds (Ok x) never holds = absurd (never refl)
+on_err-holds (Err e) never holds = holds
+
+-- and `is_err` says so
+pub is_err-holds : {T E : Type 0} (r : Result T E) → (IsOk r → ⊥) → IsTrue (is_err r)
+is_err-holds (Ok x) never = absurd (never refl)
+is_err-holds (Err e) never = refl
