@@ -219,7 +219,3 @@ pub own-salt : (key salt salt' text file : List ℕ) → length salt' ≡ 16 →
     → file ≡ sealed key salt' text → file ≡ sealed key salt text
 own-salt key salt salt' text file size begins is =
     is ∙ ap (λ s. sealed key s text) (own-is key salt salt' text file size begins is)
-
-pub salt-of : (key salt text : List ℕ) → length salt ≡ 16 → slice_range (sealed key salt text) 16 32 ≡ salt
-salt-of key salt text size =
-    ap (λ file. slice_range file 16 32) (sealed-is key salt text) ∙ take_at salt (body key salt text) 16 size

@@ -231,22 +231,3 @@ module _ (key salt text file : List ℕ) (size : length salt ≡ 16) (is : file 
   pub some-in : (i : ℕ) → i ≤ last_number text → 0 < i → 0 < length (piece text i)
   some-in i within more =
       piece-some i (length text) (length (piece text i)) within more (length-piece-at text i)
-
--- a part that lies within a chunk
-pub part-within : (text old new : List ℕ) (start n : ℕ) → IsPart text start old new n → 0 < length old
-    → start + length old ≤ length text → start + length old ≤ 65536 * (start / 65536 + 1)
-    → new ≡ slice_range text start (start + length old)
-part-within text old new start n (count, now) some inside within =
-    let end = start + length old in
-    let k = 65536 * (min (start / 65536) (last_number text) + 1) in
-    let fits : end ≤ k = omega (arith, some, inside, within) in
-    let all : n ≡ length old = omega (arith, count, length-take k text, inside, fits) in
-    let wide : end - start ≡ length old = omega arith in
-    let front : take n (drop start (take k text)) ≡ slice_range (take k text) start end =
-    ap (λ m. take m (drop start (take k text))) (all ∙ sym wide) in
-    now
-    ∙ ap₂ ◌++◌ front (drop_all n old (omega (arith, all)))
-    ∙ append-nil (slice_range (take k text) start end)
-    ∙ between_is (take k text) start end
-    ∙ ap (drop start) (take-take end k text fits)
-    ∙ sym (between_is text start end)
