@@ -9,8 +9,8 @@ ghost use Rattle.chacha20_c.specs.Results.{Decrypted, DecryptedInto, Encrypted, 
 
 use crate::backend::Backend;
 use crate::xchacha::{subkey, subnonce};
-use chacha20poly1305::{Error, ChaChaPoly1305};
 use chacha20::{ChaChaCore, Ietf, Key, Nonce, R20, StreamCipherCoreWrapper, XNonce};
+use chacha20poly1305::{ChaChaPoly1305, Error};
 use poly1305::{Tag, authenticate};
 
 // The AEAD for nonces of 12 bytes.

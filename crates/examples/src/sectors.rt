@@ -16,8 +16,8 @@
 ghost use Rattle.std.specs.Prelude.{◌≡◌, ◌≢◌, ◌↔◌, ◌<◌, ◌≤◌, ◌+◌, ◌-◌, ◌*◌, ◌^◌, ℕ, List, length, IsOk, IsErrOf, OnOk, OnErr};
 ghost use Rattle.examples.specs.Sectors.{nonce_of, sector, seal_of, IsWritten, Holds};
 
-use chacha20poly1305::ChaCha20Poly1305;
 use chacha20::{Key, Nonce};
+use chacha20poly1305::ChaCha20Poly1305;
 
 /// How many bytes a sector has.
 pub const SECTOR: usize = 512;
