@@ -31,6 +31,13 @@ drop-sealed_message stream aad text n long =
     let ciphertext = encrypted stream text in
     drop_at ciphertext (poly1305_tag stream aad ciphertext) n (length-xor_stream stream 64 text ∙ long)
 
+-- a sealed message has the tag of its ciphertext
+pub tag-sealed_message : (stream : ℕ → ℕ) (aad text : List ℕ) (n : ℕ) (xs : List ℕ)
+    → xs ≡ sealed_message stream aad text → length text ≡ n → drop n xs ≡ poly1305_tag stream aad (take n xs)
+tag-sealed_message stream aad text n xs same long =
+    ap (drop n) same ∙ drop-sealed_message stream aad text n long
+    ∙ sym (ap (poly1305_tag stream aad) (ap (take n) same ∙ take-sealed_message stream aad text n long))
+
 -- a ciphertext and its tag are the sealed message of the decrypted text
 pub is-sealed_message : (stream : ℕ → ℕ) (aad input : List ℕ) (n : ℕ)
     → drop n input ≡ poly1305_tag stream aad (take n input)

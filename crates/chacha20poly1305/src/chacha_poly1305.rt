@@ -234,6 +234,9 @@ impl<C: KeyIvInit<Key = Key> + StreamCipher + Drop> ChaChaPoly1305<C> {
             × (drop n input.now ≢ poly1305_tag stream aad.now (take n input.now))) }
         ensures text { let stream = ⟦<Self as KeyedStream>⟧.stream self.now nonce.now in
             OnOk result (output.new ≡ encrypted stream (take (length output.old) input.now)) }
+        ensures opens { let stream = ⟦<Self as KeyedStream>⟧.stream self.now nonce.now in
+            (text : List ℕ) → input.now ≡ sealed_message stream aad.now text
+            → IsOk result ↔ (64 + length text ≤ limit_of C.modulus) }
         ensures decrypted { let stream = ⟦<Self as KeyedStream>⟧.stream self.now nonce.now in
             (text : List ℕ) → input.now ≡ sealed_message stream aad.now text
             → OnOk result (output.new ≡ text) }

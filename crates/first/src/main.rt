@@ -5,43 +5,57 @@ ghost use Rattle.std.specs.Prelude.{◌≡◌, ◌+◌, ◌≤◌, ◌↔◌, �
 ghost use Rattle.chacha20poly1305.specs.XChaCha.{xchacha_stream};
 ghost use Rattle.chacha20poly1305.specs.Aead.{sealed_message};
 
-use chacha20poly1305::{Error, Key, XChaCha20Poly1305, XNonce};
+use chacha20poly1305::{Error, XChaCha20Poly1305, XNonce};
 use std::{io, str};
 
 // Writes the ciphertext, and behind it a tag of 16 bytes (draft-irtf-cfrg-xchacha, section 2).
-fn seal(key: &Key, nonce: &XNonce, text: &[u8], sealed: &mut [u8]) -> Result<(), Error>
+fn seal(
+    cipher: &XChaCha20Poly1305,
+    nonce: &XNonce,
+    text: &[u8],
+    sealed: &mut [u8],
+) -> Result<(), Error>
     requires { length sealed.old ≡ length text.now + 16 }
-    ensures accepted { IsOk result ↔ (length text.now ≤ 274877906880) }
+    ensures accepted { IsOk result ↔ (64 + length text.now ≤ 274877906944) }
     ensures sealed { OnOk result (sealed.new
-        ≡ sealed_message (xchacha_stream 10 key.now nonce.now) [] text.now) }
+        ≡ sealed_message (xchacha_stream 10 cipher.now nonce.now) [] text.now) }
     ensures refused { OnErr result (sealed.new ≡ sealed.old) }
 {
-    XChaCha20Poly1305::new(key).encrypt(nonce, b"", text, sealed)
+    cipher.encrypt(nonce, b"", text, sealed)
 }
 
 // Writes the text of what `seal` wrote. A wrong tag is refused.
-fn open(key: &Key, nonce: &XNonce, sealed: &[u8], text: &mut [u8]) -> Result<(), Error>
+fn open(
+    cipher: &XChaCha20Poly1305,
+    nonce: &XNonce,
+    sealed: &[u8],
+    text: &mut [u8],
+) -> Result<(), Error>
     requires { length sealed.now ≡ length text.old + 16 }
-    ensures opened { (plaintext : List ℕ)
-        → sealed.now ≡ sealed_message (xchacha_stream 10 key.now nonce.now) [] plaintext
+    ensures opens { (plaintext : List ℕ)
+        → sealed.now ≡ sealed_message (xchacha_stream 10 cipher.now nonce.now) [] plaintext
+        → IsOk result ↔ (64 + length plaintext ≤ 274877906944) }
+    ensures text { (plaintext : List ℕ)
+        → sealed.now ≡ sealed_message (xchacha_stream 10 cipher.now nonce.now) [] plaintext
         → OnOk result (text.new ≡ plaintext) }
     ensures refused { OnErr result (text.new ≡ text.old) }
 {
-    XChaCha20Poly1305::new(key).decrypt(nonce, b"", sealed, text)
+    cipher.decrypt(nonce, b"", sealed, text)
 }
 
 fn main(rt: HostRuntime) -> io::Result<()> {
     let key = XChaCha20Poly1305::generate_key(&rt)?;
     let nonce = XChaCha20Poly1305::generate_nonce(&rt)?;
+    let cipher = XChaCha20Poly1305::new(&key);
 
     let mut sealed = [0; 14 + 16];
-    seal(&key, &nonce, b"attack at dawn", &mut sealed).unwrap();
+    seal(&cipher, &nonce, b"attack at dawn", &mut sealed).unwrap();
 
     let mut text = [0; 14];
-    let opened = open(&key, &nonce, &sealed, &mut text);
+    let opened = open(&cipher, &nonce, &sealed, &mut text);
     println!(rt; "{opened:?}: {:?}", str::from_utf8(&text))?;
 
     sealed[0] ^= 1;
-    let forged = open(&key, &nonce, &sealed, &mut text);
+    let forged = open(&cipher, &nonce, &sealed, &mut text);
     println!(rt; "{forged:?}")
 }

@@ -82,6 +82,9 @@ fn read_start(rt: &HostRuntime, path: &str, bytes: &mut [u8]) -> Result<usize, F
 
 /// Opens a file to read it.
 pub fn open(rt: &HostRuntime, path: &str) -> Result<File, Failed> {
+    if path == STANDARD {
+        return Err(fail(rt, "", INPUT, " can't be KEYFILE, or the IN of cat"));
+    }
     read(rt, path, fs::open(rt, path))
 }
 

@@ -36,7 +36,10 @@ fn run(rt: &HostRuntime, words: &[String]) -> Result<(), Failed> {
     let [_, call, words @ ..] = words else {
         return Err(usage(rt, "", "no call", " is given"));
     };
-    check_options(rt, words)?;
+    match words {
+        [word] if word.as_str() == "--help" => return about(rt, call.as_str(), &[]),
+        _ => check_options(rt, words)?,
+    }
     match call.as_str() {
         "key" => new_key(rt, words),
         "encrypt" => transform(rt, true, words),

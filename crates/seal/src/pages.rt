@@ -11,7 +11,8 @@ seal encrypts files, and notices each change when it decrypts them.
   seal decrypt KEYFILE IN OUT    decrypts IN to OUT
   seal cat KEYFILE IN START LEN  decrypts LEN bytes from byte START on, and
                                  prints them; the first byte of the text is 0
-  seal help CALL                 says more of key, encrypt, decrypt or cat
+  seal help CALL                 says more of key, encrypt, decrypt or cat,
+                                 as does seal CALL --help
   seal --version
 
 IN and OUT may be -, which is standard input or output, but not the IN of cat.
@@ -53,7 +54,8 @@ seal decrypt KEYFILE IN OUT
 Decrypts IN, which may be -, standard input, to OUT, which may be -, standard
 output. Fails if a byte of IN was changed, added or cut. OUT is then as it was;
 but with OUT -, the right text before the damage is printed, so wait for the
-status, which is 1, before you use it.
+status, which is 1, before you use it. In a pipe a shell drops it, unless it has
+set -o pipefail.
 
   seal decrypt my.key notes.sealed notes.txt
   seal decrypt my.key photos.sealed - | tar x
