@@ -27,6 +27,8 @@ impl<'f> SealedSlice<'f> {
     /// header. Checks no chunk.
     pub fn new(key: &Key, file: &'f [u8]) -> Result<SealedSlice<'f>, Damage>
         ensures accepted { IsOk result ↔ ((salt : List ℕ) × HasSalt file.now salt) }
+        ensures opens { (salt text : List ℕ) → length salt ≡ 16
+            → file.now ≡ sealed key.now salt text → IsOk result }
         ensures parts { IfOk result (λ s.
             ((parts s).key ≡ key.now) × ((parts s).file ≡ file.now)) }
         ensures salt { IfOk result (λ s. HasSalt file.now (parts s).salt) }

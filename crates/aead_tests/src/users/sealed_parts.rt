@@ -1,6 +1,6 @@
 //! Parts of sealed files: in memory, behind a reader that fails, and in a `File`.
 
-ghost use Rattle.std.specs.Prelude.{◌≡◌, ◌<◌, ◌^◌, ℕ, List, length, OnOk};
+ghost use Rattle.std.specs.Prelude.{◌≡◌, ◌<◌, ◌^◌, ℕ, List, length, OnOk, ◌+◌};
 ghost use Rattle.std.specs.List.{slice_range};
 ghost use Rattle.sealed_file.specs.Sealed.{sealed};
 
@@ -27,13 +27,22 @@ fn reader(file: &[u8]) -> Unsteady<Cursor<&[u8]>> {
 // The scratch space of a reader.
 const BUFFER: usize = CHUNK + TAG;
 
-// Of a sealed file, bytes 65500 to 65600 of its text, which stand in two chunks.
+// The bytes of a sealed file's text from `start` to `end`.
+fn range(key: &Key, file: &[u8], start: u64, end: u64, window: &mut [u8]) -> Result<(), SliceError>
+    requires { start + length window.old ≡ end }
+    ensures { (salt text : List ℕ) → length salt ≡ 16 → file.now ≡ sealed key.now salt text
+        → OnOk result (window.new ≡ slice_range text start end) }
+{
+    let slice = SealedSlice::new(key, file)?;
+    slice.read_exact_at(start, window)
+}
+
+// A hundred bytes, which stand in two chunks.
 fn hundred(key: &Key, file: &[u8], window: &mut [u8; 100]) -> Result<(), SliceError>
     ensures { (salt text : List ℕ) → length salt ≡ 16 → file.now ≡ sealed key.now salt text
         → OnOk result (window.new ≡ slice_range text 65500 65600) }
 {
-    let slice = SealedSlice::new(key, file)?;
-    slice.read_exact_at(65500, window)
+    range(key, file, 65500, 65600, window)
 }
 
 // Whether a read at a place gave what the text has there, up to the end of the window or of the chunk.
