@@ -28,7 +28,13 @@ fn reader(file: &[u8]) -> Unsteady<Cursor<&[u8]>> {
 const BUFFER: usize = CHUNK + TAG;
 
 // The bytes of a sealed file's text from `start` to `end`.
-fn range(key: &Key, file: &[u8], start: u64, end: u64, window: &mut [u8]) -> Result<(), SliceError>
+fn between(
+    key: &Key,
+    file: &[u8],
+    start: u64,
+    end: u64,
+    window: &mut [u8],
+) -> Result<(), SliceError>
     requires { start + length window.old ≡ end }
     ensures { (salt text : List ℕ) → length salt ≡ 16 → file.now ≡ sealed key.now salt text
         → OnOk result (window.new ≡ slice_range text start end) }
@@ -42,7 +48,7 @@ fn hundred(key: &Key, file: &[u8], window: &mut [u8; 100]) -> Result<(), SliceEr
     ensures { (salt text : List ℕ) → length salt ≡ 16 → file.now ≡ sealed key.now salt text
         → OnOk result (window.new ≡ slice_range text 65500 65600) }
 {
-    range(key, file, 65500, 65600, window)
+    between(key, file, 65500, 65600, window)
 }
 
 // Whether a read at a place gave what the text has there, up to the end of the window or of the chunk.
