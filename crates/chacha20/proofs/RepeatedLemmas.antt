@@ -1,15 +1,15 @@
 -- Reads of a generator, one after another, for proofs about simulations that draw in parts.
-use Rattle.std.proofs.Common.{◌≡◌, ℕ, zero, suc, ◌+◌, ◌*◌, ◌/◌, ◌-◌, ◌%◌, ◌<◌, List, [], ◌∷◌, ◌++◌, length, take, map, slice_index, arith, refl, sym, ap, ap₂, ◌∙◌, drop_at, take_all, length-take-le}
+use Rattle.std.proofs.Common.{◌≡◌, ℕ, zero, suc, ◌+◌, ◌*◌, ◌/◌, ◌-◌, ◌%◌, ◌<◌, List, [], ◌∷◌, ◌++◌, length, take, map, slice_index, arith, refl, sym, ap, ap₂, ◌∙◌, take_all}
 use Rattle.std.proofs.Math.Seq.{get_or-append_seam, take-append-add}
 use Rattle.std.proofs.lemmas.List.{map-append, take_more_set}
 use Rattle.std.proofs.lemmas.List.Sums.{fold_push}
 use Rattle.std.specs.Prelude.{slice_set}
-use Rattle.std.specs.List.{fold, slice_range}
+use Rattle.std.specs.List.{fold}
 use Rattle.std.specs.Int.{w64, to_le_bytes}
 use Rattle.chacha_base.specs.ChaCha.{start, bytes, stream_part, legacy, mix}
 use Rattle.chacha_base.proofs.BytesLemmas.{bytes-append, length-bytes}
 use Rattle.chacha_base.proofs.KeystreamLemmas.{length-stream_part, stream_part-same, stream_part-add}
-use Rattle.chacha20.specs.Generator.{GeneratorState, positions, of_seed, at_word_pos, word, next_u32, next_u64, fill, repeated}
+use Rattle.chacha20.specs.Generator.{GeneratorState, positions, of_seed, at_word_pos, word, next_u64, fill, repeated}
 
 -- positions that are the same when they wrap have the same word
 pub word-same : (n : ℕ) (g : GeneratorState) (v w : ℕ) → v % positions ≡ w % positions → word n g v ≡ word n g w

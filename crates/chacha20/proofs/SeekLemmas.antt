@@ -1,9 +1,8 @@
 -- What a call gives that follows `new`, or `new` and a seek: the keystream of the key and the nonce, from the place
 -- sought on. For proofs of callers; after `new` alone the place is that of `new`, and `refl` stands for the seek.
 use Rattle.std.proofs.Common.{◌≡◌, ℕ, List, ap, ap₂, ◌∙◌}
-use Rattle.chacha_base.specs.ChaCha.{Layout, ietf, modulus, block, keystream, chacha_stream, xor_stream}
+use Rattle.chacha_base.specs.ChaCha.{Layout, modulus, block, keystream, chacha_stream, xor_stream}
 use Rattle.chacha_base.specs.State.{state_block}
-use Rattle.chacha20.specs.XChaCha.{subkey, subnonce, xchacha_stream}
 
 -- of any cipher: `block_at` is its `C.block_at`, and `blocks` the `C.blocks_of` of a key and a nonce; `make` is what
 -- the call makes of a stream and a position, such as `λ s q. stream_part s q 32`

@@ -1,7 +1,6 @@
 -- Tags and sealed messages. Proofs of callers may cite these.
-use Rattle.std.proofs.Common.{◌≡◌, ◌+◌, ◌∙◌, ◌++◌, ℕ, List, length, take, drop, arith, sym, ap, ap₂, refl, length-append, take_at, drop_at}
+use Rattle.std.proofs.Common.{◌≡◌, ◌+◌, ◌∙◌, ◌++◌, ℕ, List, length, take, drop, sym, ap, ap₂, refl, length-append, take_at, drop_at}
 use Rattle.std.proofs.lemmas.List.{take-append-drop}
-use Rattle.chacha20.specs.ChaCha.{xor_stream}
 use Rattle.chacha20.proofs.KeystreamLemmas.{length-xor_stream, xor_stream-xor_stream}
 use Rattle.poly1305.specs.Poly1305.{tag_from}
 use Rattle.chacha20poly1305.specs.Aead.{encrypted, poly1305_tag, sealed_message}

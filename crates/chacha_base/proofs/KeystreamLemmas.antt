@@ -1,12 +1,12 @@
 -- Bytes combined with a stream, and bytes of a stream. The proofs of cores, the byte stream, generators and callers
 -- cite these. Read `xor_stream` and `stream_part` of `ChaCha` first.
-use Rattle.std.proofs.Common.{◌≡◌, ℕ, zero, suc, ◌+◌, ◌*◌, ◌-◌, ◌/◌, ◌%◌, ◌<◌, ◌≤◌, List, take, drop, [], ◌∷◌, ◌++◌, length, slice_index, slice_index_or, bit_xor, replicate, arith, refl, sym, ap, ap₂, ◌∙◌, append_assoc, append-nil, take-add, Some, get_or-take, get_or-drop, length-take-le, take_at, take_all, drop_at, drop-drop}
+use Rattle.std.proofs.Common.{◌≡◌, ℕ, zero, suc, ◌+◌, ◌*◌, ◌/◌, ◌%◌, ◌<◌, ◌≤◌, List, take, drop, [], ◌∷◌, ◌++◌, length, slice_index, slice_index_or, bit_xor, replicate, arith, refl, sym, ap, ap₂, ◌∙◌, append_assoc, append-nil, take-add, Some, get_or-take, get_or-drop, length-take-le, take_at, take_all, drop_at, drop-drop}
 use Rattle.std.proofs.Math.Nat.{mod-add-mod}
 use Rattle.std.specs.Int.Bits.{xor_assoc, xor_self, xor_zero_l, xor_zero_r}
-use Rattle.std.proofs.lemmas.List.{get_or-replicate, length-replicate, take-replicate, drop-replicate, drop_all}
+use Rattle.std.proofs.lemmas.List.{get_or-replicate, length-replicate, take-replicate, drop_all}
 use Rattle.std.proofs.lemmas.Slice.{drop-put_mid}
 use borrow.Rule.Slice.PartMut.{put_mid}
-use Rattle.chacha_base.specs.ChaCha.{block, keystream, xor_stream, stream_part, Layout, add_states}
+use Rattle.chacha_base.specs.ChaCha.{block, keystream, xor_stream, stream_part}
 use Rattle.chacha_base.proofs.ListLemmas.{Written, written_more, part_long}
 
 -- two streams that agree on the bytes that are combined

@@ -2,7 +2,6 @@
 use Rattle.std.proofs.Common.{◌≡◌, ◌≢◌, ◌<◌, ◌≤◌, ◌+◌, ◌-◌, ◌*◌, ◌/◌, ◌∙◌, ℕ, zero, suc, true, false, List, [], ◌++◌, length, take, drop, arith, refl, sym, ap, ap₂, subst, append_assoc, append-nil, length-append, length-drop, length-take-le, take_at, drop_at, take-add, take_all, inl, inr}
 use Rattle.std.proofs.lemmas.List.{take-append-drop}
 use Rattle.std.specs.Int.{div_ceil}
-use Rattle.std.specs.List.{slice_range}
 use Rattle.sealed_file.specs.declared.error.Damage.{Damage}
 use Rattle.sealed_file.specs.declared.error.Damage.TheVariants.{NotSealed, OtherVersion, CutHeader, WrongChunk, WrongEnd}
 use Rattle.sealed_file.specs.Sealed.{header, chunk, chunks, piece, last_number, sealed, HasSalt, IsDamage, IsHeaderDamage, IsRight}

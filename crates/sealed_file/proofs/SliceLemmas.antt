@@ -1,9 +1,8 @@
 -- A chunk of a file in memory.
-use Rattle.std.proofs.Common.{◌≡◌, ◌<◌, ◌≤◌, ◌+◌, ◌-◌, ◌*◌, ◌/◌, ◌^◌, ◌∙◌, ℕ, Bool, true, false, subst, List, ◌++◌, append_assoc, drop_at, drop-drop, true≢false, eqb-true, eq-eqb, length, take, drop, min, nat_eq, arith, sym, ap, ap₂, inl, inr, length-drop, length-take, length-take-le, length-append, take_at, take-take, take_all, append-nil, eq-or-lt_of_le}
+use Rattle.std.proofs.Common.{◌≡◌, ◌<◌, ◌≤◌, ◌+◌, ◌-◌, ◌*◌, ◌/◌, ◌^◌, ◌∙◌, ℕ, Bool, true, false, subst, List, ◌++◌, append_assoc, drop_at, drop-drop, true≢false, eqb-true, eq-eqb, length, take, drop, min, nat_eq, arith, sym, ap, ap₂, inl, inr, length-drop, length-take, length-take-le, length-append, take_at, take_all, append-nil, eq-or-lt_of_le}
 use Rattle.std.proofs.Math.Nat.{min-le_left}
 use Rattle.std.proofs.lemmas.Bool.{cases_lt}
 use Rattle.std.proofs.lemmas.Slice.{between_is}
-use Rattle.std.specs.List.{slice_range}
 use Rattle.std.proofs.lemmas.List.{drop_all, take-append-le, take_min, nil_from_length}
 use Rattle.sealed_file.specs.Sealed.{header, chunk, chunk_at, last_in, piece, last_number, sealed, chunks, place, CopiesFrom, ReadsPart, IsPart}
 use Rattle.sealed_file.proofs.ChunkLemmas.{body, sealed-is, length-body, length-chunk, length-chunks, full-chunk, length-piece, chunk-at, length-piece-at, chunk-same}
