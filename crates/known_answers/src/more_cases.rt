@@ -37,18 +37,6 @@ apply 00*368 -> ..*64 \
     bb94d7af0b2c04df10ba0890899ed9293a0f55b8bafa999264035f1d4fbe7fe0 \
     aafa109a62372027e50e10cdfecca127
 
-The Rust crate's tests: four blocks of the legacy cipher
-ChaCha20Legacy key 01..20 nonce 0301040105090206
-write 256 -> \
-    deeb6b9d06dff3e091bf3ad4f4d492b6dd98246f69691802e466e03bad235787 \
-    0f1c6c010b6c2e650c4bf58d2d35c72ab639437069a384e03100078cc1d735a0 \
-    db4e8f474ee6291460fd9197c77ed87b4c64e0d9ac685bd1c56cce021f3819cd \
-    13f49c9a3053603602582a060e59c2fbee90ab0bf7bb102d819ced03969d3bae \
-    71034fe598246583336aa744d8168e5dfff5c6d10270f125a4130e719717e783 \
-    c0858b6f7964437173ea1d7556c158bc7a99e74a34d93da6bf72ac9736a215ac \
-    aefd4ec031f3f13f099e3d811d83a2cf1d544a68d2752409cc6be852b0511a2e \
-    32f69aa0be91b30981584a1c56ce7546cca24d8cfdfca525d6b15eea83b6b686
-
 OpenSSL: ten bytes of the legacy cipher from the middle of its second block on
 ChaCha20Legacy key 40..5f nonce 1122334455667788
 seek u32 100

@@ -25,7 +25,7 @@ use chacha20_c::xchacha::{
     hchacha20, xchacha20_keystream, xchacha20_xor_between, xchacha20_xor_in_place,
 };
 use known_answers::published::{
-    COUNTING, DERIVED_NONCE, FROM_80, HCHACHA_INPUT, MESSAGE, OF_20_ROUNDS, SUBKEY, X_NONCE,
+    COUNTING, DERIVED_NONCE, FROM_80, HCHACHA_INPUT, MESSAGE, OF_ZEROS, SUBKEY, X_NONCE,
     X_NONCE_FRONT,
 };
 use poly1305::Tag;
@@ -65,13 +65,13 @@ fn is_stream(is_legacy: bool, before: u8) -> bool {
     let (mut first, mut combined, mut written) = ([0; 32], [before; 24], [before; 24]);
     let answers = [
         in_place(is_legacy, 0, &mut first),
-        between(is_legacy, &mut combined, &OF_20_ROUNDS[8..]),
+        between(is_legacy, &mut combined, &OF_ZEROS[8..]),
         keystream(is_legacy, &mut written),
     ];
     (answers == [0; 3])
-        & (first == OF_20_ROUNDS)
+        & (first == OF_ZEROS)
         & (combined == [0; 24])
-        & OF_20_ROUNDS.ends_with(&written)
+        & OF_ZEROS.ends_with(&written)
 }
 
 fn streams() -> bool {
@@ -137,7 +137,7 @@ fn reads() -> bool {
     chacha20_rng_fill(&mut state, &mut bytes);
     chacha20_rng_fill(&mut state, &mut last);
     after[40] = 3;
-    OF_20_ROUNDS.starts_with(&bytes) & OF_20_ROUNDS[8..].starts_with(&last) & (state == after)
+    OF_ZEROS.starts_with(&bytes) & OF_ZEROS[8..].starts_with(&last) & (state == after)
 }
 
 fn word_pos_is(state: &SerializedRngState, low: u64, high: u64) -> bool {

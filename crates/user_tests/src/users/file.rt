@@ -1,35 +1,33 @@
-//! A published ciphertext that is read in parts. Records are in `pieces.rt`.
+//! A file of zeros, which is read in parts as a published keystream. Records are in `pieces.rt`.
 
 use examples::file::read_at;
-use known_answers::published::{CIPHERTEXT, COUNTING, NONCE};
+use known_answers::published::{COUNTING, KEYSTREAM, NONCE};
 
-// Whether a read from a place on is accepted, and what a window of fives has then. The last byte and none after it are
-// read; more is refused.
-static READS: [(usize, bool, &[u8]); 8] = [
-    (112, true, b"ould offer you only one tip for "),
-    (120, true, b"er you only one "),
-    (143, true, b" "),
-    (144, true, b""),
-    (143, false, b"\x05\x05"),
-    (144, false, b"\x05\x05"),
-    (145, false, b""),
-    (usize::MAX, false, b"\x05\x05"),
+// Where a read of so many bytes begins, and whether it is accepted. A block ends at 128. The last byte and none after
+// it are read; more is refused.
+static READS: [(usize, usize, bool); 8] = [
+    (112, 32, true),
+    (120, 16, true),
+    (143, 1, true),
+    (144, 0, true),
+    (143, 2, false),
+    (144, 2, false),
+    (145, 0, false),
+    (usize::MAX, 2, false),
 ];
 
-// The file is 112 zeros, and then bytes 48 to 79 of the message of RFC 8439, section 2.4.2, which begins at block 1. So
-// a block ends between them.
-fn reads(start: usize, accepted: bool, expected: &[u8]) -> bool {
-    let ciphertext = CIPHERTEXT.as_slice();
-    let mut file = [0; 144];
-    file[112..].copy_from_slice(&ciphertext[48..80]);
-    let (mut window, len) = ([5; 32], expected.len().min(32));
-    let done = read_at(&COUNTING, &NONCE, &file, start, &mut window[..len]);
-    (done.is_ok() == accepted) & window.starts_with(expected)
+// The keystream is known from block 1 on. A refused read leaves the window's fives.
+fn reads(start: usize, len: usize, accepted: bool) -> bool {
+    let (mut window, len) = ([5; 32], len.min(32));
+    let done = read_at(&COUNTING, &NONCE, &[0; 144], start, &mut window[..len]);
+    let text = &KEYSTREAM[start.clamp(64, 144) - 64..];
+    let expected = if accepted { text } else { &[5; 32] };
+    (done.is_ok() == accepted) & expected.starts_with(&window[..len])
 }
 
 #[test]
 fn parts(rt: HostRuntime) {
-    for (start, accepted, expected) in &READS {
-        assert!(rt; reads(*start, *accepted, expected));
+    for (start, len, accepted) in &READS {
+        assert!(rt; reads(*start, *len, *accepted));
     }
 }

@@ -3,7 +3,7 @@
 use chacha20::cipher::{KeyIvInit, StreamCipher, StreamCipherError, StreamCipherSeek};
 use chacha20::{ChaCha20, ChaCha20Rng, Key, Nonce, XNonce};
 use chacha20poly1305::{ChaCha20Poly1305, Error, XChaCha20Poly1305};
-use known_answers::published::{CIPHERTEXT, COUNTING, MESSAGE, NONCE, OF_20_ROUNDS, X_NONCE};
+use known_answers::published::{COUNTING, KEYSTREAM, NONCE, OF_ZEROS, X_NONCE};
 use sealed_file::{CHUNK, Damage, SealError, SealedSlice, TAG};
 use std::random::RandomSource;
 
@@ -15,7 +15,7 @@ fn encrypted_and_decrypted(key: &Key, nonce: &Nonce) -> Result<[u8; 14], StreamC
 }
 
 fn from_block_1(key: &Key, nonce: &Nonce) -> Result<[u8; 114], StreamCipherError> {
-    let mut message = *MESSAGE;
+    let mut message = [0; 114];
     let mut cipher = ChaCha20::new(key, nonce);
     cipher.try_seek(64u32)?;
     cipher.try_apply_keystream(&mut message)?;
@@ -25,7 +25,7 @@ fn from_block_1(key: &Key, nonce: &Nonce) -> Result<[u8; 114], StreamCipherError
 #[test]
 fn ciphers(rt: HostRuntime) {
     let same = encrypted_and_decrypted(&COUNTING, &NONCE) == Ok(*b"attack at dawn");
-    assert!(rt; same & (from_block_1(&COUNTING, &NONCE) == Ok(*CIPHERTEXT)));
+    assert!(rt; same & (from_block_1(&COUNTING, &NONCE) == Ok(*KEYSTREAM)));
 }
 
 fn there_and_back(key: &Key, nonce: &XNonce, aad: &[u8]) -> Result<[u8; 14], Error> {
@@ -93,5 +93,5 @@ fn generators(rt: HostRuntime) {
     rng.set_word_pos(0);
     let mut bytes = [0; 32];
     rng.fill_bytes(&mut bytes);
-    assert!(rt; (word == 0xade0_b876) & (bytes == OF_20_ROUNDS));
+    assert!(rt; (word == 0xade0_b876) & (bytes == OF_ZEROS));
 }

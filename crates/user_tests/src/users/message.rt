@@ -4,7 +4,7 @@ use examples::message::{
     encrypt, encrypt_6, encrypt_from_block_1, encrypt_legacy, encrypt_xchacha,
 };
 use known_answers::published::{
-    COUNTING, FROM_1, FROM_80, KEYSTREAM, LEGACY_NONCE, NONCE, X_KEYSTREAM, X_NONCE,
+    COUNTING, FROM_1, FROM_80, KEYSTREAM, LEGACY_NONCE, NONCE, X_NONCE,
 };
 
 #[derive(Clone, Copy)]
@@ -36,12 +36,16 @@ static STREAMS: [(Example, usize, &[u8]); 4] = [
         32,
         b"\xdd\x98\x24\x6f\x69\x69\x18\x02\xe4\x66\xe0\x3b\xad\x23\x57\x87",
     ),
-    (Example::XChaCha, 368, X_KEYSTREAM),
+    (
+        Example::XChaCha,
+        80,
+        b"\x29\x62\x4b\x4b\x1b\x14\x0a\xce\x53\x74\x0e\x40\x5b\x21\x68\x54",
+    ),
 ];
 
 fn ends(example: Example, len: usize, end: &[u8]) -> bool {
-    let mut message = [0; 368];
-    let message = &mut message[..len.min(368)];
+    let mut message = [0; 178];
+    let message = &mut message[..len.min(178)];
     encrypts(example, message) & message.ends_with(end)
 }
 
