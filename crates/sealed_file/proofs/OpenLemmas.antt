@@ -95,9 +95,9 @@ none-written None w key = ([], [], 0, tt, (λ less. absurd (omega (arith, less))
 none-written (Some file) w key = (file, [], 0, refl, (λ less. absurd (omega (arith, less))), Appends-nil w)
 
 -- of a sealed file that is the front of its text
-pub only-front : (a w v : Option (List ℕ)) (key salt text : List ℕ) → length salt ≡ 16
+pub only-prefix : (a w v : Option (List ℕ)) (key salt text : List ℕ) → length salt ≡ 16
     → a ≡ Some (sealed key salt text) → RightFront a key w v → (n : ℕ) × Appends w v (take n text)
-only-front a w v key salt text size is written =
+only-prefix a w v key salt text size is written =
     let (file, t, n, all, right, appends) = written in
     front file t n (subst (λ o. IfSome o (λ all. all ≡ file)) is all) right appends
   where

@@ -1,6 +1,6 @@
-use Rattle.sealed_file.proofs.OpenLemmas.{only-front}
+use Rattle.sealed_file.proofs.OpenLemmas.{only-prefix}
 use Rattle.aead_tests.proofs.users.sealed_files.opens.Goals as goal
 
 pub returns : goal.returns
 returns g c salt text size is =
-    only-front _ _ _ c.args.key.now salt text size is c.decrypt-done.ensures.only_right
+    only-prefix _ _ _ c.args.key.now salt text size is c.decrypt-done.ensures.only_right
