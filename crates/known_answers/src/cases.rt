@@ -1,11 +1,12 @@
 //! The cases with a number, sorted by it. They run on each backend in `tests`, and in the program `vectors`, which
 //! prints `row N ok` if every case N holds. There is no case 2.
 //!
-//! A case is a paragraph. Its first line is the title: where the answers come from, and what the case shows. A source
-//! in parentheses covers only the bytes named there. `By hand` means by the definition, without a program. The Rust
-//! crate is `chacha20` 0.10.2. The second line is the subject. Each line after it is a call, with its answer after
-//! `->`; a call without one must succeed. A line that ends with `\` continues on the next. To add a case, add a
-//! paragraph: with a number here, without one anywhere in [`more_cases`](crate::more_cases). No other file changes.
+//! A case is a paragraph. Its first line is the title: where the answers come from, and what the case shows. What
+//! stands in parentheses, as `(block 0: OpenSSL)`, is the source of some bytes alone. `By hand` means by the
+//! definition, without a program. The Rust crate is `chacha20` 0.10.2. The second line is the subject. Each line after
+//! it is a call, with its answer after `->`; a call without one must succeed. A line that ends with `\` continues on
+//! the next. To add a case, add a paragraph anywhere in [`more_cases`](crate::more_cases); no other file changes. A
+//! case with a number, below 32, stands here, and its `row N ok` in the file `stdout` of `vectors`.
 //!
 //! | subject | made of |
 //! |---|---|
