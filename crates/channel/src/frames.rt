@@ -217,6 +217,9 @@ impl Receiver {
     ) -> Result<(), FrameError>
         requires { length frame.now ≡ length message.old + 16 }
         ensures accepted { IsOk result ↔ (HasNext self.old × IsFrame self.old aad.now frame.now) }
+        // The sender's frame is accepted.
+        ensures opens { (text : List ℕ) → frame.now ≡ frame_of self.old aad.now text
+            → IsOk result ↔ (HasNext self.old × (length text ≤ 274877906880)) }
         ensures finished { IsErrOf result FrameError.Finished ↔ (self.old.finished ≡ true) }
         ensures used_up { IsErrOf result FrameError.NumbersUsedUp
             ↔ ((self.old.finished ≡ false) × (self.old.next + 1 ≡ 2 ^ 64)) }
@@ -242,6 +245,9 @@ impl Receiver {
         requires { length frame.now ≡ length message.old + 16 }
         ensures accepted { IsOk result
             ↔ (HasNext self.old × IsLastFrame self.old aad.now frame.now) }
+        // The sender's frame is accepted.
+        ensures opens { (text : List ℕ) → frame.now ≡ last_frame_of self.old aad.now text
+            → IsOk result ↔ (HasNext self.old × (length text ≤ 274877906880)) }
         ensures finished { IsErrOf result FrameError.Finished ↔ (self.old.finished ≡ true) }
         ensures used_up { IsErrOf result FrameError.NumbersUsedUp
             ↔ ((self.old.finished ≡ false) × (self.old.next + 1 ≡ 2 ^ 64)) }

@@ -79,6 +79,11 @@ impl Receiver {
     pub fn receive(&mut self, packet: &[u8], output: &mut [u8]) -> Result<usize, PacketError>
         ensures accepted { let n = number_of packet.now in IsOk result
             ↔ (Fits packet.now output.old × IsOpen self.old n × IsPacket self.old n packet.now) }
+        // The sender's packet is accepted.
+        ensures opens { (sender : Endpoint) (text : List ℕ) → sender.key ≡ self.old.key
+            → sender.channel ≡ self.old.channel → packet.now ≡ packet_of sender text
+            → length text ≤ 274877906880 → Fits packet.now output.old
+            → IsOpen self.old (number_of packet.now) → IsOk result }
         ensures too_short { IsErrOf result PacketError.TooShort ↔ (length packet.now < 24) }
         ensures output_too_short { IsErrOf result PacketError.OutputTooShort
             ↔ (length output.old + 24 < length packet.now) }

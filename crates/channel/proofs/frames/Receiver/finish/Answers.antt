@@ -22,3 +22,9 @@ pub returns-in-Err-clause-forged : goal.returns-in-Err-clause-forged
 returns-in-Err-clause-forged c =
     let opened = subst HasNext c.self.view_is (c.in_ok-after.ensures.accepted.0 refl) in
     (λ _. (opened, λ framed. false≢true ((returns-in-Err-clause-accepted c).1 (opened, framed))), λ _. refl)
+
+pub returns-in-Err-clause-opens : goal.returns-in-Err-clause-opens
+returns-in-Err-clause-opens c text is = (
+  λ ok. absurd (false≢true ok),
+  λ fits. (returns-in-Err-clause-accepted c).1 (fits.0, (text, fits.1, is)),
+)
