@@ -5,11 +5,8 @@ import os
 import pathlib
 import shutil
 import subprocess
-import sys
 import tempfile
 
-if sys.version_info < (3, 9):
-    sys.exit(f"{sys.argv[0]} needs Python 3.9 or later")
 TOP = os.path.dirname(os.path.dirname(os.path.abspath(__file__)))
 
 
