@@ -61,7 +61,7 @@ impl Model for Receiver {
 }
 
 impl Receiver {
-    /// A receiver that has taken no packet.
+    /// A receiver that has taken no packet. It accepts those that another one took: after a restart, take a new key.
     pub fn new(key: &Key, channel: &Channel) -> Self
         ensures { result ≡ record { key = key.now; channel = channel.now; slots = replicate 64 0 } }
     {
@@ -72,7 +72,7 @@ impl Receiver {
         }
     }
 
-    /// Decrypts a packet whose number is open: writes its message to the front of the output, and returns its length,
+    /// Decrypts a packet whose number is open: writes its message to the start of the output, and returns its length,
     /// 24 bytes less than the packet's. Any bytes may come, and any number of them. `Err` exactly where they have fewer
     /// than 24 bytes, the output is shorter than the message, the number isn't open or the bytes are not the packet of
     /// any message; then nothing changes.

@@ -1,6 +1,6 @@
 //! Reads any part of an encrypted file, and encrypts any record of one, without the rest, by a bare cipher. It doesn't
 //! authenticate: whoever changes a bit of the file changes that bit of the plaintext, and no read notices it. For files
-//! that others can write take `sealed`, whose `SealedSlice` also reads any part.
+//! that others can write take `sealed_file`, whose `SealedSlice` also reads any part.
 //!
 //! ChaCha20 XORs (exclusive or) byte i of a file with byte i of a keystream. So a part is decrypted by a seek to its
 //! place, and no byte before it is computed. The contract of `read_at` says: if the file is the encryption of a

@@ -1,6 +1,6 @@
 //! Encrypts or decrypts from a reader to a writer, with any bare cipher, through one buffer. It doesn't authenticate:
-//! whoever changes a bit of the ciphertext changes that bit of the text, and decryption doesn't notice. `sealed`
-//! does, and explains the clauses.
+//! whoever changes a bit of the ciphertext changes that bit of the text, and decryption doesn't notice.
+//! `sealed_file` does, and explains the clauses.
 
 ghost use Rattle.std.specs.Prelude.{◌≡◌, ◌≢◌, ◌<◌, ◌≤◌, ◌+◌, ℕ, List, length, take, IsErrOf, IfOk, IfErr, OnOk, OnErr, IfSome};
 ghost use Rattle.std.specs.declared.io.Error.{Error};
@@ -134,7 +134,7 @@ fn read_some<R: Read>(reader: &mut R, buf: &mut [u8]) -> io::Result<usize>
     Err(io::Error::from(ErrorKind::TimedOut))
 }
 
-// `write_all`, with a contract that says what was written before an error. That of `sealed` has the same loop
+// `write_all`, with a contract that says what was written before an error. That of `sealed_file` has the same loop
 // with another error: this file is to be copied, and needs no other crate than `chacha20`.
 fn write_whole<W: Write>(writer: &mut W, bytes: &[u8]) -> io::Result<()>
     ensures written { OnOk result

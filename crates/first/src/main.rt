@@ -8,7 +8,7 @@ ghost use Rattle.chacha20poly1305.specs.Aead.{sealed_message};
 use chacha20poly1305::{Error, XChaCha20Poly1305, XNonce};
 use std::{io, str};
 
-// Writes the ciphertext, and behind it a tag of 16 bytes (draft-irtf-cfrg-xchacha, section 2).
+// Writes the ciphertext, followed by a tag of 16 bytes (draft-irtf-cfrg-xchacha, section 2).
 fn seal(
     cipher: &XChaCha20Poly1305,
     nonce: &XNonce,

@@ -36,7 +36,7 @@ StopsShort remaining position file old new i =
     ⊎ ((bytes : List ℕ) × GivesAt remaining position file old new (place i) bytes
     × (length bytes < 65552))
 
--- a reader went to the front of its file, which doesn't begin with a header
+-- a reader went to the start of its file, which doesn't begin with a header
 abbrev pub GivesNoHeader : {R : Type 0} → (R → Option (List ℕ)) → (R → Option ℕ)
     → (R → Option (List ℕ)) → R → Damage → Type 0
 GivesNoHeader {R} remaining position file old damage =

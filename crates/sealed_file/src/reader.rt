@@ -54,7 +54,7 @@ struct Held {
 impl<'b, R: Read + Seek> SealedReader<'b, R> {
     ghost use Rattle.sealed_file.specs.SealedReader.{file, inner, position, held, number, is_last, ReadsHeld, KeepsRight, OpensRange, StopsAtChunk};
 
-    /// Reads the length and the header of the file, wherever its reader is, and stands at the front of the text. `buf`
+    /// Reads the length and the header of the file, wherever its reader is, and stands at the start of the text. `buf`
     /// is scratch space of `CHUNK + TAG` bytes.
     pub fn new(
         key: &Key,
@@ -132,7 +132,7 @@ impl<'b, R: Read + Seek> SealedReader<'b, R> {
 
     /// Fills the window with text from byte `start` on, wherever it stands, and opens each chunk of this range once,
     /// but for one that it holds, and no other. Fails with `PastEnd` if and only if the range ends past the end of the
-    /// text; then nothing is read or changed. After another error, the window's front has the text of the chunks before
+    /// text; then nothing is read or changed. After another error, the window begins with the text of the chunks before
     /// the one that failed, and the call may be tried again. The position stays.
     pub fn read_exact_at(&mut self, start: u64, window: &mut [u8]) -> Result<(), ReaderError>
         ensures past_end { IsErrOf result ReaderError.PastEnd
@@ -396,7 +396,7 @@ impl<R: Read + Seek> Seek for SealedReader<'_, R> {
     ghost stream_position = { λ r. Some (position r) };
 
     /// Sets the position in the text, which may be past its end, and reads nothing. The end is where `text_len` says.
-    /// Fails with `InvalidInput` for a position before the front or from 2^64 on; then the position stays.
+    /// Fails with `InvalidInput` for a position before the start or from 2^64 on; then the position stays.
     fn seek(&mut self, to: SeekFrom) -> io::Result<u64>
         ensures moves { SeekMoves (Some (position self.old)) (Some (position self.new))
             None to result }

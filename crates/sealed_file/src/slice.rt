@@ -51,7 +51,7 @@ impl<'f> SealedSlice<'f> {
         text_len(self.file.len() as u64)
     }
 
-    /// Copies text from byte `start` to the front of the window, until the window or the chunk that holds `start`
+    /// Copies text from byte `start` on into the window, until the window or the chunk that holds `start`
     /// ends, and returns the number of bytes: 0 at or past the end of the text, where it checks the last chunk. Fails
     /// if and only if that chunk isn't right. The window is then unchanged.
     pub fn read_at(&self, start: u64, window: &mut [u8]) -> Result<usize, Damage>
@@ -74,7 +74,7 @@ impl<'f> SealedSlice<'f> {
 
     /// Fills the window with text from byte `start` on, and opens each chunk of this range once, and no other. Fails
     /// with `PastEnd` if and only if the range ends past the end of the text; the window is then unchanged. Otherwise
-    /// fails if and only if a chunk of the range isn't right; the window's front then has the text of the chunks
+    /// fails if and only if a chunk of the range isn't right; the window then begins with the text of the chunks
     /// before it.
     pub fn read_exact_at(&self, start: u64, window: &mut [u8]) -> Result<(), SliceError>
         ensures past_end { IsErrOf result SliceError.PastEnd

@@ -15,7 +15,7 @@ use std::io::{self, ErrorKind, Read, Write};
 
 /// Writes the sealed file of all that the reader has left. The salt must be 16 new random bytes for each file: a salt
 /// that is used twice under a key reveals the XOR of both texts, and lets others forge. Fails for a text of more than
-/// 2^72 bytes, and where the reader or the writer fails; then the writer has a front of that file. `buf` is scratch
+/// 2^72 bytes, and where the reader or the writer fails; then the writer has a prefix of that file. `buf` is scratch
 /// space of `CHUNK + 1` bytes. Don't read it afterwards: no clause says what it holds.
 pub fn encrypt<R: Read, W: Write>(
     key: &Key,
@@ -55,7 +55,7 @@ pub fn encrypt<R: Read, W: Write>(
 }
 
 /// Reads a sealed file up to the reader's end, and writes the text of each chunk after its tag was found right. If it
-/// fails, the writer has a front of the text of the chunks whose tags were right. Damage is that of the header, or of
+/// fails, the writer has a prefix of the text of the chunks whose tags were right. Damage is that of the header, or of
 /// the first chunk that isn't right. `buf` is scratch space of `CHUNK + TAG + 1` bytes. Don't read it afterwards: no
 /// clause says what it holds.
 pub fn decrypt<R: Read, W: Write>(
