@@ -68,10 +68,7 @@ fn is_stream(is_legacy: bool, before: u8) -> bool {
         between(is_legacy, &mut combined, &OF_ZEROS[8..]),
         keystream(is_legacy, &mut written),
     ];
-    (answers == [0; 3])
-        & (first == OF_ZEROS)
-        & (combined == [0; 24])
-        & OF_ZEROS.ends_with(&written)
+    (answers == [0; 3]) & (first == OF_ZEROS) & (combined == [0; 24]) & OF_ZEROS.ends_with(&written)
 }
 
 fn streams() -> bool {
