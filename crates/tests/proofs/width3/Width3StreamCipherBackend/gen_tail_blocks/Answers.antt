@@ -5,4 +5,4 @@ use Rattle.tests.proofs.width3.Width3StreamCipherBackend.gen_tail_blocks.Goals a
 -- It counts with `Steps` of its own, so the counts stay.
 
 pub returns-clause-state : goal.returns-clause-state
-returns-clause-state g c = search rules
+returns-clause-state g c = assumption rules

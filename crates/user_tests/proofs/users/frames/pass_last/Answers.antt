@@ -1,7 +1,7 @@
 use Rattle.std.proofs.Common.{◌∙◌, [], refl, ap, subst}
 use Rattle.chacha20.proofs.StdLemmas.{on_ok-holds, on_ok_given}
 use Rattle.channel.specs.Frames.{HasNext, last_frame_of}
-use Rattle.aead_tests.proofs.users.frames.pass_last.Goals as goal
+use Rattle.user_tests.proofs.users.frames.pass_last.Goals as goal
 
 -- the receiver accepts what the sender made
 pub returns-clause-accepted : goal.returns-clause-accepted

@@ -1,7 +1,7 @@
 use Rattle.std.proofs.Common.{◌∙◌, [], refl, sym, ap, subst}
 use Rattle.chacha20.proofs.StdLemmas.{on_ok-holds}
 use Rattle.channel.specs.Frames.{HasNext, frame_of, after}
-use Rattle.aead_tests.proofs.users.frames.pass_one.Goals as goal
+use Rattle.user_tests.proofs.users.frames.pass_one.Goals as goal
 
 -- the receiver accepts what the sender made
 pub returns-clause-accepted : goal.returns-clause-accepted

@@ -1,7 +1,7 @@
 use Rattle.std.proofs.Common.{◌≡◌, ◌∙◌, length, arith, refl, ap}
 use Rattle.chacha20.proofs.KeystreamLemmas.{length-xor_stream}
 use Rattle.chacha20.proofs.StdLemmas.{on_ok-holds}
-use Rattle.aead_tests.proofs.users.authenticated.there_and_back.Goals as goal
+use Rattle.user_tests.proofs.users.authenticated.there_and_back.Goals as goal
 
 pub returns-clause-accepted : goal.returns-clause-accepted
 returns-clause-accepted g c =

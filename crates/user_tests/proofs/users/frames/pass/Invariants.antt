@@ -1,5 +1,5 @@
 use Rattle.std.proofs.Common.{◌≡◌, ◌+◌}
-use Rattle.aead_tests.proofs.users.frames.pass.Given as goal
+use Rattle.user_tests.proofs.users.frames.pass.Given as goal
 
 abbrev pub invariant-each : goal.invariant-each
 invariant-each l = record {

@@ -1,5 +1,5 @@
 use Rattle.sealed_file.proofs.OpenLemmas.{only-prefix}
-use Rattle.aead_tests.proofs.users.sealed_files.opens.Goals as goal
+use Rattle.user_tests.proofs.users.sealed_files.opens.Goals as goal
 
 pub returns : goal.returns
 returns g c salt text size is =

@@ -2,7 +2,7 @@ use Rattle.std.proofs.Common.{[], ◌∙◌, ap, arith}
 use Rattle.std.specs.Prelude.{slice_set}
 use Rattle.std.proofs.lemmas.List.{set-get_or}
 use Rattle.channel.specs.Frames.{Endpoint}
-use Rattle.aead_tests.proofs.users.frames.pass.Goals as goal
+use Rattle.user_tests.proofs.users.frames.pass.Goals as goal
 
 pub each-preserved : goal.each-preserved
 each-preserved c = record {

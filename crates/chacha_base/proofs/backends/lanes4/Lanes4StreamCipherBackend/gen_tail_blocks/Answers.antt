@@ -1,0 +1,15 @@
+use Rattle.std.proofs.Common.{rules}
+use Rattle.chacha_base.proofs.backends.lanes4.Lanes4StreamCipherBackend.gen_tail_blocks.Goals as goal
+
+-- By `assumption`, which also fails at once.
+pub returns-clause-steps : goal.returns-clause-steps
+returns-clause-steps g c = assumption rules
+
+pub returns-clause-rounds : goal.returns-clause-rounds
+returns-clause-rounds g c = assumption rules
+
+pub returns-clause-blocks : goal.returns-clause-blocks
+returns-clause-blocks g c = assumption rules
+
+pub returns-clause-state : goal.returns-clause-state
+returns-clause-state g c = assumption rules
