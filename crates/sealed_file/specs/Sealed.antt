@@ -68,7 +68,7 @@ Splits key salt file text n rest =
     (length salt ≡ 16) × (length text ≡ 65536 * n) × (0 < n → 0 < length rest)
     × (file ≡ header salt ++ chunks key salt text n ++ rest)
 
--- the text of whole chunks at a file's front
+-- the text of whole chunks at a file's start
 abbrev pub BeginsWith : List ℕ → List ℕ → List ℕ → Type 0
 BeginsWith key file text = (salt rest : List ℕ) × (n : ℕ) × Splits key salt file text n rest
 
@@ -127,19 +127,19 @@ kind_of (Write error) = error_kind error
 kind_of (Damaged damage) = InvalidData
 kind_of TooLong = TimedOut
 
--- n bytes of a text, from byte `from` on, have come to a window's front: up to the end of either
+-- n bytes of a text, from byte `from` on, have come to a window's start: up to the end of either
 abbrev pub CopiesFrom : List ℕ → ℕ → List ℕ → List ℕ → ℕ → Type 0
 CopiesFrom text from old new n =
     (n ≡ min (length old) (length text - from)) × (new ≡ take n (drop from text) ++ drop n old)
 
--- chunk i is right, and bytes of its text have come to a window's front
+-- chunk i is right, and bytes of its text have come to a window's start
 abbrev pub ReadsPart : List ℕ → List ℕ → List ℕ → ℕ → ℕ → List ℕ → List ℕ → ℕ → Type 0
 ReadsPart key salt file i from old new n =
     (text : List ℕ) × (0 < i → 0 < length text)
     × (chunk_at file i ≡ chunk key salt i (nat_eq i (last_in file)) text)
     × CopiesFrom text from old new n
 
--- n bytes of a text, from byte `start` on, have come to a window's front: up to the window's end, or that of the chunk
+-- n bytes of a text, from byte `start` on, have come to a window's start: up to the window's end, or that of the chunk
 abbrev pub IsPart : List ℕ → ℕ → List ℕ → List ℕ → ℕ → Type 0
 IsPart text start old new n =
     let i = min (start / 65536) (last_number text) in
@@ -156,7 +156,7 @@ AreRight key salt file i n text =
     × ((j : ℕ) → j < n
     → chunk_at file (i + j) ≡ chunk key salt (i + j) (nat_eq (i + j) (last_in file)) (piece text j))
 
--- n chunks, from that of byte `start` on, are right, and k bytes of their text have come to a window's front
+-- n chunks, from that of byte `start` on, are right, and k bytes of their text have come to a window's start
 abbrev pub ReadsRange : List ℕ → List ℕ → List ℕ → ℕ → List ℕ → List ℕ → ℕ → ℕ → Type 0
 ReadsRange key salt file start old new n k =
     let i = start / 65536 in
@@ -168,7 +168,7 @@ abbrev pub AreOfRange : ℕ → ℕ → ℕ → Type 0
 AreOfRange start size n = 0 < n → 65536 * (start / 65536 + (n - 1)) - start < size
 
 -- what is wrong with the first chunk of a range that isn't right. The text of the chunks before it, k bytes, has come
--- to the window's front.
+-- to the window's start.
 abbrev pub StopsAtDamage : List ℕ → List ℕ → List ℕ → ℕ → List ℕ → List ℕ → Damage → Type 0
 StopsAtDamage key salt file start old new damage =
     (n : ℕ) × (let i = start / 65536 + n in

@@ -33,7 +33,7 @@ number r = min (r.position / 65536) (last_of r.file_len)
 abbrev pub is_last : {R : Type 0} → SealedReader R → Bool
 is_last r = nat_eq (number r) (last_of r.file_len)
 
--- n bytes of the next chunk's text, which s keeps, have come to a window's front. The text is as long as the file's
+-- n bytes of the next chunk's text, which s keeps, have come to a window's start. The text is as long as the file's
 -- length tells.
 abbrev pub ReadsHeld : {R : Type 0} → SealedReader R → SealedReader R → List ℕ → List ℕ → ℕ → Type 0
 ReadsHeld r s old new n =
@@ -73,7 +73,7 @@ OpensAll {R} remaining stream_position stream_bytes r s i (suc n) text =
     × OpensAll remaining stream_position stream_bytes r there i n before
     × Opens remaining stream_position stream_bytes there s (i + n) here × (text ≡ before ++ here)
 
--- n chunks, from that of byte `start` on, were opened, and k bytes of their text have come to a window's front
+-- n chunks, from that of byte `start` on, were opened, and k bytes of their text have come to a window's start
 abbrev pub OpensRange : {R : Type 0} → (R → Option (List ℕ)) → (R → Option ℕ)
     → (R → Option (List ℕ)) → SealedReader R → SealedReader R → ℕ → List ℕ → List ℕ → ℕ → ℕ → Type 0
 OpensRange remaining stream_position stream_bytes r s start old new n k =
@@ -81,7 +81,7 @@ OpensRange remaining stream_position stream_bytes r s start old new n k =
     (text : List ℕ) × OpensAll remaining stream_position stream_bytes r s i n text
     × CopiesFrom text (start - 65536 * i) old new k
 
--- the chunks of a range before chunk i were opened, and their text, k bytes, has come to the window's front. Then the
+-- the chunks of a range before chunk i were opened, and their text, k bytes, has come to the window's start. Then the
 -- reader stopped at chunk i as P says.
 abbrev pub StopsAtChunk : {R : Type 0} → (R → Option (List ℕ)) → (R → Option ℕ)
     → (R → Option (List ℕ)) → SealedReader R → ℕ → List ℕ → List ℕ → (SealedReader R → ℕ → Type 0)
