@@ -17,7 +17,7 @@ seal encrypts files, and notices each change when it decrypts them.
 
 IN and OUT may be -, which is standard input or output, but not the IN of cat.
 An existing OUT is replaced at the end. After an error it is as it was, and with
-OUT - the text that was printed is the front of the right one. The status is 0,
+OUT - the text that was printed is the start of the right one. The status is 0,
 or 1 after an error, which standard error tells in a sentence.
 
   seal key my.key

@@ -44,7 +44,7 @@ pub struct SealedReader<'b, R> {
     ghost size: { ForSome held (λ h. h.len + 16 ≡ chunk_size file_len h.number) },
 }
 
-// The chunk whose text stands in the front of the buffer.
+// The chunk whose text stands at the start of the buffer.
 #[derive(Clone, Copy)]
 struct Held {
     number: u64,
