@@ -1,6 +1,6 @@
 //! The ciphers and generators of `chacha20` for C. `c/chacha20.c` calls these exports from the functions of
 //! `include/chacha20.h`, after it has checked their pointers. No C program can link the exports themselves.
-//! `c/proved.mk` makes a static library of this crate; here it is a library, so that `user_tests` can test the exports.
+//! `c/proved.mk` makes a static library of this crate; here it is a library, so that `tests` can test the exports.
 //!
 //! A slice is passed as a pointer and then its length, an array as a pointer. No pointer is null, even where a length
 //! is 0, and what a call writes overlaps no other argument. Arguments come in the order key, nonce, position, output,

@@ -1,0 +1,27 @@
+//! What the named types are, published messages and tags, sealed files, the exports for C, what a caller proves from
+//! public contracts alone, and what users write, as `examples` does.
+
+mod authenticated;
+mod contracts;
+mod exports;
+mod first_calls;
+mod names;
+mod readme;
+mod sealed_files;
+mod sealed_parts;
+mod tags;
+mod unexported;
+mod unsteady;
+
+// The tests of `channel` and `examples`, each under the name of its module or example. `own_core` has its own in
+// `tests`.
+mod file;
+mod frames;
+mod log;
+mod message;
+mod packets;
+mod pieces;
+mod scalar;
+mod sectors;
+mod simulation;
+mod stream;
