@@ -1,10 +1,32 @@
-//! The examples of GUIDE and of the comments of the calls that users make first, but for those of `first` and `readme`.
+//! The examples of README and GUIDE, and of the comments of the calls that users make first.
 
-use chacha20::{ChaCha20Rng, Key, XNonce};
-use chacha20poly1305::{Error, XChaCha20Poly1305};
-use known_answers::published::{COUNTING, OF_ZEROS, X_NONCE};
+use chacha20::cipher::{KeyIvInit, StreamCipher, StreamCipherError, StreamCipherSeek};
+use chacha20::{ChaCha20, ChaCha20Rng, Key, Nonce, XNonce};
+use chacha20poly1305::{ChaCha20Poly1305, Error, XChaCha20Poly1305};
+use known_answers::published::{COUNTING, KEYSTREAM, NONCE, OF_ZEROS, X_NONCE};
 use sealed_file::{CHUNK, Damage, SealError, SealedSlice, TAG};
 use std::random::RandomSource;
+
+fn encrypted_and_decrypted(key: &Key, nonce: &Nonce) -> Result<[u8; 14], StreamCipherError> {
+    let mut message = *b"attack at dawn";
+    ChaCha20::new(key, nonce).try_apply_keystream(&mut message)?;
+    ChaCha20::new(key, nonce).try_apply_keystream(&mut message)?;
+    Ok(message)
+}
+
+fn from_block_1(key: &Key, nonce: &Nonce) -> Result<[u8; 114], StreamCipherError> {
+    let mut message = [0; 114];
+    let mut cipher = ChaCha20::new(key, nonce);
+    cipher.try_seek(64u32)?;
+    cipher.try_apply_keystream(&mut message)?;
+    Ok(message)
+}
+
+#[test]
+fn ciphers(rt: HostRuntime) {
+    let same = encrypted_and_decrypted(&COUNTING, &NONCE) == Ok(*b"attack at dawn");
+    assert!(rt; same & (from_block_1(&COUNTING, &NONCE) == Ok(*KEYSTREAM)));
+}
 
 fn there_and_back(key: &Key, nonce: &XNonce, aad: &[u8]) -> Result<[u8; 14], Error> {
     let mut message = *b"attack at dawn";
@@ -14,10 +36,23 @@ fn there_and_back(key: &Key, nonce: &XNonce, aad: &[u8]) -> Result<[u8; 14], Err
     Ok(message)
 }
 
+fn sealed_and_opened(key: &Key, nonce: &Nonce) -> Result<[u8; 14], Error> {
+    let cipher = ChaCha20Poly1305::new(key);
+    let mut sealed = [0; 14 + 16];
+    cipher.encrypt(nonce, b"header", b"attack at dawn", &mut sealed)?;
+
+    let mut text = [0; 14];
+    cipher.decrypt(nonce, b"header", &sealed, &mut text)?;
+    Ok(text)
+}
+
 #[test]
 fn messages(rt: HostRuntime) {
-    let text = there_and_back(&COUNTING, &X_NONCE, b"header");
-    assert!(rt; text == Ok(*b"attack at dawn"));
+    let texts = [
+        there_and_back(&COUNTING, &X_NONCE, b"header"),
+        sealed_and_opened(&COUNTING, &NONCE),
+    ];
+    assert!(rt; texts == [Ok(*b"attack at dawn"); 2]);
 }
 
 // Bytes 10 to 14 of a file's text.
