@@ -26,13 +26,14 @@ def printed(*command, **more):
 
 
 @contextlib.contextmanager
-def copied(*crates):
+def copied(*crates, proofs=True):
     """A copy of these crates, which must have those that they use, with what earlier checks kept in their folders
-    `out`. It is deleted where the `with` block ends."""
+    `out`, if it is to have proofs. It is deleted where the `with` block ends."""
+    without = None if proofs else shutil.ignore_patterns("out")
     with tempfile.TemporaryDirectory(prefix="checks-") as room:
         lines = text_of("crates.txt").splitlines(keepends=True)
         write(f"{room}/crates.txt", "".join(it for it in lines if it.split(":")[0] in crates))
         shutil.copy(f"{TOP}/HANDLES", room)
         for name in crates:
-            shutil.copytree(f"{TOP}/crates/{name}", f"{room}/crates/{name}", symlinks=True)
+            shutil.copytree(f"{TOP}/crates/{name}", f"{room}/crates/{name}", symlinks=True, ignore=without)
         yield room

@@ -7,7 +7,6 @@
 pub mod backends;
 pub mod bytes;
 pub mod cipher;
-mod facts;
 pub mod rounds;
 pub mod state;
 pub mod variants;

@@ -276,3 +276,9 @@ fn copy_part(input: &[u8], output: &mut [u8])
         output.copy_from_slice(input);
     }
 }
+
+// The sizes of a cipher are those of its core, whatever the core is.
+fn sizes_of_cipher<C: StreamCipherSeekCore + KeySizeUser + IvSizeUser>()
+    ensures key { ⟦<StreamCipherCoreWrapper<C> as KeySizeUser>⟧.KEY_SIZE ≡ C.KEY_SIZE }
+    ensures nonce { ⟦<StreamCipherCoreWrapper<C> as IvSizeUser>⟧.IV_SIZE ≡ C.IV_SIZE }
+{}

@@ -16,6 +16,8 @@ pub enum Call {
     OnSecond(RngCall),
     /// Makes the second generator anew, of `seed S` or `state S`.
     MakeSecond(&'static str),
+    /// Makes it of the bytes of this range, as its seed.
+    SeedSecond(Range),
     /// `==` with the second generator.
     EqualsSecond,
     RemainingBlocks,
@@ -83,14 +85,14 @@ impl Range {
 }
 
 impl Call {
-    /// The range of the data that the call may change.
+    /// The range of the data that the call may change, or reads.
     pub(crate) fn range(self) -> Range {
         match self {
             Call::Cipher(CipherCall::Apply { at, len })
             | Call::Cipher(CipherCall::Write { at, len })
             | Call::Cipher(CipherCall::ApplyFrom { at, len, .. })
             | Call::Rng(RngCall::Fill { at, len }) => Range { at, len },
-            Call::WriteBlock(range) | Call::WriteBlocks(range) => range,
+            Call::WriteBlock(range) | Call::WriteBlocks(range) | Call::SeedSecond(range) => range,
             _ => Range { at: 0, len: 0 },
         }
     }
@@ -116,7 +118,7 @@ pub(crate) fn read_call(text: &'static str, slices: &mut Slices) -> Option<Call>
         "b2b" => read_b2b(operand, slices),
         "write_keystream_block" => Some(Call::WriteBlock(place("1", 64, data))),
         "write_keystream_blocks" => Some(Call::WriteBlocks(place(operand, 64, data))),
-        "second" => read_second(operand),
+        "second" => read_second(operand, data.len),
         _ => read_call_without_data(text),
     }
 }
@@ -133,7 +135,11 @@ fn read_b2b(operands: &'static str, slices: &mut Slices) -> Option<Call> {
     }))
 }
 
-fn read_second(text: &'static str) -> Option<Call> {
+fn read_second(text: &'static str, end: usize) -> Option<Call> {
+    if text == "seed drawn" {
+        let at = end.checked_sub(32)?;
+        return Some(Call::SeedSecond(Range { at, len: 32 }));
+    }
     match read_call_without_data(text) {
         Some(Call::Rng(call)) => Some(Call::OnSecond(call)),
         None => Some(Call::MakeSecond(text)),

@@ -41,7 +41,8 @@
 //! `set_stream` moves to position 0.
 //!
 //! Beside each generator stands a second one, made of the same seed or state. `second set_word_pos 1` is a call on it,
-//! `second seed S` and `second state S` make it anew, and `equals second -> true` compares the two by `==`.
+//! `second seed S` and `second state S` make it anew, `second seed drawn` of the 32 bytes that the last fill wrote, and
+//! `equals second -> true` compares the two by `==`.
 //!
 //! Calls can share bytes. Then the lines `input 010203`, which `b2b` reads, and `data 00*4` stand below the subject.
 //! `run_cipher` and `run_rng` get these slices, and each line names ranges in them: `apply 0..3` changes the first
@@ -229,11 +230,9 @@ case 17. The Rust crate's tests: a generator that seeds another (the bytes: Open
 ChaCha20Rng seed 00*8 01 00*7 02 00*7 03 00*7
 next_u32 -> 137206642
 fill_bytes 32 -> 2e12f77bfc962da408558f75b94e1f34b96db5f153c5de77eb1ab13d909a1bf1
+second seed drawn
+second next_u32 -> 1325750369
 get_word_pos -> 9
-
-case 17. The Rust crate's tests: the generator that it seeds
-ChaCha20Rng seed 2e12f77bfc962da408558f75b94e1f34b96db5f153c5de77eb1ab13d909a1bf1
-next_u32 -> 1325750369
 
 case 18. By hand: the last byte, and none after it (the byte: OpenSSL)
 ChaCha20 key 00..1f nonce 000000000000004a00000000

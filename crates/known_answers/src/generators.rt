@@ -48,6 +48,14 @@ impl<R: Rounds, B: RngBackend<R>> Subject for Pair<R, B> {
                 }
                 None => Answer::Missing,
             },
+            Call::SeedSecond(_) => {
+                let mut seed = [0; 32];
+                if data.len() == 32 {
+                    seed.copy_from_slice(data);
+                }
+                self.second = ChaChaRng::from_seed(seed);
+                Answer::Done
+            }
             Call::EqualsSecond => Answer::Equal(self.first == self.second),
             Call::NoCalls => Answer::Done,
             _ => Answer::Missing,
@@ -64,7 +72,7 @@ impl<R: Rounds, B: RngBackend<R>> Subject for Pair<R, B> {
                 (Call::EqualsSecond, RngAnswer::State(state)) => {
                     Answer::Equal(ChaChaRng::deserialize_state(&state) == self.second)
                 }
-                (call, _) => self.make(Way::AsList, call, input, &mut []),
+                (call, _) => self.make(Way::AsList, call, input, call.range().of_mut(data)),
             };
         }
     }

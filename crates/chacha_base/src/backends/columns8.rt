@@ -70,3 +70,19 @@ impl<R: Rounds> RngBackend<R> for Columns8 {
         write_buffer::<R, Four>(state, buffer, steps);
     }
 }
+
+// The numbers of this backend once more, so that a change of one in the code and in its own clauses fails here.
+fn numbers<R: Rounds, V: Variant>(
+    state: &mut [u32; 16],
+    blocks: &mut [[u8; 64]],
+    steps: &mut Steps,
+)
+    requires { length blocks.old < 8 }
+    ensures width { ⟦<Columns8 as ParBlocksSizeUser>⟧.PAR_BLOCKS ≡ 8 }
+    ensures par { ⟦<Columns8 as StreamCipherBackend<R, V>>⟧.PAR_STEPS ≡ 8 }
+    ensures one { ⟦<Columns8 as StreamCipherBackend<R, V>>⟧.ONE_STEPS ≡ 2 }
+    ensures rng { ⟦<Columns8 as RngBackend<R>>⟧.RNG_STEPS ≡ 2 }
+    ensures tail { steps.new.rounds ≡ steps.old.rounds + tail_of_8 (length blocks.old) * R.COUNT }
+{
+    <Columns8 as StreamCipherBackend<R, V>>::gen_tail_blocks(state, blocks, steps);
+}

@@ -78,3 +78,19 @@ impl<R: Rounds> RngBackend<R> for Lanes16 {
         write_buffer::<R, Four>(state, buffer, steps);
     }
 }
+
+// The numbers of this backend once more, so that a change of one in the code and in its own clauses fails here.
+fn numbers<R: Rounds, V: Variant>(
+    state: &mut [u32; 16],
+    blocks: &mut [[u8; 64]],
+    steps: &mut Steps,
+)
+    requires { length blocks.old < 16 }
+    ensures width { ⟦<Lanes16 as ParBlocksSizeUser>⟧.PAR_BLOCKS ≡ 16 }
+    ensures par { ⟦<Lanes16 as StreamCipherBackend<R, V>>⟧.PAR_STEPS ≡ 8 }
+    ensures one { ⟦<Lanes16 as StreamCipherBackend<R, V>>⟧.ONE_STEPS ≡ 2 }
+    ensures rng { ⟦<Lanes16 as RngBackend<R>>⟧.RNG_STEPS ≡ 2 }
+    ensures tail { steps.new.rounds ≡ steps.old.rounds + tail_of_16 (length blocks.old) * R.COUNT }
+{
+    <Lanes16 as StreamCipherBackend<R, V>>::gen_tail_blocks(state, blocks, steps);
+}

@@ -76,3 +76,19 @@ impl<R: Rounds> RngBackend<R> for Lanes4 {
         write_buffer::<R, Four>(state, buffer, steps);
     }
 }
+
+// The numbers of this backend once more, so that a change of one in the code and in its own clauses fails here.
+fn numbers<R: Rounds, V: Variant>(
+    state: &mut [u32; 16],
+    blocks: &mut [[u8; 64]],
+    steps: &mut Steps,
+)
+    requires { length blocks.old < 4 }
+    ensures width { ⟦<Lanes4 as ParBlocksSizeUser>⟧.PAR_BLOCKS ≡ 4 }
+    ensures par { ⟦<Lanes4 as StreamCipherBackend<R, V>>⟧.PAR_STEPS ≡ 8 }
+    ensures one { ⟦<Lanes4 as StreamCipherBackend<R, V>>⟧.ONE_STEPS ≡ 8 }
+    ensures rng { ⟦<Lanes4 as RngBackend<R>>⟧.RNG_STEPS ≡ 8 }
+    ensures tail { steps.new.rounds ≡ steps.old.rounds + min 1 (length blocks.old) * 8 * R.COUNT }
+{
+    <Lanes4 as StreamCipherBackend<R, V>>::gen_tail_blocks(state, blocks, steps);
+}

@@ -72,3 +72,19 @@ impl<R: Rounds> RngBackend<R> for Lanes8 {
         write_buffer::<R, Four>(state, buffer, steps);
     }
 }
+
+// The numbers of this backend once more, so that a change of one in the code and in its own clauses fails here.
+fn numbers<R: Rounds, V: Variant>(
+    state: &mut [u32; 16],
+    blocks: &mut [[u8; 64]],
+    steps: &mut Steps,
+)
+    requires { length blocks.old < 4 }
+    ensures width { ⟦<Lanes8 as ParBlocksSizeUser>⟧.PAR_BLOCKS ≡ 4 }
+    ensures par { ⟦<Lanes8 as StreamCipherBackend<R, V>>⟧.PAR_STEPS ≡ 4 }
+    ensures one { ⟦<Lanes8 as StreamCipherBackend<R, V>>⟧.ONE_STEPS ≡ 4 }
+    ensures rng { ⟦<Lanes8 as RngBackend<R>>⟧.RNG_STEPS ≡ 4 }
+    ensures tail { steps.new.rounds ≡ steps.old.rounds + min 1 (length blocks.old) * 4 * R.COUNT }
+{
+    <Lanes8 as StreamCipherBackend<R, V>>::gen_tail_blocks(state, blocks, steps);
+}

@@ -46,6 +46,20 @@ pub trait StreamCipherBackend<R: Rounds, V: Variant>: ParBlocksSizeUser {
         ensures state { state.new ≡ state_after V.layout (length blocks.old) state.old }
         ensures steps { Grows
             (for_tail (ONE_STEPS * R.COUNT) (length blocks.old)) steps.old steps.new };
+
+    /// The next blocks, as many as there is room for, each by a call of its own. A backend may make its tails by it.
+    final fn gen_single_blocks(state: &mut [u32; 16], blocks: &mut [[u8; 64]], steps: &mut Steps)
+        ensures blocks { AreNextBlocks R.COUNT V.layout state.old (length blocks.old) blocks.new }
+        ensures state { state.new ≡ state_after V.layout (length blocks.old) state.old }
+        ensures steps { Grows
+            (for_tail (ONE_STEPS * R.COUNT) (length blocks.old)) steps.old steps.new }
+        ensures rounds { steps.new.rounds
+            ≡ steps.old.rounds + length blocks.old * (ONE_STEPS * R.COUNT) }
+    {
+        'each: for i in 0..blocks.len() {
+            Self::gen_ks_block(state, &mut blocks[i], steps);
+        }
+    }
 }
 
 /// Makes the words of a generator, four blocks at a time, in the legacy layout.

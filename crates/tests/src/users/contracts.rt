@@ -5,7 +5,7 @@ ghost use Rattle.chacha20.specs.State.{fixed_words, state_counter};
 ghost use Rattle.chacha20.specs.Cipher.{limit_of};
 ghost use Rattle.chacha20.specs.Counts.{Grows, for_bytes};
 
-use chacha20::backends::{Columns8, Lanes4, Lanes8, Lanes16};
+use chacha20::backends::{Columns8, Lanes4, Lanes8, Lanes16, Rows8, Soft};
 use chacha20::cipher::{
     KeyIvInit, RngBackend, StreamCipher, StreamCipherBackend, StreamCipherCore, StreamCipherError,
     StreamCipherSeek,
@@ -131,8 +131,17 @@ fn apply_586_bytes<B: StreamCipherBackend<R20, Ietf>>(
     Ietf20::<B>::new(&[0; 32], &[0; 12]).try_apply_keystream_counted(&mut [0; 586], steps)
 }
 
-// What that is over a backend with groups of four, and over one of which this is a tail: parallel calls and others at
-// most, and quarter rounds.
+// What that is over each backend: parallel calls and others at most, and quarter rounds.
+
+// Nine parallel calls of one block, and the last part.
+fn apply_586_bytes_soft(steps: &mut Steps) -> Result<(), StreamCipherError>
+    ensures accepted { IsOk result }
+    ensures par { steps.new.par ≤ steps.old.par + 9 }
+    ensures other { steps.new.other ≤ steps.old.other + 1 }
+    ensures rounds { steps.new.rounds ≡ steps.old.rounds + 800 }
+{
+    apply_586_bytes::<Soft>(steps)
+}
 
 // Two parallel calls of four blocks, a tail of one, and the last part.
 fn apply_586_bytes_lanes4(steps: &mut Steps) -> Result<(), StreamCipherError>
@@ -142,6 +151,26 @@ fn apply_586_bytes_lanes4(steps: &mut Steps) -> Result<(), StreamCipherError>
     ensures rounds { steps.new.rounds ≡ steps.old.rounds + 320 }
 {
     apply_586_bytes::<Lanes4>(steps)
+}
+
+// The same, with half the quarter rounds.
+fn apply_586_bytes_lanes8(steps: &mut Steps) -> Result<(), StreamCipherError>
+    ensures accepted { IsOk result }
+    ensures par { steps.new.par ≤ steps.old.par + 2 }
+    ensures other { steps.new.other ≤ steps.old.other + 2 }
+    ensures rounds { steps.new.rounds ≡ steps.old.rounds + 160 }
+{
+    apply_586_bytes::<Lanes8>(steps)
+}
+
+// A parallel call of eight blocks, a tail of one, and the last part.
+fn apply_586_bytes_rows8(steps: &mut Steps) -> Result<(), StreamCipherError>
+    ensures accepted { IsOk result }
+    ensures par { steps.new.par ≤ steps.old.par + 1 }
+    ensures other { steps.new.other ≤ steps.old.other + 2 }
+    ensures rounds { steps.new.rounds ≡ steps.old.rounds + 480 }
+{
+    apply_586_bytes::<Rows8>(steps)
 }
 
 // A tail of nine blocks, and the last part.
@@ -155,15 +184,29 @@ fn apply_586_bytes_lanes16(steps: &mut Steps) -> Result<(), StreamCipherError>
     apply_586_bytes::<Lanes16>(steps)
 }
 
+// A parallel call of eight blocks, a tail of one, and the last part.
+fn apply_586_bytes_columns8(steps: &mut Steps) -> Result<(), StreamCipherError>
+    ensures accepted { IsOk result }
+    ensures par { steps.new.par ≤ steps.old.par + 1 }
+    ensures other { steps.new.other ≤ steps.old.other + 2 }
+    ensures rounds { steps.new.rounds ≡ steps.old.rounds + 120 }
+{
+    apply_586_bytes::<Columns8>(steps)
+}
+
 // No other test calls `try_apply_keystream_counted`.
 #[test]
 fn counted(rt: HostRuntime) {
     let steps = &mut Steps::new();
     let accepted = [
+        apply_586_bytes_soft(steps),
         apply_586_bytes_lanes4(steps),
+        apply_586_bytes_lanes8(steps),
+        apply_586_bytes_rows8(steps),
         apply_586_bytes_lanes16(steps),
+        apply_586_bytes_columns8(steps),
     ];
-    assert!(rt; accepted == [Ok(()); 2]);
+    assert!(rt; accepted == [Ok(()); 6]);
 }
 
 // Bounds on what the named ciphers count, at every position: those of `Lanes16`.

@@ -1,4 +1,4 @@
-use Rattle.chacha_base.proofs.facts.lanes16_numbers.Goals as goal
+use Rattle.chacha_base.proofs.backends.lanes16.numbers.Goals as goal
 use Rattle.std.proofs.Common.{refl}
 
 -- answered for speed

@@ -1,4 +1,4 @@
-use Rattle.chacha_base.proofs.facts.columns8_numbers.Goals as goal
+use Rattle.chacha_base.proofs.backends.columns8.numbers.Goals as goal
 use Rattle.std.proofs.Common.{refl}
 
 -- answered for speed
