@@ -26,6 +26,7 @@ static void store_le(uint8_t *bytes, uint64_t number, int count) {
 
 /* libsodium */
 
+#define SODIUM "libsodium.so.23"
 static int (*sodium_ietf_ic)(uint8_t *, const uint8_t *, unsigned long long, const uint8_t *, uint32_t, const uint8_t *);
 static int (*sodium_legacy_ic)(uint8_t *, const uint8_t *, unsigned long long, const uint8_t *, uint64_t, const uint8_t *);
 static int (*sodium_xchacha_ic)(uint8_t *, const uint8_t *, unsigned long long, const uint8_t *, uint64_t, const uint8_t *);
@@ -57,7 +58,8 @@ static void sodium_poly1305(const uint8_t *key, const uint8_t *input, size_t len
 int find_sodium(struct other *found) {
     int (*init)(void) = NULL;
     const char *(*version)(void) = NULL;
-    void *handle = dlopen("libsodium.so.23", RTLD_NOW | RTLD_LOCAL);
+    const char *skip = getenv("CHACHA20_SKIP");
+    void *handle = skip && strstr(skip, SODIUM) ? NULL : dlopen(SODIUM, RTLD_NOW | RTLD_LOCAL);
     if (!handle || !look_up(handle, "sodium_init", &init) || !look_up(handle, "sodium_version_string", &version) ||
         !look_up(handle, "crypto_stream_chacha20_ietf_xor_ic", &sodium_ietf_ic) ||
         !look_up(handle, "crypto_stream_chacha20_xor_ic", &sodium_legacy_ic) ||
@@ -66,7 +68,7 @@ int find_sodium(struct other *found) {
         !look_up(handle, "crypto_aead_chacha20poly1305_ietf_encrypt_detached", &sodium_aeads[IETF]) ||
         !look_up(handle, "crypto_aead_xchacha20poly1305_ietf_encrypt_detached", &sodium_aeads[XCHACHA]) ||
         !look_up(handle, "crypto_onetimeauth_poly1305", &sodium_mac) || init() < 0) {
-        puts("not found: libsodium");
+        puts("skipped, no " SODIUM);
         return 0;
     }
     printf("found: libsodium %s\n", version());
@@ -238,7 +240,7 @@ int level_here(void) {
 int find_levels(void) {
     int here = level_here();
     if (!&level) return 1;
-    if (here < 3) printf("not run, since this processor lacks it: what is above level %d of x86-64\n", here);
+    if (here < 3) printf("skipped, no x86-64-v%d\n", here + 1);
     if (level != here) printf("wrong: level %d is chosen where %d can run\n", level, here), exit(1);
     return here;
 }
