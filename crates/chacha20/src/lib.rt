@@ -20,8 +20,8 @@
 //! | `ChaCha20Rng`, `ChaCha12Rng`, `ChaCha8Rng` | 20, 12, 8 | a number of 64 bits | 2^68 words, then it repeats |
 //!
 //! The clauses of a call say what it does. Those of ciphers are in `cipher::StreamCipher` and
-//! `cipher::StreamCipherSeek`, those of generators at the calls of `ChaChaRng`. The tests are in crates of
-//! their own, since a crate that has tests is proved twice.
+//! `cipher::StreamCipherSeek`, those of generators at the calls of `ChaChaRng`. The tests are in the crate
+//! `tests`, since a crate that has tests is proved twice.
 #![tactic(auto)]
 
 mod chacha;
