@@ -30,3 +30,7 @@ returns-clause-opens g c text same =
 
 pub returns-clause-text : goal.returns-clause-text
 returns-clause-text g c = rw (c.split_at.ensures.front) at c.decrypt_detached.ensures.text
+
+-- answered for speed
+pub returns-clause-refused : goal.returns-clause-refused
+returns-clause-refused g c = c.decrypt_detached.ensures.refused
