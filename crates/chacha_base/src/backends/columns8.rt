@@ -72,11 +72,7 @@ impl<R: Rounds> RngBackend<R> for Columns8 {
 }
 
 // The numbers of this backend once more, so that a change of one in the code and in its own clauses fails here.
-fn numbers<R: Rounds, V: Variant>(
-    state: &mut [u32; 16],
-    blocks: &mut [[u8; 64]],
-    steps: &mut Steps,
-)
+fn numbers<R: Rounds, V: Variant>(state: &mut [u32; 16], blocks: &mut [[u8; 64]], steps: &mut Steps)
     requires { length blocks.old < 8 }
     ensures width { ⟦<Columns8 as ParBlocksSizeUser>⟧.PAR_BLOCKS ≡ 8 }
     ensures par { ⟦<Columns8 as StreamCipherBackend<R, V>>⟧.PAR_STEPS ≡ 8 }

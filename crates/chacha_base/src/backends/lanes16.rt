@@ -80,11 +80,7 @@ impl<R: Rounds> RngBackend<R> for Lanes16 {
 }
 
 // The numbers of this backend once more, so that a change of one in the code and in its own clauses fails here.
-fn numbers<R: Rounds, V: Variant>(
-    state: &mut [u32; 16],
-    blocks: &mut [[u8; 64]],
-    steps: &mut Steps,
-)
+fn numbers<R: Rounds, V: Variant>(state: &mut [u32; 16], blocks: &mut [[u8; 64]], steps: &mut Steps)
     requires { length blocks.old < 16 }
     ensures width { ⟦<Lanes16 as ParBlocksSizeUser>⟧.PAR_BLOCKS ≡ 16 }
     ensures par { ⟦<Lanes16 as StreamCipherBackend<R, V>>⟧.PAR_STEPS ≡ 8 }

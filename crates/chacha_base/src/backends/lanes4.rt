@@ -78,11 +78,7 @@ impl<R: Rounds> RngBackend<R> for Lanes4 {
 }
 
 // The numbers of this backend once more, so that a change of one in the code and in its own clauses fails here.
-fn numbers<R: Rounds, V: Variant>(
-    state: &mut [u32; 16],
-    blocks: &mut [[u8; 64]],
-    steps: &mut Steps,
-)
+fn numbers<R: Rounds, V: Variant>(state: &mut [u32; 16], blocks: &mut [[u8; 64]], steps: &mut Steps)
     requires { length blocks.old < 4 }
     ensures width { ⟦<Lanes4 as ParBlocksSizeUser>⟧.PAR_BLOCKS ≡ 4 }
     ensures par { ⟦<Lanes4 as StreamCipherBackend<R, V>>⟧.PAR_STEPS ≡ 8 }

@@ -74,11 +74,7 @@ impl<R: Rounds> RngBackend<R> for Lanes8 {
 }
 
 // The numbers of this backend once more, so that a change of one in the code and in its own clauses fails here.
-fn numbers<R: Rounds, V: Variant>(
-    state: &mut [u32; 16],
-    blocks: &mut [[u8; 64]],
-    steps: &mut Steps,
-)
+fn numbers<R: Rounds, V: Variant>(state: &mut [u32; 16], blocks: &mut [[u8; 64]], steps: &mut Steps)
     requires { length blocks.old < 4 }
     ensures width { ⟦<Lanes8 as ParBlocksSizeUser>⟧.PAR_BLOCKS ≡ 4 }
     ensures par { ⟦<Lanes8 as StreamCipherBackend<R, V>>⟧.PAR_STEPS ≡ 4 }

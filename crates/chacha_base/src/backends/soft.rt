@@ -106,11 +106,7 @@ impl<R: Rounds> RngBackend<R> for Soft {
 }
 
 // The numbers of this backend once more, so that a change of one in the code and in its own clauses fails here.
-fn numbers<R: Rounds, V: Variant>(
-    state: &mut [u32; 16],
-    blocks: &mut [[u8; 64]],
-    steps: &mut Steps,
-)
+fn numbers<R: Rounds, V: Variant>(state: &mut [u32; 16], blocks: &mut [[u8; 64]], steps: &mut Steps)
     requires { length blocks.old < 1 }
     ensures width { ⟦<Soft as ParBlocksSizeUser>⟧.PAR_BLOCKS ≡ 1 }
     ensures par { ⟦<Soft as StreamCipherBackend<R, V>>⟧.PAR_STEPS ≡ 8 }

@@ -1,5 +1,5 @@
 use Rattle.std.proofs.Common.{◌≡◌, ◌*◌, arith, refl, sym}
-use Rattle.chacha_base.proofs.CountsLemmas.{grows-none, grows-single, grows-singles}
+use Rattle.chacha_base.proofs.CountsLemmas.{grows-none, grows-single}
 use Rattle.chacha_base.proofs.StateLemmas.{state_after-zero, state_after-more, next_block-more}
 use Rattle.chacha_base.proofs.cipher.backends.StreamCipherBackend.gen_single_blocks.Goals as goal
 
