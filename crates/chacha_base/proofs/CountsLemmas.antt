@@ -71,12 +71,6 @@ grows-single {k} {cost} blocks block =
     let sum = add-mul k 1 cost in
     grows-then blocks block (omega arith) (omega arith) (omega (arith, sum)) (omega (arith, sum))
 
--- single blocks are within the bounds of a tail
-pub grows-singles : (one k : ℕ) {a b : Counts} → Grows (for_call 0 k (k * one)) a b → Grows (for_tail one k) a b
-grows-singles one k {b = b} blocks =
-    let few : min 1 k ≤ k = omega arith in
-    grows-then blocks (grows-none b) (omega arith) (omega arith) (omega (arith, mul-le-mul_right one few)) (omega arith)
-
 -- groups, and then the rest
 pub grows-blocks : (w par one m : ℕ) {a b c : Counts} → Grows (for_call (m / w) 0 (m / w * par)) a b
     → Grows (for_tail one (m % w)) b c → Grows (for_whole_blocks w par one m) a c
