@@ -27,8 +27,8 @@ def printed(*command, **more):
 
 @contextlib.contextmanager
 def copied(*crates, proofs=True):
-    """A copy of these crates, which must have those that they use, with what earlier checks kept in their folders
-    `out`, if it is to have proofs. It is deleted where the `with` block ends."""
+    """A copy of these crates, which must have those that they use, and by default what earlier checks kept in their
+    folders `out`. It is deleted where the `with` block ends."""
     without = None if proofs else shutil.ignore_patterns("out")
     with tempfile.TemporaryDirectory(prefix="checks-") as room:
         lines = text_of("crates.txt").splitlines(keepends=True)
@@ -37,3 +37,19 @@ def copied(*crates, proofs=True):
         for name in crates:
             shutil.copytree(f"{TOP}/crates/{name}", f"{room}/crates/{name}", symlinks=True, ignore=without)
         yield room
+
+
+def edited(crate, edit):
+    """The texts that an edit makes of files of a crate, by their paths."""
+    texts = {}
+    for line in text_of(edit).split("\n"):
+        word, _, text = line.partition(": ")
+        if word == "file":
+            path = f"{crate}/{text}"
+            texts.setdefault(path, text_of(path))
+        elif word == "old":
+            old = text
+        elif word == "new":
+            assert texts[path].count(old) == 1, f"{edit}: {old!r} isn't in {path} once"
+            texts[path] = texts[path].replace(old, text)
+    return texts
