@@ -1,0 +1,4 @@
+-- What clauses of public calls rest on.
+pub mod Stream
+pub mod Tags
+pub mod ErrorText
