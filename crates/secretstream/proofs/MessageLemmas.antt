@@ -1,10 +1,10 @@
 -- What a message is made of, and that it determines its tag byte and its text.
-use Rattle.std.proofs.Common.{◌≡◌, ◌≤◌, ◌+◌, ◌-◌, ◌%◌, ◌∙◌, ◌∷◌, ◌++◌, ◌↔◌, ℕ, suc, List, [], length, take, drop, replicate, slice_index, bit_xor, arith, refl, sym, ap, ap₂, length-append, take_at, drop_at}
+use Rattle.std.proofs.Common.{◌≡◌, ◌≤◌, ◌+◌, ◌-◌, ◌%◌, ◌∙◌, ◌∷◌, ◌++◌, ◌↔◌, ℕ, suc, List, [], length, take, drop, replicate, slice_index, slice_set, bit_xor, arith, refl, sym, ap, ap₂, length-append, length-drop, length-take-le, take_at, drop_at}
 use Rattle.std.proofs.lemmas.List.{append_assoc, take-append-drop, take-replicate}
 use Rattle.std.specs.Int.{w64, to_le_bytes}
 use Rattle.std.specs.Int.Bits.{xor_assoc, xor_self, xor_zero_r}
 use Rattle.chacha20.specs.ChaCha.{xor_stream}
-use Rattle.chacha20.proofs.KeystreamLemmas.{length-xor_stream, xor_stream-xor_stream}
+use Rattle.chacha20.proofs.KeystreamLemmas.{length-xor_stream, xor_stream-xor_stream, take-xor_stream, drop-xor_stream, xor_stream-zeros}
 use Rattle.poly1305.specs.Poly1305.{poly1305, tag_from}
 use Rattle.chacha20poly1305.specs.Aead.{mac_key, padding}
 use Rattle.secretstream.specs.Stream.{State, stream_of, mac_text, mac_of, message_of, IsMessage}
@@ -101,7 +101,70 @@ module _ (s : State) (aad : List ℕ) where
       }
 
 -- bytes in three parts
-pub three-parts : (bytes : List ℕ) (n : ℕ) → length bytes ≡ n + 17
+three-parts : (bytes : List ℕ) (n : ℕ) → length bytes ≡ n + 17
     → bytes ≡ slice_index (take 1 bytes) 0 ∷ (take n (drop 1 bytes) ++ drop n (drop 1 bytes))
 three-parts [] n long = absurd (omega (arith, long))
 three-parts (x ∷ xs) n long = ap (λ l. x ∷ l) (sym (take-append-drop n xs))
+
+-- bytes that are read: their parts, and the tag that they should have
+pub record Read (s : State) (aad bytes : List ℕ) (first : ℕ) (ciphertext end mac : List ℕ) : Type 0 where
+  pub parts : bytes ≡ first ∷ (ciphertext ++ end)
+  pub long : length bytes ≡ length ciphertext + 17
+  pub is : mac ≡ tag_for s aad first ciphertext
+
+pub read : (s : State) (aad bytes : List ℕ) (n : ℕ) {front rest ciphertext end key block mac : List ℕ}
+    → length bytes ≡ n + 17 → front ≡ take 1 bytes → rest ≡ drop 1 bytes
+    → ciphertext ≡ take n rest → end ≡ drop n rest → key ≡ mac_key (stream_of s)
+    → block ≡ xor_stream (stream_of s) 64 (slice_index front 0 ∷ replicate 63 0)
+    → mac ≡ poly1305 key (mac_text aad (slice_set block 0 (slice_index front 0) ++ ciphertext))
+    → Read s aad bytes (slice_index front 0) ciphertext end mac
+read s aad bytes n {front} {rest} {ciphertext} {end} long at_front at_rest is_text is_end is_key is_block is_mac =
+    record {
+      parts = three-parts bytes n long
+          ∙ ap₂ ◌∷◌ (ap (λ xs. slice_index xs 0) (sym at_front))
+          (ap₂ ◌++◌ (ap (take n) (sym at_rest) ∙ sym is_text) (ap (drop n) (sym at_rest) ∙ sym is_end));
+      long = omega (arith, long, ap length is_text, ap length at_rest, length-drop 1 bytes,
+          length-take-le n rest (omega (arith, long, ap length at_rest, length-drop 1 bytes)));
+      is = is_mac
+          ∙ ap₂ (λ k b. poly1305 k (mac_text aad (slice_set b 0 (slice_index front 0) ++ ciphertext))) is_key is_block;
+    }
+
+module _ {s : State} {aad bytes : List ℕ} {first : ℕ} {ciphertext end mac : List ℕ}
+    (r : Read s aad bytes first ciphertext end mac) where
+  -- with the right tag they are a message
+  pub read-message : mac ≡ end
+      → bytes ≡ message_of s aad (bit_xor first (stream_of s 64)) (xor_stream (stream_of s) 128 ciphertext)
+  read-message right = opened s aad bytes first ciphertext end r.parts (sym right ∙ r.is)
+
+  pub read-accepted : length ciphertext ≤ 274877906816 → mac ≡ end → IsMessage s aad bytes
+  read-accepted fits right = (
+    bit_xor first (stream_of s 64),
+    xor_stream (stream_of s) 128 ciphertext,
+    omega (arith, fits, length-xor_stream (stream_of s) 128 ciphertext),
+    read-message right,
+  )
+
+  -- and a message has the right tag, and isn't too long
+  pub read-right : IsMessage s aad bytes → mac ≡ end
+  read-right sent =
+      r.is ∙ sym (parts-of s aad sent.0 sent.1 bytes first ciphertext end r.parts r.long sent.3).right
+
+  pub read-fits : IsMessage s aad bytes → length ciphertext ≤ 274877906816
+  read-fits sent =
+      omega (arith, sent.2, r.long, ap length sent.3, length-message_of s aad sent.0 sent.1)
+
+-- blocks 0 and 1, made by one call
+module _ (stream : ℕ → ℕ) (byte : ℕ) {made : ℕ → ℕ} {place : ℕ} {front : List ℕ}
+    (bytes : front ≡ xor_stream made place (replicate 64 0 ++ byte ∷ replicate 63 0)) (is : made ≡ stream)
+    (first : place ≡ 0) where
+  both : front ≡ xor_stream stream 0 (replicate 64 0 ++ byte ∷ replicate 63 0)
+  both = bytes ∙ ap₂ (λ (s : ℕ → ℕ) p. xor_stream s p (replicate 64 0 ++ byte ∷ replicate 63 0)) is first
+
+  pub front-key : take 32 front ≡ mac_key stream
+  unfolding mac_key
+  front-key =
+      ap (take 32) both ∙ take-xor_stream stream 0 32 (replicate 64 0 ++ byte ∷ replicate 63 0)
+      ∙ xor_stream-zeros stream 0 32
+
+  pub front-block : drop 64 front ≡ xor_stream stream 64 (byte ∷ replicate 63 0)
+  front-block = ap (drop 64) both ∙ drop-xor_stream stream 0 64 (replicate 64 0 ++ byte ∷ replicate 63 0)

@@ -173,7 +173,8 @@ fn combined(inner: &[u8; 8], mac: &Tag) -> [u8; 8]
 
 // What is combined with the keystream.
 fn joined(key: &Key, inner: &[u8; 8]) -> [u8; 40]
-    ensures { result ≡ key.now ++ inner.now }
+    ensures bytes { result ≡ key.now ++ inner.now }
+    ensures long { length result ≡ 40 }
 {
     let mut bytes = [0; 40];
     bytes[..32].copy_from_slice(key);
