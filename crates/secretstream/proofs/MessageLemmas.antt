@@ -168,3 +168,17 @@ module _ (stream : ℕ → ℕ) (byte : ℕ) {made : ℕ → ℕ} {place : ℕ} 
 
   pub front-block : drop 64 front ≡ xor_stream stream 64 (byte ∷ replicate 63 0)
   front-block = ap (drop 64) both ∙ drop-xor_stream stream 0 64 (replicate 64 0 ++ byte ∷ replicate 63 0)
+
+-- a message determines its tag byte and its text
+pub message_of-same : (s : State) (aad : List ℕ) (tag byte : ℕ) (text other : List ℕ)
+    → message_of s aad tag text ≡ message_of s aad byte other → (tag ≡ byte) × (text ≡ other)
+message_of-same s aad tag byte text other same =
+    let hidden = xor_stream (stream_of s) 128 text in
+    let size : length (message_of s aad tag text) ≡ length hidden + 17 =
+    length-message_of s aad tag text ∙ ap (λ n. n + 17) (sym (length-xor_stream (stream_of s) 128 text)) in
+    let p = parts-of s aad byte other (message_of s aad tag text) (bit_xor tag (stream_of s 64)) hidden
+    (mac_of s aad tag text) refl size same in
+    (
+      sym (xor_twice tag (stream_of s 64)) ∙ p.was_tag,
+      sym (xor_stream-xor_stream (stream_of s) 128 text) ∙ p.was_text,
+    )

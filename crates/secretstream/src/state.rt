@@ -108,6 +108,8 @@ impl State {
         requires { length bytes.now ≡ length output.old + 17 }
         ensures accepted { IsOk result ↔ IsMessage self.now aad.now bytes.now }
         ensures too_long { IsErrOf result Error.TooLong ↔ (274877906816 < length output.old) }
+        ensures forged { IsErrOf result Error.Forged
+            ↔ ((length output.old ≤ 274877906816) × ¬ IsMessage self.now aad.now bytes.now) }
         ensures message { IfOk result (λ r. bytes.now
             ≡ message_of self.now aad.now r.0 output.new) }
         ensures mac { IfOk result (λ r. r.1 ≡ mac_of self.now aad.now r.0 output.new) }

@@ -115,9 +115,14 @@ impl PullStream {
             → OnOk result (output.new ≡ text) }
         ensures refused { OnErr result ((self.new ≡ self.old) × (output.new ≡ output.old)) }
     {
-        let (byte, mac) = self.state.open(aad, message, output)?;
-        self.state.advance(&mac, byte);
-        Ok(Tag::from_byte(byte))
+        match self.state.open(aad, message, output) {
+            Ok(opened) => {
+                let (byte, mac) = opened;
+                self.state.advance(&mac, byte);
+                Ok(Tag::from_byte(byte))
+            }
+            Err(refusal) => Err(refusal),
+        }
     }
 
     /// Takes another key, as after a message with `Tag::Rekey`. The sender has to call it at the same place.

@@ -25,7 +25,8 @@ pub enum Tag {
 impl Tag {
     /// The tag of a byte, by its name if it has one.
     pub fn from_byte(byte: u8) -> Tag
-        ensures { result ≡ tag_of byte }
+        ensures named { result ≡ tag_of byte }
+        ensures byte { byte_of result ≡ byte }
     {
         match byte {
             0 => Tag::Message,
