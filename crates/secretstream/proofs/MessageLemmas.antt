@@ -1,5 +1,5 @@
 -- What a message is made of, and that it determines its tag byte and its text.
-use Rattle.std.proofs.Common.{◌≡◌, ◌≤◌, ◌+◌, ◌-◌, ◌%◌, ◌∙◌, ◌∷◌, ◌++◌, ◌↔◌, ℕ, suc, List, [], length, take, drop, replicate, slice_index, slice_set, bit_xor, arith, refl, sym, ap, ap₂, length-append, length-drop, length-take-le, take_at, drop_at}
+use Rattle.std.proofs.Common.{◌≡◌, ◌≤◌, ◌+◌, ◌-◌, ◌%◌, ◌∙◌, ◌∷◌, ◌++◌, ℕ, List, [], length, take, drop, replicate, slice_index, slice_set, bit_xor, arith, refl, sym, ap, ap₂, length-append, length-drop, length-take-le, take_at, drop_at}
 use Rattle.std.proofs.lemmas.List.{append_assoc, take-append-drop, take-replicate}
 use Rattle.std.specs.Int.{w64, to_le_bytes}
 use Rattle.std.specs.Int.Bits.{xor_assoc, xor_self, xor_zero_r}
@@ -13,7 +13,7 @@ use Rattle.secretstream.specs.Stream.{State, stream_of, mac_text, mac_of, messag
 pub mac_text-parts : (aad block text lengths : List ℕ) → length block ≡ 64
     → lengths ≡ to_le_bytes w64 (length aad) ++ to_le_bytes w64 (64 + length text)
     → [] ++ aad ++ take ((16 - length aad % 16) % 16) (replicate 16 0) ++ block ++ text
-        ++ take (length text % 16) (replicate 16 0) ++ lengths
+    ++ take (length text % 16) (replicate 16 0) ++ lengths
     ≡ mac_text aad (block ++ text)
 mac_text-parts aad block text lengths long are =
     let n = length (block ++ text) in
@@ -123,8 +123,14 @@ read s aad bytes n {front} {rest} {ciphertext} {end} long at_front at_rest is_te
       parts = three-parts bytes n long
           ∙ ap₂ ◌∷◌ (ap (λ xs. slice_index xs 0) (sym at_front))
           (ap₂ ◌++◌ (ap (take n) (sym at_rest) ∙ sym is_text) (ap (drop n) (sym at_rest) ∙ sym is_end));
-      long = omega (arith, long, ap length is_text, ap length at_rest, length-drop 1 bytes,
-          length-take-le n rest (omega (arith, long, ap length at_rest, length-drop 1 bytes)));
+      long = omega (
+        arith,
+        long,
+        ap length is_text,
+        ap length at_rest,
+        length-drop 1 bytes,
+        length-take-le n rest (omega (arith, long, ap length at_rest, length-drop 1 bytes)),
+      );
       is = is_mac
           ∙ ap₂ (λ k b. poly1305 k (mac_text aad (slice_set b 0 (slice_index front 0) ++ ciphertext))) is_key is_block;
     }
@@ -177,8 +183,7 @@ message_of-same s aad tag byte text other same =
     let size : length (message_of s aad tag text) ≡ length hidden + 17 =
     length-message_of s aad tag text ∙ ap (λ n. n + 17) (sym (length-xor_stream (stream_of s) 128 text)) in
     let p = parts-of s aad byte other (message_of s aad tag text) (bit_xor tag (stream_of s 64)) hidden
-    (mac_of s aad tag text) refl size same in
-    (
+    (mac_of s aad tag text) refl size same in (
       sym (xor_twice tag (stream_of s 64)) ∙ p.was_tag,
       sym (xor_stream-xor_stream (stream_of s) 128 text) ∙ p.was_text,
     )

@@ -1,5 +1,5 @@
 -- libsodium's crypto_secretstream_xchacha20poly1305: messages, each of which moves the state that it was made from.
-use Rattle.std.specs.Prelude.{◌≡◌, ◌≤◌, ◌+◌, ◌*◌, ◌%◌, ◌^◌, ◌∷◌, ◌++◌, ℕ, List, take, drop, length, replicate, bit_and, nat_eq, slice_index, if◌then◌else◌}
+use Rattle.std.specs.Prelude.{◌≡◌, ◌≤◌, ◌+◌, ◌%◌, ◌^◌, ◌∷◌, ◌++◌, ℕ, List, take, drop, length, replicate, bit_and, nat_eq, slice_index, if◌then◌else◌}
 use Rattle.std.specs.Int.{to_le_bytes, w32, w64}
 use Rattle.chacha20poly1305.specs.ChaCha.{ietf, chacha_stream, xor_stream}
 use Rattle.chacha20poly1305.specs.XChaCha.{hchacha}

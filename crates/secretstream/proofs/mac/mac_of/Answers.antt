@@ -1,4 +1,4 @@
-use Rattle.std.proofs.Common.{◌≡◌, ◌∙◌, ◌+◌, ◌%◌, ◌-◌, ◌++◌, ℕ, List, [], length, take, replicate, arith, ap}
+use Rattle.std.proofs.Common.{◌∙◌, [], ap}
 use Rattle.poly1305.specs.Poly1305.{poly1305}
 use Rattle.secretstream.proofs.MessageLemmas.{mac_text-parts}
 use Rattle.secretstream.proofs.mac.mac_of.Goals as goal

@@ -1,9 +1,9 @@
-use Rattle.std.proofs.Common.{◌≡◌, ◌≤◌, ◌+◌, ◌∙◌, ◌++◌, ℕ, List, length, refl, sym, ap, ap₂, arith, slice_index, subst}
+use Rattle.std.proofs.Common.{◌≤◌, ◌+◌, ◌∙◌, ℕ, length, refl, sym, ap, ap₂, arith, slice_index}
 use Rattle.std.specs.Prelude.{is_err}
 use Rattle.std.proofs.lemmas.Bool.{false≢true}
 use Rattle.chacha20.specs.ChaCha.{xor_stream}
-use Rattle.secretstream.specs.Stream.{stream_of, message_of, mac_of}
-use Rattle.secretstream.proofs.MessageLemmas.{read, read-accepted, read-right, read-message, tag-opened, length-message_of}
+use Rattle.secretstream.specs.Stream.{message_of, mac_of}
+use Rattle.secretstream.proofs.MessageLemmas.{read, read-right, read-message, tag-opened, length-message_of}
 use Rattle.secretstream.proofs.state.State.open.Goals as goal
 
 pub returns-then-is_err-clause-accepted : goal.returns-then-is_err-clause-accepted
@@ -30,8 +30,13 @@ returns-then-not-is_equal-clause-accepted c =
 pub returns-then-not-is_equal-clause-forged : goal.returns-then-not-is_equal-clause-forged
 returns-then-not-is_equal-clause-forged c =
     let fits : length c.args.output.now ≤ 274877906816 =
-    omega (arith, c.check_remaining.ensures.accepted.0 c.if-is_err.ensures.negation,
-        c.begin-cipher.ensures.position, c.requires, c.split_at-2.ensures.front_len) in
+    omega (
+      arith,
+      c.check_remaining.ensures.accepted.0 c.if-is_err.ensures.negation,
+      c.begin-cipher.ensures.position,
+      c.requires,
+      c.split_at-2.ensures.front_len,
+    ) in
     (λ _. (fits, λ sent. false≢true ((returns-then-not-is_equal-clause-accepted c).1 sent)), λ _. refl)
 
 pub returns-clause-message : goal.returns-clause-message
@@ -65,8 +70,14 @@ returns-clause-accepted c = (
   λ ok. (
     slice_index c.begin-cipher.result.2 0,
     c.apply_keystream_b2b.new.output,
-    omega (arith, c.check_remaining.ensures.accepted.0 c.if-is_err.ensures.negation, c.begin-cipher.ensures.position,
-        c.apply_keystream_b2b.auto.output, c.requires, c.split_at-2.ensures.front_len),
+    omega (
+      arith,
+      c.check_remaining.ensures.accepted.0 c.if-is_err.ensures.negation,
+      c.begin-cipher.ensures.position,
+      c.apply_keystream_b2b.auto.output,
+      c.requires,
+      c.split_at-2.ensures.front_len,
+    ),
     returns-clause-message c,
   ),
   λ sent. refl,

@@ -1,6 +1,6 @@
-use Rattle.std.proofs.Common.{◌≡◌, ◌∙◌, ◌++◌, List, ℕ, take, drop, length, arith, ap, ap₂, sym, length-drop, length-take-le, take_all}
+use Rattle.std.proofs.Common.{◌∙◌, ◌++◌, List, ℕ, take, drop, arith, ap, ap₂, sym, length-drop, length-take-le, take_all}
 use Rattle.chacha20.specs.ChaCha.{xor_stream}
-use Rattle.secretstream.specs.Stream.{State, stream_of, rekeyed}
+use Rattle.secretstream.specs.Stream.{State, stream_of}
 use Rattle.secretstream.proofs.state.State.rekey.Goals as goal
 
 pub slice_bounds-copy_from_slice-end-2 : goal.slice_bounds-copy_from_slice-end-2

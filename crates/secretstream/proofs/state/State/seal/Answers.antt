@@ -1,4 +1,4 @@
-use Rattle.std.proofs.Common.{◌≡◌, ◌∙◌, ◌++◌, ℕ, List, take, ap, ap₂}
+use Rattle.std.proofs.Common.{◌∙◌, ◌++◌, ℕ, take, ap, ap₂}
 use Rattle.chacha20.specs.ChaCha.{xor_stream}
 use Rattle.poly1305.specs.Poly1305.{poly1305}
 use Rattle.secretstream.specs.Stream.{mac_text}

@@ -1,6 +1,5 @@
 use Rattle.std.proofs.Common.{◌∙◌, List, ℕ, drop, arith, ap, ap₂, length-drop, take_all}
 use Rattle.chacha20.specs.XChaCha.{hchacha}
-use Rattle.secretstream.specs.Stream.{State}
 use Rattle.secretstream.proofs.state.State.start.Goals as goal
 
 pub returns : goal.returns

@@ -1,7 +1,7 @@
-use Rattle.std.proofs.Common.{◌≡◌, ◌≤◌, ◌↔◌, ◌∙◌, ℕ, length, refl, ap, ap₂, sym, subst, Ok, Err}
+use Rattle.std.proofs.Common.{◌∙◌, ℕ, refl, ap, ap₂, sym, subst, Ok, Err}
 use Rattle.std.specs.Prelude.{is_err, IsErrOf}
 use Rattle.std.proofs.lemmas.Bool.{false≢true}
-use Rattle.secretstream.specs.Stream.{State, IsMessage, message_of, mac_of, moved, after}
+use Rattle.secretstream.specs.Stream.{State, IsMessage, message_of, moved, after}
 use Rattle.secretstream.proofs.MessageLemmas.{message_of-same}
 use Rattle.secretstream.proofs.stream.PullStream.pull.Goals as goal
 
@@ -50,6 +50,9 @@ of_other x e is = ap Err (ap (λ r. elim r [ Ok _ ↦ x | Err y ↦ y ]) is)
 pub returns-in-Err-clause-forged : goal.returns-in-Err-clause-forged
 returns-in-Err-clause-forged c = (
   λ err. ((c.in-Err.ensures.forged.0 (of_other _ _ err)).0, λ sent. false≢true ((returns-in-Err-clause-accepted c).1 sent)),
-  λ forged. of_other _ _ (c.in-Err.ensures.forged.1 (forged.0, λ sent. forged.1
-      (subst (λ s. IsMessage s c.args.aad.now c.args.message.now) c.self.view_is sent))),
+  λ forged. of_other _ _ (c.in-Err.ensures.forged.1 (
+    forged.0,
+    λ sent. forged.1
+        (subst (λ s. IsMessage s c.args.aad.now c.args.message.now) c.self.view_is sent),
+  )),
 )
