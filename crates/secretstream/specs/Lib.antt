@@ -2,3 +2,5 @@
 pub mod Stream
 pub mod Tags
 pub mod ErrorText
+-- What the laws on lists speak of.
+pub mod Lists
