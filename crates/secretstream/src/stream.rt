@@ -108,11 +108,16 @@ impl PullStream {
         ensures named { IfOk result (λ tag. tag ≡ tag_of (byte_of tag)) }
         ensures next { IfOk result (λ tag. self.new
             ≡ after self.old aad.now (byte_of tag) output.new) }
-        // What a sender in the same state pushed is pulled.
+        // What a sender in the same state pushed is accepted, and both sides stay in step.
+        ensures opens { (byte : ℕ) (text : List ℕ) → message.now ≡ message_of self.old aad.now byte text
+            → IsOk result ↔ (length text ≤ 274877906816) }
         ensures tag { (byte : ℕ) (text : List ℕ) → message.now ≡ message_of self.old aad.now byte text
             → IfOk result (λ tag. byte_of tag ≡ byte) }
         ensures text { (byte : ℕ) (text : List ℕ) → message.now ≡ message_of self.old aad.now byte text
             → OnOk result (output.new ≡ text) }
+        ensures in_step { (byte : ℕ) (text : List ℕ)
+            → message.now ≡ message_of self.old aad.now byte text
+            → OnOk result (self.new ≡ after self.old aad.now byte text) }
         ensures refused { OnErr result ((self.new ≡ self.old) × (output.new ≡ output.old)) }
     {
         match self.state.open(aad, message, output) {

@@ -1,4 +1,4 @@
-use Rattle.std.proofs.Common.{◌∙◌, ℕ, refl, ap, ap₂, sym, subst, Ok, Err}
+use Rattle.std.proofs.Common.{arith, length, ◌∙◌, ℕ, refl, ap, ap₂, sym, subst, Ok, Err}
 use Rattle.std.specs.Prelude.{is_err, IsErrOf}
 use Rattle.std.proofs.lemmas.Bool.{false≢true}
 use Rattle.secretstream.specs.Stream.{State, IsMessage, message_of, moved, after}
@@ -55,4 +55,22 @@ returns-in-Err-clause-forged c = (
     λ sent. forged.1
         (subst (λ s. IsMessage s c.args.aad.now c.args.message.now) c.self.view_is sent),
   )),
+)
+
+pub returns-in-Ok-clause-in_step : goal.returns-in-Ok-clause-in_step
+returns-in-Ok-clause-in_step c byte text is =
+    returns-in-Ok-clause-next c
+    ∙ ap₂ (after c.args.self.now c.args.aad.now) (returns-in-Ok-clause-tag c byte text is)
+    (returns-in-Ok-clause-text c byte text is)
+
+pub returns-in-Ok-clause-opens : goal.returns-in-Ok-clause-opens
+returns-in-Ok-clause-opens c byte text is =
+    let sent = (returns-in-Ok-clause-accepted c).0 refl in
+    let same = message_of-same c.args.self.now c.args.aad.now sent.0 byte sent.1 text (sym sent.3 ∙ is) in
+    (λ ok. omega (arith, sent.2, ap length same.1), λ fits. refl)
+
+pub returns-in-Err-clause-opens : goal.returns-in-Err-clause-opens
+returns-in-Err-clause-opens c byte text is = (
+  λ ok. absurd (false≢true ok),
+  λ fits. (returns-in-Err-clause-accepted c).1 (byte, text, fits, is),
 )
