@@ -142,22 +142,10 @@ module _ {s : State} {aad bytes : List ℕ} {first : ℕ} {ciphertext end mac : 
       → bytes ≡ message_of s aad (bit_xor first (stream_of s 64)) (xor_stream (stream_of s) 128 ciphertext)
   read-message right = opened s aad bytes first ciphertext end r.parts (sym right ∙ r.is)
 
-  pub read-accepted : length ciphertext ≤ 274877906816 → mac ≡ end → IsMessage s aad bytes
-  read-accepted fits right = (
-    bit_xor first (stream_of s 64),
-    xor_stream (stream_of s) 128 ciphertext,
-    omega (arith, fits, length-xor_stream (stream_of s) 128 ciphertext),
-    read-message right,
-  )
-
-  -- and a message has the right tag, and isn't too long
+  -- and a message has the right tag
   pub read-right : IsMessage s aad bytes → mac ≡ end
   read-right sent =
       r.is ∙ sym (parts-of s aad sent.0 sent.1 bytes first ciphertext end r.parts r.long sent.3).right
-
-  pub read-fits : IsMessage s aad bytes → length ciphertext ≤ 274877906816
-  read-fits sent =
-      omega (arith, sent.2, r.long, ap length sent.3, length-message_of s aad sent.0 sent.1)
 
 -- blocks 0 and 1, made by one call
 module _ (stream : ℕ → ℕ) (byte : ℕ) {made : ℕ → ℕ} {place : ℕ} {front : List ℕ}

@@ -29,8 +29,8 @@ abbrev pub after_all : State → List Item → State
 after_all s [] = s
 after_all s (m ∷ ms) = after_all (after_one s m) ms
 
--- A receiver takes all that comes, one after another, for this list: each of the bytes are the next message of its text,
--- with the receiver's own associated data.
+-- A receiver takes all that comes, one after another, for this list: each is the next message of its text, with the
+-- receiver's own associated data.
 abbrev pub Taken : State → List Coming → List Item → Type 0
 Taken s [] [] = Unit {0}
 Taken s (c ∷ cs) (m ∷ ms) =

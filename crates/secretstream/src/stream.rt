@@ -109,11 +109,14 @@ impl PullStream {
         ensures next { IfOk result (λ tag. self.new
             ≡ after self.old aad.now (byte_of tag) output.new) }
         // What a sender in the same state pushed is accepted, and both sides stay in step.
-        ensures opens { (byte : ℕ) (text : List ℕ) → message.now ≡ message_of self.old aad.now byte text
+        ensures opens { (byte : ℕ) (text : List ℕ)
+            → message.now ≡ message_of self.old aad.now byte text
             → IsOk result ↔ (length text ≤ 274877906816) }
-        ensures tag { (byte : ℕ) (text : List ℕ) → message.now ≡ message_of self.old aad.now byte text
+        ensures tag { (byte : ℕ) (text : List ℕ)
+            → message.now ≡ message_of self.old aad.now byte text
             → IfOk result (λ tag. byte_of tag ≡ byte) }
-        ensures text { (byte : ℕ) (text : List ℕ) → message.now ≡ message_of self.old aad.now byte text
+        ensures text { (byte : ℕ) (text : List ℕ)
+            → message.now ≡ message_of self.old aad.now byte text
             → OnOk result (output.new ≡ text) }
         ensures in_step { (byte : ℕ) (text : List ℕ)
             → message.now ≡ message_of self.old aad.now byte text

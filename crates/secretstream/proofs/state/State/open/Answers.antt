@@ -12,7 +12,15 @@ returns-then-is_err-clause-accepted c = (
   λ sent.
       let size = length-message_of c.args.self.now c.args.aad.now sent.0 sent.1 in
       let fits : c.begin-cipher.result.0.position + length c.split_at-2.result.0.now ≤ 274877906944 =
-      omega (arith, sent.2, ap length sent.3, size, c.requires, c.begin-cipher.ensures.position, c.split_at-2.ensures.front_len) in
+      omega (
+        arith,
+        sent.2,
+        ap length sent.3,
+        size,
+        c.requires,
+        c.begin-cipher.ensures.position,
+        c.split_at-2.ensures.front_len,
+      ) in
       let accepted = c.check_remaining.ensures.accepted.1 fits in
       absurd (false≢true (sym c.if-is_err.ensures.negation ∙ accepted)),
 )
@@ -24,7 +32,8 @@ returns-then-not-is_equal-clause-accepted c =
     c.split_at.ensures.front c.split_at.ensures.back c.split_at-2.ensures.front c.split_at-2.ensures.back begun.key
     begun.block c.mac_of-mac.ensures in (
       λ no. absurd (false≢true no),
-      λ sent. sym (c.if-not-is_equal.true) ∙ c.is_equal.ensures.1 (read-right r sent ∙ sym c.copy_from_slice.ensures.after),
+      λ sent. sym (c.if-not-is_equal.true)
+          ∙ c.is_equal.ensures.1 (read-right r sent ∙ sym c.copy_from_slice.ensures.after),
     )
 
 pub returns-then-not-is_equal-clause-forged : goal.returns-then-not-is_equal-clause-forged

@@ -8,13 +8,15 @@ use Rattle.secretstream.proofs.stream.PullStream.pull.Goals as goal
 pub returns-in-Ok-clause-message : goal.returns-in-Ok-clause-message
 returns-in-Ok-clause-message c =
     c.in-Ok.ensures.message
-    ∙ ap₂ (λ (s : State) (t : ℕ). message_of s c.args.aad.now t c.open.new.output) c.self.view_is (sym c.from_byte.ensures.byte)
+    ∙ ap₂ (λ (s : State) (t : ℕ). message_of s c.args.aad.now t c.open.new.output) c.self.view_is
+    (sym c.from_byte.ensures.byte)
 
 pub returns-in-Ok-clause-next : goal.returns-in-Ok-clause-next
 returns-in-Ok-clause-next c =
     c.advance.ensures
     ∙ ap (λ mac. moved c.self.inside.state mac c.in-Ok.opened.0) c.in-Ok.ensures.mac
-    ∙ ap₂ (λ (s : State) (t : ℕ). after s c.args.aad.now t c.open.new.output) c.self.view_is (sym c.from_byte.ensures.byte)
+    ∙ ap₂ (λ (s : State) (t : ℕ). after s c.args.aad.now t c.open.new.output) c.self.view_is
+    (sym c.from_byte.ensures.byte)
 
 pub returns-in-Ok-clause-tag : goal.returns-in-Ok-clause-tag
 returns-in-Ok-clause-tag c byte text is =
@@ -49,7 +51,10 @@ of_other x e is = ap Err (ap (λ r. elim r [ Ok _ ↦ x | Err y ↦ y ]) is)
 
 pub returns-in-Err-clause-forged : goal.returns-in-Err-clause-forged
 returns-in-Err-clause-forged c = (
-  λ err. ((c.in-Err.ensures.forged.0 (of_other _ _ err)).0, λ sent. false≢true ((returns-in-Err-clause-accepted c).1 sent)),
+  λ err. (
+    (c.in-Err.ensures.forged.0 (of_other _ _ err)).0,
+    λ sent. false≢true ((returns-in-Err-clause-accepted c).1 sent),
+  ),
   λ forged. of_other _ _ (c.in-Err.ensures.forged.1 (
     forged.0,
     λ sent. forged.1
