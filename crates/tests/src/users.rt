@@ -22,6 +22,7 @@ mod message;
 mod packets;
 mod pieces;
 mod scalar;
+mod secret_streams;
 mod sectors;
 mod simulation;
 mod stream;

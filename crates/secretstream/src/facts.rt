@@ -1,0 +1,22 @@
+//! Facts on lists of messages, from any state on: a sender and a receiver stay in step, and the first wrong message is
+//! refused.
+
+ghost use Rattle.std.specs.Prelude.{◌≡◌, ◌≤◌, ◌∷◌, ◌++◌, List, All, length};
+ghost use Rattle.secretstream.specs.Stream.{State, IsMessage};
+ghost use Rattle.secretstream.specs.Lists.{Item, Coming, sent, after_all, Taken};
+
+// `pull` takes one message after another: by its clauses `accepted`, `message` and `next`, as `Taken` says of a list.
+fn lists()
+    // What was sent is taken, for what it was made from.
+    ensures sent { (s : State) (ms : List Item)
+        → All (λ (m : Item). length m.text ≤ 274877906816) ms → Taken s (sent s ms) ms }
+    // What is taken is what a sender in this state sends, of one list only.
+    ensures taken { (s : State) (cs : List Coming) (ms : List Item)
+        → Taken s cs ms → cs ≡ sent s ms }
+    ensures same { (s : State) (cs : List Coming) (ms ns : List Item)
+        → Taken s cs ms → Taken s cs ns → ms ≡ ns }
+    // After what was sent, bytes that aren't the next message are refused, whatever follows them.
+    ensures refused { (s : State) (ms : List Item) (wrong : Coming) (rest : List Coming)
+        (ns : List Item) → ¬ IsMessage (after_all s ms) wrong.aad wrong.bytes
+        → ¬ Taken s (sent s ms ++ wrong ∷ rest) ns }
+{}

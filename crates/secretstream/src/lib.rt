@@ -1,0 +1,37 @@
+//! libsodium's `crypto_secretstream_xchacha20poly1305`: a stream of messages that are read in the order in which they
+//! were written, and an end that can't be cut off unnoticed.
+//!
+//! ```text
+//! use secretstream::{PullStream, PushStream, Tag};
+//!
+//! let (header, mut sender) = PushStream::init(&rt, &key)?;
+//! sender.push(aad, text, Tag::Message, &mut message)?;
+//! sender.push(aad, text, Tag::Final, &mut message)?;
+//!
+//! let mut receiver = PullStream::init(&header, &key);
+//! let tag = receiver.pull(aad, &message, &mut text)?;
+//! ```
+//!
+//! Send the header first, 24 random bytes, and then the messages. A message has 17 bytes more than its text: one for
+//! its tag, encrypted, and 16 for the MAC's. The receiver accepts only the next message: it refuses one that was
+//! changed, comes again or comes too early, and then has moved nowhere. A stream is complete exactly if the last
+//! message that it accepted had `Tag::Final`. As in libsodium, messages may follow it.
+//!
+//! Contracts say which bytes a message is, that a receiver accepts exactly the next message, and which state each
+//! call leaves. They don't say how hard messages are to forge.
+//!
+//! All proofs use only the public contracts, definitions and lemmas of `chacha20poly1305`, `chacha20` and `poly1305`.
+#![tactic(auto)]
+
+mod error;
+mod facts;
+mod mac;
+mod state;
+mod stream;
+mod tag;
+
+pub use chacha20poly1305::Key;
+pub use error::Error;
+pub use state::Header;
+pub use stream::{PullStream, PushStream};
+pub use tag::Tag;
