@@ -1,5 +1,5 @@
 -- What a message is made of, and that it determines its tag byte and its text.
-use Rattle.std.proofs.Common.{◌≡◌, ◌≤◌, ◌+◌, ◌-◌, ◌%◌, ◌∙◌, ◌∷◌, ◌++◌, ℕ, List, [], length, take, drop, replicate, slice_index, slice_set, bit_xor, arith, refl, sym, ap, ap₂, length-append, length-drop, length-take-le, take_at, drop_at}
+use Rattle.std.proofs.Common.{◌≡◌, ◌+◌, ◌-◌, ◌%◌, ◌∙◌, ◌∷◌, ◌++◌, ℕ, List, [], length, take, drop, replicate, slice_index, slice_set, bit_xor, arith, refl, sym, ap, ap₂, length-append, length-drop, length-take-le, take_at, drop_at}
 use Rattle.std.proofs.lemmas.List.{append_assoc, take-append-drop, take-replicate}
 use Rattle.std.specs.Int.{w64, to_le_bytes}
 use Rattle.std.specs.Int.Bits.{xor_assoc, xor_self, xor_zero_r}

@@ -2,8 +2,8 @@
 -- are `Taken` of a list of one.
 use Rattle.std.proofs.Common.{◌≡◌, ◌≤◌, ◌∙◌, ◌∷◌, ◌++◌, ℕ, suc, List, [], length, arith, refl, sym, ap, ap₂, subst}
 use Rattle.std.specs.List.{All}
-use Rattle.secretstream.specs.Stream.{State, message_of, after, IsMessage}
-use Rattle.secretstream.specs.Lists.{Item, Coming, message_in, after_one, sent, after_all, Taken}
+use Rattle.secretstream.specs.Stream.{State, message_of, IsMessage}
+use Rattle.secretstream.specs.Lists.{Item, Coming, after_one, sent, after_all, Taken}
 use Rattle.secretstream.proofs.MessageLemmas.{message_of-same}
 
 -- items with equal parts
