@@ -1,6 +1,6 @@
 //! A log that is encrypted line by line: a struct that holds a bare cipher. It doesn't authenticate: whoever changes a
 //! bit of the log changes that bit of its text, and no reader notices it. For lines that others can change take
-//! the crate `channel`, each line as a frame.
+//! the crate `secretstream`, each line as a message.
 //!
 //! Each line is XORed (exclusive or) with the keystream's bytes after those of the lines before it. So the log's bytes
 //! are those of one call for all of its lines, and `read_at` of `file.rt` reads any part of it.

@@ -1,9 +1,9 @@
 -- What a receiver takes of a list of messages. `pull` takes one by one: its clauses `accepted`, `message` and `next`
 -- are `Taken` of a list of one.
-use Rattle.std.proofs.Common.{◌≡◌, ◌≤◌, ◌∙◌, ◌∷◌, ◌++◌, ℕ, suc, List, [], length, arith, refl, sym, ap, ap₂, subst}
+use Rattle.std.proofs.Common.{◌≡◌, ◌≤◌, ◌∙◌, ◌∷◌, ◌++◌, ℕ, zero, suc, List, [], length, take, arith, refl, sym, ap, ap₂, subst}
 use Rattle.std.specs.List.{All}
 use Rattle.secretstream.specs.Stream.{State, message_of, IsMessage}
-use Rattle.secretstream.specs.Lists.{Item, Coming, after_one, sent, after_all, Taken}
+use Rattle.secretstream.specs.Lists.{Item, Coming, after_one, sent, after_all, Taken, IsComplete, EndsOnce}
 use Rattle.secretstream.proofs.MessageLemmas.{message_of-same}
 
 -- items with equal parts
@@ -11,6 +11,14 @@ same-item : (m n : Item) → m.aad ≡ n.aad → (m.tag ≡ n.tag) × (m.text �
 same-item m n data_same same =
     ap₂ (λ (a : List ℕ) (p : ℕ × List ℕ). record { aad = a; tag = p.0; text = p.1 }) data_same
     (ap₂ (λ t x. (t, x)) same.0 same.1)
+
+-- a message is taken for what it was made from
+first-same : (s : State) (m n : Item) → m.aad ≡ n.aad → message_of s m.aad m.tag m.text ≡ message_of s n.aad n.tag n.text
+    → m ≡ n
+first-same s m n data_same bytes =
+    same-item m n data_same
+    (message_of-same s n.aad m.tag n.tag m.text n.text
+    (ap (λ a. message_of s a m.tag m.text) (sym data_same) ∙ bytes))
 
 -- what was sent is taken, for what it was made from
 pub sent-taken : (s : State) (ms : List Item) → All (λ (m : Item). length m.text ≤ 274877906816) ms
@@ -34,10 +42,7 @@ taken-sent s (c ∷ cs) [] taken = absurd taken
 pub taken-same : (s : State) (cs : List Coming) (ms ns : List Item) → Taken s cs ms → Taken s cs ns → ms ≡ ns
 taken-same s [] [] [] one other = refl
 taken-same s (c ∷ cs) (m ∷ ms) (n ∷ ns) one other =
-    let data_same : m.aad ≡ n.aad = sym one.1 ∙ other.1 in
-    let same = message_of-same s n.aad m.tag n.tag m.text n.text
-    (ap (λ a. message_of s a m.tag m.text) (sym data_same) ∙ sym one.2 ∙ other.2) in
-    let item = same-item m n data_same same in
+    let item = first-same s m n (sym one.1 ∙ other.1) (sym one.2 ∙ other.2) in
     ap₂ ◌∷◌ item
     (taken-same (after_one s n) cs ms ns (subst (λ (k : Item). Taken (after_one s k) cs ms) item one.3) other.3)
 taken-same s [] [] (n ∷ ns) one other = absurd other
@@ -54,8 +59,28 @@ wrong-refused s [] wrong rest (n ∷ ns) never taken =
     never (n.tag, n.text, taken.0, taken.2 ∙ ap (λ a. message_of s a n.tag n.text) (sym taken.1))
 wrong-refused s (m ∷ ms) wrong rest [] never taken = taken
 wrong-refused s (m ∷ ms) wrong rest (n ∷ ns) never taken =
-    let same = message_of-same s n.aad m.tag n.tag m.text n.text
-    (ap (λ a. message_of s a m.tag m.text) (sym taken.1) ∙ taken.2) in
-    let item = same-item m n taken.1 same in
+    let item = first-same s m n taken.1 taken.2 in
     wrong-refused (after_one s m) ms wrong rest ns never
     (subst (λ (k : Item). Taken (after_one s k) (sent (after_one s m) ms ++ wrong ∷ rest) ns) (sym item) taken.3)
+
+-- a front of a stream that ends once, if it is taken and complete, is the whole stream
+pub cut-incomplete : (s : State) (ms : List Item) (k : ℕ) (ns : List Item) → EndsOnce ms
+    → Taken s (take k (sent s ms)) ns → IsComplete ns → ns ≡ ms
+cut-incomplete s [] k ns ends taken complete = absurd ends
+cut-incomplete s (m ∷ ms) zero [] ends taken complete = absurd complete
+cut-incomplete s (m ∷ ms) zero (n ∷ ns) ends taken complete = absurd taken
+cut-incomplete s (m ∷ ms) (suc k) [] ends taken complete = absurd complete
+cut-incomplete s (m ∷ []) (suc zero) (n ∷ []) ends taken complete =
+    ap (λ k. k ∷ []) (sym (first-same s m n taken.1 taken.2))
+cut-incomplete s (m ∷ []) (suc (suc k)) (n ∷ []) ends taken complete =
+    ap (λ k. k ∷ []) (sym (first-same s m n taken.1 taken.2))
+cut-incomplete s (m ∷ []) (suc zero) (n ∷ o ∷ ns) ends taken complete = absurd taken.3
+cut-incomplete s (m ∷ []) (suc (suc k)) (n ∷ o ∷ ns) ends taken complete = absurd taken.3
+cut-incomplete s (m ∷ l ∷ ms) (suc k) (n ∷ []) ends taken complete =
+    absurd (ends.0 (ap (λ (i : Item). i.tag) (first-same s m n taken.1 taken.2) ∙ complete))
+cut-incomplete s (m ∷ l ∷ ms) (suc k) (n ∷ o ∷ ns) ends taken complete =
+    let item = first-same s m n taken.1 taken.2 in
+    ap₂ ◌∷◌ (sym item)
+    (cut-incomplete (after_one s m) (l ∷ ms) k (o ∷ ns) ends.1
+    (subst (λ (i : Item). Taken (after_one s i) (take k (sent (after_one s m) (l ∷ ms))) (o ∷ ns)) (sym item) taken.3)
+    complete)

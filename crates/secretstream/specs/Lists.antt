@@ -1,5 +1,5 @@
 -- Lists of messages, from any state on.
-use Rattle.std.specs.Prelude.{◌≡◌, ◌≤◌, ◌∷◌, ℕ, List, [], length}
+use Rattle.std.specs.Prelude.{◌≡◌, ◌≢◌, ◌≤◌, ◌∷◌, ℕ, List, [], length}
 use Rattle.secretstream.specs.Stream.{State, message_of, after}
 
 -- what is pushed
@@ -37,3 +37,15 @@ Taken s (c ∷ cs) (m ∷ ms) =
     (length m.text ≤ 274877906816) × (c.aad ≡ m.aad) × (c.bytes ≡ message_in s m)
     × Taken (after_one s m) cs ms
 Taken s _ _ = ⊥
+
+-- the stream is complete: the tag of its last message is Final
+abbrev pub IsComplete : List Item → Type 0
+IsComplete [] = ⊥
+IsComplete (m ∷ []) = m.tag ≡ 3
+IsComplete (m ∷ n ∷ ms) = IsComplete (n ∷ ms)
+
+-- and that of no other one
+abbrev pub EndsOnce : List Item → Type 0
+EndsOnce [] = ⊥
+EndsOnce (m ∷ []) = m.tag ≡ 3
+EndsOnce (m ∷ n ∷ ms) = (m.tag ≢ 3) × EndsOnce (n ∷ ms)

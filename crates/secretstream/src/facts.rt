@@ -1,9 +1,9 @@
 //! Facts on lists of messages, from any state on: a sender and a receiver stay in step, and the first wrong message is
 //! refused.
 
-ghost use Rattle.std.specs.Prelude.{◌≡◌, ◌≤◌, ◌∷◌, ◌++◌, List, All, length};
+ghost use Rattle.std.specs.Prelude.{◌≡◌, ◌≤◌, ◌∷◌, ◌++◌, ℕ, List, All, length, take};
 ghost use Rattle.secretstream.specs.Stream.{State, IsMessage};
-ghost use Rattle.secretstream.specs.Lists.{Item, Coming, sent, after_all, Taken};
+ghost use Rattle.secretstream.specs.Lists.{Item, Coming, sent, after_all, Taken, IsComplete, EndsOnce};
 
 // `pull` takes one message after another: by its clauses `accepted`, `message` and `next`, as `Taken` says of a list.
 fn lists()
@@ -19,4 +19,7 @@ fn lists()
     ensures refused { (s : State) (ms : List Item) (wrong : Coming) (rest : List Coming)
         (ns : List Item) → ¬ IsMessage (after_all s ms) wrong.aad wrong.bytes
         → ¬ Taken s (sent s ms ++ wrong ∷ rest) ns }
+    // Of a stream with one `Final`, at its end, what is cut is not complete.
+    ensures cut { (s : State) (ms : List Item) (k : ℕ) (ns : List Item)
+        → EndsOnce ms → Taken s (take k (sent s ms)) ns → IsComplete ns → ns ≡ ms }
 {}

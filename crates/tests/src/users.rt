@@ -13,10 +13,9 @@ mod tags;
 mod unexported;
 mod unsteady;
 
-// The tests of `channel` and `examples`, each under the name of its module or example. `own_core` has its own in
+// The tests of `packets`, `secretstream` and `examples`, each under the name of its module or example. `own_core` has its own in
 // `tests`.
 mod file;
-mod frames;
 mod log;
 mod message;
 mod packets;

@@ -1,123 +1,133 @@
-//! Packets: a known value, in another order, twice, changed, at the window's edges, and of all short lengths.
+//! Packets: known values, in another order, twice, changed, at the window's edges, and of all short lengths.
 
 ghost use Rattle.std.specs.Prelude.{◌≡◌, OnOk, IfOk, IsTrue};
 
-use channel::packets::{Receiver, send};
-use channel::{Channel, FrameError, PacketError, Sender};
 use known_answers::published::FROM_80;
+use packets::{ReceiveError, Receiver, Sender, index_of};
 
-// Made by OpenSSL 4.0, with the header as associated data.
+const INDEX: u32 = 0x13121110;
+
+// Made by libsodium 1.0.18: the packets of "hello" with the counters 0 to 2, and with one whose bytes all differ.
+static KNOWN: [&[u8; 37]; 4] = [
+    b"\x04\0\0\0\x10\x11\x12\x13\0\0\0\0\0\0\0\0\
+        \x42\x39\x76\xc1\x51\xb3\x25\xbd\x4f\xd9\x47\x72\x8d\x1c\xad\x0a\x6d\xf2\x38\x5c\xd3",
+    b"\x04\0\0\0\x10\x11\x12\x13\x01\0\0\0\0\0\0\0\
+        \x8b\x74\x18\x61\x11\x35\x1a\x0a\xf3\x7d\xda\x37\xd3\x00\x93\xeb\x2b\x7f\xb5\xac\xd1",
+    b"\x04\0\0\0\x10\x11\x12\x13\x02\0\0\0\0\0\0\0\
+        \x2a\x14\x94\x0f\xa2\x42\x6e\xcc\x5d\x78\x9f\xb4\x90\xd8\x53\x8f\xd5\xb9\xa9\xfd\x1b",
+    b"\x04\0\0\0\x10\x11\x12\x13@ABCDEFG\
+        \x80\x7d\xc3\x51\x68\xda\xcc\xf6\x64\x9f\x9c\x50\x03\xd8\x8f\x78\xa9\x58\x7f\x6a\xa9",
+];
+
 #[test]
 fn known(rt: HostRuntime) {
-    let mut sender = Sender::resume(&FROM_80, b"\x07\0\0\0", u64::from_le_bytes(*b"@ABCDEFG"));
-    let mut packet = [0; 29];
-    let sent = send(&mut sender, b"hello", &mut packet);
-    let expected = *b"@ABCDEFG\
-        \xf7\x1e\x85\x31\x6e\x61\xd0\x16\x29\xf2\x1c\x64\x52\x3c\x30\x7d\xcc\x0c\x69\xe8\xb9";
-    assert!(rt; sent.is_ok() & (packet == expected));
+    let mut sender = Sender::new(&FROM_80, INDEX);
+    let mut receiver = Receiver::new(&FROM_80);
+    for (i, packet) in KNOWN.iter().enumerate() {
+        let mut sent = [0; 37];
+        let is_sent = sender.send(b"hello", &mut sent).is_ok();
+        assert!(rt; i == 3 || (is_sent & (sent == **packet)));
+        let mut text = [0; 5];
+        let received = receiver.receive(*packet, &mut text);
+        assert!(rt; (received == Ok(5)) & (text == *b"hello") & (index_of(*packet) == Some(INDEX)));
+    }
+    assert!(rt; sender.next() == 4);
 }
 
 // A packet that comes twice: where the first is taken, the second is refused and writes nothing.
 fn twice(
     receiver: &mut Receiver,
     packet: &[u8],
-    message: &mut [u8],
+    text: &mut [u8],
     copy: &mut [u8],
-) -> Result<bool, PacketError>
+) -> Result<bool, ReceiveError>
     ensures refused { IfOk result (λ refused. IsTrue refused) }
     ensures copy { OnOk result (copy.new ≡ copy.old) }
 {
-    receiver.receive(packet, message)?;
+    receiver.receive(packet, text)?;
     Ok(receiver.receive(packet, copy).is_err())
 }
 
-// What comes to a receiver, and its answer: the channel, the number, and a byte in which a bit is turned.
-static COMING: [(Channel, u64, usize, Result<(), PacketError>); 12] = [
-    (HERE, 1, NONE, Ok(())),
-    (HERE, 0, NONE, Ok(())),
-    (HERE, 1, NONE, Err(PacketError::Replayed)),
-    (HERE, 164, 7, Err(PacketError::Forged)), // the header
-    (HERE, 164, 12, Err(PacketError::Forged)), // the ciphertext
-    (HERE, 164, 28, Err(PacketError::Forged)), // the tag
-    ([3; 4], 164, NONE, Err(PacketError::Forged)),
+// The packet of "hello" with this counter.
+fn packet_of(key: &[u8; 32], counter: u64) -> [u8; 37] {
+    let mut sender = Sender::new(key, INDEX);
+    let mut packet = [0; 37];
+    for _ in 0..counter + 1 {
+        let _ = sender.send(b"hello", &mut packet);
+    }
+    packet
+}
+
+// What comes to a receiver, and its answer: the key, the counter, and a byte in which a bit is turned.
+static COMING: [(&[u8; 32], u64, usize, Result<usize, ReceiveError>); 14] = [
+    (&KEY, 1, NONE, Ok(5)),
+    (&KEY, 0, NONE, Ok(5)),
+    (&KEY, 1, NONE, Err(ReceiveError::Replayed)),
+    (&KEY, 164, 0, Err(ReceiveError::Forged)), // the type
+    (&KEY, 164, 3, Err(ReceiveError::Forged)),
+    (&KEY, 164, 9, Err(ReceiveError::Forged)), // the counter
+    (&KEY, 164, 18, Err(ReceiveError::Forged)), // the ciphertext
+    (&KEY, 164, 36, Err(ReceiveError::Forged)), // the tag
+    (&[3; 32], 164, NONE, Err(ReceiveError::Forged)),
     // None of these has moved the window.
-    (HERE, 100, NONE, Ok(())),
-    (HERE, 164, NONE, Ok(())),
-    (HERE, 36, NONE, Err(PacketError::Replayed)),
-    (HERE, 101, NONE, Ok(())),
-    (HERE, 101, 28, Err(PacketError::Replayed)),
+    (&KEY, 100, 4, Ok(5)), // another index
+    (&KEY, 164, NONE, Ok(5)),
+    (&KEY, 36, NONE, Err(ReceiveError::Replayed)),
+    (&KEY, 101, NONE, Ok(5)),
+    (&KEY, 101, 36, Err(ReceiveError::Replayed)),
 ];
 
-const HERE: Channel = [2; 4];
+const KEY: [u8; 32] = [1; 32];
 
-const NONE: usize = 29;
-
-// What it makes of a packet of five bytes.
-fn receive(
-    receiver: &mut Receiver,
-    channel: &Channel,
-    number: u64,
-    turned: usize,
-) -> Result<(), PacketError> {
-    let mut sender = Sender::resume(&[1; 32], channel, number);
-    let mut packet = [0; 29];
-    let sent = send(&mut sender, b"hello", &mut packet);
-    if turned < NONE {
-        packet[turned] ^= 1;
-    }
-    let mut message = [0; 5];
-    let len = receiver.receive(&packet, &mut message)?;
-    if sent.is_ok() & (len == 5) & (message == *b"hello") {
-        Ok(())
-    } else {
-        Err(PacketError::Forged)
-    }
-}
+const NONE: usize = 37;
 
 #[test]
 fn coming(rt: HostRuntime) {
-    let mut receiver = Receiver::new(&[1; 32], &HERE);
-    for (channel, number, turned, answer) in &COMING {
-        assert!(rt; receive(&mut receiver, channel, *number, *turned) == *answer);
+    let mut receiver = Receiver::new(&KEY);
+    for (key, counter, turned, answer) in &COMING {
+        let mut packet = packet_of(*key, *counter);
+        if *turned < NONE {
+            packet[*turned] ^= 1;
+        }
+        let mut text = [0; 5];
+        let received = receiver.receive(&packet, &mut text);
+        let written = if received.is_ok() { *b"hello" } else { [0; 5] };
+        assert!(rt; (received == *answer) & (text == written));
     }
-    assert!(rt; receiver.receive(&[0xff; 29], &mut [0; 5]) == Err(PacketError::Replayed));
+    let received = receiver.receive(&[0xff; 37], &mut [0; 5]);
+    assert!(rt; received == Err(ReceiveError::Replayed));
 }
 
 // A packet of five bytes, cut, and an output of zeros and this length: the answer, and the output after it.
-static LENGTHS: [(usize, usize, Result<usize, PacketError>, [u8; 7]); 9] = [
-    (0, 7, Err(PacketError::TooShort), [0; 7]),
-    (7, 7, Err(PacketError::TooShort), [0; 7]),
-    (8, 7, Err(PacketError::TooShort), [0; 7]),
-    (23, 7, Err(PacketError::TooShort), [0; 7]),
-    (23, 0, Err(PacketError::TooShort), [0; 7]),
-    (24, 0, Err(PacketError::Forged), [0; 7]),
-    (29, 4, Err(PacketError::OutputTooShort), [0; 7]),
-    (29, 6, Ok(5), *b"hello\0\0"),
-    (29, 4, Err(PacketError::OutputTooShort), [0; 7]), // also where it comes again
+static LENGTHS: [(usize, usize, Result<usize, ReceiveError>, [u8; 7]); 9] = [
+    (0, 7, Err(ReceiveError::TooShort), [0; 7]),
+    (15, 7, Err(ReceiveError::TooShort), [0; 7]),
+    (16, 7, Err(ReceiveError::TooShort), [0; 7]),
+    (31, 7, Err(ReceiveError::TooShort), [0; 7]),
+    (31, 0, Err(ReceiveError::TooShort), [0; 7]),
+    (32, 0, Err(ReceiveError::Forged), [0; 7]),
+    (37, 4, Err(ReceiveError::OutputTooShort), [0; 7]),
+    (37, 6, Ok(5), *b"hello\0\0"),
+    (37, 4, Err(ReceiveError::OutputTooShort), [0; 7]), // also where it comes again
 ];
 
 #[test]
 fn lengths(rt: HostRuntime) {
-    let mut receiver = Receiver::new(&[1; 32], &HERE);
-    let mut packet = [0; 29];
-    let sent = send(&mut Sender::new(&[1; 32], &HERE), b"hello", &mut packet);
-    assert!(rt; sent.is_ok());
+    let mut receiver = Receiver::new(&KEY);
+    let packet = packet_of(&KEY, 0);
     for (len, room, answer, output) in &LENGTHS {
         let mut space = [0; 7];
         let received = receiver.receive(&packet[..*len], &mut space[..*room]);
         assert!(rt; (received == *answer) & (space == *output));
+        assert!(rt; index_of(&packet[..*len]).is_some() == (*len >= 32));
     }
 }
 
-// An empty message, and a finished sender.
+// An empty text, with which WireGuard keeps a session alive.
 #[test]
-fn ends(rt: HostRuntime) {
-    let mut sender = Sender::new(&[1; 32], &HERE);
-    let mut packet = [0; 24];
-    let sent = send(&mut sender, b"", &mut packet);
-    let received = Receiver::new(&[1; 32], &HERE).receive(&packet, &mut []);
+fn empty(rt: HostRuntime) {
+    let mut packet = [0; 32];
+    let sent = Sender::new(&KEY, INDEX).send(b"", &mut packet);
+    let received = Receiver::new(&KEY).receive(&packet, &mut []);
     assert!(rt; sent.is_ok() & (received == Ok(0)));
-    let ended = sender.finish(b"", b"", &mut [0; 16]);
-    let refused = send(&mut sender, b"", &mut packet);
-    assert!(rt; ended.is_ok() & (refused == Err(FrameError::Finished)));
 }

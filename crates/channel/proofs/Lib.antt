@@ -1,2 +1,0 @@
-pub mod FrameLemmas
-pub mod FrameVectors

@@ -1,0 +1,2 @@
+pub mod PacketLemmas
+pub mod PacketVectors

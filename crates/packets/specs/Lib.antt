@@ -1,0 +1,3 @@
+-- What clauses of public calls rest on.
+pub mod Packets
+pub mod ErrorText
