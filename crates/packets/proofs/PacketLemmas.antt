@@ -5,7 +5,7 @@ use Rattle.std.proofs.Math.Seq.{take-add}
 use Rattle.std.proofs.lemmas.Bool.{cases_lt}
 use Rattle.std.proofs.lemmas.List.{take-append-drop, drop-drop, get_or-take, get_or-drop}
 use Rattle.std.proofs.lemmas.Nat.{le_bytes_4, le_bytes_8}
-use Rattle.std.specs.Int.{to_le_bytes, from_le_bytes, w32, w64}
+use Rattle.std.specs.Int.{to_le_bytes, w32, w64}
 use Rattle.chacha20poly1305.specs.ChaCha.{ietf, chacha_stream}
 use Rattle.chacha20poly1305.specs.Aead.{encrypted, poly1305_tag, sealed_message}
 use Rattle.chacha20poly1305.proofs.AeadLemmas.{is-sealed_message, length-sealed_message, take-sealed_message, drop-sealed_message}

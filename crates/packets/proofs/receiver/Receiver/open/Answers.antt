@@ -1,4 +1,4 @@
-use Rattle.std.proofs.Common.{◌∙◌, length, refl, sym, arith, ap}
+use Rattle.std.proofs.Common.{◌∙◌, length, sym, arith, ap}
 use Rattle.std.specs.Prelude.{not}
 use Rattle.std.proofs.lemmas.Bool.{false≢true}
 use Rattle.packets.specs.Packets.{Inbox, index_of, counter_of, IsPacket}
