@@ -1,11 +1,6 @@
 """What the scripts of this folder share: files of the repository, commands, and copies of crates."""
 
-import contextlib
-import os
-import pathlib
-import shutil
-import subprocess
-import tempfile
+import contextlib, os, pathlib, shutil, subprocess, sys, tempfile
 
 TOP = os.path.dirname(os.path.dirname(os.path.abspath(__file__)))
 
@@ -23,6 +18,14 @@ def printed(*command, **more):
     """What a command prints, and its status."""
     ran = subprocess.run(command, stdout=subprocess.PIPE, stderr=subprocess.STDOUT, text=True, **more)
     return ran.stdout, ran.returncode
+
+
+def output_of(*command, **more):
+    """What a command prints. It has to succeed."""
+    out, status = printed(*command, **more)
+    if status:
+        sys.exit(f"{out[-4000:]}\n{' '.join(command)}: status {status}")
+    return out
 
 
 @contextlib.contextmanager
