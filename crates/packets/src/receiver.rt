@@ -89,8 +89,8 @@ impl Receiver {
         }
     }
 
-    // Decrypts a packet, whatever its counter. Fails where the bytes are not the packet of any text; another type counts
-    // as a wrong tag.
+    // Decrypts a packet, whatever its counter. Fails where the bytes are not the packet of any text: another type
+    // counts as a wrong tag.
     fn open(&self, packet: &[u8], output: &mut [u8]) -> Result<(), Error>
         requires { length packet.now ≡ length output.old + 32 }
         ensures accepted { IsOk result ↔ IsPacket self.now.key packet.now }

@@ -13,8 +13,8 @@ same-item m n data_same same =
     (ap₂ (λ t x. (t, x)) same.0 same.1)
 
 -- a message is taken for what it was made from
-first-same : (s : State) (m n : Item) → m.aad ≡ n.aad → message_of s m.aad m.tag m.text ≡ message_of s n.aad n.tag n.text
-    → m ≡ n
+first-same : (s : State) (m n : Item) → m.aad ≡ n.aad
+    → message_of s m.aad m.tag m.text ≡ message_of s n.aad n.tag n.text → m ≡ n
 first-same s m n data_same bytes =
     same-item m n data_same
     (message_of-same s n.aad m.tag n.tag m.text n.text

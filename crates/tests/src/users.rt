@@ -13,8 +13,8 @@ mod tags;
 mod unexported;
 mod unsteady;
 
-// The tests of `packets`, `secretstream` and `examples`, each under the name of its module or example. `own_core` has its own in
-// `tests`.
+// The tests of `packets`, `secretstream` and `examples`, each under the name of its crate or example. `own_core` has
+// its own in `tests`.
 mod file;
 mod log;
 mod message;

@@ -19,17 +19,23 @@ static KNOWN: [&[u8; 37]; 4] = [
         \x80\x7d\xc3\x51\x68\xda\xcc\xf6\x64\x9f\x9c\x50\x03\xd8\x8f\x78\xa9\x58\x7f\x6a\xa9",
 ];
 
+// What a receiver makes of a packet: a length and a text.
+fn receive(receiver: &mut Receiver, packet: &[u8]) -> Result<(usize, [u8; 5]), ReceiveError> {
+    let mut text = [0; 5];
+    let len = receiver.receive(packet, &mut text)?;
+    Ok((len, text))
+}
+
 #[test]
 fn known(rt: HostRuntime) {
     let mut sender = Sender::new(&FROM_80, INDEX);
     let mut receiver = Receiver::new(&FROM_80);
-    for (i, packet) in KNOWN.iter().enumerate() {
-        let mut sent = [0; 37];
-        let is_sent = sender.send(b"hello", &mut sent).is_ok();
-        assert!(rt; i == 3 || (is_sent & (sent == **packet)));
-        let mut text = [0; 5];
-        let received = receiver.receive(*packet, &mut text);
-        assert!(rt; (received == Ok(5)) & (text == *b"hello") & (index_of(*packet) == Some(INDEX)));
+    for (i, known) in KNOWN.iter().enumerate() {
+        let mut packet = [0; 37];
+        let sent = sender.send(b"hello", &mut packet);
+        assert!(rt; i == 3 || (sent.is_ok() & (packet == **known)));
+        assert!(rt; receive(&mut receiver, *known) == Ok((5, *b"hello")));
+        assert!(rt; index_of(*known) == Some(INDEX));
     }
     assert!(rt; sender.next() == 4);
 }
