@@ -20,10 +20,10 @@ part : (xs : List ℕ) (at n : ℕ) → at + n ≤ length xs → AreBytes xs →
 part xs at n fits are i = elim (cases_lt i n) [
   | inl less ↦ omega (arith, get_or-take n (drop at xs) i 0 less, get_or-drop at xs i 0, are (at + i))
   | inr least ↦ omega (
-      arith,
-      get_or-eq_default (take n (drop at xs)) 0 {n = i}
-      (omega (arith, length-take-le n (drop at xs) (omega (arith, length-drop at xs, fits)), least)),
-    )
+    arith,
+    get_or-eq_default (take n (drop at xs)) 0 {n = i}
+        (omega (arith, length-take-le n (drop at xs) (omega (arith, length-drop at xs, fits)), least)),
+  )
 ]
 
 part-long : (xs : List ℕ) (at n : ℕ) → at + n ≤ length xs → length (take n (drop at xs)) ≡ n
@@ -96,7 +96,7 @@ begins xs is are = record {
 module _ (key xs : List ℕ) (n : ℕ) (long : length xs ≡ n + 32) (is : IsTransportData xs) (are : AreBytes xs) where
   -- the right tag makes a packet
   pub accepted : ((64 + n ≤ 274877906944)
-          × (drop n (drop 16 xs) ≡ poly1305_tag (stream_of key (counter_of xs)) [] (take n (drop 16 xs))))
+      × (drop n (drop 16 xs) ≡ poly1305_tag (stream_of key (counter_of xs)) [] (take n (drop 16 xs))))
       ↔ IsPacket key xs
   unfolding IsPacket
   accepted =
