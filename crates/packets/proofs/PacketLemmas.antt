@@ -30,13 +30,15 @@ part-long : (xs : List ℕ) (at n : ℕ) → at + n ≤ length xs → length (ta
 part-long xs at n fits = length-take-le n (drop at xs) (omega (arith, length-drop at xs, fits))
 
 -- the numbers in a header are those of its bytes
-pub index-bytes : (xs : List ℕ) → 8 ≤ length xs → AreBytes xs → to_le_bytes w32 (index_of xs) ≡ take 4 (drop 4 xs)
+index-bytes : (xs : List ℕ) → 8 ≤ length xs → AreBytes xs → to_le_bytes w32 (index_of xs) ≡ take 4 (drop 4 xs)
 unfolding index_of
-index-bytes xs long are = le_bytes_4 (take 4 (drop 4 xs)) (index_of xs) (part-long xs 4 4 long) (part xs 4 4 long are) refl
+index-bytes xs long are =
+    le_bytes_4 (take 4 (drop 4 xs)) (index_of xs) (part-long xs 4 4 long) (part xs 4 4 long are) refl
 
-pub counter-bytes : (xs : List ℕ) → 16 ≤ length xs → AreBytes xs → to_le_bytes w64 (counter_of xs) ≡ take 8 (drop 8 xs)
+counter-bytes : (xs : List ℕ) → 16 ≤ length xs → AreBytes xs → to_le_bytes w64 (counter_of xs) ≡ take 8 (drop 8 xs)
 unfolding counter_of
-counter-bytes xs long are = le_bytes_8 (take 8 (drop 8 xs)) (counter_of xs) (part-long xs 8 8 long) (part xs 8 8 long are) refl
+counter-bytes xs long are =
+    le_bytes_8 (take 8 (drop 8 xs)) (counter_of xs) (part-long xs 8 8 long) (part xs 8 8 long are) refl
 
 -- which bytes are a sealed text
 opens : (stream : ℕ → ℕ) (bytes : List ℕ) (n : ℕ) → length bytes ≡ n + 16
