@@ -13,15 +13,15 @@ mod tags;
 mod unexported;
 mod unsteady;
 
-// The tests of `packets`, `secretstream` and `examples`, each under the name of its crate or example. `own_core` has
-// its own in `tests`.
+// The tests of `packets` (wireguard.rt), of `secretstream`, and of `examples`, each under the name of its example.
+// `own_core` has its own in `tests`.
 mod file;
 mod log;
 mod message;
-mod packets;
 mod pieces;
 mod scalar;
 mod secret_streams;
 mod sectors;
 mod simulation;
 mod stream;
+mod wireguard;

@@ -1,6 +1,6 @@
 use Rattle.std.specs.Prelude.{IsOk}
 use Rattle.chacha20.proofs.StdLemmas.{on_err-holds, is_err-holds}
-use Rattle.tests.proofs.users.packets.twice.Goals as goal
+use Rattle.tests.proofs.users.wireguard.twice.Goals as goal
 
 pub returns-clause-refused : goal.returns-clause-refused
 returns-clause-refused c =
