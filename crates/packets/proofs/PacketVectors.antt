@@ -1,10 +1,10 @@
--- A fact on a packet, so that another header, nonce, cipher or order of bytes doesn't check.
-use Rattle.std.proofs.Common.{◌≡◌, ◌∷◌, [], codes, refl}
+-- Facts on a packet and on the window, so that another header, nonce, cipher, order of bytes or limit doesn't check.
+use Rattle.std.proofs.Common.{◌≡◌, ◌∷◌, [], codes, replicate, arith, refl}
 use Rattle.std.specs.List.{range_with_len}
 use Rattle.chacha20poly1305.specs.ChaCha.{quarter, columns, diagonals, rounds, add_states}
 use Rattle.chacha20poly1305.specs.Poly1305.{number, accumulator, tag_from}
 use Rattle.chacha20poly1305.specs.Aead.{mac_key}
-use Rattle.packets.specs.Packets.{packet_of}
+use Rattle.packets.specs.Packets.{packet_of, Inbox, IsOpen, taken}
 
 -- libsodium 1.0.18 sealed it, with a nonce of four zeros and the counter's bytes 0x40, 0x41 .. The index has
 -- the bytes 0x10, 0x11 ..
@@ -15,3 +15,23 @@ pub packet : packet_of (range_with_len 0x80 32) 0x13121110 0x4746454443424140 (c
     ∷ 0x02 ∷ []
 unfolding quarter columns diagonals rounds add_states mac_key number accumulator tag_from packet_of
 packet = refl
+
+abbrev fresh : Inbox
+fresh = record { key = []; slots = replicate 64 0 }
+
+-- at first all counters are open but the last one
+pub first : IsOpen fresh 0
+first = (omega arith, omega arith)
+
+pub last : IsOpen fresh 0xfffffffffffffffe
+last = (omega arith, omega arith)
+
+pub unused : IsOpen fresh 0xffffffffffffffff → ⊥
+unused is = omega (arith, is.0)
+
+-- behind 164, 101 still is, and 100 is not
+pub inside : IsOpen (taken fresh 164) 101
+inside = (omega arith, omega arith)
+
+pub outside : IsOpen (taken fresh 164) 100 → ⊥
+outside is = omega (arith, is.1)

@@ -10,11 +10,11 @@
 //! let len = receiver.receive(&packet, &mut text)?;
 //! ```
 //!
-//! A packet is a header and a text sealed by ChaCha20-Poly1305 (sections 5.4.6 and 6.5 of WireGuard's paper,
+//! A packet is a header and a text sealed by ChaCha20-Poly1305 (section 5.4.6 of
 //! <https://www.wireguard.com/papers/wireguard.pdf>). The header has 16 bytes: 4, three zeros, the receiver's index in
 //! four little-endian bytes, the counter in eight. The nonce is four zeros and the counter, and there is no associated
-//! data. WireGuard also pads texts with zeros to a multiple of 16 bytes, and takes another key after two minutes: both
-//! are left to the caller.
+//! data. WireGuard also pads texts with zeros to a multiple of 16 bytes, and takes another key after two minutes
+//! (section 6.2): both are left to the caller.
 //!
 //! The receiver accepts packets in any order and none twice. It has 64 slots, one for each remainder modulo 64, and a
 //! counter is open if it is greater than the last one in its slot. So each packet that is less than 64 behind the
