@@ -1,10 +1,10 @@
 -- Which bytes are a packet: those that begin with a header, and end with the tag of what is behind it.
-use Rattle.std.proofs.Common.{◌≡◌, ◌<◌, ◌≤◌, ◌+◌, ◌∙◌, ◌∷◌, ◌++◌, ◌↔◌, ℕ, List, [], inl, inr, length, take, drop, replicate, arith, refl, sym, ap, ap₂, length-drop, length-take-le, Fits, w8}
+use Rattle.std.proofs.Common.{◌≡◌, ◌<◌, ◌≤◌, ◌+◌, ◌^◌, ◌∙◌, ◌∷◌, ◌++◌, ◌↔◌, ℕ, List, [], inl, inr, length, take, drop, replicate, arith, refl, sym, ap, ap₂, length-drop, length-take-le, Fits, w8}
 use Rattle.std.proofs.Math.ListN.{get_or, get_or-eq_default}
 use Rattle.std.proofs.Math.Seq.{take-add}
 use Rattle.std.proofs.lemmas.Bool.{cases_lt}
 use Rattle.std.proofs.lemmas.List.{take-append-drop, drop-drop, get_or-take, get_or-drop}
-use Rattle.std.proofs.lemmas.Nat.{le_bytes_4, le_bytes_8}
+use Rattle.std.proofs.lemmas.Nat.{le_bytes_4, le_bytes_8, from_le_bytes-to_le_bytes_8}
 use Rattle.std.specs.Int.{to_le_bytes, w32, w64}
 use Rattle.chacha20poly1305.specs.ChaCha.{ietf, chacha_stream}
 use Rattle.chacha20poly1305.specs.Aead.{encrypted, poly1305_tag, sealed_message}
@@ -112,6 +112,11 @@ module _ (key xs : List ℕ) (n : ℕ) (long : length xs ≡ n + 32) (is : IsTra
   pub sealed-text : (i m : ℕ) (text : List ℕ) → xs ≡ packet_of key i m text
       → drop 16 xs ≡ sealed_message (stream_of key (counter_of xs)) [] text
   sealed-text = sealed-in key (begins xs is are)
+
+-- a packet has the counter from which it was made
+pub counter-packet_of : (key : List ℕ) (i n : ℕ) (text : List ℕ) → n < 2 ^ 64 → counter_of (packet_of key i n text) ≡ n
+unfolding packet_of counter_of
+counter-packet_of key i n text fits = from_le_bytes-to_le_bytes_8 n fits
 
 -- a packet begins with the type
 pub packet-kind : (key xs : List ℕ) (i m : ℕ) (text : List ℕ) → xs ≡ packet_of key i m text

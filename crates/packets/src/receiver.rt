@@ -25,7 +25,8 @@ impl Model for Receiver {
 }
 
 impl Receiver {
-    /// A receiver that has taken no packet. It accepts those that another one took: after a restart, take a new key.
+    /// A receiver that has taken no packet. After a restart take a new key: a new receiver accepts once more what an
+    /// earlier one has taken.
     pub fn new(key: &Key) -> Self
         ensures { result ≡ record { key = key.now; slots = replicate 64 0 } }
     {
@@ -54,12 +55,12 @@ impl Receiver {
         ensures forged { IsErrOf result ReceiveError.Forged ↔ (Fits packet.now output.old
             × IsOpen self.old (counter_of packet.now) × ¬ IsPacket self.old.key packet.now) }
         ensures length { IfOk result (λ len. length packet.now ≡ len + 32) }
-        // What a sender with this key made of a text gives the text.
+        // It is the text that the sender took.
         ensures text { (index n : ℕ) (text : List ℕ)
             → packet.now ≡ packet_of self.old.key index n text
             → IfOk result (λ len. take len output.new ≡ text) }
         ensures rest { IfOk result (λ len. drop len output.new ≡ drop len output.old) }
-        // This counter is closed from now on, and so is each that was closed before.
+        // This counter is closed from now on, and no closed one opens.
         ensures replay { OnOk result (¬ IsOpen self.new (counter_of packet.now)) }
         ensures stays { OnOk result ((n : ℕ) → IsOpen self.new n → IsOpen self.old n) }
         // Any other counter that is less than 64 behind this one is as open as before.

@@ -1,7 +1,7 @@
 //! The side that encrypts.
 
 ghost use Rattle.std.specs.Prelude.{◌≡◌, ◌<◌, ◌≤◌, ◌+◌, ◌↔◌, ◌^◌, length, IsOk, IsErrOf, OnOk, OnErr};
-ghost use Rattle.packets.specs.Packets.{packet_of};
+ghost use Rattle.packets.specs.Packets.{packet_of, counter_of};
 
 use crate::error::SendError;
 use crate::header::{header_of, nonce_of};
@@ -25,8 +25,8 @@ impl Model for Sender {
 }
 
 impl Sender {
-    /// A sender that has sent nothing, to a receiver that has this index among those of its program. No other sender
-    /// may have this key: neither that of the other direction, nor one before a restart.
+    /// A sender that has sent nothing. The index is what the receiver's program has for the receiver. No other sender
+    /// may have this key: the other direction has another one, and so has a program that was restarted.
     pub fn new(key: &Key, index: u32) -> Self
         ensures { result ≡ record { key = key.now; index = index; next = 0 } }
     {
@@ -55,6 +55,7 @@ impl Sender {
             ↔ ((self.old.next + 1 < 2 ^ 64) × (274877906880 < length text.now)) }
         ensures packet { let s = self.old in
             OnOk result (packet.new ≡ packet_of s.key s.index s.next text.now) }
+        ensures counter { OnOk result (counter_of packet.new ≡ self.old.next) }
         ensures next { let s = self.old in
             OnOk result (self.new ≡ record s { next = s.next + 1 }) }
         ensures refused { OnErr result ((self.new ≡ self.old) × (packet.new ≡ packet.old)) }

@@ -54,13 +54,14 @@ module _ (s : State) (aad : List ℕ) where
   pub opened : (bytes : List ℕ) (first : ℕ) (ciphertext end : List ℕ) → bytes ≡ first ∷ (ciphertext ++ end)
       → end ≡ tag_for s aad first ciphertext
       → bytes ≡ message_of s aad (bit_xor first (stream_of s 64)) (xor_stream (stream_of s) 128 ciphertext)
+  unfolding message_of
   opened bytes first ciphertext end parts right =
       parts ∙ ap (λ e. first ∷ (ciphertext ++ e)) (right ∙ tag-opened first ciphertext)
       ∙ ap₂ (λ x c. x ∷ (c ++ mac_of s aad (bit_xor first (stream_of s 64)) (xor_stream (stream_of s) 128 ciphertext)))
       (sym (xor_twice first (stream_of s 64))) (sym (xor_stream-xor_stream (stream_of s) 128 ciphertext))
 
   pub length-message_of : (tag : ℕ) (text : List ℕ) → length (message_of s aad tag text) ≡ length text + 17
-  unfolding tag_from
+  unfolding tag_from message_of
   length-message_of tag text =
       let tail : length (xor_stream (stream_of s) 128 text ++ mac_of s aad tag text) ≡ length text + 16 =
       length-append (xor_stream (stream_of s) 128 text) (mac_of s aad tag text)
@@ -79,6 +80,7 @@ module _ (s : State) (aad : List ℕ) where
   pub parts-of : (tag : ℕ) (text bytes : List ℕ) (first : ℕ) (ciphertext end : List ℕ)
       → bytes ≡ first ∷ (ciphertext ++ end) → length bytes ≡ length ciphertext + 17
       → bytes ≡ message_of s aad tag text → Parts tag text first ciphertext end
+  unfolding message_of
   parts-of tag text bytes first ciphertext end parts long is =
       let n = length ciphertext in
       let whole = sym parts ∙ is in
@@ -166,6 +168,7 @@ module _ (stream : ℕ → ℕ) (byte : ℕ) {made : ℕ → ℕ} {place : ℕ} 
 -- a message determines its tag byte and its text
 pub message_of-same : (s : State) (aad : List ℕ) (tag byte : ℕ) (text other : List ℕ)
     → message_of s aad tag text ≡ message_of s aad byte other → (tag ≡ byte) × (text ≡ other)
+unfolding message_of
 message_of-same s aad tag byte text other same =
     let hidden = xor_stream (stream_of s) 128 text in
     let size : length (message_of s aad tag text) ≡ length hidden + 17 =

@@ -30,7 +30,7 @@ pub first : message_of one (codes "header") 0
     ∷ 0x3d ∷ 0xe4 ∷ 0x9b ∷ 0xf8 ∷ 0xa9 ∷ 0x63 ∷ 0xdc ∷ 0x58 ∷ 0xf3 ∷ 0x9e ∷ 0x01 ∷ 0x2f ∷ 0xb5 ∷ 0xcd ∷ 0xfd
     ∷ 0xbf ∷ 0x17 ∷ 0xdf ∷ 0x39 ∷ 0x44 ∷ 0x8a ∷ 0xce ∷ 0x30 ∷ 0x1e ∷ 0x00 ∷ 0xf2 ∷ 0x43 ∷ 0xc9 ∷ 0xd5 ∷ 0x81
     ∷ 0x54 ∷ 0x56 ∷ 0xb6 ∷ 0xc6 ∷ 0x09 ∷ 0xb7 ∷ 0xcd ∷ 0x6b ∷ []
-unfolding quarter columns diagonals rounds add_states mac_key number accumulator tag_from
+unfolding quarter columns diagonals rounds add_states mac_key number accumulator tag_from message_of
 first = refl
 
 -- the state behind it
@@ -45,7 +45,7 @@ two = record {
 
 pub after_first : after one (codes "header") 0
     (codes "a text of more than one block, whose length isn't a multiple of 16") ≡ two
-unfolding quarter columns diagonals rounds add_states mac_key number accumulator tag_from
+unfolding quarter columns diagonals rounds add_states mac_key number accumulator tag_from after
 after_first = refl
 
 -- one after it
@@ -54,7 +54,7 @@ pub second : message_of two [] 1
     0x38 ∷ 0x6b ∷ 0x62 ∷ 0x65 ∷ 0x2d ∷ 0x1e ∷ 0x06 ∷ 0x61 ∷ 0xeb ∷ 0xb5 ∷ 0x82 ∷ 0x43 ∷ 0x29 ∷ 0x82 ∷ 0x95
     ∷ 0x89 ∷ 0xb7 ∷ 0x24 ∷ 0x09 ∷ 0x7a ∷ 0x53 ∷ 0x31 ∷ 0xf6 ∷ 0xc6 ∷ 0xa2 ∷ 0xde ∷ 0x8f ∷ 0x5b ∷ 0x81 ∷ 0x0e
     ∷ 0x52 ∷ []
-unfolding quarter columns diagonals rounds add_states mac_key number accumulator tag_from
+unfolding quarter columns diagonals rounds add_states mac_key number accumulator tag_from message_of
 second = refl
 
 -- a state whose bytes all differ
@@ -72,7 +72,7 @@ pub rekey : message_of middle (codes "a header of 18 b.") 2
     (codes "x") ≡
     0x98 ∷ 0xbc ∷ 0xe5 ∷ 0xf8 ∷ 0xea ∷ 0x3a ∷ 0x6a ∷ 0xff ∷ 0x59 ∷ 0xd0 ∷ 0xc6 ∷ 0x7e ∷ 0xa7 ∷ 0x86 ∷ 0xe3
     ∷ 0x7a ∷ 0xd2 ∷ 0xa2 ∷ []
-unfolding quarter columns diagonals rounds add_states mac_key number accumulator tag_from
+unfolding quarter columns diagonals rounds add_states mac_key number accumulator tag_from message_of
 rekey = refl
 
 -- and another key behind it
@@ -87,7 +87,7 @@ renewed = record {
 
 pub after_rekey : after middle (codes "a header of 18 b.") 2
     (codes "x") ≡ renewed
-unfolding quarter columns diagonals rounds add_states mac_key number accumulator tag_from
+unfolding quarter columns diagonals rounds add_states mac_key number accumulator tag_from after
 after_rekey = refl
 
 -- its successor
@@ -96,7 +96,7 @@ pub successor : message_of renewed (codes "h") 0
     0x3e ∷ 0xef ∷ 0x09 ∷ 0x7f ∷ 0x73 ∷ 0x88 ∷ 0x0d ∷ 0x6c ∷ 0xa4 ∷ 0x4d ∷ 0x9a ∷ 0x28 ∷ 0x41 ∷ 0x3e ∷ 0x77
     ∷ 0xaa ∷ 0x84 ∷ 0x94 ∷ 0x28 ∷ 0x14 ∷ 0x76 ∷ 0xba ∷ 0x30 ∷ 0x89 ∷ 0xcb ∷ 0x77 ∷ 0x77 ∷ 0x7b ∷ 0x67 ∷ 0xc9
     ∷ 0x71 ∷ 0xdc ∷ 0x2e ∷ 0x39 ∷ []
-unfolding quarter columns diagonals rounds add_states mac_key number accumulator tag_from
+unfolding quarter columns diagonals rounds add_states mac_key number accumulator tag_from message_of
 successor = refl
 
 -- a final one, of no text
@@ -104,7 +104,7 @@ pub final : message_of middle [] 3
     [] ≡
     0x99 ∷ 0xe5 ∷ 0xc8 ∷ 0xb5 ∷ 0xc5 ∷ 0x6f ∷ 0xc1 ∷ 0xec ∷ 0xcc ∷ 0x56 ∷ 0x3d ∷ 0x1d ∷ 0x43 ∷ 0x8b ∷ 0x0d
     ∷ 0x4b ∷ 0xe2 ∷ []
-unfolding quarter columns diagonals rounds add_states mac_key number accumulator tag_from
+unfolding quarter columns diagonals rounds add_states mac_key number accumulator tag_from message_of
 final = refl
 
 -- and another key behind it
@@ -119,7 +119,7 @@ ended = record {
 
 pub after_final : after middle [] 3
     [] ≡ ended
-unfolding quarter columns diagonals rounds add_states mac_key number accumulator tag_from
+unfolding quarter columns diagonals rounds add_states mac_key number accumulator tag_from after
 after_final = refl
 
 -- the state with the greatest counter
@@ -137,7 +137,7 @@ pub wrap : message_of last [] 0
     (codes "at the wrap") ≡
     0x21 ∷ 0x56 ∷ 0x1b ∷ 0x98 ∷ 0x8a ∷ 0x6f ∷ 0x20 ∷ 0x3c ∷ 0x1d ∷ 0x07 ∷ 0x01 ∷ 0xff ∷ 0x79 ∷ 0x48 ∷ 0xb1
     ∷ 0xde ∷ 0x45 ∷ 0x4c ∷ 0xbd ∷ 0x3b ∷ 0x0f ∷ 0x98 ∷ 0x6f ∷ 0x73 ∷ 0x51 ∷ 0x0e ∷ 0x82 ∷ 0x50 ∷ []
-unfolding quarter columns diagonals rounds add_states mac_key number accumulator tag_from
+unfolding quarter columns diagonals rounds add_states mac_key number accumulator tag_from message_of
 wrap = refl
 
 -- and another key behind it
@@ -152,5 +152,5 @@ wrapped = record {
 
 pub after_wrap : after last [] 0
     (codes "at the wrap") ≡ wrapped
-unfolding quarter columns diagonals rounds add_states mac_key number accumulator tag_from
+unfolding quarter columns diagonals rounds add_states mac_key number accumulator tag_from after
 after_wrap = refl

@@ -36,7 +36,7 @@ mac_of s aad tag text =
     poly1305 (mac_key (stream_of s)) (mac_text aad (ciphertext s tag text))
 
 -- the message: of the tag's block only the first byte, the encrypted text, and the MAC's tag
-abbrev pub message_of : State → List ℕ → ℕ → List ℕ → List ℕ
+unfoldable pub message_of : State → List ℕ → ℕ → List ℕ → List ℕ
 message_of s aad tag text =
     let bytes = ciphertext s tag text in
     take 1 bytes ++ drop 64 bytes ++ mac_of s aad tag text
@@ -67,5 +67,5 @@ moved s mac tag =
     if nat_eq (bit_and tag 2) 0 then (if nat_eq next.counter 0 then rekeyed next else next)
     else rekeyed next
 
-abbrev pub after : State → List ℕ → ℕ → List ℕ → State
+unfoldable pub after : State → List ℕ → ℕ → List ℕ → State
 after s aad tag text = moved s (mac_of s aad tag text) tag

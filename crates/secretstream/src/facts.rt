@@ -5,12 +5,12 @@ ghost use Rattle.std.specs.Prelude.{◌≡◌, ◌≤◌, ◌∷◌, ◌++◌, �
 ghost use Rattle.secretstream.specs.Stream.{State, IsMessage};
 ghost use Rattle.secretstream.specs.Lists.{Item, Coming, sent, after_all, Taken, IsComplete, EndsOnce};
 
-// `pull` takes one message after another: by its clauses `accepted`, `message` and `next`, as `Taken` says of a list.
+// `Taken` says of a list what the clauses `accepted`, `message` and `next` of `pull` say of one message.
 fn lists()
     // What was sent is taken, for what it was made from.
     ensures sent { (s : State) (ms : List Item)
         → All (λ (m : Item). length m.text ≤ 274877906816) ms → Taken s (sent s ms) ms }
-    // What is taken is what a sender in this state sends, of one list only.
+    // What is taken is what a sender in this state sends. It determines the list.
     ensures taken { (s : State) (cs : List Coming) (ms : List Item)
         → Taken s cs ms → cs ≡ sent s ms }
     ensures same { (s : State) (cs : List Coming) (ms ns : List Item)
@@ -19,7 +19,7 @@ fn lists()
     ensures refused { (s : State) (ms : List Item) (wrong : Coming) (rest : List Coming)
         (ns : List Item) → ¬ IsMessage (after_all s ms) wrong.aad wrong.bytes
         → ¬ Taken s (sent s ms ++ wrong ∷ rest) ns }
-    // Of a stream with one `Final`, at its end, what is cut is not complete.
+    // If the last message alone has `Final`, a stream that was cut isn't complete.
     ensures cut { (s : State) (ms : List Item) (k : ℕ) (ns : List Item)
         → EndsOnce ms → Taken s (take k (sent s ms)) ns → IsComplete ns → ns ≡ ms }
 {}

@@ -12,10 +12,10 @@
 //! let tag = receiver.pull(aad, &message, &mut text)?;
 //! ```
 //!
-//! Send the header first, 24 random bytes, and then the messages. A message has 17 bytes more than its text: one for
-//! its tag, encrypted, and 16 for the MAC's. The receiver accepts only the next message: it refuses one that was
+//! Send the header first, 24 random bytes, and then the messages. A message has 17 bytes more than its text: the
+//! encrypted tag byte, and 16 bytes of MAC. The receiver accepts only the next message: it refuses one that was
 //! changed, comes again or comes too early, and then has moved nowhere. A stream is complete exactly if the last
-//! message that it accepted had `Tag::Final`. As in libsodium, messages may follow it.
+//! message that it accepted had `Tag::Final`. As in libsodium, neither side stops there by itself.
 //!
 //! Contracts say which bytes a message is, that a receiver accepts exactly the next message, and which state each
 //! call leaves. They don't say how hard messages are to forge.

@@ -14,7 +14,7 @@ use chacha20::{ChaCha20, Key, Nonce, R20, hchacha};
 use poly1305::{Tag, is_equal};
 use std::marker::Model;
 
-/// The first 24 bytes of a stream, which no other stream under the key may have. Random ones are long enough.
+/// The first 24 bytes of a stream. No other stream under the key may have them; random bytes are enough for that.
 pub type Header = [u8; 24];
 
 /// What the next message is made from.

@@ -105,6 +105,7 @@ impl PullStream {
         // What the message is: a push of this tag and this text would make it.
         ensures message { IfOk result (λ tag. message.now
             ≡ message_of self.old aad.now (byte_of tag) output.new) }
+        // A byte that has a name is never `Other`.
         ensures named { IfOk result (λ tag. tag ≡ tag_of (byte_of tag)) }
         ensures next { IfOk result (λ tag. self.new
             ≡ after self.old aad.now (byte_of tag) output.new) }

@@ -17,8 +17,8 @@ pub enum Tag {
     Rekey,
     /// 3: the last one of the stream. Both sides take another key after it.
     Final,
-    /// Another byte. Both sides take another key after it if its bit 1 is set. `push` takes one with a name for the tag
-    /// of that name; `pull` returns no such one.
+    /// Another byte. Both sides take another key after it if its bit 1 is set. `push` takes `Other(0)` to `Other(3)`
+    /// for the tags above; `pull` never returns these.
     Other(u8),
 }
 

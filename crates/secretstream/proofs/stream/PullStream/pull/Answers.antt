@@ -12,6 +12,7 @@ returns-in-Ok-clause-message c =
     (sym c.from_byte.ensures.byte)
 
 pub returns-in-Ok-clause-next : goal.returns-in-Ok-clause-next
+unfolding after
 returns-in-Ok-clause-next c =
     c.advance.ensures
     ∙ ap (λ mac. moved c.self.inside.state mac c.in-Ok.opened.0) c.in-Ok.ensures.mac

@@ -8,6 +8,7 @@ returns-clause-message c =
     ∙ ap₂ (λ (s : State) (t : ℕ). message_of s c.args.aad.now t c.args.text.now) c.self.view_is c.byte-byte.ensures
 
 pub returns-clause-next : goal.returns-clause-next
+unfolding after
 returns-clause-next c =
     c.advance.ensures
     ∙ ap (λ mac. moved c.self.inside.state mac c.byte-byte.result) c.in_ok-mac.ensures.mac
