@@ -1,11 +1,13 @@
 -- Messages that libsodium 1.0.18 made, and the states that it was in, so that another order, padding, count or key
 -- doesn't check.
-use Rattle.std.proofs.Common.{◌≡◌, ◌∷◌, [], codes, refl}
+use Rattle.std.proofs.Common.{◌≡◌, ◌∷◌, ℕ, List, [], codes, refl}
 use Rattle.std.specs.List.{range_with_len}
 use Rattle.chacha20poly1305.specs.ChaCha.{quarter, columns, diagonals, rounds, add_states}
 use Rattle.chacha20poly1305.specs.Poly1305.{number, accumulator, tag_from}
 use Rattle.chacha20poly1305.specs.Aead.{mac_key}
-use Rattle.secretstream.specs.Stream.{State, start, message_of, after}
+use Rattle.secretstream.specs.Stream.{State, start, message_of, after, moved, counted, rekeyed}
+use Rattle.secretstream.specs.Tags.{byte_of}
+use Rattle.secretstream.specs.declared.tag.Tag.TheVariants.{Message, Push, Rekey, Final}
 
 -- the first state of the key 0x80, 0x81 .. and the header 0x40, 0x41 ..
 abbrev one : State
@@ -154,3 +156,14 @@ pub after_wrap : after last [] 0
     (codes "at the wrap") ≡ wrapped
 unfolding quarter columns diagonals rounds add_states mac_key number accumulator tag_from after
 after_wrap = refl
+
+-- libsodium's numbers of the tags
+pub tags : byte_of Message ∷ byte_of Push ∷ byte_of Rekey ∷ byte_of Final ∷ [] ≡ 0 ∷ 1 ∷ 2 ∷ 3 ∷ []
+tags = refl
+
+-- any tag byte with bit 1 asks for another key, and no other one does
+pub asked : (s : State) (mac : List ℕ) → moved s mac 6 ≡ rekeyed (counted s mac)
+asked s mac = refl
+
+pub not_asked : (mac : List ℕ) → moved two mac 253 ≡ counted two mac
+not_asked mac = refl

@@ -1,6 +1,8 @@
 -- Lists of messages, from any state on.
 use Rattle.std.specs.Prelude.{◌≡◌, ◌≢◌, ◌≤◌, ◌∷◌, ℕ, List, [], length}
 use Rattle.secretstream.specs.Stream.{State, message_of, after}
+use Rattle.secretstream.specs.Tags.{byte_of}
+use Rattle.secretstream.specs.declared.tag.Tag.TheVariants.{Final}
 
 -- what is pushed
 pub record Item : Type 0 where
@@ -41,11 +43,11 @@ Taken s _ _ = ⊥
 -- the stream is complete: the tag of its last message is Final
 abbrev pub IsComplete : List Item → Type 0
 IsComplete [] = ⊥
-IsComplete (m ∷ []) = m.tag ≡ 3
+IsComplete (m ∷ []) = m.tag ≡ byte_of Final
 IsComplete (m ∷ n ∷ ms) = IsComplete (n ∷ ms)
 
 -- and that of no other one
 abbrev pub EndsOnce : List Item → Type 0
 EndsOnce [] = ⊥
-EndsOnce (m ∷ []) = m.tag ≡ 3
-EndsOnce (m ∷ n ∷ ms) = (m.tag ≢ 3) × EndsOnce (n ∷ ms)
+EndsOnce (m ∷ []) = m.tag ≡ byte_of Final
+EndsOnce (m ∷ n ∷ ms) = (m.tag ≢ byte_of Final) × EndsOnce (n ∷ ms)

@@ -28,7 +28,8 @@ impl Model for PushStream {
 
 impl PushStream {
     /// A stream with a header from a source of random bytes, such as a program's `HostRuntime`. Fails where the source
-    /// does, with its error.
+    /// does, with its error. No clause says that the header is random: the trait promises nothing of what its call
+    /// writes.
     pub fn init<R: RandomSource>(rng: &R, key: &Key) -> io::Result<(Header, Self)>
         ensures { IfOk result (λ r. r.1 ≡ start key.now r.0) }
     {
