@@ -58,7 +58,8 @@ fn twice(
 fn packet_of(key: &[u8; 32], counter: u64) -> [u8; 37] {
     let mut sender = Sender::new(key, INDEX);
     let mut packet = [0; 37];
-    for _ in 0..counter + 1 {
+    let _ = sender.send(b"hello", &mut packet);
+    for _ in 0..counter {
         let _ = sender.send(b"hello", &mut packet);
     }
     packet
