@@ -1,6 +1,6 @@
 //! Says on standard error why the program stops, in a sentence.
 
-use sealed_file::SealError;
+use sealed_file::{DecryptError, EncryptError, ReadError};
 use std::fmt::Display;
 use std::io;
 
@@ -38,7 +38,11 @@ pub fn miscounted(rt: &HostRuntime, call: &str, names: &[&str], words: &[String]
 }
 
 /// What a read of a file gave.
-pub fn read<T>(rt: &HostRuntime, path: &str, done: io::Result<T>) -> Result<T, Failed> {
+pub fn read<T, E: Display + Drop>(
+    rt: &HostRuntime,
+    path: &str,
+    done: Result<T, E>,
+) -> Result<T, Failed> {
     match done {
         Ok(it) => Ok(it),
         Err(e) => Err(fail_at(rt, "cannot read ", path, &e)),
@@ -46,28 +50,64 @@ pub fn read<T>(rt: &HostRuntime, path: &str, done: io::Result<T>) -> Result<T, F
 }
 
 /// What a write of a file gave.
-pub fn written<T>(rt: &HostRuntime, path: &str, done: io::Result<T>) -> Result<T, Failed> {
+pub fn written<T, E: Display + Drop>(
+    rt: &HostRuntime,
+    path: &str,
+    done: Result<T, E>,
+) -> Result<T, Failed> {
     match done {
         Ok(it) => Ok(it),
         Err(e) => Err(fail_at(rt, "cannot write ", path, &e)),
     }
 }
 
-/// What a stream between two files gave.
-pub fn streamed<T>(
+/// The system has no random bytes.
+pub fn not_random<T>(rt: &HostRuntime, done: io::Result<T>) -> Result<T, Failed> {
+    match done {
+        Ok(it) => Ok(it),
+        Err(e) => Err(fail_at(rt, "the system gives no random bytes", "", &e)),
+    }
+}
+
+/// What encrypting a file gave.
+pub fn encrypted(
     rt: &HostRuntime,
     from: &str,
     to: &str,
-    done: Result<T, SealError>,
-) -> Result<T, Failed> {
+    done: Result<(), EncryptError>,
+) -> Result<(), Failed> {
     match done {
-        Ok(it) => Ok(it),
-        Err(SealError::Read(e)) => Err(fail_at(rt, "cannot read ", from, &e)),
-        Err(SealError::Write(e)) => Err(fail_at(rt, "cannot write ", to, &e)),
-        Err(SealError::Damaged(damage)) => Err(fail_at(rt, "", from, &damage)),
-        Err(SealError::TooLong) => {
-            let after = " has more chunks than a sealed file may have";
+        Ok(()) => Ok(()),
+        Err(EncryptError::Random(e)) => not_random(rt, Err(e)),
+        Err(EncryptError::Read(e)) => read(rt, from, Err(e)),
+        Err(EncryptError::Write(e)) => written(rt, to, Err(e)),
+        Err(EncryptError::TooLong) => {
+            let after = " has more than 2^48 bytes, which no sealed file may have";
             Err(fail(rt, "", from, after))
         }
+    }
+}
+
+/// What decrypting a file gave.
+pub fn decrypted(
+    rt: &HostRuntime,
+    from: &str,
+    to: &str,
+    done: Result<(), DecryptError>,
+) -> Result<(), Failed> {
+    match done {
+        Ok(()) => Ok(()),
+        Err(DecryptError::Read(e)) => read(rt, from, Err(e)),
+        Err(DecryptError::Write(e)) => written(rt, to, Err(e)),
+        Err(DecryptError::Damaged(damage)) => Err(fail_at(rt, "", from, &damage)),
+    }
+}
+
+/// What a read of a part gave.
+pub fn part<T>(rt: &HostRuntime, from: &str, done: Result<T, ReadError>) -> Result<T, Failed> {
+    match done {
+        Ok(it) => Ok(it),
+        Err(ReadError::Read(e)) => read(rt, from, Err(e)),
+        Err(ReadError::Damaged(damage)) => Err(fail_at(rt, "", from, &damage)),
     }
 }

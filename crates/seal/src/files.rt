@@ -1,6 +1,6 @@
 //! Keys and files of the program.
 
-use crate::failure::{Failed, fail, fail_at, read, streamed, written};
+use crate::failure::{Failed, fail, not_random, read, written};
 use crate::key::{self, LINE};
 use chacha20::Key;
 use sealed_file::stream;
@@ -27,10 +27,8 @@ pub fn name_of<'a>(path: &'a str, stream: &'a str) -> &'a str {
 /// Random bytes.
 pub fn random<const N: usize>(rt: &HostRuntime) -> Result<[u8; N], Failed> {
     let mut bytes = [0; N];
-    match rt.fill_bytes(&mut bytes) {
-        Ok(()) => Ok(bytes),
-        Err(e) => Err(fail_at(rt, "the system gives no random bytes", "", &e)),
-    }
+    not_random(rt, rt.fill_bytes(&mut bytes))?;
+    Ok(bytes)
 }
 
 /// Writes a new key of 32 random bytes as text, to a file which its owner alone may read, or to standard output.
@@ -77,7 +75,7 @@ pub fn read_key(rt: &HostRuntime, path: &str) -> Result<Key, Failed> {
 // Fills a buffer with the first bytes of a file, and returns how many there are.
 fn read_start(rt: &HostRuntime, path: &str, bytes: &mut [u8]) -> Result<usize, Failed> {
     let mut file = open(rt, path)?;
-    streamed(rt, path, path, stream::fill(&mut file, bytes, 0))
+    read(rt, path, stream::fill(&mut file, bytes, 0))
 }
 
 /// Opens a file to read it.

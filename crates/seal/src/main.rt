@@ -8,10 +8,10 @@ mod pages;
 mod progress;
 
 use chacha20::Key;
-use failure::{Failed, miscounted, read, streamed, usage, written};
+use failure::{Failed, decrypted, encrypted, miscounted, part, read, usage, written};
 use files::{INPUT, OUTPUT, STANDARD, name_of};
 use progress::Progress;
-use sealed_file::{CHUNK, ReaderError, Salt, SealError, SealedReader, TAG, chunk, stream};
+use sealed_file::{BUFFER, RangeError, ReadError, SealedReader, stream};
 use std::fs::File;
 use std::io::{Read, Write};
 use std::process::ExitCode;
@@ -138,24 +138,15 @@ fn write<W: Write>(
     writer: &mut W,
 ) -> Result<(), Failed> {
     let secret = files::read_key(rt, key)?;
-    let salt = files::random(rt)?;
     let mut reader = Progress::open(rt, from, to)?;
-    let done = stream_by(encrypts, &secret, &salt, &mut reader, writer);
-    streamed(rt, name_of(from, INPUT), name_of(to, OUTPUT), done)
-}
-
-// Encrypts or decrypts. A file that is decrypted has its own salt.
-fn stream_by<R: Read, W: Write>(
-    encrypts: bool,
-    secret: &Key,
-    salt: &Salt,
-    reader: &mut R,
-    writer: &mut W,
-) -> Result<(), SealError> {
+    let (from, to) = (name_of(from, INPUT), name_of(to, OUTPUT));
+    let mut buf = [0; BUFFER];
     if encrypts {
-        stream::encrypt(secret, salt, reader, writer, &mut [0; CHUNK + 1])
+        let done = stream::encrypt(rt, &secret, &mut reader, writer, &mut buf);
+        encrypted(rt, from, to, done)
     } else {
-        stream::decrypt(secret, reader, writer, &mut [0; CHUNK + TAG + 1])
+        let done = stream::decrypt(&secret, &mut reader, writer, &mut buf);
+        decrypted(rt, from, to, done)
     }
 }
 
@@ -171,10 +162,9 @@ fn cat(rt: &HostRuntime, words: &[String]) -> Result<(), Failed> {
 }
 
 fn print(rt: &HostRuntime, secret: &Key, from: &str, start: u64, len: u64) -> Result<(), Failed> {
-    let mut buf = [0; CHUNK + TAG];
+    let mut buf = [0; BUFFER];
     let file = files::open(rt, from)?;
-    let made = SealedReader::new(secret, file, &mut buf);
-    let mut reader = streamed(rt, from, OUTPUT, made)?;
+    let mut reader = part(rt, from, SealedReader::new(secret, file, &mut buf))?;
     print_part(rt, &mut reader, from, start, len)
 }
 
@@ -232,10 +222,11 @@ fn print_piece<W: Write>(
     let window = &mut piece[..most.min(8192) as usize];
     match reader.read_exact_at(at, window) {
         Ok(()) => {
-            streamed(rt, from, OUTPUT, chunk::write_whole(writer, window))?;
+            written(rt, OUTPUT, stream::write_whole(writer, window))?;
             Ok(window.len() as u64)
         }
-        Err(ReaderError::PastEnd) => Err(past_end(rt, from, reader.text_len())),
-        Err(ReaderError::Failed(e)) => streamed(rt, from, OUTPUT, Err(e)),
+        Err(RangeError::PastEnd) => Err(past_end(rt, from, reader.text_len())),
+        Err(RangeError::Read(e)) => part(rt, from, Err(ReadError::Read(e))),
+        Err(RangeError::Damaged(damage)) => part(rt, from, Err(ReadError::Damaged(damage))),
     }
 }

@@ -1,6 +1,7 @@
 -- What reads do to the bytes that a reader has left.
-use Rattle.std.proofs.Common.{◌≡◌, ◌≤◌, ◌+◌, ◌∙◌, ◌++◌, ℕ, List, length, take, Some, None, IfSome, sym, ap, ap₂, refl, subst, append_assoc, length-take-le, take_at, drop_at, take-add, drop, set, get_or, arith, [], ◌∷◌}
+use Rattle.std.proofs.Common.{◌≡◌, ◌<◌, ◌-◌, take-take, ◌≤◌, ◌+◌, ◌∙◌, ◌++◌, drop-drop, le_refl, ℕ, List, length, take, Some, None, IfSome, sym, ap, ap₂, subst, append_assoc, length-take-le, take_at, drop_at, take-add, drop, set, get_or, arith, [], ◌∷◌}
 use Rattle.std.proofs.lemmas.List.{take-append-le, drop_more, drop_all}
+use Rattle.std.proofs.lemmas.Slice.{take-put_mid_below}
 use borrow.Rule.Slice.PartMut.{put_mid}
 use Rattle.std.specs.declared.option.Option.{Option}
 use Rattle.std.specs.Io.KnownBytes.{Consumes, prepend_known}
@@ -28,15 +29,42 @@ take-put_mid a n k xs ys inside fits =
     ∙ ap₂ ◌++◌ (take_at (take a xs) _ a front)
     (ap (take n) (drop_at (take a xs) _ a front) ∙ take-append-le n ys _ fits)
 
-front-set : (xs : List ℕ) (y : ℕ) → take 1 (set (xs ++ y ∷ []) 0 y) ≡ y ∷ []
-front-set [] y = refl
-front-set (x ∷ xs) y = refl
+-- and what it has of the bytes that stand from a place on
+pub part-read : (a : Option (List ℕ)) (at n k place : ℕ) (xs ys : List ℕ) → at ≤ length xs → n ≤ length ys
+    → IfSome a (λ all. take at xs ≡ take at (drop place all))
+    → IfSome a (λ all. take n ys ≡ take n (drop (place + at) all))
+    → IfSome a (λ all. take (at + n) (put_mid at k xs ys) ≡ take (at + n) (drop place all))
+part-read None at n k place xs ys inside fits before more = tt
+part-read (Some all) at n k place xs ys inside fits before more =
+    take-put_mid at n k xs ys inside fits
+    ∙ ap₂ ◌++◌ before (more ∙ ap (take n) (sym (drop-drop at place all)))
+    ∙ sym (take-add at n (drop place all))
 
--- a buffer's last byte, moved to its front
-pub first-byte : (xs buf : List ℕ) (k : ℕ) → length buf ≡ k + 1
-    → take 1 (set (xs ++ drop k buf) 0 (get_or buf k 0)) ≡ drop k buf
-first-byte xs buf k long =
-    let y = get_or buf k 0 in
-    let one : drop k buf ≡ y ∷ [] =
-    drop_more buf k 0 (omega (arith, long)) ∙ ap (λ ys. y ∷ ys) (drop_all (k + 1) buf (omega (arith, long))) in
-    ap (λ ys. take 1 (set (xs ++ ys) 0 y)) one ∙ front-set xs y ∙ sym one
+-- or none
+pub part-kept : (a : Option (List ℕ)) (at k place : ℕ) (xs ys : List ℕ) → at ≤ length xs
+    → IfSome a (λ all. take at xs ≡ take at (drop place all))
+    → IfSome a (λ all. take at (put_mid at k xs ys) ≡ take at (drop place all))
+part-kept None at k place xs ys inside before = tt
+part-kept (Some all) at k place xs ys inside before =
+    take-put_mid_below _ _ _ _ _ (le_refl _) inside ∙ before
+
+last-byte : (got : List ℕ) (k : ℕ) → length got ≡ k + 1 → drop k got ≡ get_or got k 0 ∷ []
+last-byte got k long =
+    drop_more got k 0 (omega (arith, long)) ∙ ap (λ zs. get_or got k 0 ∷ zs)
+    (drop_all (k + 1) got (omega (arith, long)))
+
+-- a buffer's last byte, which is moved to the front of another one
+pub held-byte : (old rest all got : List ℕ) (k : ℕ) → 0 < length rest → length got ≡ k + 1
+    → get_or all k 0 ≡ get_or got k 0 → drop k got ≡ take 1 (set (old ++ rest) 0 (get_or all k 0))
+held-byte [] [] all got k some long same = absurd (omega (arith, some))
+held-byte [] (y ∷ ys) all got k some long same = last-byte got k long ∙ ap (λ x. x ∷ []) (sym same)
+held-byte (y ∷ ys) rest all got k some long same = last-byte got k long ∙ ap (λ x. x ∷ []) (sym same)
+
+-- a text that stands in front of others, with room for a tag
+pub text-in : (got rest : List ℕ) (m : ℕ) → m ≤ length got → m + 16 ≤ length (got ++ rest)
+    → take (length (take (m + 16) (got ++ rest)) - 16) (take (m + 16) (got ++ rest)) ≡ take m got
+text-in got rest m within fits =
+    let wide : length (take (m + 16) (got ++ rest)) - 16 ≡ m =
+    omega (arith, length-take-le (m + 16) (got ++ rest) fits) in
+    ap (λ k. take k (take (m + 16) (got ++ rest))) wide ∙ take-take m (m + 16) (got ++ rest) (omega arith)
+    ∙ take-append-le m got rest within

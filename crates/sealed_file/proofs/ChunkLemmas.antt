@@ -1,6 +1,6 @@
 -- Chunks of a file: where each stands, and that a file has one text.
-use Rattle.std.proofs.Common.{◌≡◌, ◌≢◌, ◌<◌, ◌≤◌, ◌+◌, ◌-◌, ◌*◌, ◌/◌, ◌∙◌, ℕ, zero, suc, Bool, true, false, List, [], ◌++◌, length, take, drop, arith, refl, sym, ap, ap₂, subst, append_assoc, append-nil, length-append, length-drop, length-take, length-take-le, take_at, drop_at, take_all, min, inl, inr, eq-or-lt_of_le, add-one}
-use Rattle.std.proofs.Math.Nat.{min_comm, min-le_left}
+use Rattle.std.proofs.Common.{◌≡◌, ◌<◌, ◌≤◌, ◌+◌, ◌-◌, ◌*◌, ◌/◌, ◌∙◌, ℕ, zero, suc, Bool, true, false, List, [], ◌++◌, length, take, drop, arith, refl, sym, ap, ap₂, subst, append_assoc, append-nil, length-append, length-drop, length-take, length-take-le, take_at, drop_at, take_all, min, inl, inr, eq-or-lt_of_le, add-one}
+use Rattle.std.proofs.Math.Nat.{min_comm}
 use Rattle.std.proofs.lemmas.List.{take-append-le, drop-append-le}
 use Rattle.chacha20.specs.ChaCha.{xor_stream}
 use Rattle.chacha20.specs.XChaCha.{xchacha_stream}
@@ -13,7 +13,7 @@ pub length-chunk : (key salt : List ℕ) (i : ℕ) (last : Bool) (text : List �
     → length (chunk key salt i last text) ≡ length text + 16
 unfolding chunk
 length-chunk key salt i last text =
-    length-sealed_message (xchacha_stream 10 key (chunk_nonce salt i last)) (header salt) text
+    length-sealed_message (xchacha_stream 10 key (chunk_nonce salt i last)) [] text
 
 pub some-chunk : (key salt : List ℕ) (i : ℕ) (last : Bool) (text : List ℕ) → 0 < length (chunk key salt i last text)
 some-chunk key salt i last text = subst (λ k. 0 < k) (sym (length-chunk key salt i last text)) (omega arith)
@@ -21,20 +21,6 @@ some-chunk key salt i last text = subst (λ k. 0 < k) (sym (length-chunk key sal
 pub full-chunk : (key salt : List ℕ) (i : ℕ) (last : Bool) (text : List ℕ) → length text ≡ 65536
     → length (chunk key salt i last text) ≡ 65552
 full-chunk key salt i last text full = length-chunk key salt i last text ∙ ap (λ k. k + 16) full
-
--- a fact about a chunk holds for an equal number and mark; for speed: a wrong number or mark fails at once, and no
--- chunks are compared
-pub as-chunk : (P : List ℕ → Type 0) (key salt text : List ℕ) (i n : ℕ) (last mark : Bool)
-    → P (chunk key salt i last text) → i ≡ n → last ≡ mark → P (chunk key salt n mark text)
-as-chunk P key salt text i n last mark holds same same_mark =
-    subst P (ap₂ (λ k b. chunk key salt k b text) same same_mark) holds
-
--- the same of what is no chunk
-pub no-chunk-as : (key salt bytes : List ℕ) (i n : ℕ) (last : Bool)
-    → ((text : List ℕ) → (0 < i → 0 < length text) → bytes ≢ chunk key salt i last text) → i ≡ n
-    → (text : List ℕ) → (0 < n → 0 < length text) → bytes ≢ chunk key salt n last text
-no-chunk-as key salt bytes i n last wrong same =
-    subst (λ k. (text : List ℕ) → (0 < k → 0 < length text) → bytes ≢ chunk key salt k last text) same wrong
 
 -- a chunk has one text
 pub chunk-same : (key salt : List ℕ) (i : ℕ) (last : Bool) (xs ys : List ℕ)
@@ -44,46 +30,43 @@ chunk-same key salt i last xs ys same =
     let stream = xchacha_stream 10 key (chunk_nonce salt i last) in
     let size : length xs ≡ length ys =
     omega (arith, sym (length-chunk key salt i last xs) ∙ ap length same ∙ length-chunk key salt i last ys) in
-    let front : (zs : List ℕ) → take (length zs) (xchacha20_poly1305 key (chunk_nonce salt i last) (header salt) zs)
+    let front : (zs : List ℕ) → take (length zs) (xchacha20_poly1305 key (chunk_nonce salt i last) zs)
     ≡ encrypted stream zs =
-    λ zs. take_at (encrypted stream zs) (poly1305_tag stream (header salt) (encrypted stream zs)) (length zs)
+    λ zs. take_at (encrypted stream zs) (poly1305_tag stream [] (encrypted stream zs)) (length zs)
     (length-xor_stream stream 64 zs) in
     let ciphertext : encrypted stream xs ≡ encrypted stream ys =
     sym (front xs) ∙ ap₂ take size same ∙ front ys in
     sym (xor_stream-xor_stream stream 64 xs) ∙ ap (xor_stream stream 64) ciphertext ∙ xor_stream-xor_stream stream 64 ys
 
 -- what the AEAD made or accepted is a chunk
-pub chunk-is : (key salt : List ℕ) (i : ℕ) (last : Bool) (text nonce head ciphertext tag : List ℕ)
-    → nonce ≡ chunk_nonce salt i last → head ≡ header salt
-    → ciphertext ≡ encrypted (xchacha_stream 10 key nonce) text
-    → tag ≡ poly1305_tag (xchacha_stream 10 key nonce) head ciphertext
-    → ciphertext ++ tag ≡ chunk key salt i last text
+pub chunk-is : (key salt : List ℕ) (i : ℕ) (last : Bool) (text nonce ciphertext tag : List ℕ)
+    → nonce ≡ chunk_nonce salt i last → ciphertext ≡ encrypted (xchacha_stream 10 key nonce) text
+    → tag ≡ poly1305_tag (xchacha_stream 10 key nonce) [] ciphertext → ciphertext ++ tag ≡ chunk key salt i last text
 unfolding chunk
-chunk-is key salt i last text nonce head ciphertext tag nonce_is head_is encrypts tags =
-    ap₂ ◌++◌ encrypts (tags ∙ ap (poly1305_tag (xchacha_stream 10 key nonce) head) encrypts)
-    ∙ ap₂ (λ n h. xchacha20_poly1305 key n h text) nonce_is head_is
+chunk-is key salt i last text nonce ciphertext tag nonce_is encrypts tags =
+    ap₂ ◌++◌ encrypts (tags ∙ ap (poly1305_tag (xchacha_stream 10 key nonce) []) encrypts)
+    ∙ ap (λ n. xchacha20_poly1305 key n text) nonce_is
 
 without-tag : (bytes text : ℕ) → bytes ≡ text + 16 → text ≡ bytes - 16
 without-tag bytes text long = omega (arith, long)
 
 -- the last 16 bytes of a chunk are the tag of the bytes before them
-pub chunk-tag : (key salt : List ℕ) (i : ℕ) (last : Bool) (text nonce head bytes : List ℕ)
-    → nonce ≡ chunk_nonce salt i last → head ≡ header salt → bytes ≡ chunk key salt i last text
-    → drop (length bytes - 16) bytes
-    ≡ poly1305_tag (xchacha_stream 10 key nonce) head (take (length bytes - 16) bytes)
+pub chunk-tag : (key salt : List ℕ) (i : ℕ) (last : Bool) (text nonce bytes : List ℕ)
+    → nonce ≡ chunk_nonce salt i last → bytes ≡ chunk key salt i last text
+    → drop (length bytes - 16) bytes ≡ poly1305_tag (xchacha_stream 10 key nonce) [] (take (length bytes - 16) bytes)
 unfolding chunk
-chunk-tag key salt i last text nonce head bytes nonce_is head_is same =
+chunk-tag key salt i last text nonce bytes nonce_is same =
     let stream = xchacha_stream 10 key (chunk_nonce salt i last) in
     let ciphertext = encrypted stream text in
-    let tag = poly1305_tag stream (header salt) ciphertext in
+    let tag = poly1305_tag stream [] ciphertext in
     let end = length bytes - 16 in
     let size : length ciphertext ≡ end =
     length-xor_stream stream 64 text
     ∙ without-tag (length bytes) (length text) (ap length same ∙ length-chunk key salt i last text) in
     let front : take end bytes ≡ ciphertext = ap (take end) same ∙ take_at ciphertext tag end size in
     ap (drop end) same ∙ drop_at ciphertext tag end size
-    ∙ sym (ap₂ (λ n h. poly1305_tag (xchacha_stream 10 key n) h (take end bytes)) nonce_is head_is
-    ∙ ap (poly1305_tag stream (header salt)) front)
+    ∙ sym (ap (λ n. poly1305_tag (xchacha_stream 10 key n) [] (take end bytes)) nonce_is
+    ∙ ap (poly1305_tag stream []) front)
 
 -- Pieces of a text.
 
@@ -103,11 +86,6 @@ length-piece-at text i =
 pub length-piece : (text : List ℕ) (i : ℕ) → 65536 * suc i ≤ length text → length (piece text i) ≡ 65536
 length-piece text i fits =
     length-take-le 65536 (drop (65536 * i) text) (omega (arith, fits, length-drop (65536 * i) text))
-
-pub length-piece-le : (text : List ℕ) (i : ℕ) → length (piece text i) ≤ 65536
-length-piece-le text i =
-    subst (λ k. k ≤ 65536) (sym (length-take 65536 (drop (65536 * i) text)))
-    (min-le_left 65536 (length (drop (65536 * i) text)))
 
 -- the last piece: all that is left
 pub last-piece : (text : List ℕ) → piece text (last_number text) ≡ drop (65536 * last_number text) text
@@ -181,21 +159,29 @@ module _ (key salt : List ℕ) where
       (length-chunk key salt n true (piece text n) ∙ ap (λ k. k + 16) (length-last text))
       ∙ body-size (length text)
 
-  -- chunk i of the first n
-  pub chunk-at : (text : List ℕ) (n i : ℕ) → i < n → (rest : List ℕ)
-      × (chunks key salt text n ≡ chunks key salt text i ++ (chunk key salt i false (piece text i) ++ rest))
-  chunk-at text zero i less = absurd (omega (arith, less))
-  chunk-at text (suc n) i less =
-      let within : i ≤ n = omega (arith, less) in
-      elim (eq-or-lt_of_le within) [
-        | inl same ↦ ([], rw (same, append-nil) refl)
-        | inr before ↦
-            let next = chunk key salt n false (piece text n) in
-            let (rest, found) = chunk-at text n i before in (
-              rest ++ next,
-              ap (λ cs. cs ++ next) found
-                  ∙ append_assoc (chunks key salt text i) (chunk key salt i false (piece text i) ++ rest) next
-                  ∙ ap (λ cs. chunks key salt text i ++ cs) (append_assoc (chunk key salt i false
-                  (piece text i)) rest next),
-            )
-      ]
+  -- the first i chunks of n
+  chunks-of : (text : List ℕ) (n i : ℕ) → i ≤ n
+      → (rest : List ℕ) × (chunks key salt text n ≡ chunks key salt text i ++ rest)
+  chunks-of text zero i within =
+      let same : 0 ≡ i = omega (arith, within) in
+      ([], ap (chunks key salt text) same ∙ sym (append-nil (chunks key salt text i)))
+  chunks-of text (suc n) i within = elim (eq-or-lt_of_le within) [
+    | inl same ↦ ([], ap (chunks key salt text) (sym same) ∙ sym (append-nil (chunks key salt text i)))
+    | inr less ↦
+        let next = chunk key salt n false (piece text n) in
+        let (rest, is) = chunks-of text n i (omega (arith, less)) in
+        (rest ++ next, ap (λ cs. cs ++ next) is ∙ append_assoc (chunks key salt text i) rest next)
+  ]
+
+  -- a file begins with them
+  pub chunks-begin : (text : List ℕ) (i : ℕ) → i ≤ last_number text
+      → (rest : List ℕ) × (sealed key salt text ≡ (header salt ++ chunks key salt text i) ++ rest)
+  chunks-begin text i within =
+      let n = last_number text in
+      let last = chunk key salt n true (piece text n) in
+      let (rest, is) = chunks-of text n i within in (
+        rest ++ last,
+        ap (λ cs. (header salt ++ cs) ++ last) is
+            ∙ ap (λ cs. cs ++ last) (sym (append_assoc (header salt) (chunks key salt text i) rest))
+            ∙ append_assoc (header salt ++ chunks key salt text i) rest last,
+      )

@@ -1,16 +1,16 @@
 -- What was written of a sealed file, also where encrypting it failed.
-use Rattle.std.proofs.Common.{◌≡◌, ◌≢◌, ◌<◌, ◌≤◌, ◌+◌, ◌*◌, ◌∙◌, ℕ, zero, suc, true, false, List, [], ◌++◌, Some, None, Ok, Err, inl, inr, IfSome, IfErr, length, take, take_all, drop, min, arith, sym, ap, subst, append-nil, append_assoc, length-append, eq-or-lt_of_le}
+use Rattle.std.proofs.Common.{◌≡◌, ◌<◌, ◌≤◌, ◌+◌, ◌*◌, ◌∙◌, ℕ, zero, suc, true, false, List, [], ◌++◌, Some, None, inl, inr, IfSome, length, take, take_all, drop, min, arith, sym, ap, subst, append-nil, append_assoc, length-append, length-take, length-drop, refl, Bool}
 use Rattle.std.proofs.Math.Nat.{min-le_right}
+use Rattle.std.proofs.Math.Dec.{leb}
+use Rattle.std.proofs.lemmas.Bool.Decides.{leb_tells}
 use Rattle.std.proofs.Math.Seq.{take-append-add}
 use Rattle.std.proofs.lemmas.List.{take-append-drop, take-append-le, take_min}
 use Rattle.std.specs.declared.option.Option.{Option}
-use Rattle.std.specs.declared.result.Result.{Result}
-use Rattle.std.specs.Io.KnownBytes.{Appends, Consumes, prepend_known}
-use Rattle.std.proofs.KnownBytes.{Appends-nil, Appends-trans}
-use Rattle.sealed_file.specs.declared.error.SealError.{SealError}
-use Rattle.sealed_file.specs.declared.error.SealError.TheVariants.{TooLong}
-use Rattle.sealed_file.specs.Sealed.{header, chunk, chunks, piece, last_number, sealed}
-use Rattle.sealed_file.proofs.ChunkLemmas.{chunk-at, chunks-front, chunks-more, sealed-end}
+use Rattle.std.specs.Io.KnownBytes.{Appends, Consumes, IsAtEnd, prepend_known}
+use Rattle.std.proofs.KnownBytes.{Appends-nil, Appends-trans, Consumes-whole}
+use Rattle.sealed_file.specs.Sealed.{header, chunk, chunks, sealed}
+use Rattle.sealed_file.proofs.BufferLemmas.{Consumes-held}
+use Rattle.sealed_file.proofs.ChunkLemmas.{chunks-begin, chunks-front, chunks-more, sealed-end}
 
 -- what was written is a front of the file of a text: of the reader's, where that is known
 abbrev pub SealedFront : Option (List ℕ) → List ℕ → List ℕ → Option (List ℕ) → Option (List ℕ) → Type 0
@@ -35,38 +35,21 @@ text-left (Some all) None moved held read = absurd read
 text-left (Some all) (Some left) moved held read = (left, read)
 
 -- a full buffer: a chunk's text, and the next one's first byte
-pub split-text : (before buf : List ℕ) (n : ℕ) → length buf ≡ 65537 → 65536 < n
-    → before ++ take n buf ≡ (before ++ take 65536 buf) ++ drop 65536 buf
-split-text before buf n full more =
-    ap (λ xs. before ++ xs) (take_all n buf (omega (arith, more, full)) ∙ sym (take-append-drop 65536 buf))
-    ∙ sym (append_assoc before (take 65536 buf) (drop 65536 buf))
+split-text : (before got : List ℕ) (n : ℕ) → length got ≡ 65537 → 65536 < n
+    → before ++ take n got ≡ (before ++ take 65536 got) ++ drop 65536 got
+split-text before got n full more =
+    ap (λ xs. before ++ xs) (take_all n got (omega (arith, more, full)) ∙ sym (take-append-drop 65536 got))
+    ∙ sym (append_assoc before (take 65536 got) (drop 65536 got))
 
 module _ (key salt : List ℕ) where
-  chunks-begin : (text : List ℕ) (i : ℕ) → i ≤ last_number text
-      → (rest : List ℕ) × (sealed key salt text ≡ (header salt ++ chunks key salt text i) ++ rest)
-  chunks-begin text i within =
-      let n = last_number text in
-      let last = chunk key salt n true (piece text n) in
-      elim (eq-or-lt_of_le within) [
-        | inl same ↦ (last, ap (λ k. (header salt ++ chunks key salt text k) ++ last) (sym same))
-        | inr before ↦
-            let (others, at) = chunk-at key salt text n i before in
-            let rest = chunk key salt i false (piece text i) ++ others in (
-              rest ++ last,
-              ap (λ cs. (header salt ++ cs) ++ last) at
-                  ∙ ap (λ cs. cs ++ last) (sym (append_assoc (header salt) (chunks key salt text i) rest))
-                  ∙ append_assoc (header salt ++ chunks key salt text i) rest last,
-            )
-      ]
-
   -- a file begins with its first chunks, behind which something follows
   file-begins : (moved held rest : List ℕ) (i : ℕ) → length moved ≡ 65536 * i → (0 < i → 0 < length held)
       → (tail : List ℕ)
       × (sealed key salt (moved ++ (held ++ rest)) ≡ (header salt ++ chunks key salt moved i) ++ tail)
-  file-begins moved held rest zero long more = chunks-begin (moved ++ (held ++ rest)) 0 (omega arith)
+  file-begins moved held rest zero long more = chunks-begin key salt (moved ++ (held ++ rest)) 0 (omega arith)
   file-begins moved held rest (suc i) long more =
       let text = moved ++ (held ++ rest) in
-      let (tail, is) = chunks-begin text (suc i)
+      let (tail, is) = chunks-begin key salt text (suc i)
       (omega (arith, long, more (omega arith), length-append moved (held ++ rest), length-append held rest)) in (
         tail,
         is ∙ ap (λ cs. (header salt ++ cs) ++ tail) (chunks-front key salt moved (held ++ rest) (suc i)
@@ -90,42 +73,10 @@ module _ (key salt : List ℕ) where
       → Appends w v (take n (header salt)) → SealedFront a key salt w v
   front-header a b w v n read written =
       let (text, all) = text-left a b [] [] read in
-      let (tail, is) = chunks-begin text 0 (omega arith) in
+      let (tail, is) = chunks-begin key salt text 0 (omega arith) in
       let (m, done) = front-more w w v [] (header salt) tail (sealed key salt text) n
       (is ∙ ap (λ cs. cs ++ tail) (append-nil (header salt))) (Appends-nil w) written in
       (text, m, all, done)
-
-  -- and a front of the next one, behind which something is held
-  pub front-mid : (a b w v u : Option (List ℕ)) (moved text held : List ℕ) (i n : ℕ) → length moved ≡ 65536 * i
-      → length text ≡ 65536 → 0 < length held → Consumes a (prepend_known held b) (moved ++ text)
-      → Appends w v (header salt ++ chunks key salt moved i) → Appends v u (take n (chunk key salt i false text))
-      → SealedFront a key salt w u
-  front-mid a b w v u moved text held i n long full more read before written =
-      let next = moved ++ text in
-      let (rest, all) = text-left a b next held read in
-      let (tail, is) = file-begins next held rest (i + 1) (omega (arith, long, full, length-append moved text))
-      (λ _. more) in
-      let (m, done) = front-more w v u (header salt ++ chunks key salt moved i) (chunk key salt i false text) tail
-      (sealed key salt (next ++ (held ++ rest))) n
-      (is ∙ ap (λ cs. cs ++ tail) (sym (chunks-more key salt moved text i long full))) before written in
-      (next ++ (held ++ rest), m, all, done)
-
-  -- and a front of the last one
-  pub front-last : (a b w v u : Option (List ℕ)) (moved text : List ℕ) (i n : ℕ) → length moved ≡ 65536 * i
-      → length text ≤ 65536 → (0 < i → 0 < length text) → IfSome a (λ all. all ≡ moved ++ text)
-      → Appends w v (header salt ++ chunks key salt moved i) → Appends v u (take n (chunk key salt i true text))
-      → SealedFront a key salt w u
-  front-last a b w v u moved text i n long fits some all before written =
-      let file = sealed key salt (moved ++ text) in
-      let (m, done) = front-more w v u (header salt ++ chunks key salt moved i) (chunk key salt i true text) [] file n
-      (sym (sealed-end key salt moved text i long fits some) ∙ sym (append-nil _)) before written in
-      (moved ++ text, m, all, done)
-
--- what never fails so
-pub never-long : {T : Type 0} (r : Result T SealError) (P : Type 0) → IfErr r (λ y. y ≢ TooLong)
-    → IfErr r (λ y. y ≡ TooLong → P)
-never-long (Ok x) P other = tt
-never-long (Err y) P other = λ is. absurd (other is)
 
 -- a reader that gave so much, and of which something is held
 pub long-text : (a b : Option (List ℕ)) (got held : List ℕ) (n : ℕ) → Consumes a (prepend_known held b) got
@@ -134,3 +85,73 @@ long-text None b got held n read long more = tt
 long-text (Some all) None got held n read long more = absurd read
 long-text (Some all) (Some left) got held n read long more =
     omega (arith, ap length read, length-append got (held ++ left), length-append held left, long, more)
+
+-- A reader's next n bytes, in a buffer of 65537: the text of a chunk, and the first byte of the next one, if there
+-- is one.
+module _ (a b : Option (List ℕ)) (key salt moved got : List ℕ) (i n m : ℕ) where
+  abbrev before : List ℕ
+  before = header salt ++ chunks key salt moved i
+
+  -- what its chunk makes of the file
+  pub record Made (last : Bool) : Type 0 where
+    pub partly : (w v u : Option (List ℕ)) (k : ℕ) → Appends w v (header salt ++ chunks key salt moved i)
+        → Appends v u (take k (chunk key salt i last (take m got))) → SealedFront a key salt w u
+    pub whole : n ≤ 65536 → IfSome a (λ all. all ≡ moved ++ take m got)
+        × ((header salt ++ chunks key salt moved i) ++ chunk key salt i last (take m got)
+        ≡ sealed key salt (moved ++ take m got))
+    pub next : 65536 < n → (length (moved ++ take m got) ≡ 65536 * (i + 1))
+        × Consumes a (prepend_known (drop 65536 got) b) (moved ++ take m got)
+        × ((header salt ++ chunks key salt moved i) ++ chunk key salt i last (take m got)
+        ≡ header salt ++ chunks key salt (moved ++ take m got) (i + 1))
+
+  at-end : m ≡ min n 65536 → length moved ≡ 65536 * i → length got ≡ 65537 → n ≤ 65536 → (0 < i → 0 < n)
+      → IsAtEnd b → Consumes a b (moved ++ take n got) → Made true
+  at-end part long wide fits some end read =
+      let all_of : n ≡ m = omega (arith, part, fits) in
+      let text = take m got in
+      let read' : Consumes a b (moved ++ text) = subst (λ k. Consumes a b (moved ++ take k got)) all_of read in
+      let all = Consumes-whole a b (moved ++ text) (λ all. all ≡ moved ++ text) read' end refl in
+      let short : length text ≤ 65536 = omega (arith, part, length-take m got) in
+      let more : 0 < i → 0 < length text = λ later. omega (arith, some later, wide, fits, part, length-take m got) in
+      let file = sealed-end key salt moved text i long short more in
+      record {
+        partly = λ w v u k written front.
+            let (m', done) = front-more w v u before (chunk key salt i true text) [] (sealed key salt (moved ++ text)) k
+            (sym file ∙ sym (append-nil _)) written front in
+            (moved ++ text, m', all, done);
+        whole = λ _. (all, file);
+        next = λ other. absurd (omega (arith, fits, other));
+      }
+
+  in-between : m ≡ min n 65536 → length moved ≡ 65536 * i → length got ≡ 65537 → 65536 < n
+      → Consumes a b (moved ++ take n got) → Made false
+  in-between part long wide full read =
+      let held = drop 65536 got in
+      let one : 0 < length held = omega (arith, wide, length-drop 65536 got) in
+      let all_of : 65536 ≡ m = omega (arith, part, full) in
+      let text = take m got in
+      let size : length text ≡ 65536 = omega (arith, wide, part, full, length-take m got) in
+      let read' : Consumes a (prepend_known held b) (moved ++ text) =
+      Consumes-held a b (moved ++ text) held
+      (subst (Consumes a b) (split-text moved got n wide full ∙ ap (λ k. (moved ++ take k got) ++ held) all_of) read) in
+      let longer : length (moved ++ text) ≡ 65536 * (i + 1) = omega (arith, length-append moved text, long, size) in
+      let file = chunks-more key salt moved text i long size in
+      record {
+        partly = λ w v u k written front.
+            let (rest, all) = text-left a b (moved ++ text) held read' in
+            let (tail, is) = file-begins key salt (moved ++ text) held rest (i + 1) longer (λ _. one) in
+            let (m', done) = front-more w v u before (chunk key salt i false text) tail
+            (sealed key salt ((moved ++ text) ++ (held ++ rest))) k (is ∙ ap (λ cs. cs ++ tail) (sym file)) written
+            front in
+            ((moved ++ text) ++ (held ++ rest), m', all, done);
+        whole = λ other. absurd (omega (arith, full, other));
+        next = λ _. (longer, read', file);
+      }
+
+  pub made : m ≡ min n 65536 → length moved ≡ 65536 * i → length got ≡ 65537 → (0 < i → 0 < n)
+      → (n < length got → IsAtEnd b) → Consumes a b (moved ++ take n got) → Made (leb n 65536)
+  made part long wide some end read = elim (leb_tells n 65536) [
+    | inl (is, fits) ↦
+        subst Made (sym is) (at-end part long wide fits some (end (omega (arith, wide, fits))) read)
+    | inr (is, full) ↦ subst Made (sym is) (in-between part long wide full read)
+  ]

@@ -4,9 +4,8 @@ pub mod FileLemmas
 pub mod FormatVectors
 pub mod FrontLemmas
 pub mod HeaderLemmas
+pub mod ListLemmas
 pub mod NonceLemmas
 pub mod OpenLemmas
-pub mod OpenRangeLemmas
-pub mod PlaceLemmas
 pub mod RangeLemmas
-pub mod SliceLemmas
+pub mod WindowLemmas

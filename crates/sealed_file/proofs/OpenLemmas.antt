@@ -1,84 +1,40 @@
 -- What a reader had, of which the chunks before chunk i were right.
-use Rattle.std.proofs.Common.{◌≡◌, ◌≢◌, ◌<◌, ◌≤◌, ◌+◌, ◌*◌, ◌∙◌, ℕ, zero, suc, true, false, List, [], ◌++◌, Some, None, Ok, Err, inl, inr, IfSome, IfErr, IsErrAnd, OnOk, length, take, drop, take_all, take_at, arith, refl, sym, ap, subst, append-nil, append_assoc, length-append}
+use Rattle.std.proofs.Common.{◌≡◌, ◌<◌, ◌≤◌, ◌+◌, ◌-◌, ◌*◌, ◌∙◌, ℕ, true, false, List, [], ◌++◌, Some, None, inl, inr, IfSome, length, take, drop, take_all, take_at, arith, refl, sym, ap, subst, append_assoc, length-append, length-take, length-take-le, length-drop, min, Bool}
 use Rattle.std.proofs.lemmas.List.{take-append-drop}
+use Rattle.std.proofs.Math.Dec.{leb}
+use Rattle.std.proofs.lemmas.Bool.Decides.{leb_tells}
 use Rattle.std.proofs.Math.Seq.{take-append-add, take-length}
 use Rattle.std.specs.declared.option.Option.{Option}
-use Rattle.std.specs.declared.result.Result.{Result}
 use Rattle.std.specs.Io.KnownBytes.{Appends, Consumes, IsAtEnd, prepend_known}
 use Rattle.std.proofs.KnownBytes.{Appends-nil, Appends-trans, Consumes-whole}
 use Rattle.sealed_file.specs.declared.error.Damage.{Damage}
-use Rattle.sealed_file.specs.declared.error.Damage.TheVariants.{NotSealed, OtherVersion, CutHeader, WrongChunk, WrongEnd}
-use Rattle.sealed_file.specs.declared.error.SealError.{SealError}
-use Rattle.sealed_file.specs.declared.error.SealError.TheVariants.{Damaged}
-use Rattle.sealed_file.specs.Sealed.{header, chunk, chunks, sealed, IsDamage, IsHeaderDamage, IsNoChunk, IsRight}
+use Rattle.sealed_file.specs.declared.error.Damage.TheVariants.{NotSealed, OtherVersion, CutHeader, TooLong, WrongChunk, WrongEnd}
+use Rattle.sealed_file.specs.Sealed.{header, chunk, chunks, sealed, IsDamage, IsFileDamage, damage_at, IsNoChunk, IsRight, IsSealed}
 use Rattle.sealed_file.proofs.ChunkLemmas.{chunks-more, sealed-end, length-chunk}
-use Rattle.sealed_file.proofs.FileLemmas.{damage-refuses, one-text, right-front}
-use Rattle.sealed_file.proofs.FrontLemmas.{front-more, text-left}
+use Rattle.sealed_file.proofs.FileLemmas.{damage-refuses, one-text}
+use Rattle.sealed_file.proofs.FrontLemmas.{text-left}
 use Rattle.sealed_file.proofs.BufferLemmas.{Consumes-held, Consumes-some}
-
--- what follows from each refusal
-pub refusal-weaker : {T : Type 0} (P Q : Damage → Type 0) (r : Result T SealError)
-    → ((damage : Damage) → P damage → Q damage)
-    → IfErr r (λ e. (damage : Damage) → e ≡ Damaged damage → P damage)
-    → IfErr r (λ e. (damage : Damage) → e ≡ Damaged damage → Q damage)
-refusal-weaker P Q (Ok x) next holds = tt
-refusal-weaker P Q (Err e) next holds = λ damage is. next damage (holds damage is)
-
--- an error that is passed on
-pub passed-on : {T : Type 0} (P : Damage → Type 0) (r : Result T SealError) (e : SealError)
-    → IsErrAnd r (λ y. y ≡ e) → ((damage : Damage) → e ≡ Damaged damage → P damage)
-    → IfErr r (λ y. (damage : Damage) → y ≡ Damaged damage → P damage)
-passed-on P (Ok x) e err holds = tt
-passed-on P (Err y) e err holds = λ damage is. holds damage (sym err ∙ is)
-
--- nothing is said of a text then
-pub on_ok-passed : {T : Type 0} (r : Result T SealError) (e : SealError) (P : Type 0) → IsErrAnd r (λ y. y ≡ e)
-    → OnOk r P
-on_ok-passed (Ok x) e P err = absurd err
-on_ok-passed (Err y) e P err = tt
 
 -- what is wrong with a reader's bytes
 abbrev pub HasDamage : Option (List ℕ) → List ℕ → Damage → Type 0
 HasDamage a key damage = IfSome a (λ file. IsDamage key file damage)
 
 -- then they are no sealed file
-pub damage-refused : {T : Type 0} (a : Option (List ℕ)) (key : List ℕ) (r : Result T SealError)
-    → IfErr r (λ e. (damage : Damage) → e ≡ Damaged damage → HasDamage a key damage)
-    → IfErr r (λ e. (damage : Damage) → e ≡ Damaged damage
-    → IfSome a (λ file. (salt text : List ℕ) → length salt ≡ 16 → file ≢ sealed key salt text))
-damage-refused a key r =
-    refusal-weaker (HasDamage a key)
-    (λ _. IfSome a (λ file. (salt text : List ℕ) → length salt ≡ 16 → file ≢ sealed key salt text)) r (each a)
-  where
-    each : (a : Option (List ℕ)) (damage : Damage) → HasDamage a key damage
-        → IfSome a (λ file. (salt text : List ℕ) → length salt ≡ 16 → file ≢ sealed key salt text)
-    each None damage wrong = tt
-    each (Some file) damage wrong = damage-refuses key file damage wrong
+pub damage-refused : (a : Option (List ℕ)) (key : List ℕ) (damage : Damage) → HasDamage a key damage
+    → IfSome a (λ file. (salt text : List ℕ) → IsSealed key salt text file → ⊥)
+damage-refused None key damage wrong = tt
+damage-refused (Some file) key damage wrong = damage-refuses key file damage wrong
 
 -- a header's
 pub header-damage : (a : Option (List ℕ)) (key : List ℕ) (damage : Damage)
-    → IfSome a (λ file. IsHeaderDamage file damage) → HasDamage a key damage
+    → IfSome a (λ file. IsFileDamage file damage) → HasDamage a key damage
 header-damage None key damage wrong = tt
 header-damage (Some file) key NotSealed wrong = wrong
 header-damage (Some file) key CutHeader wrong = wrong
 header-damage (Some file) key OtherVersion wrong = wrong
+header-damage (Some file) key TooLong wrong = wrong
 header-damage (Some file) key (WrongChunk i) wrong = absurd wrong
 header-damage (Some file) key (WrongEnd i) wrong = absurd wrong
-
--- one text
-pub text-of : (a w v : Option (List ℕ)) (key : List ℕ)
-    → (salt text : List ℕ) × (length salt ≡ 16) × IfSome a (λ file. file ≡ sealed key salt text) × Appends w v text
-    → (salt text : List ℕ) → length salt ≡ 16 → a ≡ Some (sealed key salt text) → Appends w v text
-text-of a w v key (salt', text', size', same, written) salt text size is =
-    subst (Appends w v) (sym (one-text key salt salt' text text' size size'
-    (subst (λ o. IfSome o (λ file. file ≡ sealed key salt' text')) is same))) written
-
--- a full buffer: a chunk, and the next one's first byte
-pub split-full : (before buf : List ℕ) (n : ℕ) → length buf ≡ 65553 → 65552 < n
-    → before ++ take n buf ≡ (before ++ take 65552 buf) ++ drop 65552 buf
-split-full before buf n full more =
-    ap (λ xs. before ++ xs) (take_all n buf (omega (arith, more, full)) ∙ sym (take-append-drop 65552 buf))
-    ∙ sym (append_assoc before (take 65552 buf) (drop 65552 buf))
 
 -- a text of a reader's file is right
 abbrev pub RightIn : Option (List ℕ) → List ℕ → List ℕ → Type 0
@@ -94,45 +50,21 @@ pub none-written : (a w : Option (List ℕ)) (key : List ℕ) → RightFront a k
 none-written None w key = ([], [], 0, tt, (λ less. absurd (omega (arith, less))), Appends-nil w)
 none-written (Some file) w key = (file, [], 0, refl, (λ less. absurd (omega (arith, less))), Appends-nil w)
 
--- of a sealed file that is the front of its text
-pub only-prefix : (a w v : Option (List ℕ)) (key salt text : List ℕ) → length salt ≡ 16
-    → a ≡ Some (sealed key salt text) → RightFront a key w v → (n : ℕ) × Appends w v (take n text)
-only-prefix a w v key salt text size is written =
-    let (file, t, n, all, right, appends) = written in
-    front file t n (subst (λ o. IfSome o (λ all. all ≡ file)) is all) right appends
-  where
-    front : (file t : List ℕ) (n : ℕ) → sealed key salt text ≡ file → (0 < n → IsRight key file t)
-        → Appends w v (take n t) → (k : ℕ) × Appends w v (take k text)
-    front file t zero same right appends = (0, appends)
-    front file t (suc n) same right appends =
-        let (rest, is) = right-front key salt text t size
-        (subst (λ f. IsRight key f t) (sym same) (right (omega arith))) in
-        front-more w w v [] t rest text (suc n) is (Appends-nil w) appends
+-- a full buffer: a chunk, and the next one's first byte
+split-full : (before buf : List ℕ) (n : ℕ) → length buf ≡ 65553 → 65552 < n
+    → before ++ take n buf ≡ (before ++ take 65552 buf) ++ drop 65552 buf
+split-full before buf n full more =
+    ap (λ xs. before ++ xs) (take_all n buf (omega (arith, more, full)) ∙ sym (take-append-drop 65552 buf))
+    ∙ sym (append_assoc before (take 65552 buf) (drop 65552 buf))
 
--- all of the chunks before, and a front of the next one
-right-then : (a w v u : Option (List ℕ)) (key moved text : List ℕ) (n : ℕ) → RightIn a key moved
-    → (0 < n → RightIn a key (moved ++ text)) → Appends w v moved → Appends v u (take n text) → RightFront a key w u
-right-then a w v u key moved text zero (file, all, right) after written more = (
-  file,
-  moved,
-  length moved,
-  all,
-  λ _. right,
-  subst (Appends w u) (append-nil moved ∙ sym (take-length moved)) (Appends-trans w v u moved [] written more),
-)
-right-then a w v u key moved text (suc n) before after written more =
-    let (file, all, right) = after (omega arith) in (
-      file,
-      moved ++ text,
-      length moved + suc n,
-      all,
-      λ _. right,
-      subst (Appends w u) (sym (take-append-add moved text (suc n)))
-          (Appends-trans w v u moved (take (suc n) text) written more),
-    )
+-- the text of the chunks before, and then a front of the next one's
+pub part-written : (w v u : Option (List ℕ)) (moved text : List ℕ) (k : ℕ) → Appends w v moved
+    → Appends v u (take k text) → Appends w u (take (length moved + k) (moved ++ text))
+part-written w v u moved text k before more =
+    subst (Appends w u) (sym (take-append-add moved text k)) (Appends-trans w v u moved (take k text) before more)
 
 -- the chunks before are right
-begins : (a b : Option (List ℕ)) (key salt moved held : List ℕ) (i : ℕ) → length salt ≡ 16
+begins : (a b : Option (List ℕ)) (key salt moved held : List ℕ) (i : ℕ) → length salt ≡ 19
     → length moved ≡ 65536 * i → (0 < i → 0 < length held)
     → Consumes a (prepend_known held b) (header salt ++ chunks key salt moved i) → RightIn a key moved
 begins a b key salt moved held i size long more read =
@@ -142,101 +74,143 @@ begins a b key salt moved held i size long more read =
     let some : 0 < i → 0 < length rest = λ later. omega (arith, more later, length-append held left) in
     (front ++ rest, all, inl (salt, rest, i, (size, long, some, refl)))
 
--- only the text of the chunks before is written
-pub right-before : (a b w v : Option (List ℕ)) (key salt moved held : List ℕ) (i : ℕ) → length salt ≡ 16
+-- and only their text is written
+pub so-far : (a b w v : Option (List ℕ)) (key salt moved held : List ℕ) (i : ℕ) → length salt ≡ 19
     → length moved ≡ 65536 * i → (0 < i → 0 < length held)
     → Consumes a (prepend_known held b) (header salt ++ chunks key salt moved i) → Appends w v moved
     → RightFront a key w v
-right-before a b w v key salt moved held i size long more read written =
-    right-then a w v v key moved [] 0 (begins a b key salt moved held i size long more read)
-    (λ less. absurd (omega (arith, less))) written (Appends-nil v)
+so-far a b w v key salt moved held i size long more read written =
+    let (file, all, right) = begins a b key salt moved held i size long more read in
+    (file, moved, length moved, all, (λ _. right), subst (Appends w v) (sym (take-length moved)) written)
 
-module _ (a b : Option (List ℕ)) (key salt moved bytes : List ℕ) (i : ℕ) (size : length salt
-    ≡ 16) (long : length moved ≡ 65536 * i) where
+-- A buffer of 65553 bytes, of which n were read behind the chunks before, holds a chunk, and the first byte of the next
+-- one, if there is one.
+module _ (a b : Option (List ℕ)) (key salt moved buf : List ℕ) (i n m : ℕ) where
   abbrev pub front : List ℕ
   front = header salt ++ chunks key salt moved i
 
-  -- the last chunk is right
-  whole : (text : List ℕ) → length bytes ≤ 65552 → (0 < i → 0 < length text) → bytes ≡ chunk key salt i true text
-      → front ++ bytes ≡ sealed key salt (moved ++ text)
-  whole text fits some is =
-      ap (λ cs. front ++ cs) is
+  abbrev pub bytes : List ℕ
+  bytes = take m buf
+
+  -- what its tag tells
+  pub record Step (last : Bool) : Type 0 where
+    pub wrong : IsNoChunk key salt i last bytes → HasDamage a key (damage_at i last)
+    pub right : (text : List ℕ) → (0 < i → 0 < length text) → bytes ≡ chunk key salt i last text
+        → RightIn a key (moved ++ text)
+    pub whole : n ≤ 65552 → (text : List ℕ) → (0 < i → 0 < length text) → bytes ≡ chunk key salt i last text
+        → IfSome a (λ file. file ≡ sealed key salt (moved ++ text))
+    pub next : 65552 < n → (text : List ℕ) → (0 < i → 0 < length text) → bytes ≡ chunk key salt i last text
+        → (length (moved ++ text) ≡ 65536 * (i + 1))
+        × Consumes a (prepend_known (drop 65552 buf) b) (header salt ++ chunks key salt (moved ++ text) (i + 1))
+
+  at-end : m ≡ min n 65552 → length salt ≡ 19 → length moved ≡ 65536 * i → length buf ≡ 65553 → n ≤ 65552
+      → (0 < i → 0 < n)
+      → IsAtEnd b → Consumes a b (front ++ take n buf) → Step true
+  at-end part size long wide fits some end read =
+      let all_of : n ≡ m = omega (arith, part, fits) in
+      let is : take n buf ≡ bytes = ap (λ k. take k buf) all_of in
+      let read' : Consumes a b (front ++ bytes) = subst (λ xs. Consumes a b (front ++ xs)) is read in
+      let short : length bytes ≤ 65552 = omega (arith, part, length-take m buf) in
+      let whole : (text : List ℕ) → (0 < i → 0 < length text) → bytes ≡ chunk key salt i true text
+      → front ++ bytes ≡ sealed key salt (moved ++ text) =
+      λ text more right. ap (λ cs. front ++ cs) right
       ∙ sealed-end key salt moved text i long
-      (omega (arith, fits, ap length is, length-chunk key salt i true text)) some
+      (omega (arith, short, ap length right, length-chunk key salt i true text)) more in
+      record {
+        wrong = λ none. Consumes-whole a b (front ++ bytes) (λ file. IsDamage key file (WrongEnd i)) read' end (
+          salt,
+          moved,
+          bytes,
+          (
+            size,
+            long,
+            (λ later. omega (arith, some later, wide, fits, part, length-take m buf)),
+            refl,
+          ),
+          short,
+          none,
+        );
+        right = λ text more right. (
+          front ++ bytes,
+          Consumes-whole a b (front ++ bytes) (λ all. all ≡ front ++ bytes) read' end refl,
+          inr (salt, size, whole text more right),
+        );
+        whole = λ _ text more right.
+            Consumes-whole a b (front ++ bytes) (λ file. file ≡ sealed key salt (moved ++ text)) read' end
+            (whole text more right);
+        next = λ other. absurd (omega (arith, fits, other));
+      }
 
-  pub opened : (w v u : Option (List ℕ)) (text : List ℕ) → length bytes ≤ 65552 → (0 < i → 0 < length text)
-      → bytes ≡ chunk key salt i true text → Consumes a b (front ++ bytes) → IsAtEnd b → Appends w v moved
-      → Appends v u text
-      → (salt' text' : List ℕ) × (length salt' ≡ 16) × IfSome a (λ file. file ≡ sealed key salt' text')
-      × Appends w u text'
-  opened w v u text fits some is read end before more = (
-    salt,
-    moved ++ text,
-    size,
-    Consumes-whole a b (front ++ bytes) (λ file. file ≡ sealed key salt (moved ++ text)) read end
-        (whole text fits some is),
-    Appends-trans w v u moved text before more,
-  )
+  in-between : m ≡ min n 65552 → length salt ≡ 19 → length moved ≡ 65536 * i → length buf ≡ 65553 → 65552 < n
+      → Consumes a b (front ++ take n buf) → Step false
+  in-between part size long wide full read =
+      let held = drop 65552 buf in
+      let one : 0 < length held = omega (arith, wide, length-drop 65552 buf) in
+      let all_of : 65552 ≡ m = omega (arith, part, full) in
+      let is : take 65552 buf ≡ bytes = ap (λ k. take k buf) all_of in
+      let size' : length bytes ≡ 65552 =
+      ap length (sym is) ∙ length-take-le 65552 buf (omega (arith, wide)) in
+      let read' : Consumes a b ((front ++ bytes) ++ held) =
+      subst (Consumes a b)
+      (split-full front buf n wide full ∙ ap (λ xs. (front ++ xs) ++ held) is) read in
+      let all : (text : List ℕ) → bytes ≡ chunk key salt i false text → length text ≡ 65536 =
+      λ text right. omega (arith, sym size' ∙ ap length right ∙ length-chunk key salt i false text) in
+      let next : (text : List ℕ) → bytes ≡ chunk key salt i false text
+      → (length (moved ++ text) ≡ 65536 * (i + 1))
+      × Consumes a (prepend_known held b) (header salt ++ chunks key salt (moved ++ text) (i + 1)) =
+      λ text right. (
+        omega (arith, length-append moved text, long, all text right),
+        subst (Consumes a (prepend_known held b))
+            (ap (λ cs. front ++ cs) right ∙ chunks-more key salt moved text i long (all text right))
+            (Consumes-held a b (front ++ bytes) held read'),
+      ) in
+      record {
+        wrong = λ none. Consumes-some a b ((front ++ bytes) ++ held) (λ file. IsDamage key file (WrongChunk i)) read'
+            (λ left.
+            let rest = bytes ++ (held ++ left) in
+            let long' : 65552 < length rest =
+            omega (arith, length-append bytes (held ++ left), length-append held left, size', one) in (
+              salt,
+              moved,
+              rest,
+              (
+                size,
+                long,
+                λ _. omega (arith, long'),
+                append_assoc (front ++ bytes) held left ∙ append_assoc front bytes (held ++ left),
+              ),
+              long',
+              subst (IsNoChunk key salt i false) (sym (take_at bytes (held ++ left) 65552 size')) none,
+            ));
+        right = λ text more right.
+            let (long', read'') = next text right in
+            begins a b key salt (moved ++ text) held (i + 1) size long' (λ _. one) read'';
+        whole = λ other. absurd (omega (arith, full, other));
+        next = λ _ text more right. next text right;
+      }
 
-  -- the last chunk is wrong
-  pub damaged-last : length bytes ≤ 65552 → (0 < i → 0 < length bytes) → IsNoChunk key salt i true bytes
-      → Consumes a b (front ++ bytes) → IsAtEnd b → HasDamage a key (WrongEnd i)
-  damaged-last fits some wrong read end =
-      Consumes-whole a b (front ++ bytes) (λ file. IsDamage key file (WrongEnd i)) read end
-      (salt, moved, bytes, (size, long, some, refl), fits, wrong)
+  pub step : m ≡ min n 65552 → length salt ≡ 19 → length moved ≡ 65536 * i → length buf ≡ 65553 → (0 < i → 0 < n)
+      → (n < length buf → IsAtEnd b) → Consumes a b (front ++ take n buf) → Step (leb n 65552)
+  step part size long wide some end read = elim (leb_tells n 65552) [
+    | inl (is, fits) ↦ subst Step (sym is)
+        (at-end part size long wide fits some (end (omega (arith, wide, fits))) read)
+    | inr (is, full) ↦ subst Step (sym is) (in-between part size long wide full read)
+  ]
 
-  -- another chunk is wrong
-  pub damaged-mid : (held : List ℕ) → length bytes ≡ 65552 → 0 < length held → IsNoChunk key salt i false bytes
-      → Consumes a b ((front ++ bytes) ++ held) → HasDamage a key (WrongChunk i)
-  damaged-mid held wide more wrong read =
-      Consumes-some a b ((front ++ bytes) ++ held) (λ file. IsDamage key file (WrongChunk i)) read
-      (λ left.
-      let rest = bytes ++ (held ++ left) in
-      let long' : 65552 < length rest =
-      omega (arith, length-append bytes (held ++ left), length-append held left, wide, more) in (
-        salt,
-        moved,
-        rest,
-        (
-          size,
-          long,
-          λ _. omega (arith, long'),
-          append_assoc (front ++ bytes) held left ∙ append_assoc front bytes (held ++ left),
-        ),
-        long',
-        subst (IsNoChunk key salt i false) (sym (take_at bytes (held ++ left) 65552 wide)) wrong,
-      ))
+-- one text
+pub text-of : (a w v : Option (List ℕ)) (key salt text : List ℕ) → length salt ≡ 19
+    → IfSome a (λ file. file ≡ sealed key salt text) → Appends w v text
+    → (salt' text' file : List ℕ) → IsSealed key salt' text' file → a ≡ Some file → Appends w v text'
+text-of a w v key salt text size same written salt' text' file (size', _, sealed') is =
+    subst (Appends w v) (one-text key salt salt' text text' size size'
+    (sym (subst (λ o. IfSome o (λ file. file ≡ sealed key salt text)) is same) ∙ sealed')) written
 
-  -- a front of the last chunk's text is written
-  pub right-last : (c w v u : Option (List ℕ)) (held text : List ℕ) (n : ℕ) → length bytes ≤ 65552
-      → (0 < n → (0 < i → 0 < length text) × (bytes ≡ chunk key salt i true text))
-      → (0 < i → 0 < length held) → Consumes a (prepend_known held c) front
-      → Consumes a b (front ++ bytes) → IsAtEnd b → Appends w v moved → Appends v u (take n text)
-      → RightFront a key w u
-  right-last c w v u held text n fits right some read read' end written more =
-      right-then a w v u key moved text n (begins a c key salt moved held i size long some read)
-      (λ less.
-      let (some, is) = right less in (
-        front ++ bytes,
-        Consumes-whole a b (front ++ bytes) (λ all. all ≡ front ++ bytes) read' end refl,
-        inr (salt, size, whole text fits some is),
-      ))
-      written more
-
-  -- a front of another chunk's text is written
-  pub right-mid : (c w v u : Option (List ℕ)) (held next text : List ℕ) (n : ℕ) → length bytes ≡ 65552
-      → (0 < n → bytes ≡ chunk key salt i false text) → (0 < i → 0 < length held) → 0 < length next
-      → Consumes a (prepend_known held c) front → Consumes a b ((front ++ bytes) ++ next) → Appends w v moved
-      → Appends v u (take n text)
-      → RightFront a key w u
-  right-mid c w v u held next text n wide right some follows read read' written more =
-      right-then a w v u key moved text n (begins a c key salt moved held i size long some read)
-      (λ less.
-      let is = right less in
-      let all : length text ≡ 65536 = omega (arith, sym wide ∙ ap length is ∙ length-chunk key salt i false text) in
-      begins a b key salt (moved ++ text) next (i + 1) size
-      (omega (arith, length-append moved text, long, all)) (λ _. follows)
-      (subst (Consumes a (prepend_known next b))
-      (ap (λ cs. front ++ cs) is ∙ chunks-more key salt moved text i long all)
-      (Consumes-held a b (front ++ bytes) next read')))
-      written more
+-- the text of a chunk that was opened in place
+pub opened : (key salt bytes new : List ℕ) (i : ℕ) (last : Bool) → length new ≡ length bytes
+    → bytes ≡ chunk key salt i last (take (length bytes - 16) new)
+    → (16 ≤ length bytes) × (0 < i → 16 < length bytes)
+    → (0 < i → 0 < length (take (length new - 16) new)) × (bytes ≡ chunk key salt i last (take (length new - 16) new))
+opened key salt bytes new i last same right (_, long) = (
+  (λ later. omega (arith, same, long later, length-take (length new - 16) new)),
+  right ∙ ap (λ k. chunk key salt i last (take (k - 16) new)) (sym same),
+)

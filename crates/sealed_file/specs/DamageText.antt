@@ -2,9 +2,7 @@
 use Rattle.std.specs.Prelude.{ℕ, zero, suc, ◌+◌, ◌*◌, List, ◌++◌, codes}
 use Rattle.std.specs.Fmt.{decimal}
 use Rattle.sealed_file.specs.declared.error.Damage.{Damage}
-use Rattle.sealed_file.specs.declared.error.Damage.TheVariants.{NotSealed, OtherVersion, CutHeader, WrongChunk, WrongEnd}
-use Rattle.sealed_file.specs.declared.error.SliceError.{SliceError}
-use Rattle.sealed_file.specs.declared.error.SliceError.TheVariants.{PastEnd, Damaged}
+use Rattle.sealed_file.specs.declared.error.Damage.TheVariants.{NotSealed, OtherVersion, CutHeader, TooLong, WrongChunk, WrongEnd}
 
 -- of a chunk that others follow, by the bytes of its text
 abbrev pub chunk_text : ℕ → List ℕ
@@ -23,9 +21,6 @@ abbrev pub damage_text : Damage → List ℕ
 damage_text NotSealed = codes "not a sealed file"
 damage_text OtherVersion = codes "sealed in another version of the format"
 damage_text CutHeader = codes "the file ends in its header"
+damage_text TooLong = codes "longer than a sealed file can be"
 damage_text (WrongChunk i) = chunk_text i
 damage_text (WrongEnd i) = end_text i
-
-abbrev pub slice_error_text : SliceError → List ℕ
-slice_error_text PastEnd = codes "past the end of the text"
-slice_error_text (Damaged damage) = damage_text damage

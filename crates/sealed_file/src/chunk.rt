@@ -1,18 +1,14 @@
 //! The parts of a sealed file.
 
-ghost use Rattle.std.specs.Prelude.{◌≡◌, ◌≢◌, ◌<◌, ◌≤◌, ◌+◌, ◌-◌, ◌^◌, ◌↔◌, ℕ, List, Bool, length, take, drop, IsTrue, IsFalse, IsOk, IfOk, OnOk, IfErr};
-ghost use Rattle.std.specs.declared.io.Error.{Error};
-ghost use Rattle.std.specs.Io.KnownBytes.{Appends};
-ghost use Rattle.sealed_file.specs.declared.error.Damage.{Damage};
-ghost use Rattle.sealed_file.specs.Sealed.{header, chunk_nonce, chunk, kind_of, HasSalt, IsHeaderDamage};
+ghost use Rattle.std.specs.Prelude.{◌≡◌, ◌≢◌, ◌<◌, ◌≤◌, ◌-◌, ◌^◌, ◌↔◌, ℕ, List, Bool, length, take, drop, IsTrue, IsFalse, IsOk, IfOk, IfErr};
+ghost use Rattle.sealed_file.specs.Sealed.{header, chunk_nonce, chunk, HasSalt, IsFileDamage};
 
-use crate::error::{Damage, SealError};
+use crate::error::Damage;
 use chacha20::{Key, XNonce};
 use chacha20poly1305::XChaCha20Poly1305;
-use std::io::{self, ErrorKind, Write};
 
-/// 16 random bytes, which no other file under the key may have.
-pub type Salt = [u8; 16];
+/// 19 random bytes, which no other file under the key may have.
+pub type Salt = [u8; 19];
 
 /// The bytes of text in a chunk, but for the last.
 pub const CHUNK: usize = 65536;
@@ -21,117 +17,81 @@ pub const CHUNK: usize = 65536;
 pub const TAG: usize = 16;
 
 /// The most chunks that a file may have.
-pub const CHUNKS: u64 = 1 << 56;
+pub const CHUNKS: u64 = 1 << 32;
 
 /// The bytes that a sealed file begins with, of which the last is its version.
-pub const MAGIC: [u8; 16] = *b"chacha20-seal v1";
+pub const MAGIC: [u8; 13] = *b"chacha20seal1";
 
 /// The header of a file.
 pub fn header(salt: &Salt) -> [u8; 32]
     ensures { result ≡ header salt.now }
 {
     let mut header = [0; 32];
-    header[..16].copy_from_slice(&MAGIC);
-    header[16..].copy_from_slice(salt);
+    header[..13].copy_from_slice(&MAGIC);
+    header[13..].copy_from_slice(salt);
     header
 }
 
 /// The salt of a file, from its header. Fails for a file that doesn't begin with a header.
-pub(crate) fn salt_of(file: &[u8]) -> Result<Salt, Damage>
+pub fn salt_of(file: &[u8]) -> Result<Salt, Damage>
     ensures accepted { IsOk result ↔ ((salt : List ℕ) × HasSalt file.now salt) }
     ensures salt { IfOk result (λ salt. HasSalt file.now salt) }
-    ensures damage { IfErr result (λ e. IsHeaderDamage file.now e) }
+    ensures damage { IfErr result (λ e. IsFileDamage file.now e) }
 {
-    if !file.starts_with(&MAGIC[..15]) {
+    if !begins_with(file, &MAGIC[..12]) {
         return Err(Damage::NotSealed);
     }
     if file.len() < 32 {
         return Err(Damage::CutHeader);
     }
-    if !file.starts_with(&MAGIC) {
+    if !begins_with(file, &MAGIC) {
         return Err(Damage::OtherVersion);
     }
-    let mut salt = [0; 16];
-    salt.copy_from_slice(&file[16..32]);
+    let mut salt = [0; 19];
+    salt.copy_from_slice(&file[13..32]);
     Ok(salt)
+}
+
+fn begins_with(file: &[u8], word: &[u8]) -> bool
+    ensures { IsTrue result ↔ (take (length word.now) file.now ≡ word.now) }
+{
+    file.starts_with(word)
 }
 
 /// The nonce of a chunk. No other chunk and no other salt has it.
 pub fn chunk_nonce(salt: &Salt, number: u64, last: bool) -> XNonce
-    requires { number < 2 ^ 56 }
+    requires { number < 2 ^ 32 }
     ensures value { result ≡ chunk_nonce salt.now number last }
-    ensures distinct { (other : List ℕ) (i : ℕ) (is_last : Bool) → length other ≡ 16 → i < 2 ^ 56
+    ensures distinct { (other : List ℕ) (i : ℕ) (is_last : Bool) → length other ≡ 19 → i < 2 ^ 32
         → chunk_nonce other i is_last ≡ result
         → (other ≡ salt.now) × (i ≡ number) × (is_last ≡ last) }
 {
+    let mut end = [last as u8; 5];
+    end[..4].copy_from_slice(&(number as u32).to_be_bytes());
     let mut nonce = [0; 24];
-    nonce[..16].copy_from_slice(salt);
-    let mark = if last { CHUNKS } else { 0 };
-    nonce[16..].copy_from_slice(&(number + mark).to_le_bytes());
+    nonce[..19].copy_from_slice(salt);
+    nonce[19..].copy_from_slice(&end);
     nonce
 }
 
-/// Encrypts a text in place, and writes its chunk. `text` then has the ciphertext, also after an error.
-pub fn write_chunk<W: Write>(
-    key: &Key,
-    salt: &Salt,
-    number: u64,
-    last: bool,
-    text: &mut [u8],
-    writer: &mut W,
-) -> Result<(), SealError>
-    requires number { number < 2 ^ 56 }
-    requires size { length text.old ≤ 65536 }
-    ensures written { OnOk result (Appends (W.contents writer.old) (W.contents writer.new)
-        (chunk key.now salt.now number last text.old)) }
-    ensures partly { (n : ℕ) × Appends (W.contents writer.old) (W.contents writer.new)
-        (take n (chunk key.now salt.now number last text.old)) }
-    ensures text { text.new
-        ≡ take (length text.old) (chunk key.now salt.now number last text.old) }
-    ensures retried { IfErr result (λ e. kind_of e ≢ ErrorKind.Interrupted) }
-    ensures not_damaged { IfErr result (λ e. (damage : Damage) → e ≢ SealError.Damaged damage) }
-    ensures not_read { IfErr result (λ e. (error : Error) → e ≢ SealError.Read error) }
-    ensures not_long { IfErr result (λ e. e ≢ SealError.TooLong) }
+/// Makes a chunk in place: `bytes` has its text and, behind it, room for the tag.
+pub fn seal_chunk(key: &Key, salt: &Salt, number: u64, last: bool, bytes: &mut [u8])
+    requires number { number < 2 ^ 32 }
+    requires size { (16 ≤ length bytes.old) × (length bytes.old ≤ 65552) }
+    ensures { bytes.new
+        ≡ chunk key.now salt.now number last (take (length bytes.old - 16) bytes.old) }
 {
     let nonce = chunk_nonce(salt, number, last);
     let cipher = XChaCha20Poly1305::new(key);
-    let tag = cipher
-        .encrypt_in_place_detached(&nonce, &header(salt), text)
-        .unwrap();
-    write_whole(writer, text)?;
-    write_whole(writer, &tag)
-}
-
-/// Writes all bytes, and repeats a write that a signal interrupts.
-pub fn write_whole<W: Write>(writer: &mut W, bytes: &[u8]) -> Result<(), SealError>
-    ensures written { OnOk result
-        (Appends (W.contents writer.old) (W.contents writer.new) bytes.now) }
-    ensures retried { IfErr result (λ e. kind_of e ≢ ErrorKind.Interrupted) }
-    ensures not_damaged { IfErr result (λ e. (damage : Damage) → e ≢ SealError.Damaged damage) }
-    ensures not_read { IfErr result (λ e. (error : Error) → e ≢ SealError.Read error) }
-    ensures not_long { IfErr result (λ e. e ≢ SealError.TooLong) }
-    ensures partly { (n : ℕ)
-        × Appends (W.contents writer.old) (W.contents writer.new) (take n bytes.now) }
-{
-    let mut done = 0;
-    'tries: for _ in 0..u64::MAX {
-        if done == bytes.len() {
-            return Ok(());
-        }
-        match writer.write(&bytes[done..]) {
-            Ok(0) => return Err(SealError::Write(io::Error::from(ErrorKind::WriteZero))),
-            Ok(n) => done += n,
-            Err(e) if e.kind() == ErrorKind::Interrupted => {}
-            Err(e) => return Err(SealError::Write(e)),
-        }
-    }
-    Err(SealError::Write(io::Error::from(ErrorKind::TimedOut)))
+    let (text, place) = bytes.split_at_mut(bytes.len() - TAG);
+    let tag = cipher.encrypt_in_place_detached(&nonce, &[], text).unwrap();
+    place.copy_from_slice(&tag);
 }
 
 /// Decrypts a chunk in place and returns true if its tag is right; the text is then all but the last 16 bytes, which
 /// stay the tag. Otherwise, and for an empty text after chunk 0, returns false and changes nothing.
 pub fn open_chunk(key: &Key, salt: &Salt, number: u64, last: bool, bytes: &mut [u8]) -> bool
-    requires number { number < 2 ^ 56 }
+    requires number { number < 2 ^ 32 }
     requires size { length bytes.old ≤ 65552 }
     ensures right { IsTrue result → bytes.old
         ≡ chunk key.now salt.now number last (take (length bytes.old - 16) bytes.new) }
@@ -151,6 +111,6 @@ pub fn open_chunk(key: &Key, salt: &Salt, number: u64, last: bool, bytes: &mut [
     let nonce = chunk_nonce(salt, number, last);
     let cipher = XChaCha20Poly1305::new(key);
     cipher
-        .decrypt_in_place_detached(&nonce, &header(salt), &mut bytes[..end], &tag)
+        .decrypt_in_place_detached(&nonce, &[], &mut bytes[..end], &tag)
         .is_ok()
 }

@@ -1,9 +1,12 @@
-//! Why a file is refused.
+//! Why a call fails.
 
-ghost use Rattle.std.specs.Prelude.{◌≡◌};
+ghost use Rattle.std.specs.Prelude.{◌≡◌, ◌≢◌, IsSome, IfSome};
+ghost use Rattle.std.specs.IoError.{error_kind};
+ghost use Rattle.std.specs.declared.io.ErrorKind.{ErrorKind};
 
 use std::error::Error;
 use std::fmt::{Display, Formatter};
+use std::io::ErrorKind;
 use std::{fmt, io};
 
 /// What is wrong with a file that isn't a sealed one under the key.
@@ -15,6 +18,8 @@ pub enum Damage {
     OtherVersion,
     /// It ends in its header.
     CutHeader,
+    /// It is longer than a file of 2^32 chunks.
+    TooLong,
     /// The chunk with this number, which others follow, has a wrong tag.
     WrongChunk(u64),
     /// The file ends in or after the chunk with this number, and that isn't a last chunk with a right tag.
@@ -36,36 +41,68 @@ impl Damage {
     }
 }
 
-/// Why a stream was not encrypted or decrypted.
+/// The error of a reader, a writer or a file. Its kind isn't `Interrupted`, after which callers would repeat their
+/// call: what a signal interrupts is repeated here.
 #[derive(Debug, Drop)]
-pub enum SealError {
-    /// The input can't be read, or one chunk takes 2^64 - 1 reads.
-    Read(io::Error),
-    /// The output can't be written, or one chunk takes 2^64 - 1 writes.
-    Write(io::Error),
-    /// The input isn't a sealed file under this key.
-    Damaged(Damage),
-    /// The input has more than 2^56 chunks.
-    TooLong,
+pub struct IoError {
+    error: io::Error,
+    ghost repeated: { error_kind error ≢ ErrorKind.Interrupted },
 }
 
-/// Why a range of the text of a file in memory was not read.
-#[derive(Clone, Copy, Debug, PartialEq, Eq)]
-pub enum SliceError {
-    /// The range ends past the end of the text.
-    PastEnd,
-    /// A chunk of the range isn't right, or the file has no header.
-    Damaged(Damage),
+impl IoError {
+    // `None` for a call that is to be repeated.
+    pub(crate) fn new(error: io::Error) -> Option<IoError>
+        ensures own { IfSome result (λ e. e.error ≡ error) }
+        ensures other { error_kind error ≢ ErrorKind.Interrupted → IsSome result }
+    {
+        if error.kind() == ErrorKind::Interrupted {
+            return None;
+        }
+        Some(IoError { error })
+    }
+
+    // As an error that isn't taken for damage.
+    pub(crate) fn apart_from_damage(self) -> io::Error
+        ensures kind { error_kind result ≢ ErrorKind.InvalidData }
+        ensures repeated { error_kind result ≢ ErrorKind.Interrupted }
+        ensures own { error_kind self.error ≢ ErrorKind.InvalidData → result ≡ self.error }
+    {
+        let IoError { error } = self;
+        if error.kind() == ErrorKind::InvalidData {
+            return io::Error::new(ErrorKind::Other, "the file cannot be read");
+        }
+        error
+    }
+
+    // One of our own: after 2^64 - 1 calls, or where a writer took nothing.
+    pub(crate) fn of(kind: ErrorKind) -> IoError
+        requires { kind ≢ ErrorKind.Interrupted }
+    {
+        IoError {
+            error: io::Error::from(kind),
+        }
+    }
 }
 
-/// Why a range of the text of a file behind a reader was not read.
-#[derive(Debug, Drop)]
-pub enum ReaderError {
-    /// The range ends past the end of the text.
-    PastEnd,
-    /// The reader failed, or a chunk of the range isn't right.
-    Failed(SealError),
+impl From<IoError> for io::Error {
+    ghost from_gives = { λ error result. result ≡ error.error };
+
+    /// The error that the reader, the writer or the file gave.
+    fn from(error: IoError) -> io::Error
+        ensures { result ≡ error.error }
+    {
+        let IoError { error } = error;
+        error
+    }
 }
+
+impl Display for IoError {
+    fn fmt<W: fmt::Write>(&self, f: &mut Formatter<W>) -> fmt::Result {
+        self.error.fmt(f)
+    }
+}
+
+impl Error for IoError {}
 
 impl Display for Damage {
     ghost use Rattle.std.specs.Prelude.{Some};
@@ -78,6 +115,7 @@ impl Display for Damage {
             Damage::NotSealed => f.write_str("not a sealed file"),
             Damage::OtherVersion => f.write_str("sealed in another version of the format"),
             Damage::CutHeader => f.write_str("the file ends in its header"),
+            Damage::TooLong => f.write_str("longer than a sealed file can be"),
             Damage::WrongChunk(0) => {
                 f.write_str("the key is wrong, or bytes 0 to 65535 are damaged")
             }
@@ -99,42 +137,85 @@ impl Display for Damage {
 
 impl Error for Damage {}
 
-impl Display for SliceError {
-    ghost use Rattle.std.specs.Prelude.{Some};
-    ghost use Rattle.sealed_file.specs.DamageText.{slice_error_text};
+/// Why `encrypt` stopped.
+#[derive(Debug, Drop)]
+pub enum EncryptError {
+    /// There are no random bytes.
+    Random(io::Error),
+    /// The input can't be read, or a chunk takes 2^64 - 1 reads.
+    Read(IoError),
+    /// The output can't be written, or a chunk takes 2^64 - 1 writes.
+    Write(IoError),
+    /// The input has more than 2^48 bytes.
+    TooLong,
+}
 
-    ghost output = { λ error. Some (slice_error_text error) };
+/// Why `decrypt` stopped.
+#[derive(Debug, Drop)]
+pub enum DecryptError {
+    /// The input can't be read, or a chunk takes 2^64 - 1 reads.
+    Read(IoError),
+    /// The output can't be written, or a chunk takes 2^64 - 1 writes.
+    Write(IoError),
+    /// The input isn't a sealed file under this key.
+    Damaged(Damage),
+}
 
-    fn fmt<W: fmt::Write>(&self, f: &mut Formatter<W>) -> fmt::Result {
-        match self {
-            SliceError::PastEnd => f.write_str("past the end of the text"),
-            SliceError::Damaged(damage) => damage.fmt(f),
-        }
+/// Why a `SealedReader` didn't read.
+#[derive(Debug, Drop)]
+pub enum ReadError {
+    /// The file can't be read, or a chunk takes 2^64 - 1 reads.
+    Read(IoError),
+    /// The header or the chunk isn't right.
+    Damaged(Damage),
+}
+
+/// Why a `SealedReader` didn't read a range.
+#[derive(Debug, Drop)]
+pub enum RangeError {
+    /// The range ends past the end of the text.
+    PastEnd,
+    /// The file can't be read, or a chunk takes 2^64 - 1 reads.
+    Read(IoError),
+    /// The header or a chunk of the range isn't right.
+    Damaged(Damage),
+}
+
+impl From<IoError> for ReadError {
+    ghost use Rattle.sealed_file.specs.declared.error.ReadError.TheVariants.{Read};
+
+    ghost from_gives = { λ error result. result ≡ Read error };
+
+    fn from(error: IoError) -> ReadError
+        ensures { result ≡ Read error }
+    {
+        ReadError::Read(error)
     }
 }
 
-impl Error for SliceError {}
+impl From<Damage> for ReadError {
+    ghost use Rattle.sealed_file.specs.declared.error.ReadError.TheVariants.{Damaged};
 
-impl From<Damage> for SliceError {
-    ghost use Rattle.sealed_file.specs.declared.error.SliceError.TheVariants.{Damaged};
+    ghost from_gives = { λ damage result. result ≡ Damaged damage };
 
-    ghost from_gives = { λ damage error. error ≡ Damaged damage };
-
-    fn from(damage: Damage) -> SliceError
+    fn from(damage: Damage) -> ReadError
         ensures { result ≡ Damaged damage }
     {
-        SliceError::Damaged(damage)
+        ReadError::Damaged(damage)
     }
 }
 
-impl From<SealError> for ReaderError {
-    ghost use Rattle.sealed_file.specs.declared.error.ReaderError.TheVariants.{Failed};
+impl From<ReadError> for RangeError {
+    ghost use Rattle.sealed_file.specs.Ranges.{as_range_error};
 
-    ghost from_gives = { λ failure error. error ≡ Failed failure };
+    ghost from_gives = { λ error result. result ≡ as_range_error error };
 
-    fn from(error: SealError) -> ReaderError
-        ensures { result ≡ Failed error }
+    fn from(error: ReadError) -> RangeError
+        ensures { result ≡ as_range_error error }
     {
-        ReaderError::Failed(error)
+        match error {
+            ReadError::Read(e) => RangeError::Read(e),
+            ReadError::Damaged(damage) => RangeError::Damaged(damage),
+        }
     }
 }

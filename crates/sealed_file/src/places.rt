@@ -1,12 +1,13 @@
 //! Where a sealed file has its chunks, by its length.
 
-ghost use Rattle.std.specs.Prelude.{◌≡◌, ◌<◌, ◌≤◌, ◌^◌, ℕ, List, length};
-ghost use Rattle.sealed_file.specs.Sealed.{place, last_of, chunk_size, text_of, sealed};
+ghost use Rattle.std.specs.Prelude.{◌≡◌, ◌<◌, ◌≤◌, ◌*◌, ◌+◌, ◌^◌, ℕ, List, length};
+ghost use Rattle.sealed_file.specs.Sealed.{last_of, text_of, sealed};
+ghost use Rattle.sealed_file.specs.Ranges.{place, chunk_size};
 
 /// How many bytes of text a sealed file of `file` bytes has. Also where no sealed file has this length, the result is
 /// at most `file`.
 pub fn text_len(file: u64) -> u64
-    ensures exact { (key salt text : List ℕ) → length salt ≡ 16
+    ensures exact { (key salt text : List ℕ) → length salt ≡ 19
         → length (sealed key salt text) ≡ file → result ≡ length text }
     ensures value { result ≡ text_of file }
     ensures less { result ≤ file }

@@ -1,47 +1,46 @@
-//! A sealed file behind any reader that seeks, whose text is read from any place.
-//!
-//! No contract of the standard library says that a seek and a read agree on the place, or that a read leaves the file
-//! as it is. So the clauses say to which place of its file the reader was sent, and what it gave then: `GivesAt` and
-//! the others of `specs/Seeking.antt`. Whatever is handed out is text of a chunk that the reader gave in this call or
-//! an earlier one, and whose tag was right under this key, this salt and the chunk's number.
+//! The text of a sealed file, read from any place.
 
-ghost use Rattle.std.specs.Prelude.{◌≡◌, ◌≢◌, ◌<◌, ◌≤◌, ◌+◌, ◌^◌, ◌⊎◌, ◌↔◌, ℕ, Some, None, length, take, nat_eq, IfOk, OnOk, IfErr, OnErr, IfSome};
-ghost use Rattle.std.specs.Option.{ForSome};
-ghost use Rattle.std.specs.Result.{IsErrOf};
+ghost use Rattle.std.specs.Prelude.{◌≡◌, ◌≢◌, ◌<◌, ◌≤◌, ◌+◌, ◌-◌, ◌*◌, ◌/◌, ◌^◌, ◌↔◌, ℕ, List, Bool, Some, None, length, take, drop, nat_eq, min, IsTrue, IsFalse, IsOk, IfOk, OnOk, IfErr, OnErr, IfSome, IsErrOf};
+ghost use Rattle.std.specs.Option.{ForSome, option_map};
+ghost use Rattle.std.specs.List.{slice_range};
 ghost use Rattle.std.specs.declared.io.Error.{Error};
 ghost use Rattle.std.specs.Io.{ReadsAtMost};
 ghost use Rattle.std.specs.Io.Cursor.{IsSeekResult, IsSeekFromEnd};
-ghost use Rattle.std.specs.Io.KnownBytes.{Keeps, ReadConsumes};
-ghost use Rattle.std.specs.Io.Seek.{SeekMoves};
+ghost use Rattle.std.specs.Io.KnownBytes.{Consumes, Keeps, ReadConsumes};
+ghost use Rattle.std.specs.Io.Seek.{SeekMoves, MovesTo, MovesBy, StaysAt};
 ghost use Rattle.std.specs.IoError.{error_kind};
 ghost use Rattle.sealed_file.specs.declared.error.Damage.{Damage};
-ghost use Rattle.sealed_file.specs.declared.error.SealError.{SealError};
-ghost use Rattle.sealed_file.specs.Sealed.{header, chunk, place, last_of, chunk_size, text_of, damage_at, kind_of, AreOfRange, CopiesFrom, StopsAtEnd};
-ghost use Rattle.sealed_file.specs.Seeking.{GivesAt, GivesNoChunk, GivesNoHeader, StopsShort};
+ghost use Rattle.sealed_file.specs.declared.error.IoError.{IoError};
+ghost use Rattle.sealed_file.specs.Sealed.{header, last_of, text_of, sealed, IsSealed, IsFileDamage};
+ghost use Rattle.sealed_file.specs.Ranges.{File, place, chunk_size, HasChunk, HasRange, IsWrong, FillsTo, OnlyFront, StopsAtEnd, CopiesFrom};
 
-use crate::chunk::{Salt, TAG, open_chunk};
-use crate::error::{Damage, ReaderError, SealError};
+use crate::chunk::{CHUNKS, Salt, TAG, open_chunk, salt_of};
+use crate::error::{Damage, IoError, RangeError, ReadError};
+use crate::file::{ReadAt, fill_at};
 use crate::places::{chunk_place, chunk_size, last_chunk, text_len};
-use crate::slice::{copy_text, is_within};
-use crate::stream::{fill, read_header};
+use crate::stream::BUFFER;
 use chacha20::Key;
 use std::io::{self, ErrorKind, Read, Seek, SeekFrom};
 
 /// Reads the text of a sealed file, and of the file only the chunks that hold what is read. The text of the chunk that
-/// it opened last stays in the buffer, which is lent, so that it costs nothing to move the reader. Nobody else may move
-/// the reader of the file or change the file: a chunk may then fail, or a former text be read.
+/// it opened last stays in the buffer, which is lent.
 #[derive(Drop)]
-pub struct SealedReader<'b, R> {
+pub struct SealedReader<'b, R: ReadAt> {
     key: Key,
     salt: Salt,
-    inner: R,
-    // As the reader told it to `new`.
-    file_len: u64,
+    source: R,
+    // As the file told it to `new`.
+    len: u64,
     position: u64,
     held: Option<Held>,
-    buf: &'b mut [u8],
-    ghost space: { length buf.now ≡ 65552 },
-    ghost size: { ForSome held (λ h. h.len + 16 ≡ chunk_size file_len h.number) },
+    buf: &'b mut [u8; BUFFER],
+    ghost fits: { len ≤ 32 + 65552 * 2 ^ 32 },
+    ghost begins: { ForSome (R.bytes source) (λ bytes.
+        (len ≡ length bytes) × (take 32 bytes ≡ header salt)) },
+    ghost size: { ForSome held (λ h. h.len + 16 ≡ chunk_size len h.number) },
+    ghost right: { ForSome held (λ h. ForSome (R.bytes source) (λ bytes.
+        HasChunk (record { key = key; salt = salt; bytes = bytes }) h.number
+        (take h.len buf.now))) },
 }
 
 // The chunk whose text stands at the start of the buffer.
@@ -51,157 +50,116 @@ struct Held {
     len: usize,
 }
 
-impl<'b, R: Read + Seek> SealedReader<'b, R> {
-    ghost use Rattle.sealed_file.specs.SealedReader.{file, inner, position, held, number, is_last, ReadsHeld, KeepsRight, OpensRange, StopsAtChunk};
+impl<'b, R: ReadAt> SealedReader<'b, R> {
+    ghost use Rattle.sealed_file.specs.SealedReader.{bytes, may_fail, key_of, len, position, file, Reads, IsSame};
 
-    /// Reads the length and the header of the file, wherever its reader is, and stands at the start of the text. `buf`
-    /// is scratch space of `CHUNK + TAG` bytes.
+    /// Takes a file, and reads its length and its header. Fails if it doesn't begin with a header, is longer than a
+    /// sealed file can be, or can't be read.
     pub fn new(
         key: &Key,
-        mut reader: R,
-        buf: &'b mut [u8],
-    ) -> Result<SealedReader<'b, R>, SealError>
+        source: R,
+        buf: &'b mut [u8; BUFFER],
+    ) -> Result<SealedReader<'b, R>, ReadError>
     where
         R: Drop,
-        requires { length buf.old ≡ 65552 }
-        ensures front { IfOk result (λ r. (position r ≡ 0) × (held r ≡ None)) }
-        ensures key { IfOk result (λ r. (file r).key ≡ key.now) }
-        ensures header { IfOk result (λ r.
-            GivesAt R.remaining R.stream_position R.stream_bytes reader (inner r) 0
-            (header (file r).salt)) }
-        ensures len { IfOk result (λ r. IfSome (R.stream_position reader) (λ _.
-            IfSome (R.stream_bytes reader) (λ bytes. (file r).len ≡ length bytes))) }
-        ensures damaged { IfErr result (λ e. (damage : Damage) → e ≡ SealError.Damaged damage
-            → GivesNoHeader R.remaining R.stream_position R.stream_bytes reader damage) }
-        ensures retried { IfErr result (λ e. kind_of e ≢ ErrorKind.Interrupted) }
-        ensures not_write { IfErr result (λ e. (error : Error) → e ≢ SealError.Write error) }
-        ensures not_long { IfErr result (λ e. e ≢ SealError.TooLong) }
+        ensures key { IfOk result (λ r. key_of r ≡ key.now) }
+        ensures bytes { IfOk result (λ r. bytes r ≡ R.bytes source) }
+        ensures may_fail { IfOk result (λ r. may_fail r ≡ R.may_fail source) }
+        ensures front { IfOk result (λ r. position r ≡ 0) }
+        ensures len { IfOk result (λ r. IfSome (R.bytes source) (λ all. len r ≡ length all)) }
+        ensures reads { (salt text all : List ℕ) → R.bytes source ≡ Some all
+            → IsSealed key.now salt text all → IfOk result (λ r. Reads r text) }
+        ensures opens { (salt text all : List ℕ) → R.bytes source ≡ Some all
+            → IsSealed key.now salt text all → IsFalse (R.may_fail source) → IsOk result }
+        ensures damaged { (damage : Damage) → IsErrOf result (ReadError.Damaged damage)
+            → IfSome (R.bytes source) (λ bytes. IsFileDamage bytes damage) }
+        ensures fails { (e : IoError) → IsErrOf result (ReadError.Read e)
+            → IsTrue (R.may_fail source) }
     {
-        let (salt, file_len) = read_start(&mut reader)?;
+        let len = size_of(&source)?;
+        let mut front = [0; 32];
+        let n = fill_at(&source, &mut front, 0)?;
+        let salt = salt_of(&front[..n])?;
+        if len > 32 + 65552 * CHUNKS {
+            return Err(ReadError::Damaged(Damage::TooLong));
+        }
         Ok(SealedReader {
             key: *key,
             salt,
-            inner: reader,
-            file_len,
+            source,
+            len,
             position: 0,
             held: None,
             buf,
         })
     }
 
-    /// How many bytes of text the file has, by the length that it had for `new`. The length of a file that was cut is
-    /// noticed only once the last chunk is read.
+    /// How many bytes of text the file has, by its length. That the end was cut is noticed once the last chunk is read.
     pub fn text_len(&self) -> u64
-        ensures { result ≡ text_of (file self.now).len }
+        ensures exact { (text : List ℕ) → Reads self.now text → result ≡ length text }
+        ensures value { result ≡ text_of (len self.now) }
     {
-        text_len(self.file_len)
+        text_len(self.len)
     }
 
-    /// `read`, with an error that says what is wrong, and where.
-    pub fn read_text(&mut self, window: &mut [u8]) -> Result<usize, SealError>
-        ensures bound { ReadsAtMost result window.new }
-        ensures read { IfOk result (ReadsHeld self.old self.new window.old window.new) }
-        ensures opened { OnOk result
-            (KeepsRight R.remaining R.stream_position R.stream_bytes self.old self.new) }
-        ensures damaged { IfErr result (λ e. (damage : Damage) → e ≡ SealError.Damaged damage
-            → (damage ≡ damage_at (number self.old) (is_last self.old))
-            × GivesNoChunk R.remaining R.stream_position R.stream_bytes
-            (inner self.old) (inner self.new)
-            (file self.old).key (file self.old).salt (number self.old) (is_last self.old)
-            (chunk_size (file self.old).len (number self.old))) }
-        ensures stopped { IfErr result (λ e. (error : Error) → e ≡ SealError.Read error
-            → StopsShort R.remaining R.stream_position R.stream_bytes
-            (inner self.old) (inner self.new) (number self.old)) }
-        ensures failed { OnErr result ((window.new ≡ window.old) × (held self.new ≡ None)
-            × (position self.new ≡ position self.old)) }
-        ensures end { IfOk result (λ n. n < length window.old
-            → StopsAtEnd (position self.old) n (file self.old).len) }
-        ensures retried { IfErr result (λ e. kind_of e ≢ ErrorKind.Interrupted) }
-        ensures not_write { IfErr result (λ e. (error : Error) → e ≢ SealError.Write error) }
-        ensures not_long { IfErr result (λ e. e ≢ SealError.TooLong) }
-        ensures same_file { file self.new ≡ file self.old }
+    /// Reads text from byte `start` on into the window's start, up to the window's end or that of the chunk, and
+    /// returns how many bytes that are: 0 at the end of the text and past it, once the last chunk was right.
+    pub fn read_at(&mut self, start: u64, window: &mut [u8]) -> Result<usize, ReadError>
+        ensures read { IfOk result (λ n. IfSome (file self.old) (λ f.
+            HasRange f start (take n window.new))) }
+        ensures rest { IfOk result (λ n.
+            (n ≤ length window.old) × (drop n window.new ≡ drop n window.old)) }
+        ensures end { IfOk result (λ n. n < length window.old → StopsAtEnd start n (len self.old)) }
+        ensures within { IfOk result (λ n. 0 < n → start + n ≤ len self.old) }
+        ensures text { (text : List ℕ) → Reads self.old text
+            → IfOk result (λ n. take n window.new ≡ slice_range text start (start + n)) }
+        ensures accepted { (text : List ℕ) → Reads self.old text
+            → IsFalse (may_fail self.old) → IsOk result }
+        ensures unchanged { OnErr result (window.new ≡ window.old) }
+        ensures damaged { (damage : Damage) → IsErrOf result (ReadError.Damaged damage)
+            → IfSome (file self.old) (λ f.
+            IsWrong f (min (start / 65536) (last_of (len self.old))) damage) }
+        ensures fails { (e : IoError) → IsErrOf result (ReadError.Read e)
+            → IsTrue (may_fail self.old) }
+        ensures same { IsSame self.old self.new × (position self.new ≡ position self.old) }
     {
-        let last = last_chunk(self.file_len);
-        let number = (self.position / 65536).min(last);
-        let len = self.open(number, number == last)?;
-        let from = self.position - 65536 * number;
-        let n = self.copy(len, from, window);
-        self.position += n as u64;
-        Ok(n)
+        let number = (start / 65536).min(last_chunk(self.len));
+        let len = self.open(number)?;
+        Ok(self.copy(len, start - 65536 * number, window))
     }
 
-    /// Fills the window with text from byte `start` on, wherever it stands, and opens each chunk of this range once,
-    /// but for one that it holds, and no other. Fails with `PastEnd` if and only if the range ends past the end of the
-    /// text; then nothing is read or changed. After another error, the window begins with the text of the chunks before
-    /// the one that failed, and the call may be tried again. The position stays.
-    pub fn read_exact_at(&mut self, start: u64, window: &mut [u8]) -> Result<(), ReaderError>
-        ensures past_end { IsErrOf result ReaderError.PastEnd
-            ↔ (text_of (file self.old).len < start + length window.old) }
-        ensures unchanged { IsErrOf result ReaderError.PastEnd → (window.new ≡ window.old)
-            × (held self.new ≡ held self.old) × (inner self.new ≡ inner self.old) }
-        ensures read { OnOk result ((n : ℕ) × AreOfRange start (length window.old) n
-            × OpensRange R.remaining R.stream_position R.stream_bytes self.old self.new
-            start window.old window.new n (length window.old)) }
-        ensures damaged { let f = file self.old in (damage : Damage)
-            → IsErrOf result (ReaderError.Failed (SealError.Damaged damage))
-            → StopsAtChunk R.remaining R.stream_position R.stream_bytes self.old
-            start window.old window.new (λ there i. let last = nat_eq i (last_of f.len) in
-            (damage ≡ damage_at i last)
-            × GivesNoChunk R.remaining R.stream_position R.stream_bytes
-            (inner there) (inner self.new) f.key f.salt i last (chunk_size f.len i)) }
-        ensures stopped { (error : Error)
-            → IsErrOf result (ReaderError.Failed (SealError.Read error))
-            → StopsAtChunk R.remaining R.stream_position R.stream_bytes self.old
-            start window.old window.new (λ there i.
-            StopsShort R.remaining R.stream_position R.stream_bytes
-            (inner there) (inner self.new) i) }
-        ensures failed { IfErr result (λ e. (error : SealError) → e ≡ ReaderError.Failed error
-            → (held self.new ≡ None) × (kind_of error ≢ ErrorKind.Interrupted)
-            × (error ≢ SealError.TooLong) × ((cause : Error) → error ≢ SealError.Write cause)) }
-        ensures same { (file self.new ≡ file self.old) × (position self.new ≡ position self.old) }
+    /// Fills the window with text from byte `start` on, and opens each chunk of this range once, but for one that it
+    /// holds, and no other. Fails with `PastEnd` if and only if the range ends past the end of the text; then nothing
+    /// is changed. After another error, the window begins with the text of the chunks before the one that failed.
+    pub fn read_exact_at(&mut self, start: u64, window: &mut [u8]) -> Result<(), RangeError>
+        ensures past_end { IsErrOf result RangeError.PastEnd
+            ↔ (text_of (len self.old) < start + length window.old) }
+        ensures unchanged { IsErrOf result RangeError.PastEnd → window.new ≡ window.old }
+        ensures read { OnOk result (IfSome (file self.old) (λ f.
+            HasRange f start window.new)) }
+        ensures text { (text : List ℕ) → Reads self.old text
+            → OnOk result (window.new ≡ slice_range text start (start + length window.old)) }
+        ensures accepted { (text : List ℕ) → Reads self.old text → IsFalse (may_fail self.old)
+            → IsOk result ↔ (start + length window.old ≤ length text) }
+        ensures damaged { (damage : Damage) → IsErrOf result (RangeError.Damaged damage)
+            → IfSome (file self.old) (λ f. (i : ℕ) × IsWrong f i damage
+            × FillsTo f start window.new i × OnlyFront window.old window.new (65536 * i - start)) }
+        ensures stopped { (e : IoError) → IsErrOf result (RangeError.Read e)
+            → IfSome (file self.old) (λ f. (i : ℕ) × FillsTo f start window.new i
+            × OnlyFront window.old window.new (65536 * i - start)) }
+        ensures fails { (e : IoError) → IsErrOf result (RangeError.Read e)
+            → IsTrue (may_fail self.old) }
+        ensures same { IsSame self.old self.new × (position self.new ≡ position self.old) }
     {
         if !is_within(start, window.len(), self.text_len()) {
-            return Err(ReaderError::PastEnd);
+            return Err(RangeError::PastEnd);
         }
-        let position = self.position;
-        self.position = start;
-        let done = self.read_full(window);
-        self.position = position;
-        match done {
-            Ok(()) => Ok(()),
-            Err(e) => Err(ReaderError::Failed(e)),
-        }
-    }
-
-    // Reads from chunk after chunk until the window is full.
-    fn read_full(&mut self, window: &mut [u8]) -> Result<(), SealError>
-        requires { position self.old + length window.old ≤ text_of (file self.old).len }
-        ensures read { OnOk result ((n : ℕ) × AreOfRange (position self.old) (length window.old) n
-            × OpensRange R.remaining R.stream_position R.stream_bytes self.old self.new
-            (position self.old) window.old window.new n (length window.old)) }
-        ensures damaged { let f = file self.old in IfErr result (λ e. (damage : Damage)
-            → e ≡ SealError.Damaged damage
-            → StopsAtChunk R.remaining R.stream_position R.stream_bytes self.old
-            (position self.old) window.old window.new (λ there i.
-            let last = nat_eq i (last_of f.len) in (damage ≡ damage_at i last)
-            × GivesNoChunk R.remaining R.stream_position R.stream_bytes
-            (inner there) (inner self.new) f.key f.salt i last (chunk_size f.len i))) }
-        ensures stopped { IfErr result (λ e. (error : Error) → e ≡ SealError.Read error
-            → StopsAtChunk R.remaining R.stream_position R.stream_bytes self.old
-            (position self.old) window.old window.new (λ there i.
-            StopsShort R.remaining R.stream_position R.stream_bytes
-            (inner there) (inner self.new) i)) }
-        ensures failed { OnErr result (held self.new ≡ None) }
-        ensures retried { IfErr result (λ e. kind_of e ≢ ErrorKind.Interrupted) }
-        ensures not_write { IfErr result (λ e. (error : Error) → e ≢ SealError.Write error) }
-        ensures not_long { IfErr result (λ e. e ≢ SealError.TooLong) }
-        ensures same_file { file self.new ≡ file self.old }
-    {
         let mut done = 0;
         'chunks: while done < window.len() {
-            match self.read_text(&mut window[done..]) {
+            match self.read_at(start + done as u64, &mut window[done..]) {
                 Ok(n) => done += n,
-                Err(e) => return Err(e),
+                Err(ReadError::Read(e)) => return Err(RangeError::Read(e)),
+                Err(ReadError::Damaged(damage)) => return Err(RangeError::Damaged(damage)),
             }
         }
         Ok(())
@@ -210,75 +168,35 @@ impl<'b, R: Read + Seek> SealedReader<'b, R> {
     // Copies from the text that it holds.
     fn copy(&self, len: usize, from: u64, window: &mut [u8]) -> usize
         requires { len ≤ 65536 }
-        ensures { CopiesFrom (take len self.now.buf.now) from window.old window.new result }
+        ensures part { CopiesFrom (take len self.now.buf.now) from window.old window.new result }
+        ensures count { result ≡ min (length window.old) (len - from) }
     {
         copy_text(&self.buf[..len], from, window)
     }
 
     // Holds a chunk, and returns the length of its text.
-    fn open(&mut self, number: u64, last: bool) -> Result<usize, SealError>
-        requires { place number < 2 ^ 64 }
-        ensures held { IfOk result (λ n. (n + 16 ≡ chunk_size (file self.old).len number)
-            × (held self.new ≡ Some (number, take n self.new.buf.now))) }
-        ensures opened { IfOk result (λ n. let text = take n self.new.buf.now in
-            (held self.new ≡ held self.old)
-            ⊎ ((0 < number → 0 < n) × GivesAt R.remaining R.stream_position R.stream_bytes
-            (inner self.old) (inner self.new) (place number)
-            (chunk (file self.old).key (file self.old).salt number last text))) }
-        ensures damaged { IfErr result (λ e. (damage : Damage) → e ≡ SealError.Damaged damage
-            → (damage ≡ damage_at number last)
-            × GivesNoChunk R.remaining R.stream_position R.stream_bytes
-            (inner self.old) (inner self.new)
-            (file self.old).key (file self.old).salt number last
-            (chunk_size (file self.old).len number)) }
-        ensures stopped { IfErr result (λ e. (error : Error) → e ≡ SealError.Read error
-            → StopsShort R.remaining R.stream_position R.stream_bytes
-            (inner self.old) (inner self.new) number) }
-        ensures failed { OnErr result (held self.new ≡ None) }
-        ensures retried { IfErr result (λ e. kind_of e ≢ ErrorKind.Interrupted) }
-        ensures not_write { IfErr result (λ e. (error : Error) → e ≢ SealError.Write error) }
-        ensures not_long { IfErr result (λ e. e ≢ SealError.TooLong) }
-        ensures same { (file self.new ≡ file self.old) × (position self.new ≡ position self.old) }
+    fn open(&mut self, number: u64) -> Result<usize, ReadError>
+        requires { number ≤ last_of (len self.old) }
+        ensures size { IfOk result (λ n. n + 16 ≡ chunk_size (len self.old) number) }
+        ensures right { IfOk result (λ n. IfSome (file self.old) (λ f.
+            HasChunk f number (take n self.new.buf.now))) }
+        ensures damaged { (damage : Damage) → IsErrOf result (ReadError.Damaged damage)
+            → IfSome (file self.old) (λ f. IsWrong f number damage) }
+        ensures fails { (e : IoError) → IsErrOf result (ReadError.Read e)
+            → IsTrue (may_fail self.old) }
+        ensures same { IsSame self.old self.new × (position self.new ≡ position self.old) }
     {
         match self.held {
-            Some(held) if held.number == number => Ok(held.len),
-            _ => self.refill(number, last),
+            Some(held) if held.number == number => return Ok(held.len),
+            _ => {}
         }
-    }
-
-    // Opens a chunk, and holds it.
-    fn refill(&mut self, number: u64, last: bool) -> Result<usize, SealError>
-        requires { place number < 2 ^ 64 }
-        ensures held { IfOk result (λ n. (n + 16 ≡ chunk_size (file self.old).len number)
-            × (0 < number → 0 < n) × (held self.new ≡ Some (number, take n self.new.buf.now))) }
-        ensures right { IfOk result (λ n. let text = take n self.new.buf.now in
-            GivesAt R.remaining R.stream_position R.stream_bytes
-            (inner self.old) (inner self.new) (place number)
-            (chunk (file self.old).key (file self.old).salt number last text)) }
-        ensures damaged { IfErr result (λ e. (damage : Damage) → e ≡ SealError.Damaged damage
-            → (damage ≡ damage_at number last)
-            × GivesNoChunk R.remaining R.stream_position R.stream_bytes
-            (inner self.old) (inner self.new)
-            (file self.old).key (file self.old).salt number last
-            (chunk_size (file self.old).len number)) }
-        ensures stopped { IfErr result (λ e. (error : Error) → e ≡ SealError.Read error
-            → StopsShort R.remaining R.stream_position R.stream_bytes
-            (inner self.old) (inner self.new) number) }
-        ensures failed { OnErr result (held self.new ≡ None) }
-        ensures retried { IfErr result (λ e. kind_of e ≢ ErrorKind.Interrupted) }
-        ensures not_write { IfErr result (λ e. (error : Error) → e ≢ SealError.Write error) }
-        ensures not_long { IfErr result (λ e. e ≢ SealError.TooLong) }
-        ensures same { (file self.new ≡ file self.old) × (position self.new ≡ position self.old) }
-    {
         self.held = None;
-        let size = chunk_size(self.file_len, number);
         let len = load(
             &self.key,
             &self.salt,
+            &self.source,
+            self.len,
             number,
-            last,
-            size,
-            &mut self.inner,
             self.buf,
         )?;
         self.held = Some(Held { number, len });
@@ -286,112 +204,138 @@ impl<'b, R: Read + Seek> SealedReader<'b, R> {
     }
 }
 
-// A seek, repeated while a signal interrupts it.
-fn go_to<S: Seek>(inner: &mut S, to: SeekFrom) -> Result<u64, SealError>
-    ensures moves { SeekMoves (S.stream_position inner.old) (S.stream_position inner.new)
-        (S.stream_bytes inner.old) to result }
-    ensures file { Keeps (S.stream_bytes inner.old) (S.stream_bytes inner.new) }
-    ensures not_damaged { IfErr result (λ e. (damage : Damage) → e ≢ SealError.Damaged damage) }
-    ensures retried { IfErr result (λ e. kind_of e ≢ ErrorKind.Interrupted) }
-    ensures not_write { IfErr result (λ e. (error : Error) → e ≢ SealError.Write error) }
-    ensures not_long { IfErr result (λ e. e ≢ SealError.TooLong) }
-{
-    'tries: for _ in 0..u64::MAX {
-        match inner.seek(to) {
-            Ok(n) => return Ok(n),
-            Err(e) if e.kind() == ErrorKind::Interrupted => {}
-            Err(e) => return Err(SealError::Read(e)),
-        }
-    }
-    Err(SealError::Read(io::Error::from(ErrorKind::TimedOut)))
-}
-
-// Reads the header's salt, and the length of the file.
-fn read_start<R: Read + Seek>(reader: &mut R) -> Result<(Salt, u64), SealError>
-    ensures header { IfOk result (λ r.
-        GivesAt R.remaining R.stream_position R.stream_bytes reader.old reader.new 0 (header r.0)) }
-    ensures len { IfOk result (λ r. IfSome (R.stream_position reader.old) (λ _.
-        IfSome (R.stream_bytes reader.old) (λ bytes. r.1 ≡ length bytes))) }
-    ensures damaged { IfErr result (λ e. (damage : Damage) → e ≡ SealError.Damaged damage
-        → GivesNoHeader R.remaining R.stream_position R.stream_bytes reader.old damage) }
-    ensures retried { IfErr result (λ e. kind_of e ≢ ErrorKind.Interrupted) }
-    ensures not_write { IfErr result (λ e. (error : Error) → e ≢ SealError.Write error) }
-    ensures not_long { IfErr result (λ e. e ≢ SealError.TooLong) }
-{
-    let file_len = go_to(reader, SeekFrom::End(0))?;
-    go_to(reader, SeekFrom::Start(0))?;
-    let salt = read_header(reader)?;
-    Ok((salt, file_len))
-}
-
-// Opens a chunk of so many bytes in the buffer, and returns the length of its text.
-fn load<R: Read + Seek>(
+// Opens a chunk of a file of so many bytes in the buffer, and returns the length of its text.
+fn load<R: ReadAt>(
     key: &Key,
     salt: &Salt,
+    source: &R,
+    len: u64,
     number: u64,
-    last: bool,
-    size: usize,
-    inner: &mut R,
-    buf: &mut [u8],
-) -> Result<usize, SealError>
-    requires place { place number < 2 ^ 64 }
-    requires buffer { length buf.old ≡ 65552 }
-    ensures size { IfOk result (λ n. (n + 16 ≡ size) × (0 < number → 0 < n)) }
-    ensures right { IfOk result (λ n. GivesAt R.remaining R.stream_position R.stream_bytes
-        inner.old inner.new (place number)
-        (chunk key.now salt.now number last (take n buf.new))) }
-    ensures damaged { IfErr result (λ e. (damage : Damage) → e ≡ SealError.Damaged damage
-        → (damage ≡ damage_at number last)
-        × GivesNoChunk R.remaining R.stream_position R.stream_bytes
-        inner.old inner.new key.now salt.now number last size) }
-    ensures stopped { IfErr result (λ e. (error : Error) → e ≡ SealError.Read error
-        → StopsShort R.remaining R.stream_position R.stream_bytes inner.old inner.new number) }
-    ensures retried { IfErr result (λ e. kind_of e ≢ ErrorKind.Interrupted) }
-    ensures not_write { IfErr result (λ e. (error : Error) → e ≢ SealError.Write error) }
-    ensures not_long { IfErr result (λ e. e ≢ SealError.TooLong) }
+    buf: &mut [u8; BUFFER],
+) -> Result<usize, ReadError>
+    requires number { number ≤ last_of len }
+    requires fits { len ≤ 32 + 65552 * 2 ^ 32 }
+    requires len { IfSome (R.bytes source.now) (λ bytes. len ≡ length bytes) }
+    ensures size { IfOk result (λ n. n + 16 ≡ chunk_size len number) }
+    ensures right { IfOk result (λ n. IfSome (R.bytes source.now) (λ bytes.
+        HasChunk (record { key = key.now; salt = salt.now; bytes = bytes }) number
+        (take n buf.new))) }
+    ensures damaged { (damage : Damage) → IsErrOf result (ReadError.Damaged damage)
+        → IfSome (R.bytes source.now) (λ bytes.
+        IsWrong (record { key = key.now; salt = salt.now; bytes = bytes }) number damage) }
+    ensures fails { (e : IoError) → IsErrOf result (ReadError.Read e)
+        → IsTrue (R.may_fail source.now) }
 {
-    go_to(inner, SeekFrom::Start(chunk_place(number)))?;
-    let bytes = fill(inner, buf, 0)?;
-    if bytes != size {
-        return Err(SealError::Damaged(Damage::of_chunk(number, last)));
+    let last = number == last_chunk(len);
+    let chunk = &mut buf[..chunk_size(len, number)];
+    let n = fill_at(source, chunk, chunk_place(number))?;
+    if n < chunk.len() || !open_chunk(key, salt, number, last, chunk) {
+        return Err(ReadError::Damaged(Damage::of_chunk(number, last)));
     }
-    if !open_chunk(key, salt, number, last, &mut buf[..bytes]) {
-        return Err(SealError::Damaged(Damage::of_chunk(number, last)));
-    }
-    Ok(bytes - TAG)
+    Ok(n - TAG)
 }
 
-impl<R: Read + Seek> Read for SealedReader<'_, R> {
-    ghost use Rattle.sealed_file.specs.SealedReader.{file, inner, position, held, number, ReadsHeld, KeepsRight};
+// The size of a file; a call that a signal interrupts is repeated.
+fn size_of<R: ReadAt>(source: &R) -> Result<u64, IoError>
+    ensures value { IfOk result (λ n. IfSome (R.bytes source.now) (λ all. n ≡ length all)) }
+    ensures fails { IsFalse (R.may_fail source.now) → IsOk result }
+{
+    'tries: for tries in 0..u64::MAX {
+        match source.size() {
+            Ok(n) => return Ok(n),
+            Err(e) => {
+                if let Some(e) = IoError::new(e) {
+                    return Err(e);
+                }
+            }
+        }
+    }
+    Err(IoError::of(ErrorKind::TimedOut))
+}
+
+// Copies text from byte `from` on, which may be past its end, and returns how many bytes that are.
+fn copy_text(text: &[u8], from: u64, window: &mut [u8]) -> usize
+    ensures { CopiesFrom text.now from window.old window.new result }
+{
+    let from = from.min(text.len() as u64) as usize;
+    let size = window.len().min(text.len() - from);
+    window[..size].copy_from_slice(&text[from..from + size]);
+    size
+}
+
+// Whether a range ends at the end of a text or before it.
+fn is_within(start: u64, len: usize, text_len: u64) -> bool
+    ensures { IsTrue result ↔ (start + len ≤ text_len) }
+{
+    start <= text_len && len as u64 <= text_len - start
+}
+
+impl<R: ReadAt> Read for SealedReader<'_, R> {
+    ghost use Rattle.sealed_file.specs.SealedReader.{may_fail, len, position, file, IsSame};
 
     /// Reads text up to the buffer's end or that of the chunk, and returns how many bytes that are: 0 at the end of the
-    /// text and past it, once the last chunk was right. A wrong chunk is an error of the kind `InvalidData`. After
-    /// an error the buffer and the position are as they were, and a read may be tried again.
+    /// text and past it, once the last chunk was right. A wrong chunk is an error of the kind `InvalidData`, and an
+    /// error of the file that has this kind comes out as one of the kind `Other`. After an error the buffer and the
+    /// position are as they were, and a read may be tried again.
     fn read(&mut self, buf: &mut [u8]) -> io::Result<usize>
         ensures bound { ReadsAtMost result buf.new }
         ensures bytes { ReadConsumes None None result buf.new }
-        ensures read { IfOk result (ReadsHeld self.old self.new buf.old buf.new) }
-        ensures opened { OnOk result
-            (KeepsRight R.remaining R.stream_position R.stream_bytes self.old self.new) }
-        ensures failed { OnErr result ((buf.new ≡ buf.old) × (held self.new ≡ None)
-            × (position self.new ≡ position self.old)) }
+        ensures read { IfOk result (λ n. (position self.new ≡ position self.old + n)
+            × (drop n buf.new ≡ drop n buf.old) × IfSome (file self.old) (λ f.
+            HasRange f (position self.old) (take n buf.new))) }
         ensures end { IfOk result (λ n. n < length buf.old
-            → StopsAtEnd (position self.old) n (file self.old).len) }
-        ensures damaged { IfErr result (λ e. (error_kind e ≡ ErrorKind.InvalidData)
-            ⊎ StopsShort R.remaining R.stream_position R.stream_bytes
-            (inner self.old) (inner self.new) (number self.old)) }
+            → StopsAtEnd (position self.old) n (len self.old)) }
+        ensures unchanged { OnErr result
+            ((buf.new ≡ buf.old) × (position self.new ≡ position self.old)) }
+        ensures damaged { IfErr result (λ e. error_kind e ≡ ErrorKind.InvalidData
+            → IfSome (file self.old) (λ f. (damage : Damage)
+            × IsWrong f (min (position self.old / 65536) (last_of (len self.old))) damage)) }
+        ensures fails { IfErr result (λ e. error_kind e ≢ ErrorKind.InvalidData
+            → IsTrue (may_fail self.old)) }
         ensures retried { IfErr result (λ e. error_kind e ≢ ErrorKind.Interrupted) }
-        ensures same_file { file self.new ≡ file self.old }
+        ensures same { IsSame self.old self.new }
     {
-        match self.read_text(buf) {
-            Ok(n) => Ok(n),
-            Err(e) => Err(io::Error::from(e)),
+        match self.read_at(self.position, buf) {
+            Ok(n) => {
+                self.position += n as u64;
+                Ok(n)
+            }
+            Err(ReadError::Damaged(_)) => Err(damaged()),
+            Err(ReadError::Read(e)) => Err(e.apart_from_damage()),
+        }
+    }
+
+    /// Fills the buffer with text. Fails with the kind `UnexpectedEof` where the text ends before; the position then
+    /// stays, as after any error.
+    fn read_exact(&mut self, buf: &mut [u8]) -> io::Result<()>
+        ensures bytes { OnOk result (Consumes None None buf.new) }
+        ensures read { OnOk result ((position self.new ≡ position self.old + length buf.old)
+            × IfSome (file self.old) (λ f. HasRange f (position self.old) buf.new)) }
+        ensures end { text_of (len self.old) < position self.old + length buf.old
+            → IfErr result (λ e. error_kind e ≡ ErrorKind.UnexpectedEof) }
+        ensures unchanged { OnErr result (position self.new ≡ position self.old) }
+        ensures damaged { IfErr result (λ e. error_kind e ≡ ErrorKind.InvalidData
+            → IfSome (file self.old) (λ f. (i : ℕ) × (damage : Damage) × IsWrong f i damage)) }
+        ensures fails { IfErr result (λ e. error_kind e ≢ ErrorKind.InvalidData
+            → position self.old + length buf.old ≤ text_of (len self.old)
+            → IsTrue (may_fail self.old)) }
+        ensures retried { IfErr result (λ e. error_kind e ≢ ErrorKind.Interrupted) }
+        ensures same { IsSame self.old self.new }
+    {
+        match self.read_exact_at(self.position, buf) {
+            Ok(()) => {
+                self.position += buf.len() as u64;
+                Ok(())
+            }
+            Err(RangeError::PastEnd) => Err(io::Error::from(ErrorKind::UnexpectedEof)),
+            Err(RangeError::Damaged(_)) => Err(damaged()),
+            Err(RangeError::Read(e)) => Err(e.apart_from_damage()),
         }
     }
 }
 
-impl<R: Read + Seek> Seek for SealedReader<'_, R> {
-    ghost use Rattle.sealed_file.specs.SealedReader.{file, inner, position, held};
+impl<R: ReadAt> Seek for SealedReader<'_, R> {
+    ghost use Rattle.sealed_file.specs.SealedReader.{len, position, IsSame};
 
     ghost stream_position = { λ r. Some (position r) };
 
@@ -402,14 +346,13 @@ impl<R: Read + Seek> Seek for SealedReader<'_, R> {
             None to result }
         ensures bytes { Keeps None None }
         ensures target { IsSeekResult to (position self.old) result }
-        ensures from_end { IsSeekFromEnd to (text_of (file self.old).len) result }
+        ensures from_end { IsSeekFromEnd to (text_of (len self.old)) result }
         ensures negative { IfErr result (λ e. error_kind e ≡ ErrorKind.InvalidInput) }
-        ensures same { (held self.new ≡ held self.old) × (file self.new ≡ file self.old)
-            × (inner self.new ≡ inner self.old) }
+        ensures same { IsSame self.old self.new }
     {
         let (base, offset) = match to {
             SeekFrom::Start(at) => (at, 0),
-            SeekFrom::End(offset) => (text_len(self.file_len), offset),
+            SeekFrom::End(offset) => (text_len(self.len), offset),
             SeekFrom::Current(offset) => (self.position, offset),
         };
         match base.checked_add_signed(offset) {
@@ -420,34 +363,45 @@ impl<R: Read + Seek> Seek for SealedReader<'_, R> {
             None => Err(io::Error::from(ErrorKind::InvalidInput)),
         }
     }
-}
 
-impl From<SealError> for io::Error {
-    /// The error of the reader or writer, or one of the kind `InvalidData` for damage and `TimedOut` for `TooLong`.
-    fn from(error: SealError) -> io::Error
-        ensures read { (e : Error) → error ≡ SealError.Read e → result ≡ e }
-        ensures write { (e : Error) → error ≡ SealError.Write e → result ≡ e }
-        ensures kind { error_kind result ≡ kind_of error }
+    /// Sets the position to the start of the text.
+    fn rewind(&mut self) -> io::Result<()>
+        ensures moves { MovesTo (Some (position self.old)) (Some (position self.new)) 0 result }
+        ensures bytes { Keeps None None }
+        ensures ok { IsOk result }
+        ensures same { IsSame self.old self.new }
     {
-        match error {
-            SealError::Read(e) | SealError::Write(e) => e,
-            SealError::Damaged(_) => io::Error::new(ErrorKind::InvalidData, "damaged sealed file"),
-            SealError::TooLong => io::Error::from(ErrorKind::TimedOut),
-        }
+        self.position = 0;
+        Ok(())
+    }
+
+    /// The position in the text.
+    fn stream_position(&mut self) -> io::Result<u64>
+        ensures value { IfSome (Some (position self.old)) (λ at. IfOk result (λ n. n ≡ at)) }
+        ensures stays { StaysAt (Some (position self.old)) (Some (position self.new)) }
+        ensures bytes { Keeps None None }
+        ensures ok { IsOk result }
+        ensures same { IsSame self.old self.new }
+    {
+        Ok(self.position)
+    }
+
+    /// `seek` from the position.
+    fn seek_relative(&mut self, offset: i64) -> io::Result<()>
+        ensures moves { MovesBy (Some (position self.old)) (Some (position self.new))
+            offset result }
+        ensures bytes { Keeps None None }
+        ensures negative { IfErr result (λ e. error_kind e ≡ ErrorKind.InvalidInput) }
+        ensures same { IsSame self.old self.new }
+    {
+        self.seek(SeekFrom::Current(offset))?;
+        Ok(())
     }
 }
 
-impl From<ReaderError> for io::Error {
-    /// An error of the kind `UnexpectedEof` for `PastEnd`, else the one that a `SealError` becomes.
-    fn from(error: ReaderError) -> io::Error
-        ensures past_end { error ≡ ReaderError.PastEnd
-            → error_kind result ≡ ErrorKind.UnexpectedEof }
-        ensures failed { (e : SealError) → error ≡ ReaderError.Failed e
-            → error_kind result ≡ kind_of e }
-    {
-        match error {
-            ReaderError::PastEnd => io::Error::from(ErrorKind::UnexpectedEof),
-            ReaderError::Failed(e) => io::Error::from(e),
-        }
-    }
+// The error of a wrong chunk, as one of `std::io`.
+fn damaged() -> io::Error
+    ensures { error_kind result ≡ ErrorKind.InvalidData }
+{
+    io::Error::new(ErrorKind::InvalidData, "damaged sealed file")
 }

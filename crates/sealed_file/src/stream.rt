@@ -1,171 +1,189 @@
 //! From a reader to a writer.
 
-ghost use Rattle.std.specs.Prelude.{◌≡◌, ◌≢◌, ◌<◌, ◌≤◌, ◌+◌, ◌*◌, ◌^◌, ◌++◌, ℕ, List, length, take, Some, IfOk, OnOk, IfErr, OnErr, IfSome};
-ghost use Rattle.std.specs.declared.io.Error.{Error};
+ghost use Rattle.std.specs.Prelude.{◌≡◌, ◌≢◌, ◌<◌, ◌≤◌, ◌+◌, ◌*◌, ◌^◌, ◌++◌, ℕ, List, length, take, Some, IfOk, OnOk, IfErr, OnErr, IfSome, IsErrOf};
 ghost use Rattle.std.specs.Io.KnownBytes.{Appends, Consumes, IsAtEnd, prepend_known};
 ghost use Rattle.sealed_file.specs.declared.error.Damage.{Damage};
-ghost use Rattle.sealed_file.specs.Sealed.{header, chunk, sealed, damage_at, kind_of, IsRight, IsNoChunk, IsHeaderDamage, IsDamage};
+ghost use Rattle.sealed_file.specs.declared.error.IoError.{IoError};
+ghost use Rattle.sealed_file.specs.Sealed.{header, chunk, sealed, damage_at, IsSealed, IsRight, IsNoChunk, IsFileDamage, IsDamage};
 
-use crate::chunk::{
-    CHUNK, CHUNKS, Salt, TAG, header, open_chunk, salt_of, write_chunk, write_whole,
-};
-use crate::error::{Damage, SealError};
+use crate::chunk::{CHUNK, CHUNKS, Salt, TAG, header, open_chunk, salt_of, seal_chunk};
+use crate::error::{Damage, DecryptError, EncryptError, IoError, ReadError};
 use chacha20::Key;
 use std::io::{self, ErrorKind, Read, Write};
+use std::random::RandomSource;
 
-/// Writes the sealed file of all that the reader has left. The salt must be 16 new random bytes for each file: a salt
-/// that is used twice under a key reveals the XOR of both texts, and lets others forge. Fails for a text of more than
-/// 2^72 bytes, and where the reader or the writer fails; then the writer has a prefix of that file. `buf` is scratch
-/// space of `CHUNK + 1` bytes. Don't read it afterwards: no clause says what it holds.
-pub fn encrypt<R: Read, W: Write>(
+/// The bytes of the scratch space that calls are lent: a chunk, and one byte of the next.
+pub const BUFFER: usize = CHUNK + TAG + 1;
+
+/// Writes a sealed file of all that the reader has left, with a salt from a source of random bytes, such as a program's
+/// `HostRuntime`. No clause says that the salt is random: the trait promises nothing of what its call writes. Fails for
+/// a text of more than 2^48 bytes, and where the source, the reader or the writer fails; then the writer has a prefix
+/// of that file. Don't read `buf` afterwards: no clause says what it holds.
+pub fn encrypt<G: RandomSource, R: Read, W: Write>(
+    random: &G,
+    key: &Key,
+    reader: &mut R,
+    writer: &mut W,
+    buf: &mut [u8; BUFFER],
+) -> Result<(), EncryptError>
+    ensures written { OnOk result ((salt text file : List ℕ)
+        × IfSome (R.remaining reader.old) (λ all. all ≡ text)
+        × IsSealed key.now salt text file
+        × Appends (W.contents writer.old) (W.contents writer.new) file) }
+    ensures only_sealed { OnErr result ((salt text : List ℕ) × (n : ℕ) × (length salt ≡ 19)
+        × IfSome (R.remaining reader.old) (λ all. all ≡ text)
+        × Appends (W.contents writer.old) (W.contents writer.new)
+        (take n (sealed key.now salt text))) }
+    // An error of the reader comes between chunks.
+    ensures between { (e : IoError) → IsErrOf result (EncryptError.Read e)
+        → (bytes : List ℕ) × (i : ℕ) × (length bytes ≡ 32 + 65552 * i)
+        × Appends (W.contents writer.old) (W.contents writer.new) bytes }
+    ensures too_long { IsErrOf result EncryptError.TooLong
+        → IfSome (R.remaining reader.old) (λ text. 2 ^ 48 < length text) }
+{
+    let mut salt = [0; 19];
+    match random.fill_bytes(&mut salt) {
+        Ok(()) => encrypt_all(key, &salt, reader, writer, buf),
+        Err(e) => Err(EncryptError::Random(e)),
+    }
+}
+
+// `encrypt` with this salt.
+fn encrypt_all<R: Read, W: Write>(
     key: &Key,
     salt: &Salt,
     reader: &mut R,
     writer: &mut W,
-    buf: &mut [u8],
-) -> Result<(), SealError>
-    requires { length buf.old ≡ 65537 }
-    ensures written { OnOk result ((text : List ℕ)
+    buf: &mut [u8; BUFFER],
+) -> Result<(), EncryptError>
+    ensures written { OnOk result ((text file : List ℕ)
         × IfSome (R.remaining reader.old) (λ all. all ≡ text)
-        × Appends (W.contents writer.old) (W.contents writer.new) (sealed key.now salt.now text)) }
-    ensures short { OnOk result (IfSome (R.remaining reader.old) (λ text. length text ≤ 2 ^ 72)) }
-    // Also after an error.
-    ensures only_sealed { (text : List ℕ) × (n : ℕ)
+        × IsSealed key.now salt.now text file
+        × Appends (W.contents writer.old) (W.contents writer.new) file) }
+    ensures only_sealed { OnErr result ((text : List ℕ) × (n : ℕ)
         × IfSome (R.remaining reader.old) (λ all. all ≡ text)
         × Appends (W.contents writer.old) (W.contents writer.new)
-        (take n (sealed key.now salt.now text)) }
-    ensures too_long { IfErr result (λ e. e ≡ SealError.TooLong
-        → IfSome (R.remaining reader.old) (λ text. 2 ^ 72 < length text)) }
-    ensures retried { IfErr result (λ e. kind_of e ≢ ErrorKind.Interrupted) }
-    ensures not_damaged { IfErr result (λ e. (damage : Damage) → e ≢ SealError.Damaged damage) }
+        (take n (sealed key.now salt.now text))) }
+    ensures between { (e : IoError) → IsErrOf result (EncryptError.Read e)
+        → (bytes : List ℕ) × (i : ℕ) × (length bytes ≡ 32 + 65552 * i)
+        × Appends (W.contents writer.old) (W.contents writer.new) bytes }
+    ensures too_long { IsErrOf result EncryptError.TooLong
+        → IfSome (R.remaining reader.old) (λ text. 2 ^ 48 < length text) }
 {
-    write_whole(writer, &header(salt))?;
+    if let Err(e) = write_whole(writer, &header(salt)) {
+        return Err(EncryptError::Write(e));
+    }
+    let buf = &mut buf[..];
     let mut held = 0;
     'chunks: for number in 0..CHUNKS {
-        let n = fill(reader, buf, held)?;
+        let n = match fill(reader, &mut buf[..CHUNK + 1], held) {
+            Ok(n) => n,
+            Err(e) => return Err(EncryptError::Read(e)),
+        };
         let next = buf[CHUNK];
-        if n <= CHUNK {
-            return write_chunk(key, salt, number, true, &mut buf[..n], writer);
+        let last = n <= CHUNK;
+        let chunk = &mut buf[..n.min(CHUNK) + TAG];
+        seal_chunk(key, salt, number, last, chunk);
+        if let Err(e) = write_whole(writer, chunk) {
+            return Err(EncryptError::Write(e));
         }
-        write_chunk(key, salt, number, false, &mut buf[..CHUNK], writer)?;
+        if last {
+            return Ok(());
+        }
         buf[0] = next;
         held = 1;
     }
-    Err(SealError::TooLong)
+    Err(EncryptError::TooLong)
 }
 
 /// Reads a sealed file up to the reader's end, and writes the text of each chunk after its tag was found right. If it
 /// fails, the writer has a prefix of the text of the chunks whose tags were right. Damage is that of the header, or of
-/// the first chunk that isn't right. `buf` is scratch space of `CHUNK + TAG + 1` bytes. Don't read it afterwards: no
-/// clause says what it holds.
+/// the first chunk that isn't right. Don't read `buf` afterwards: no clause says what it holds.
 pub fn decrypt<R: Read, W: Write>(
     key: &Key,
     reader: &mut R,
     writer: &mut W,
-    buf: &mut [u8],
-) -> Result<(), SealError>
-    requires { length buf.old ≡ 65553 }
-    ensures accepted { OnOk result ((salt text : List ℕ) × (length salt ≡ 16)
-        × IfSome (R.remaining reader.old) (λ file. file ≡ sealed key.now salt text)
+    buf: &mut [u8; BUFFER],
+) -> Result<(), DecryptError>
+    ensures accepted { OnOk result ((salt text file : List ℕ)
+        × IfSome (R.remaining reader.old) (λ all. all ≡ file)
+        × IsSealed key.now salt text file
         × Appends (W.contents writer.old) (W.contents writer.new) text) }
-    ensures refused { IfErr result (λ e. (damage : Damage) → e ≡ SealError.Damaged damage
+    ensures text { (salt text file : List ℕ) → IsSealed key.now salt text file
+        → R.remaining reader.old ≡ Some file
+        → OnOk result (Appends (W.contents writer.old) (W.contents writer.new) text) }
+    ensures damaged { (damage : Damage) → IsErrOf result (DecryptError.Damaged damage)
+        → IfSome (R.remaining reader.old) (λ file. IsDamage key.now file damage) }
+    ensures refused { (damage : Damage) → IsErrOf result (DecryptError.Damaged damage)
         → IfSome (R.remaining reader.old) (λ file. (salt text : List ℕ)
-        → length salt ≡ 16 → file ≢ sealed key.now salt text)) }
-    ensures damaged { IfErr result (λ e. (damage : Damage) → e ≡ SealError.Damaged damage
-        → IfSome (R.remaining reader.old) (λ file. IsDamage key.now file damage)) }
-    // Also after an error.
-    ensures only_right { (file text : List ℕ) × (n : ℕ)
+        → IsSealed key.now salt text file → ⊥) }
+    ensures only_right { OnErr result ((file text : List ℕ) × (n : ℕ)
         × IfSome (R.remaining reader.old) (λ all. all ≡ file)
         × (0 < n → IsRight key.now file text)
+        × Appends (W.contents writer.old) (W.contents writer.new) (take n text)) }
+    // An error of the reader comes between chunks, one of the writer before all of a right text is written.
+    ensures between { (e : IoError) → IsErrOf result (DecryptError.Read e)
+        → (text : List ℕ) × (i : ℕ) × (length text ≡ 65536 * i)
+        × Appends (W.contents writer.old) (W.contents writer.new) text }
+    ensures unwritten { (e : IoError) → IsErrOf result (DecryptError.Write e)
+        → (file text : List ℕ) × (n : ℕ)
+        × IfSome (R.remaining reader.old) (λ all. all ≡ file) × IsRight key.now file text
+        × (n < length text)
         × Appends (W.contents writer.old) (W.contents writer.new) (take n text) }
-    ensures text { (salt text : List ℕ) → length salt ≡ 16
-        → R.remaining reader.old ≡ Some (sealed key.now salt text)
-        → OnOk result (Appends (W.contents writer.old) (W.contents writer.new) text) }
-    ensures too_long { IfErr result (λ e. e ≡ SealError.TooLong
-        → IfSome (R.remaining reader.old) (λ file. 32 + 65552 * 2 ^ 56 < length file)) }
-    ensures retried { IfErr result (λ e. kind_of e ≢ ErrorKind.Interrupted) }
 {
     let salt = read_header(reader)?;
+    let buf = &mut buf[..];
     let mut held = 0;
     'chunks: for number in 0..CHUNKS {
-        let n = fill(reader, buf, held)?;
+        let n = match fill(reader, buf, held) {
+            Ok(n) => n,
+            Err(e) => return Err(DecryptError::Read(e)),
+        };
         let next = buf[CHUNK + TAG];
-        if n <= CHUNK + TAG {
-            return write_text(key, &salt, number, true, &mut buf[..n], writer);
+        let last = n <= CHUNK + TAG;
+        let chunk = &mut buf[..n.min(CHUNK + TAG)];
+        if !open_chunk(key, &salt, number, last, chunk) {
+            return Err(DecryptError::Damaged(Damage::of_chunk(number, last)));
         }
-        write_text(key, &salt, number, false, &mut buf[..CHUNK + TAG], writer)?;
+        if let Err(e) = write_whole(writer, &chunk[..chunk.len() - TAG]) {
+            return Err(DecryptError::Write(e));
+        }
+        if last {
+            return Ok(());
+        }
         buf[0] = next;
         held = 1;
     }
-    Err(SealError::TooLong)
+    Err(DecryptError::Damaged(Damage::TooLong))
 }
 
-/// Reads the header, and returns its salt.
-pub fn read_header<R: Read>(reader: &mut R) -> Result<Salt, SealError>
+// Reads the header, and returns its salt.
+fn read_header<R: Read>(reader: &mut R) -> Result<Salt, DecryptError>
     ensures read { IfOk result (λ salt.
         Consumes (R.remaining reader.old) (R.remaining reader.new) (header salt)) }
-    ensures size { IfOk result (λ salt. length salt ≡ 16) }
-    ensures refused { IfErr result (λ e. (damage : Damage) → e ≡ SealError.Damaged damage
-        → IfSome (R.remaining reader.old) (λ file. (salt rest : List ℕ)
-        → length salt ≡ 16 → file ≢ header salt ++ rest)) }
-    ensures damaged { IfErr result (λ e. (damage : Damage) → e ≡ SealError.Damaged damage
-        → IfSome (R.remaining reader.old) (λ file. IsHeaderDamage file damage)) }
-    ensures retried { IfErr result (λ e. kind_of e ≢ ErrorKind.Interrupted) }
-    ensures not_write { IfErr result (λ e. (error : Error) → e ≢ SealError.Write error) }
-    ensures not_long { IfErr result (λ e. e ≢ SealError.TooLong) }
+    ensures size { IfOk result (λ salt. length salt ≡ 19) }
+    ensures damaged { (damage : Damage) → IsErrOf result (DecryptError.Damaged damage)
+        → IfSome (R.remaining reader.old) (λ file. IsFileDamage file damage) }
+    ensures not_write { (e : IoError) → IsErrOf result (DecryptError.Write e) → ⊥ }
 {
     let mut bytes = [0; 32];
-    let n = fill(reader, &mut bytes, 0)?;
-    match salt_of(&bytes[..n]) {
-        Ok(salt) => Ok(salt),
-        Err(damage) => Err(SealError::Damaged(damage)),
+    match fill(reader, &mut bytes, 0) {
+        Ok(n) => match salt_of(&bytes[..n]) {
+            Ok(salt) => Ok(salt),
+            Err(damage) => Err(DecryptError::Damaged(damage)),
+        },
+        Err(e) => Err(DecryptError::Read(e)),
     }
-}
-
-// Checks a chunk, and writes its text.
-fn write_text<W: Write>(
-    key: &Key,
-    salt: &Salt,
-    number: u64,
-    last: bool,
-    bytes: &mut [u8],
-    writer: &mut W,
-) -> Result<(), SealError>
-    requires number { number < 2 ^ 56 }
-    requires size { length bytes.old ≤ 65552 }
-    ensures right { OnOk result ((text : List ℕ) × (0 < number → 0 < length text)
-        × (bytes.old ≡ chunk key.now salt.now number last text)
-        × Appends (W.contents writer.old) (W.contents writer.new) text) }
-    ensures wrong { IfErr result (λ e. (damage : Damage) → e ≡ SealError.Damaged damage
-        → (damage ≡ damage_at number last)
-        × (W.contents writer.new ≡ W.contents writer.old)
-        × IsNoChunk key.now salt.now number last bytes.old) }
-    ensures partly { (text : List ℕ) × (n : ℕ)
-        × (0 < n → (0 < number → 0 < length text)
-        × (bytes.old ≡ chunk key.now salt.now number last text))
-        × Appends (W.contents writer.old) (W.contents writer.new) (take n text) }
-    ensures retried { IfErr result (λ e. kind_of e ≢ ErrorKind.Interrupted) }
-    ensures not_long { IfErr result (λ e. e ≢ SealError.TooLong) }
-{
-    let right = open_chunk(key, salt, number, last, bytes);
-    if !right {
-        return Err(SealError::Damaged(Damage::of_chunk(number, last)));
-    }
-    write_whole(writer, &bytes[..bytes.len() - TAG])
 }
 
 /// Reads until the buffer is full or the reader ends, behind the `held` bytes that the buffer has already. Returns how
 /// many bytes it has then. A read that is interrupted is tried again. After an error, the buffer has what was read.
-pub fn fill<R: Read>(reader: &mut R, buf: &mut [u8], held: usize) -> Result<usize, SealError>
+pub fn fill<R: Read>(reader: &mut R, buf: &mut [u8], held: usize) -> Result<usize, IoError>
     requires { held ≤ length buf.old }
     ensures read { IfOk result (λ n. Consumes
         (prepend_known (take held buf.old) (R.remaining reader.old)) (R.remaining reader.new)
         (take n buf.new)) }
     ensures bounds { IfOk result (λ n. (held ≤ n) × (n ≤ length buf.old)) }
-    ensures retried { IfErr result (λ e. kind_of e ≢ ErrorKind.Interrupted) }
-    ensures not_damaged { IfErr result (λ e. (damage : Damage) → e ≢ SealError.Damaged damage) }
-    ensures not_write { IfErr result (λ e. (error : Error) → e ≢ SealError.Write error) }
-    ensures not_long { IfErr result (λ e. e ≢ SealError.TooLong) }
     ensures end { IfOk result (λ n. n < length buf.old → IsAtEnd (R.remaining reader.new)) }
     ensures partly { OnErr result ((n : ℕ) × (n < length buf.old) × Consumes
         (prepend_known (take held buf.old) (R.remaining reader.old)) (R.remaining reader.new)
@@ -174,17 +192,48 @@ pub fn fill<R: Read>(reader: &mut R, buf: &mut [u8], held: usize) -> Result<usiz
     let mut at = held;
     'reads: for _ in 0..u64::MAX {
         if at >= buf.len() {
-            break;
+            return Ok(at);
         }
         match reader.read(&mut buf[at..]) {
             Ok(0) => return Ok(at),
             Ok(n) => at += n,
-            Err(e) if e.kind() == ErrorKind::Interrupted => {}
-            Err(e) => return Err(SealError::Read(e)),
+            Err(e) => {
+                if let Some(e) = IoError::new(e) {
+                    return Err(e);
+                }
+            }
         }
     }
-    if at < buf.len() {
-        return Err(SealError::Read(io::Error::from(ErrorKind::TimedOut)));
+    if at >= buf.len() {
+        return Ok(at);
     }
-    Ok(at)
+    Err(IoError::of(ErrorKind::TimedOut))
+}
+
+/// Writes all bytes, and repeats a write that a signal interrupts.
+pub fn write_whole<W: Write>(writer: &mut W, bytes: &[u8]) -> Result<(), IoError>
+    ensures written { OnOk result
+        (Appends (W.contents writer.old) (W.contents writer.new) bytes.now) }
+    ensures partly { OnErr result ((n : ℕ) × (n < length bytes.now)
+        × Appends (W.contents writer.old) (W.contents writer.new) (take n bytes.now)) }
+{
+    let mut done = 0;
+    'tries: for _ in 0..u64::MAX {
+        if done >= bytes.len() {
+            return Ok(());
+        }
+        match writer.write(&bytes[done..]) {
+            Ok(0) => return Err(IoError::of(ErrorKind::WriteZero)),
+            Ok(n) => done += n,
+            Err(e) => {
+                if let Some(e) = IoError::new(e) {
+                    return Err(e);
+                }
+            }
+        }
+    }
+    if done >= bytes.len() {
+        return Ok(());
+    }
+    Err(IoError::of(ErrorKind::TimedOut))
 }

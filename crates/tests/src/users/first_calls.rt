@@ -4,8 +4,8 @@ use chacha20::cipher::{KeyIvInit, StreamCipher, StreamCipherError, StreamCipherS
 use chacha20::{ChaCha20, ChaCha20Rng, Key, Nonce, XNonce};
 use chacha20poly1305::{ChaCha20Poly1305, Error, XChaCha20Poly1305};
 use known_answers::published::{COUNTING, KEYSTREAM, NONCE, OF_ZEROS, X_NONCE};
-use sealed_file::{CHUNK, Damage, SealError, SealedSlice, TAG};
-use std::random::RandomSource;
+use sealed_file::{BUFFER, ReadError, SealedReader};
+use std::test::Fail;
 
 fn encrypted_and_decrypted(key: &Key, nonce: &Nonce) -> Result<[u8; 14], StreamCipherError> {
     let mut message = *b"attack at dawn";
@@ -56,33 +56,34 @@ fn messages(rt: HostRuntime) {
 }
 
 // Bytes 10 to 14 of a file's text.
-fn part(key: &Key, file: &[u8], window: &mut [u8; 4]) -> Result<usize, Damage> {
-    let slice = SealedSlice::new(key, file)?;
-    slice.read_at(10, window)
+fn part(key: &Key, file: &[u8], window: &mut [u8; 4]) -> Result<usize, ReadError> {
+    let mut buf = [0; BUFFER];
+    let mut reader = SealedReader::new(key, file, &mut buf)?;
+    reader.read_at(10, window)
 }
 
 // Whether these are the text's file, read by its end, and the text that was opened.
 fn are_right(key: &Key, text: &[u8], file: &[u8], opened: &[u8]) -> bool {
     let mut window = [0; 4];
     let read = part(key, file, &mut window);
-    (opened == text) & (read == Ok(4)) & text.ends_with(&window)
+    (opened == text) & (read.unwrap_or(0) == 4) & text.ends_with(&window)
 }
 
-fn in_memory(rt: &HostRuntime, key: &Key, text: &[u8]) -> Result<bool, SealError> {
-    let mut salt = [0; 16];
-    rt.fill_bytes(&mut salt).map_err(SealError::Read)?;
+fn in_memory(rt: &HostRuntime, key: &Key, text: &[u8]) -> Result<bool, Fail> {
+    let mut buf = [0; BUFFER];
     let mut file = Vec::new(rt.alloc());
     let mut reader = text;
-    sealed_file::encrypt(key, &salt, &mut reader, &mut file, &mut [0; CHUNK + 1])?;
+    sealed_file::encrypt(rt, key, &mut reader, &mut file, &mut buf)?;
     let mut opened = Vec::new(rt.alloc());
     let mut reader = file.as_slice();
-    sealed_file::decrypt(key, &mut reader, &mut opened, &mut [0; CHUNK + TAG + 1])?;
+    sealed_file::decrypt(key, &mut reader, &mut opened, &mut buf)?;
     Ok(are_right(key, text, file.as_slice(), opened.as_slice()))
 }
 
 #[test]
-fn files(rt: HostRuntime) {
-    assert!(rt; in_memory(&rt, &COUNTING, b"attack at dawn").unwrap_or(false));
+fn files(rt: HostRuntime) -> Result<(), Fail> {
+    assert!(rt; in_memory(&rt, &COUNTING, b"attack at dawn")?);
+    Ok(())
 }
 
 // The words of a seed of zeros are those of block 0 of RFC 8439, appendix A.1, number 1.

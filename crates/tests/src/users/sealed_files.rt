@@ -1,261 +1,260 @@
-//! Sealed files: one of another implementation, round trips, damage, and readers and writers that fail.
-
-ghost use Rattle.std.specs.Prelude.{◌≡◌, ◌<◌, ◌^◌, ℕ, List, Some, length, take};
-ghost use Rattle.std.specs.Io.KnownBytes.{Appends};
-ghost use Rattle.sealed_file.specs.Sealed.{sealed};
+//! Sealed files: as libsodium makes them, there and back, damaged, and behind readers and writers that fail.
 
 use super::unsteady::Unsteady;
-use chacha20::Key;
+use Change::{Cut, Has, Turned};
 use known_answers::published::COUNTING as KEY;
-use sealed_file::{CHUNK, Damage, Salt, SealError, TAG, decrypt, encrypt};
-use std::io::{Read, Write};
-
-// Scratch space. Its length is a parameter of functions, and so are those of other large arrays: that a slice of them
-// has its length is proved fast with that, and slowly with a large number.
-const TO_SEAL: usize = CHUNK + 1;
-
-pub const SALT: Salt = *b"defghijklmnopqrs";
+use sealed_file::Damage::{CutHeader, NotSealed, OtherVersion, WrongChunk, WrongEnd};
+use sealed_file::{
+    BUFFER, CHUNK, Damage, DecryptError, EncryptError, RangeError, Salt, SealedReader, decrypt,
+    encrypt,
+};
+use std::alloc::{AllocError, Global};
+use std::io::{self, ErrorKind, Read, Write};
+use std::random::RandomSource;
+use std::test::Fail;
 
 // What a call says.
-#[derive(Clone, Copy, PartialEq)]
-enum Said {
+#[derive(Clone, Copy, Debug, PartialEq)]
+pub enum Said {
     Done,
-    Damaged(Damage),
+    Random,
     Read,
     Write,
     TooLong,
+    PastEnd,
+    Damaged(Damage),
 }
 
-fn said_by(done: Result<(), SealError>) -> Said {
+fn of_encrypt(done: Result<(), EncryptError>) -> Said {
     match done {
         Ok(()) => Said::Done,
-        Err(SealError::Damaged(damage)) => Said::Damaged(damage),
-        Err(SealError::Read(_)) => Said::Read,
-        Err(SealError::Write(_)) => Said::Write,
-        Err(SealError::TooLong) => Said::TooLong,
+        Err(EncryptError::Random(_)) => Said::Random,
+        Err(EncryptError::Read(_)) => Said::Read,
+        Err(EncryptError::Write(_)) => Said::Write,
+        Err(EncryptError::TooLong) => Said::TooLong,
     }
 }
 
-// Of a sealed file, whatever is said, a front of its text is written.
-fn opens<R: Read, W: Write>(key: &Key, reader: &mut R, writer: &mut W) -> Said
-    ensures { (salt text : List ℕ) → length salt ≡ 16
-        → R.remaining reader.old ≡ Some (sealed key.now salt text)
-        → (n : ℕ) × Appends (W.contents writer.old) (W.contents writer.new) (take n text) }
-{
-    let done = decrypt(key, reader, writer, &mut [0; CHUNK + TAG + 1]);
-    said_by(done)
+fn of_decrypt(done: Result<(), DecryptError>) -> Said {
+    match done {
+        Ok(()) => Said::Done,
+        Err(DecryptError::Read(_)) => Said::Read,
+        Err(DecryptError::Write(_)) => Said::Write,
+        Err(DecryptError::Damaged(damage)) => Said::Damaged(damage),
+    }
 }
 
-// What is said of a file, and how much text is written, where reader and writer fail in these calls, or never.
-fn opened(file: &[u8], text: &mut [u8], read: u32, write: u32) -> (Said, usize) {
-    let most = text.len();
+pub fn of_range(done: Result<(), RangeError>) -> Said {
+    match done {
+        Ok(()) => Said::Done,
+        Err(RangeError::PastEnd) => Said::PastEnd,
+        Err(RangeError::Read(_)) => Said::Read,
+        Err(RangeError::Damaged(damage)) => Said::Damaged(damage),
+    }
+}
+
+// Gives these bytes in each call, and fails where they are too few.
+#[derive(Drop)]
+struct Given<'s>(&'s [u8]);
+
+impl RandomSource for Given<'_> {
+    fn fill_bytes(&self, buf: &mut [u8]) -> io::Result<()> {
+        let mut bytes = self.0;
+        bytes.read_exact(buf)
+    }
+}
+
+static SALT: Salt = *b"defghijklmnopqrstuv";
+
+// What is said of a file, whose text goes to `text`, where reader and writer fail in these calls, or never.
+fn opened(file: &[u8], text: &mut Vec<u8>, read: u32, write: u32) -> Said {
     let mut reader = Unsteady::new(file, 1000, read);
     let mut writer = Unsteady::new(text, 1000, write);
-    let said = opens(&KEY, &mut reader, &mut writer);
-    (said, most - writer.inner.len().min(most))
+    of_decrypt(decrypt(&KEY, &mut reader, &mut writer, &mut [0; BUFFER]))
 }
 
-// The file of the text "text"; its chunk is as libsodium seals it (checks/seal).
-static FILE_OF_TEXT: [u8; 52] = *b"chacha20-seal v1defghijklmnopqrs\
-    \xa2\x58\xa9\xdf\x48\x9e\x69\x1f\x7f\x17\xa2\xbb\xbd\x04\x97\x5a\xb1\x18\xa7\xf9";
+// The same of a text, whose file goes to `file`.
+fn made(salt: &[u8], text: &[u8], file: &mut Vec<u8>, read: u32, write: u32) -> Said {
+    let mut reader = Unsteady::new(text, 1000, read);
+    let mut writer = Unsteady::new(file, 1000, write);
+    let mut buf = [0; BUFFER];
+    of_encrypt(encrypt(&Given(salt), &KEY, &mut reader, &mut writer, &mut buf))
+}
+
+// Whether a text's file ends so, and comes back.
+fn comes_back(alloc: Global, text: &[u8], end: &[u8]) -> bool {
+    let (mut file, mut back) = (Vec::new(alloc), Vec::new(alloc));
+    (made(&SALT, text, &mut file, 0, 0) == Said::Done)
+        & file.as_slice().ends_with(end)
+        & (opened(file.as_slice(), &mut back, 0, 0) == Said::Done)
+        & (back.as_slice() == text)
+}
+
+// The numbers from 0 to 250, again and again.
+pub fn counted(alloc: Global, size: usize) -> Result<Vec<u8>, AllocError> {
+    (0..size).map(|i| (i % 251) as u8).collect(alloc)
+}
+
+// The files of the texts "text" and "", and the last 33 bytes of that of 65537 counted bytes: the tag of chunk 0, and
+// chunk 1. The chunks are as libsodium seals them.
+static MADE: [&[u8]; 3] = [
+    b"chacha20seal1defghijklmnopqrstuv\
+    \xd0\x7a\x14\xe6\xfb\x9e\x2e\xba\x3c\x2e\x8e\x5c\x9c\x8b\xe5\x09\x34\xb5\xaa\xc9",
+    b"chacha20seal1defghijklmnopqrstuv\
+    \xb1\x9e\x0e\x30\xa2\x41\x70\x56\x90\xb5\x3d\x1d\xda\x48\xd7\x8a",
+    b"\x7d\x87\x89\x8f\x9d\x45\xfb\xed\xc2\xe5\x6e\xf8\x4d\x12\x37\x26\
+    \x7d\xa8\xfa\xf2\x24\x4b\xda\x1f\x52\x51\x91\xdd\x6e\x04\xf6\x28\x30",
+];
 
 #[test]
-fn another_implementations_file(rt: HostRuntime) {
-    let mut text = [0; 5];
-    let said = opened(&FILE_OF_TEXT, &mut text, 0, 0);
-    assert!(rt; (said == (Said::Done, 4)) & (text == *b"text\0"));
+fn files_of_another_implementation(rt: HostRuntime) -> Result<(), Fail> {
+    let long = counted(rt.alloc(), CHUNK + 1)?;
+    assert!(rt; comes_back(rt.alloc(), b"text", MADE[0]));
+    assert!(rt; comes_back(rt.alloc(), b"", MADE[1]));
+    assert!(rt; comes_back(rt.alloc(), long.as_slice(), MADE[2]));
+    Ok(())
 }
 
-// Whether a text's file fills this one.
-fn seals<const B: usize>(salt: &Salt, text: &[u8], file: &mut [u8]) -> bool
-    requires { B ≡ 65537 }
-{
-    let (mut reader, mut writer) = (text, file);
-    let done = encrypt(&KEY, salt, &mut reader, &mut writer, &mut [0; B]);
-    done.is_ok() & writer.is_empty()
-}
-
-// Writes the numbers from 0 to 250, again and again.
-pub fn count(text: &mut [u8]) {
-    for i in 0..text.len() {
-        text[i] = (i % 251) as u8;
+#[test]
+fn round_trips(rt: HostRuntime) -> Result<(), Fail> {
+    for size in [0, 1, 65535, 65536, 65537, 400000] {
+        let text = counted(rt.alloc(), size)?;
+        assert!(rt; comes_back(rt.alloc(), text.as_slice(), b""), "{size}");
     }
+    Ok(())
 }
 
-// Makes a text, and says whether its file fills this one.
-pub fn counted(text: &mut [u8], file: &mut [u8]) -> bool {
-    count(text);
-    seals::<TO_SEAL>(&SALT, text, file)
-}
-
-// Whether a text of N bytes has a file of F bytes, and comes back.
-fn comes_back<const N: usize, const F: usize>() -> bool
-    requires text { N < 2 ^ 63 }
-    requires file { F < 2 ^ 63 }
-{
-    is_right(&mut [0; N], &mut [0; F], &mut [0; N])
-}
-
-fn is_right(text: &mut [u8], file: &mut [u8], back: &mut [u8]) -> bool {
-    let sealed = counted(text, file);
-    sealed & (opened(file, back, 0, 0) == (Said::Done, text.len())) & (*back == *text)
-}
-
-#[test]
-fn round_trips(rt: HostRuntime) {
-    let found = [
-        comes_back::<0, 48>(),
-        comes_back::<1, 49>(),
-        comes_back::<65535, 65583>(),
-        comes_back::<65536, 65584>(),
-        comes_back::<65537, 65601>(),
-        comes_back::<400000, 400144>(),
-    ];
-    assert!(rt; found == [true; 6]);
-}
-
-// A text whose file has four chunks, and that file.
+// A text whose file has four chunks, and the length of that file.
 pub const TEXT: usize = 200000;
 
 pub const FILE: usize = 200096;
 
-pub const TWO_FILES: usize = 2 * FILE;
-
-// From where to where a part stands in two such files, one behind the other.
-type Part = (usize, usize);
-
-const HEADER: Part = (0, 32);
-
-const FIRST: Part = (32, 65584);
-
-const SECOND: Part = (65584, 131136);
-
-const THIRD: Part = (131136, 196688);
-
-const LAST: Part = (196688, FILE);
-
-const OTHER_SECOND: Part = (FILE + 65584, FILE + 131136);
-
 // A damaged file.
-#[derive(Clone, Copy)]
+#[derive(Clone, Copy, Debug)]
 pub enum Change {
     // Only so many bytes are left.
     Cut(usize),
     // A bit of this byte is turned.
     Turned(usize),
-    // It has these parts.
-    Has(&'static [Part]),
+    // It has these parts: the header `h`, chunks `0` to `3`, and chunk 1 of the other file, `x`.
+    Has(&'static str),
 }
 
-// Writes the damaged file, and returns its length.
-pub fn apply(files: &[u8], change: Change, bytes: &mut [u8]) -> usize {
+// From where to where a part stands in two files, one behind the other.
+fn place(part: u8) -> (usize, usize) {
+    match part {
+        b'h' => (0, 32),
+        b'0' => (32, 65584),
+        b'1' => (65584, 131136),
+        b'2' => (131136, 196688),
+        b'3' => (196688, FILE),
+        _ => (FILE + 65584, FILE + 131136),
+    }
+}
+
+// Makes the damaged file.
+pub fn changed(alloc: Global, files: &[u8], change: Change) -> Result<Vec<u8>, AllocError> {
+    let mut file = first(files).to_vec(alloc)?;
     match change {
-        Change::Cut(len) => put_parts(files, &[(0, len)], bytes),
-        Change::Turned(place) => {
-            let len = put_parts(files, &[(0, FILE)], bytes);
-            if place < bytes.len() {
-                bytes[place] ^= 1;
+        Cut(len) => file.truncate(len),
+        Turned(place) => {
+            if let Some(byte) = file.get_mut(place) {
+                *byte ^= 1;
             }
-            len
         }
-        Change::Has(parts) => put_parts(files, parts, bytes),
+        Has(parts) => {
+            file.clear();
+            for part in parts.as_bytes() {
+                let (from, to) = place(*part);
+                file.extend_from_slice(files.get(from..to).unwrap_or(&[]))?;
+            }
+        }
     }
+    Ok(file)
 }
 
-// Writes parts, and returns how many bytes that are.
-fn put_parts(files: &[u8], parts: &[Part], bytes: &mut [u8]) -> usize {
-    let most = bytes.len();
-    let mut room = bytes;
-    for (from, to) in parts {
-        let _ = room.write_all(files.get(*from..*to).unwrap_or(&[]));
-    }
-    most - room.len().min(most)
+// A text, and its files under two salts, one behind the other.
+pub fn two_files(alloc: Global) -> Result<(Vec<u8>, Vec<u8>), AllocError> {
+    let text = counted(alloc, TEXT)?;
+    let mut files = Vec::new(alloc);
+    made(&SALT, text.as_slice(), &mut files, 0, 0);
+    made(&[7; 19], text.as_slice(), &mut files, 0, 0);
+    Ok((text, files))
 }
 
-// Files of the text under two salts, one behind the other.
-pub fn two_files(text: &mut [u8], files: &mut [u8]) -> bool {
-    let (first, second) = files.split_at_mut(FILE.min(files.len()));
-    counted(text, first) & seals::<TO_SEAL>(&[7; 16], text, second)
+// The first of two files.
+pub fn first(files: &[u8]) -> &[u8] {
+    files.get(..FILE).unwrap_or(&[])
 }
 
-// What is wrong with a damaged file, and how much text is written.
+// What is wrong with a damaged file, and how much text comes before it.
 static DAMAGED: [(Change, Damage, usize); 27] = [
-    (Change::Cut(0), Damage::NotSealed, 0),
-    (Change::Cut(1), Damage::NotSealed, 0),
-    (Change::Cut(15), Damage::CutHeader, 0),
-    (Change::Cut(31), Damage::CutHeader, 0),
-    (Change::Cut(32), Damage::WrongEnd(0), 0),
-    (Change::Cut(33), Damage::WrongEnd(0), 0),
-    (Change::Cut(48), Damage::WrongEnd(0), 0),
-    (Change::Cut(65583), Damage::WrongEnd(0), 0),
-    (Change::Cut(65584), Damage::WrongEnd(0), 0),
-    (Change::Cut(65585), Damage::WrongEnd(1), 65536),
-    (Change::Cut(196688), Damage::WrongEnd(2), 131072),
-    (Change::Cut(200095), Damage::WrongEnd(3), 196608),
-    (Change::Turned(0), Damage::NotSealed, 0),
-    (Change::Turned(14), Damage::NotSealed, 0),
-    (Change::Turned(15), Damage::OtherVersion, 0),
-    (Change::Turned(16), Damage::WrongChunk(0), 0),
-    (Change::Turned(32), Damage::WrongChunk(0), 0),
-    (Change::Turned(65583), Damage::WrongChunk(0), 0),
-    (Change::Turned(65584), Damage::WrongChunk(1), 65536),
-    (Change::Turned(196688), Damage::WrongEnd(3), 196608),
-    (Change::Turned(200095), Damage::WrongEnd(3), 196608),
-    (Change::Has(EXCHANGED), Damage::WrongChunk(0), 0),
-    (Change::Has(LEFT_OUT), Damage::WrongChunk(1), 65536),
-    (Change::Has(REPEATED), Damage::WrongChunk(1), 65536),
-    (Change::Has(OF_ANOTHER_FILE), Damage::WrongChunk(1), 65536),
-    (Change::Has(LAST_TWICE), Damage::WrongEnd(3), 196608),
-    (Change::Has(WHOLE_TWICE), Damage::WrongChunk(3), 196608),
+    (Cut(0), NotSealed, 0),
+    (Cut(1), NotSealed, 0),
+    (Cut(12), CutHeader, 0),
+    (Cut(31), CutHeader, 0),
+    (Cut(32), WrongEnd(0), 0),
+    (Cut(33), WrongEnd(0), 0),
+    (Cut(48), WrongEnd(0), 0),
+    (Cut(65583), WrongEnd(0), 0),
+    (Cut(65584), WrongEnd(0), 0),
+    (Cut(65585), WrongEnd(1), 65536),
+    (Cut(196688), WrongEnd(2), 131072),
+    (Cut(200095), WrongEnd(3), 196608),
+    (Turned(0), NotSealed, 0),
+    (Turned(11), NotSealed, 0),
+    (Turned(12), OtherVersion, 0),
+    (Turned(13), WrongChunk(0), 0),
+    (Turned(32), WrongChunk(0), 0),
+    (Turned(65583), WrongChunk(0), 0),
+    (Turned(65584), WrongChunk(1), 65536),
+    (Turned(196688), WrongEnd(3), 196608),
+    (Turned(200095), WrongEnd(3), 196608),
+    (Has("h1023"), WrongChunk(0), 0),
+    (Has("h023"), WrongChunk(1), 65536),
+    (Has("h00123"), WrongChunk(1), 65536),
+    (Has("h0x23"), WrongChunk(1), 65536),
+    (Has("h01233"), WrongEnd(3), 196608),
+    (Has("h0123h0123"), WrongChunk(3), 196608),
 ];
 
-const EXCHANGED: &[Part] = &[HEADER, SECOND, FIRST, THIRD, LAST];
-
-const LEFT_OUT: &[Part] = &[HEADER, FIRST, THIRD, LAST];
-
-const REPEATED: &[Part] = &[HEADER, FIRST, FIRST, SECOND, THIRD, LAST];
-
-const OF_ANOTHER_FILE: &[Part] = &[HEADER, FIRST, OTHER_SECOND, THIRD, LAST];
-
-const LAST_TWICE: &[Part] = &[HEADER, FIRST, SECOND, THIRD, LAST, LAST];
-
-const WHOLE_TWICE: &[Part] = &[(0, FILE), (0, FILE)];
-
-// What is said of a damaged file, and how much text is written.
-fn opened_after(files: &[u8], change: Change, bytes: &mut [u8], back: &mut [u8]) -> (Said, usize) {
-    let len = apply(files, change, bytes);
-    opened(bytes.get(..len).unwrap_or(&[]), back, 0, 0)
-}
-
-// The number of the first damaged file of which another thing is said, or how many there are.
-fn wrong_damage(text: &mut [u8], files: &mut [u8], bytes: &mut [u8], back: &mut [u8]) -> usize {
-    let sealed = two_files(text, files);
-    for i in 0..DAMAGED.len() {
-        let (change, damage, written) = &DAMAGED[i];
-        let said = opened_after(files, *change, bytes, back);
-        if !sealed | (said != (Said::Damaged(*damage), *written)) {
-            return i;
-        }
+// Reads up to the end or the first damage, and then what is there. Past the end, too, it is said that an end is wrong.
+fn read_all(file: &[u8], text: &mut Vec<u8>, is_end: bool) -> Result<(), RangeError> {
+    let mut buf = [0; BUFFER];
+    let mut reader = SealedReader::new(&KEY, file, &mut buf)?;
+    let kind = reader.read_to_end(text).map_err(|e| e.kind());
+    if kind == Err(ErrorKind::InvalidData) {
+        let place = if is_end { u64::MAX } else { text.len() as u64 };
+        reader.read_at(place, &mut [0])?;
     }
-    DAMAGED.len()
+    Ok(())
 }
 
-fn wrong_damage_in<const N: usize, const F: usize, const B: usize>() -> usize
-    requires text { N < 2 ^ 63 }
-    requires file { F < 2 ^ 63 }
-    requires files { B < 2 ^ 63 }
-{
-    wrong_damage(&mut [0; N], &mut [0; B], &mut [0; B], &mut [0; F])
+// Whether `decrypt` and a reader find this damage, and before it this text.
+fn is_found(alloc: Global, file: &[u8], damage: Damage, front: &[u8]) -> bool {
+    let (mut written, mut read) = (Vec::new(alloc), Vec::new(alloc));
+    let is_end = matches!(damage, WrongEnd(_));
+    (opened(file, &mut written, 0, 0) == Said::Damaged(damage))
+        & (of_range(read_all(file, &mut read, is_end)) == Said::Damaged(damage))
+        & (written.as_slice() == front)
+        & (read.as_slice() == front)
 }
 
 #[test]
-fn damaged_files_are_refused(rt: HostRuntime) {
-    let wrong = wrong_damage_in::<TEXT, FILE, TWO_FILES>();
-    assert!(rt; wrong == DAMAGED.len(), "{wrong}");
+fn damaged_files_are_refused(rt: HostRuntime) -> Result<(), Fail> {
+    let (text, files) = two_files(rt.alloc())?;
+    for (change, damage, written) in &DAMAGED {
+        let file = changed(rt.alloc(), files.as_slice(), *change)?;
+        let front = text.get(..*written).unwrap_or(&[]);
+        let found = is_found(rt.alloc(), file.as_slice(), *damage, front);
+        assert!(rt; found, "{change:?}");
+    }
+    Ok(())
 }
 
-// Calls in which a reader and a writer fail.
-static FAILURES: [(u32, u32, Said); 6] = [
+// Calls in which a reader and a writer fail, and what is said.
+static FAILURES: [(u32, u32, Said); 7] = [
+    (0, 0, Said::Done),
     (1, 0, Said::Read),
     (40, 0, Said::Read),
     (100, 0, Said::Read),
@@ -264,27 +263,29 @@ static FAILURES: [(u32, u32, Said); 6] = [
     (0, 100, Said::Write),
 ];
 
-// The number of the first failure of which another thing is said, or how many there are.
-fn wrong_failure(text: &mut [u8], file: &mut [u8]) -> usize {
-    let sealed = seals::<TO_SEAL>(&SALT, text, file);
-    for i in 0..FAILURES.len() {
-        let (read, write, said) = &FAILURES[i];
-        if !sealed | (opened(file, text, *read, *write).0 != *said) {
-            return i;
-        }
-    }
-    FAILURES.len()
-}
-
-fn wrong_failure_in<const N: usize, const F: usize>() -> usize
-    requires text { N < 2 ^ 63 }
-    requires file { F < 2 ^ 63 }
-{
-    wrong_failure(&mut [0; N], &mut [0; F])
+// Whether `encrypt` and `decrypt` say this, and write a front of the file and of the text.
+fn tell(alloc: Global, text: &[u8], file: &[u8], read: u32, write: u32, said: Said) -> bool {
+    let (mut sealed, mut back) = (Vec::new(alloc), Vec::new(alloc));
+    (made(&SALT, text, &mut sealed, read, write) == said)
+        & (opened(file, &mut back, read, write) == said)
+        & file.starts_with(sealed.as_slice())
+        & text.starts_with(back.as_slice())
 }
 
 #[test]
-fn failures_are_told(rt: HostRuntime) {
-    let wrong = wrong_failure_in::<TEXT, FILE>();
-    assert!(rt; wrong == FAILURES.len(), "{wrong}");
+fn failures_are_told(rt: HostRuntime) -> Result<(), Fail> {
+    let (text, files) = two_files(rt.alloc())?;
+    let (text, file) = (text.as_slice(), first(files.as_slice()));
+    for (read, write, said) in &FAILURES {
+        let right = tell(rt.alloc(), text, file, *read, *write, *said);
+        assert!(rt; right, "{read} {write}");
+    }
+    Ok(())
+}
+
+#[test]
+fn a_salt_is_needed(rt: HostRuntime) {
+    let mut file = Vec::new(rt.alloc());
+    let said = made(b"eighteen bytes are", b"text", &mut file, 0, 0);
+    assert!(rt; (said == Said::Random) & file.is_empty());
 }

@@ -1,31 +1,20 @@
-//! Parts of sealed files: in memory, behind a reader that fails, and in a `File`.
+//! Parts of sealed files: in memory, behind a source that fails, and in a `File`.
 
-ghost use Rattle.std.specs.Prelude.{◌≡◌, ◌<◌, ◌^◌, ℕ, List, length, OnOk, ◌+◌};
+ghost use Rattle.std.specs.Prelude.{◌≡◌, ◌+◌, ℕ, List, length, OnOk};
 ghost use Rattle.std.specs.List.{slice_range};
-ghost use Rattle.sealed_file.specs.Sealed.{sealed};
+ghost use Rattle.sealed_file.specs.Sealed.{IsSealed};
 
-use super::sealed_files::{Change, FILE, TEXT, TWO_FILES, apply, counted, two_files};
+use super::sealed_files::Change::{Cut, Turned};
+use super::sealed_files::Said::{Damaged, Done, PastEnd};
+use super::sealed_files::{Change, FILE, Said, TEXT, changed, first, of_range, two_files};
 use super::unsteady::Unsteady;
 use chacha20::Key;
 use known_answers::published::COUNTING as KEY;
-use sealed_file::{
-    CHUNK, Damage, ReaderError, SealError, SealedReader, SealedSlice, SliceError, TAG,
-};
+use sealed_file::Damage::{NotSealed, TooLong, WrongChunk, WrongEnd};
+use sealed_file::{BUFFER, CHUNK, Damage, RangeError, ReadAt, SealedReader};
 use std::fs::{File, OpenOptions, remove_file};
-use std::io::{self, Cursor, ErrorKind, Read, Seek, SeekFrom, Write};
-
-// A part of a file in memory.
-fn read_part(file: &[u8], place: u64, window: &mut [u8]) -> Result<usize, Damage> {
-    SealedSlice::new(&KEY, file)?.read_at(place, window)
-}
-
-// A file behind a reader.
-fn reader(file: &[u8]) -> Unsteady<Cursor<&[u8]>> {
-    Unsteady::new(Cursor::new(file), 1000, 0)
-}
-
-// The scratch space of a reader.
-const BUFFER: usize = CHUNK + TAG;
+use std::io::{self, ErrorKind, Read, Seek, SeekFrom, Write};
+use std::test::Fail;
 
 // The bytes of a sealed file's text from `start` to `end`.
 fn between(
@@ -34,18 +23,19 @@ fn between(
     start: u64,
     end: u64,
     window: &mut [u8],
-) -> Result<(), SliceError>
+) -> Result<(), RangeError>
     requires { start + length window.old ≡ end }
-    ensures { (salt text : List ℕ) → length salt ≡ 16 → file.now ≡ sealed key.now salt text
+    ensures { (salt text : List ℕ) → IsSealed key.now salt text file.now
         → OnOk result (window.new ≡ slice_range text start end) }
 {
-    let slice = SealedSlice::new(key, file)?;
-    slice.read_exact_at(start, window)
+    let mut buf = [0; BUFFER];
+    let mut reader = SealedReader::new(key, file, &mut buf)?;
+    reader.read_exact_at(start, window)
 }
 
 // A hundred bytes, which stand in two chunks.
-fn hundred(key: &Key, file: &[u8], window: &mut [u8; 100]) -> Result<(), SliceError>
-    ensures { (salt text : List ℕ) → length salt ≡ 16 → file.now ≡ sealed key.now salt text
+fn hundred(key: &Key, file: &[u8], window: &mut [u8; 100]) -> Result<(), RangeError>
+    ensures { (salt text : List ℕ) → IsSealed key.now salt text file.now
         → OnOk result (window.new ≡ slice_range text 65500 65600) }
 {
     between(key, file, 65500, 65600, window)
@@ -55,406 +45,243 @@ fn hundred(key: &Key, file: &[u8], window: &mut [u8; 100]) -> Result<(), SliceEr
 fn is_part(text: &[u8], place: usize, n: usize, window: &[u8]) -> bool {
     let from = place.min(text.len());
     let end = (place / CHUNK).saturating_add(1).saturating_mul(CHUNK);
-    let size = window.len().min(end.min(text.len()) - from.min(end));
+    let size = window.len().min(end.min(text.len()).saturating_sub(from));
     (n == size) & (window.get(..n) == text.get(from..from.saturating_add(n)))
 }
 
-// Whether this text is read at a place, in memory and behind a reader.
-fn is_read<R: Read + Seek>(text: &[u8], file: &[u8], reader: &mut R, place: usize) -> bool {
-    let mut windows = [[0; 30]; 2];
-    let sought = reader.seek(SeekFrom::Start(place as u64));
-    let n = reader.read(&mut windows[0]).unwrap_or(usize::MAX);
-    let m = read_part(file, place as u64, &mut windows[1]).unwrap_or(usize::MAX);
-    (sought.unwrap_or(0) == place as u64)
-        & is_part(text, place, n, &windows[0])
-        & is_part(text, place, m, &windows[1])
-}
-
 // The first place near the end of a chunk from which another text is read, or the greatest number.
-fn wrong_place<R: Read + Seek>(text: &[u8], file: &[u8], reader: &mut R) -> usize {
+fn wrong_place<R: Read + Seek>(text: &[u8], reader: &mut R) -> io::Result<usize> {
     for border in [0, 65536, 131072, 196608, 200000usize] {
         for step in 0..40usize {
             let place = (border + step).saturating_sub(20);
-            if !is_read(text, file, reader, place) {
-                return place;
+            let mut window = [0; 30];
+            reader.seek(SeekFrom::Start(place as u64))?;
+            let n = reader.read(&mut window)?;
+            if !is_part(text, place, n, &window) {
+                return Ok(place);
             }
         }
     }
-    usize::MAX
+    Ok(usize::MAX)
 }
 
-// Whether the end of the text is read.
-fn ends<R: Read + Seek>(text: &[u8], reader: &mut R) -> bool {
-    let mut end = [0; 4];
-    let sought = reader.seek(SeekFrom::End(-3));
-    let n = reader.read(&mut end);
-    (sought.unwrap_or(0) == 199997) & (n.unwrap_or(0) == 3) & text.ends_with(&end[..3])
+// Whether the end is read, and the moves from there come to the right places.
+fn moves<R: Read + Seek>(text: &[u8], reader: &mut R) -> io::Result<bool> {
+    let mut four = [0; 4];
+    let end = reader.seek(SeekFrom::End(-3))?;
+    let too_long = reader.read_exact(&mut four).map_err(|e| e.kind());
+    let n = reader.read(&mut four)?;
+    let is_end = (end == 199997) & (n == 3) & text.ends_with(&four[..3]);
+    reader.seek_relative(-100)?;
+    reader.read_exact(&mut four)?;
+    let at = reader.stream_position()?;
+    let too_far = reader
+        .seek(SeekFrom::Current(-199905))
+        .map_err(|e| e.kind());
+    reader.rewind()?;
+    Ok(
+        is_end
+            & (too_long == Err(ErrorKind::UnexpectedEof))
+            & (text.get(199900..199904) == Some(&four[..]))
+            & (at == 199904)
+            & (too_far == Err(ErrorKind::InvalidInput))
+            & (reader.stream_position()? == 0),
+    )
 }
 
-fn is_right<R: Read + Seek>(text: &[u8], file: &[u8], reader: &mut R) -> bool {
-    ends(text, reader) & (wrong_place(text, file, reader) == usize::MAX)
+// Whether all of this is so of a source.
+fn is_read<S: ReadAt + Drop>(text: &[u8], source: S) -> Result<bool, Fail> {
+    let mut buf = [0; BUFFER];
+    let mut reader = SealedReader::new(&KEY, source, &mut buf)?;
+    let are_parts = wrong_place(text, &mut reader)? == usize::MAX;
+    Ok(are_parts & moves(text, &mut reader)? & (reader.text_len() == TEXT as u64))
 }
 
-// Whether all parts are read behind a reader.
-fn all_read<R: Read + Seek, const B: usize>(text: &[u8], file: &[u8], inner: &mut R) -> bool
-    requires { B ≡ 65552 }
-{
-    let mut buf = [0; B];
-    match SealedReader::new(&KEY, inner, &mut buf) {
-        Ok(mut reader) => is_right(text, file, &mut reader),
-        Err(_) => false,
-    }
-}
-
-// An empty file, whose name is removed.
-fn unnamed(rt: &HostRuntime) -> io::Result<File> {
+// A file that has these bytes, and whose name is removed.
+fn unnamed(rt: &HostRuntime, bytes: &[u8]) -> io::Result<File> {
     let path = "sealed_parts.tmp";
     let mut options = OpenOptions::new();
     options.read(true).write(true).create(true).truncate(true);
-    let file = options.open(rt, path)?;
+    let mut file = options.open(rt, path)?;
     remove_file(rt, path)?;
+    file.write_all(bytes)?;
     Ok(file)
 }
 
-fn reads_hundred(text: &[u8], file: &[u8]) -> bool {
+#[test]
+fn parts(rt: HostRuntime) -> Result<(), Fail> {
+    let (text, files) = two_files(rt.alloc())?;
+    let (text, file) = (text.as_slice(), first(files.as_slice()));
     let mut window = [0; 100];
-    hundred(&KEY, file, &mut window).is_ok() & (text.get(65500..65600) == Some(&window[..]))
+    hundred(&KEY, file, &mut window)?;
+    assert!(rt; text.get(65500..65600) == Some(&window[..]));
+    assert!(rt; is_read(text, file)?);
+    assert!(rt; is_read(text, &Unsteady::new(file, 1000, 0))?);
+    assert!(rt; is_read(text, unnamed(&rt, file)?)?);
+    Ok(())
 }
 
-fn unnamed_is_read(rt: &HostRuntime, text: &[u8], file: &[u8]) -> bool {
-    match unnamed(rt) {
-        Ok(mut inner) => {
-            inner.write_all(file).is_ok() & all_read::<_, BUFFER>(text, file, &mut inner)
-        }
-        Err(_) => false,
-    }
-}
-
-fn parts_are_read(rt: &HostRuntime, text: &mut [u8], file: &mut [u8]) -> bool {
-    counted(text, file)
-        & all_read::<_, BUFFER>(text, file, &mut reader(file))
-        & unnamed_is_read(rt, text, file)
-        & reads_hundred(text, file)
-}
-
-fn parts_are_read_in<const N: usize, const F: usize>(rt: &HostRuntime) -> bool
-    requires text { N < 2 ^ 63 }
-    requires file { F < 2 ^ 63 }
-{
-    parts_are_read(rt, &mut [0; N], &mut [0; F])
-}
-
-#[test]
-fn parts(rt: HostRuntime) {
-    assert!(rt; parts_are_read_in::<TEXT, FILE>(&rt));
-}
-
-// Reads a text by 32 bytes, and returns how many reads fail as the reader of the file does, unless it reads another
-// text or another error comes.
-fn failed_reads<R: Read>(text: &[u8], reader: &mut R) -> Option<u32> {
-    let (mut at, mut failed) = (0usize, 0u32);
-    for _ in 0..text.len() / 32 + 1 {
+// Reads text by 32 bytes to its end, with `read_exact` or with `read`, and returns how many reads fail with this kind.
+fn failed_reads<R: Read>(
+    reader: &mut R,
+    is_exact: bool,
+    text: &mut Vec<u8>,
+    kind: ErrorKind,
+) -> io::Result<u32> {
+    let mut failed = 0u32;
+    for _ in 0..10000 {
         let mut piece = [0; 32];
-        match reader.read_exact(&mut piece) {
-            Ok(()) if text.get(at..at.saturating_add(32)) == Some(&piece[..]) => {
-                at = at.saturating_add(32);
-            }
-            Err(e) if e.kind() == ErrorKind::BrokenPipe => failed = failed.saturating_add(1),
-            _ => return None,
+        let done = if is_exact {
+            reader.read_exact(&mut piece).map(|()| 32)
+        } else {
+            reader.read(&mut piece)
+        };
+        match done {
+            Ok(0) => break,
+            Ok(n) => text.extend_from_slice(piece.get(..n).unwrap_or(&[]))?,
+            Err(e) if e.kind() == kind => failed = failed.saturating_add(1),
+            Err(e) if e.kind() == ErrorKind::UnexpectedEof => break,
+            Err(e) => return Err(e),
         }
     }
-    Some(failed)
+    Ok(failed)
 }
 
-// The same behind a reader, whose seeks are counted.
-fn failed_behind<R: Read + Seek, const B: usize>(text: &[u8], inner: &mut R) -> Option<u32>
-    requires { B ≡ 65552 }
-{
-    let mut buf = [0; B];
-    match SealedReader::new(&KEY, inner, &mut buf) {
-        Ok(mut reader) => failed_reads(text, &mut reader),
-        Err(_) => None,
-    }
-}
-
-// Each chunk is opened once, and again after a failure. The first two seeks are those of `new`; three are repeated.
-fn is_kept(text: &mut [u8], file: &mut [u8]) -> bool {
-    let sealed = counted(text, file);
-    let mut inner = reader(file);
-    inner.failing_seek = 4;
-    let failed = failed_behind::<_, BUFFER>(text, &mut inner);
-    sealed & (failed == Some(1)) & (inner.seeks == 10)
-}
-
-fn is_kept_in<const N: usize, const F: usize>() -> bool
-    requires text { N < 2 ^ 63 }
-    requires file { F < 2 ^ 63 }
-{
-    is_kept(&mut [0; N], &mut [0; F])
-}
-
-#[test]
-fn a_chunk_is_kept(rt: HostRuntime) {
-    assert!(rt; is_kept_in::<TEXT, FILE>());
-}
-
-// A damaged file, a place that is read, and what is wrong there.
-static DAMAGED: [(Change, u64, Option<Damage>); 21] = [
-    (Change::Turned(0), 65536, Some(Damage::NotSealed)),
-    (Change::Turned(14), 65536, Some(Damage::NotSealed)),
-    (Change::Cut(14), 65536, Some(Damage::NotSealed)),
-    (Change::Cut(15), 65536, Some(Damage::CutHeader)),
-    (Change::Cut(31), 65536, Some(Damage::CutHeader)),
-    (Change::Turned(15), 65536, Some(Damage::OtherVersion)),
-    (Change::Turned(32), 0, Some(Damage::WrongChunk(0))),
-    (Change::Turned(32), 65536, None),
-    (Change::Turned(131135), 65535, None),
-    (Change::Turned(131135), 65536, Some(Damage::WrongChunk(1))),
-    (Change::Turned(131135), 131072, None),
-    (Change::Turned(200095), 196607, None),
-    (Change::Turned(200095), 196608, Some(Damage::WrongEnd(3))),
-    (Change::Turned(200095), 200000, Some(Damage::WrongEnd(3))),
-    (Change::Turned(200095), u64::MAX, Some(Damage::WrongEnd(3))),
-    (Change::Cut(200095), 196608, Some(Damage::WrongEnd(3))),
-    (Change::Cut(196689), 196608, Some(Damage::WrongEnd(3))),
-    (Change::Cut(196688), 131071, None),
-    (Change::Cut(196688), 131072, Some(Damage::WrongEnd(2))),
-    (Change::Cut(196688), 300000, Some(Damage::WrongEnd(2))),
-    (Change::Cut(32), 0, Some(Damage::WrongEnd(0))),
+// Whether reads are by `read_exact`, a call in which the source fails, and with which kind; which kind comes out of how
+// many reads, and how many calls there are. Each chunk is opened once, and again after a failure.
+static KEPT: [(bool, u32, ErrorKind, ErrorKind, u32, u32); 5] = [
+    (false, 0, ErrorKind::Other, ErrorKind::Other, 0, 9),
+    (
+        false,
+        6,
+        ErrorKind::BrokenPipe,
+        ErrorKind::BrokenPipe,
+        1,
+        11,
+    ),
+    (false, 6, ErrorKind::InvalidData, ErrorKind::Other, 1, 11),
+    (true, 6, ErrorKind::BrokenPipe, ErrorKind::BrokenPipe, 1, 11),
+    (true, 6, ErrorKind::InvalidData, ErrorKind::Other, 1, 11),
 ];
 
-// The damage that is found, if any.
-fn damage_of<T: Drop>(done: Result<T, SealError>) -> Option<Damage> {
-    match done {
-        Err(SealError::Damaged(damage)) => Some(damage),
-        _ => None,
-    }
-}
-
-fn kind_of(read: io::Result<usize>) -> Option<ErrorKind> {
-    match read {
-        Ok(_) => None,
-        Err(e) => Some(e.kind()),
-    }
-}
-
-// What a reader says of a place, and the kind of its second answer.
-fn said_of<R: Read + Seek>(
-    reader: &mut SealedReader<'_, R>,
-    place: u64,
-    window: &mut [u8],
-) -> (Option<Damage>, Option<ErrorKind>) {
-    let _ = reader.seek(SeekFrom::Start(place));
-    let damage = damage_of(reader.read_text(window));
-    let _ = reader.seek(SeekFrom::Start(place));
-    (damage, kind_of(reader.read(window)))
-}
-
-fn read_at<R: Read + Seek, const B: usize>(
-    inner: &mut R,
-    place: u64,
-    window: &mut [u8],
-) -> (Option<Damage>, Option<ErrorKind>)
-    requires { B ≡ 65552 }
-{
-    let mut buf = [0; B];
-    match SealedReader::new(&KEY, inner, &mut buf) {
-        Ok(mut reader) => said_of(&mut reader, place, window),
-        Err(e) => (damage_of::<()>(Err(e)), Some(ErrorKind::InvalidData)),
-    }
-}
-
-// Whether this damage is found at a place, in memory and behind a reader, and then nothing handed out.
-fn is_found(file: &[u8], place: u64, damage: Option<Damage>) -> bool {
-    let (mut window, mut other) = ([0; 30], [0; 30]);
-    let in_memory = read_part(file, place, &mut window);
-    let (behind_a_reader, kind) = read_at::<_, BUFFER>(&mut reader(file), place, &mut other);
-    (in_memory.err() == damage)
-        & (behind_a_reader == damage)
-        & (kind == damage.map(|_| ErrorKind::InvalidData))
-        & (damage.is_none() | (window == [0; 30]) & (other == [0; 30]))
-}
-
-// The number of the first damage that is not found, or how many there are.
-fn wrong_damage(text: &mut [u8], files: &mut [u8], bytes: &mut [u8]) -> usize {
-    let sealed = two_files(text, files);
-    for i in 0..DAMAGED.len() {
-        let (change, place, damage) = &DAMAGED[i];
-        let len = apply(files, *change, bytes);
-        if !sealed | !is_found(bytes.get(..len).unwrap_or(&[]), *place, *damage) {
-            return i;
-        }
-    }
-    DAMAGED.len()
-}
-
-fn wrong_damage_in<const N: usize, const B: usize>() -> usize
-    requires text { N < 2 ^ 63 }
-    requires files { B < 2 ^ 63 }
-{
-    wrong_damage(&mut [0; N], &mut [0; B], &mut [0; B])
-}
-
 #[test]
-fn damaged_parts_are_refused(rt: HostRuntime) {
-    let wrong = wrong_damage_in::<TEXT, TWO_FILES>();
-    assert!(rt; wrong == DAMAGED.len(), "{wrong}");
+fn a_chunk_is_kept(rt: HostRuntime) -> Result<(), Fail> {
+    let (text, files) = two_files(rt.alloc())?;
+    for (is_exact, fails, kind, told, failed, calls) in &KEPT {
+        let mut source = Unsteady::new(first(files.as_slice()), BUFFER, *fails);
+        source.kind = *kind;
+        let mut buf = [0; BUFFER];
+        let mut reader = SealedReader::new(&KEY, &source, &mut buf)?;
+        let mut back = Vec::new(rt.alloc());
+        let n = failed_reads(&mut reader, *is_exact, &mut back, *told)?;
+        assert!(rt; (n == *failed) & (back == text) & (source.calls.get() == *calls));
+    }
+    Ok(())
 }
 
 // What is said of a range.
-#[derive(Clone, Copy, PartialEq)]
-enum Range {
-    Read,
-    PastEnd,
-    Damaged(Damage),
-    Failed,
-}
-
-fn said_in_memory(file: &[u8], start: u64, window: &mut [u8]) -> Result<(), SliceError> {
-    SealedSlice::new(&KEY, file)?.read_exact_at(start, window)
-}
-
-fn range_in_memory(file: &[u8], start: u64, window: &mut [u8]) -> Range {
-    match said_in_memory(file, start, window) {
-        Ok(()) => Range::Read,
-        Err(SliceError::PastEnd) => Range::PastEnd,
-        Err(SliceError::Damaged(damage)) => Range::Damaged(damage),
-    }
-}
-
-fn said_behind<R: Read + Seek, const B: usize>(
-    inner: &mut R,
-    start: u64,
-    window: &mut [u8],
-) -> Result<(), ReaderError>
-    requires { B ≡ 65552 }
-{
-    let mut buf = [0; B];
-    SealedReader::new(&KEY, inner, &mut buf)?.read_exact_at(start, window)
-}
-
-fn range_behind<R: Read + Seek>(inner: &mut R, start: u64, window: &mut [u8]) -> Range {
-    match said_behind::<_, BUFFER>(inner, start, window) {
-        Ok(()) => Range::Read,
-        Err(ReaderError::PastEnd) => Range::PastEnd,
-        Err(ReaderError::Failed(SealError::Damaged(damage))) => Range::Damaged(damage),
-        Err(ReaderError::Failed(_)) => Range::Failed,
-    }
+fn range<S: ReadAt + Drop>(source: S, start: u64, window: &mut [u8]) -> Result<(), RangeError> {
+    let mut buf = [0; BUFFER];
+    let mut reader = SealedReader::new(&KEY, source, &mut buf)?;
+    reader.read_exact_at(start, window)
 }
 
 // A file, the start and the length of a range, what is said of it, and how much of it is read.
-static RANGES: [(Change, u64, usize, Range, usize); 15] = [
-    (Change::Cut(FILE), 65500, 100, Range::Read, 100),
-    (Change::Cut(FILE), 0, TEXT, Range::Read, TEXT),
-    (Change::Cut(FILE), 199999, 1, Range::Read, 1),
-    (Change::Cut(FILE), 199999, 2, Range::PastEnd, 0),
-    (Change::Cut(FILE), 200000, 0, Range::Read, 0),
-    (Change::Cut(FILE), 200001, 0, Range::PastEnd, 0),
-    (Change::Cut(FILE), u64::MAX, 1, Range::PastEnd, 0),
-    (
-        Change::Turned(65584),
-        65500,
-        100,
-        Range::Damaged(Damage::WrongChunk(1)),
-        36,
-    ),
-    (
-        Change::Turned(65584),
-        0,
-        TEXT,
-        Range::Damaged(Damage::WrongChunk(1)),
-        65536,
-    ),
-    (Change::Turned(65584), 65436, 100, Range::Read, 100),
-    (Change::Turned(65584), 70000, 0, Range::Read, 0),
-    (Change::Turned(65584), 131072, 68928, Range::Read, 68928),
-    (
-        Change::Turned(65584),
-        70000,
-        100,
-        Range::Damaged(Damage::WrongChunk(1)),
-        0,
-    ),
-    (
-        Change::Turned(200095),
-        131072,
-        68928,
-        Range::Damaged(Damage::WrongEnd(3)),
-        65536,
-    ),
-    (
-        Change::Turned(0),
-        0,
-        1,
-        Range::Damaged(Damage::NotSealed),
-        0,
-    ),
+static RANGES: [(Change, u64, usize, Said, usize); 23] = [
+    (Cut(FILE), 65500, 100, Done, 100),
+    (Cut(FILE), 0, TEXT, Done, TEXT),
+    (Cut(FILE), 199999, 1, Done, 1),
+    (Cut(FILE), 199999, 2, PastEnd, 0),
+    (Cut(FILE), 200000, 0, Done, 0),
+    (Cut(FILE), 200001, 0, PastEnd, 0),
+    (Cut(FILE), u64::MAX, 1, PastEnd, 0),
+    (Turned(32), 0, 30, Damaged(WrongChunk(0)), 0),
+    (Turned(32), 65536, 30, Done, 30),
+    (Turned(65584), 65500, 100, Damaged(WrongChunk(1)), 36),
+    (Turned(65584), 0, TEXT, Damaged(WrongChunk(1)), 65536),
+    (Turned(65584), 65436, 100, Done, 100),
+    (Turned(65584), 70000, 0, Done, 0),
+    (Turned(65584), 131072, 68928, Done, 68928),
+    (Turned(131135), 65535, 1, Done, 1),
+    (Turned(131135), 70000, 100, Damaged(WrongChunk(1)), 0),
+    (Turned(200095), 131072, 68928, Damaged(WrongEnd(3)), 65536),
+    (Turned(200095), 196607, 1, Done, 1),
+    (Turned(200095), 200000, 1, PastEnd, 0),
+    (Turned(0), 0, 1, Damaged(NotSealed), 0),
+    (Cut(200095), 196608, 30, Damaged(WrongEnd(3)), 0),
+    (Cut(196688), 131071, 1, Done, 1),
+    (Cut(196688), 131072, 30, Damaged(WrongEnd(2)), 0),
 ];
 
 // Whether a window has n bytes of text from a place on, and behind them what it had.
 fn holds(window: &[u8], text: &[u8], start: u64, n: usize) -> bool {
     let start = start.min(text.len() as u64) as usize;
+    let rest = window.get(n..).unwrap_or(&[]);
     (window.get(..n) == text.get(start..start.saturating_add(n)))
-        & window
-            .get(n..)
-            .unwrap_or(&[])
-            .iter()
-            .all(|byte| *byte == 255)
+        & rest.iter().all(|byte| *byte == 255)
 }
 
-// Whether both calls say this of a range, and read so much of it.
-fn is_said(text: &[u8], file: &[u8], start: u64, window: &mut [u8], said: Range, n: usize) -> bool {
-    window.fill(255);
-    let in_memory = (range_in_memory(file, start, window) == said) & holds(window, text, start, n);
-    window.fill(255);
-    let behind = (range_behind(&mut reader(file), start, window) == said)
-        & holds(window, text, start, n);
-    in_memory & behind
-}
-
-// The number of the first range of which another thing is said, or how many there are.
-fn wrong_range(text: &mut [u8], files: &mut [u8], bytes: &mut [u8], window: &mut [u8]) -> usize {
-    let sealed = two_files(text, files);
-    for i in 0..RANGES.len() {
-        let (change, start, size, said, n) = &RANGES[i];
-        let len = apply(files, *change, bytes);
-        let file = bytes.get(..len).unwrap_or(&[]);
-        let window = window.get_mut(..*size).unwrap_or(&mut []);
-        if !sealed | !is_said(text, file, *start, window, *said, *n) {
-            return i;
-        }
+#[test]
+fn ranges(rt: HostRuntime) -> Result<(), Fail> {
+    let (text, files) = two_files(rt.alloc())?;
+    for (change, start, size, said, n) in &RANGES {
+        let file = changed(rt.alloc(), files.as_slice(), *change)?;
+        let mut window = vec![in rt.alloc(); 255; *size]?;
+        let source = Unsteady::new(file.as_slice(), 1000, 0);
+        let done = range(&source, *start, window.as_mut_slice());
+        assert!(rt; of_range(done) == *said, "{change:?} {start}");
+        assert!(rt;
+            holds(window.as_slice(), text.as_slice(), *start, *n),
+            "{change:?} {start}"
+        );
     }
-    RANGES.len()
+    Ok(())
 }
 
-fn wrong_range_in<const N: usize, const B: usize>() -> usize
-    requires text { N < 2 ^ 63 }
-    requires files { B < 2 ^ 63 }
-{
-    wrong_range(&mut [0; N], &mut [0; B], &mut [0; B], &mut [0; N])
-}
+// How much of the whole text is read before the source fails in each of its calls. The first, the fourth and the
+// seventh are interrupted where they don't fail.
+static READ: [usize; 9] = [0, 0, 0, 0, 0, 65536, 131072, 131072, 196608];
 
 #[test]
-fn ranges(rt: HostRuntime) {
-    let wrong = wrong_range_in::<TEXT, TWO_FILES>();
-    assert!(rt; wrong == RANGES.len(), "{wrong}");
+fn failures_are_told(rt: HostRuntime) -> Result<(), Fail> {
+    let (text, files) = two_files(rt.alloc())?;
+    for (i, n) in READ.iter().enumerate() {
+        let mut window = vec![in rt.alloc(); 255; TEXT]?;
+        let source = Unsteady::new(first(files.as_slice()), BUFFER, i as u32 + 1);
+        let done = range(&source, 0, window.as_mut_slice());
+        assert!(rt; of_range(done) == Said::Read, "{i}");
+        assert!(rt; holds(window.as_slice(), text.as_slice(), 0, *n), "{i}");
+    }
+    Ok(())
 }
 
-// Each chunk of a range is opened once. The first two seeks are those of `new`; two are repeated.
-fn is_opened_once(text: &mut [u8], file: &mut [u8], window: &mut [u8]) -> bool {
-    let sealed = counted(text, file);
-    let mut inner = reader(file);
-    sealed & (range_behind(&mut inner, 0, window) == Range::Read) & (inner.seeks == 8)
+// A file, and the size that it says it has.
+#[derive(Drop)]
+struct OfSize<'f>(&'f [u8], u64);
+
+impl ReadAt for OfSize<'_> {
+    fn size(&self) -> io::Result<u64> {
+        Ok(self.1)
+    }
+
+    fn read_at(&self, buf: &mut [u8], place: u64) -> io::Result<usize> {
+        self.0.read_at(buf, place)
+    }
 }
 
-fn is_opened_once_in<const N: usize, const F: usize>() -> bool
-    requires text { N < 2 ^ 63 }
-    requires file { F < 2 ^ 63 }
-{
-    is_opened_once(&mut [0; N], &mut [0; F], &mut [0; N])
-}
+// Sizes of a file that is shorter, a byte of its text, and what is said there: a file has at most 2^32 chunks.
+static SIZES: [(u64, u64, Damage); 3] = [
+    (200097, 200000, WrongEnd(3)),
+    (32 + (65552 << 32), (1 << 48) - 1, WrongEnd(4294967295)),
+    (33 + (65552 << 32), 0, TooLong),
+];
 
 #[test]
-fn a_chunk_of_a_range_is_opened_once(rt: HostRuntime) {
-    assert!(rt; is_opened_once_in::<TEXT, FILE>());
+fn sizes_are_not_trusted(rt: HostRuntime) -> Result<(), Fail> {
+    let (_, files) = two_files(rt.alloc())?;
+    for (size, start, damage) in &SIZES {
+        let done = range(OfSize(first(files.as_slice()), *size), *start, &mut [0]);
+        assert!(rt; of_range(done) == Damaged(*damage), "{size}");
+    }
+    Ok(())
 }

@@ -1,17 +1,18 @@
-//! A reader and writer that takes few bytes in a call, is interrupted, fails, and gives one more byte after its end.
+//! A reader, writer or file that takes few bytes in a call, is interrupted and fails.
 
-use std::io::{self, ErrorKind, Read, Seek, SeekFrom, Write};
+use sealed_file::ReadAt;
+use std::cell::Cell;
+use std::io::{self, ErrorKind, Read, Write};
 
-// It takes at most `most` bytes in a call, and is interrupted in each third read or write and in each third seek. It
-// fails in the read or write with the number `fails`, and in the seek with the number `failing_seek`; the first is 1.
+// It takes at most `most` bytes in a call, is interrupted in the first call and each third after it, and fails in the
+// call with the number `fails`, where the first is 1. A reader gives one more byte after its end.
 #[derive(Drop)]
 pub struct Unsteady<T> {
     pub inner: T,
     most: usize,
     fails: u32,
-    calls: u32,
-    pub seeks: u32,
-    pub failing_seek: u32,
+    pub kind: ErrorKind,
+    pub calls: Cell<u32>,
     ended: bool,
 }
 
@@ -21,18 +22,18 @@ impl<T> Unsteady<T> {
             inner,
             most,
             fails,
-            calls: 0,
-            seeks: 0,
-            failing_seek: 0,
+            kind: ErrorKind::BrokenPipe,
+            calls: Cell::new(0),
             ended: false,
         }
     }
 
-    fn step(&mut self) -> io::Result<()> {
-        self.calls = self.calls.saturating_add(1);
-        if self.calls == self.fails {
-            Err(io::Error::from(ErrorKind::BrokenPipe))
-        } else if self.calls % 3 == 0 {
+    fn step(&self) -> io::Result<()> {
+        let call = self.calls.get().saturating_add(1);
+        self.calls.set(call);
+        if call == self.fails {
+            Err(io::Error::from(self.kind))
+        } else if call % 3 == 1 {
             Err(io::Error::from(ErrorKind::Interrupted))
         } else {
             Ok(())
@@ -65,16 +66,15 @@ impl<W: Write> Write for Unsteady<W> {
     }
 }
 
-impl<S: Seek> Seek for Unsteady<S> {
-    fn seek(&mut self, to: SeekFrom) -> io::Result<u64> {
-        self.seeks = self.seeks.saturating_add(1);
-        if self.seeks == self.failing_seek {
-            return Err(io::Error::from(ErrorKind::BrokenPipe));
-        }
-        if self.seeks % 3 == 0 {
-            return Err(io::Error::from(ErrorKind::Interrupted));
-        }
-        self.ended = false;
-        self.inner.seek(to)
+impl<F: ReadAt> ReadAt for &Unsteady<F> {
+    fn size(&self) -> io::Result<u64> {
+        self.step()?;
+        self.inner.size()
+    }
+
+    fn read_at(&self, buf: &mut [u8], place: u64) -> io::Result<usize> {
+        self.step()?;
+        let len = buf.len().min(self.most);
+        self.inner.read_at(&mut buf[..len], place)
     }
 }

@@ -1,23 +1,22 @@
-use Rattle.std.proofs.Common.{◌≡◌, ◌++◌, ◌∙◌, ◌+◌, ◌^◌, if◌then◌else◌, w64, replicate, sym, ap, ap₂, append-nil}
-use Rattle.std.specs.Int.{to_le_bytes}
+use Rattle.std.proofs.Common.{◌≡◌, ◌++◌, ◌∷◌, [], ◌∙◌, Bool, true, false, replicate, refl, sym, ap, ap₂, append-nil}
 use Rattle.chacha20.proofs.StdLemmas.{put_mid-at}
-use Rattle.sealed_file.proofs.NonceLemmas.{nonce-same}
-use Rattle.sealed_file.proofs.chunk.chunk_nonce.Goals.{then-last, else-last}
+use Rattle.sealed_file.proofs.NonceLemmas.{mark, nonce-same}
+use mir.Val.{bool_byte}
 use Rattle.sealed_file.proofs.chunk.chunk_nonce.Goals as goal
+
+mark-is : (last : Bool) → bool_byte last ≡ mark last
+mark-is true = refl
+mark-is false = refl
 
 pub returns-clause-value : goal.returns-clause-value
 returns-clause-value c =
-    let front = c.copy_from_slice in
-    let back = c.copy_from_slice-2 in
-    let mark : c.if-last.mark ≡ (if c.args.last then 2 ^ 56 else 0) =
-    elim c.if-last.branch [
-      | then-last w ↦ w.mark-is ∙ sym (ap (λ b. if b then 2 ^ 56 else 0) w.if-last.true)
-      | else-last w ↦ w.mark-is ∙ sym (ap (λ b. if b then 2 ^ 56 else 0) w.if-last.false)
-    ] in
-    put_mid-at 16 8 front.new.self (replicate 8 0) back.new.self front.ensures.len
-    ∙ ap₂ ◌++◌ front.ensures.after
-    (append-nil back.new.self ∙ back.ensures.after ∙ c.to_le_bytes.ensures
-    ∙ ap (λ mark. to_le_bytes w64 (c.args.number + mark)) mark)
+    let number = c.copy_from_slice in
+    let salt = c.copy_from_slice-2 in
+    let end = c.copy_from_slice-3 in
+    put_mid-at 19 5 salt.new.self (replicate 5 0) end.new.self salt.ensures.len
+    ∙ ap₂ ◌++◌ salt.ensures.after
+    (append-nil end.new.self ∙ end.ensures.after ∙ ap₂ ◌++◌ (number.ensures.after ∙ c.to_be_bytes.ensures)
+    (ap (λ m. m ∷ []) (mark-is c.args.last)))
 
 pub returns-clause-distinct : goal.returns-clause-distinct
 returns-clause-distinct c other i is_last long fits same =

@@ -1,8 +1,8 @@
-use Rattle.std.proofs.Common.{◌≡◌, ◌∙◌, ◌++◌, ◌-◌, IsOk, arith, length, take, drop, sym, ap, take_at, drop_at, length-take-le, true≢false}
+use Rattle.std.proofs.Common.{◌≡◌, ◌∙◌, ◌-◌, [], IsOk, arith, length, take, drop, sym, ap, take_at, drop_at, length-take-le, true≢false}
 use Rattle.std.proofs.lemmas.List.{take-append-drop, take_rest}
 use Rattle.chacha20.specs.XChaCha.{xchacha_stream}
 use Rattle.chacha20.proofs.KeystreamLemmas.{xor_stream-xor_stream}
-use Rattle.chacha20.proofs.StdLemmas.{on_ok-holds, on_err-holds}
+use Rattle.chacha20.proofs.StdLemmas.{on_ok-holds}
 use Rattle.chacha20poly1305.specs.Aead.{encrypted, poly1305_tag}
 use Rattle.sealed_file.specs.Sealed.{chunk}
 use Rattle.sealed_file.proofs.ChunkLemmas.{chunk-is, chunk-tag, length-chunk}
@@ -34,7 +34,7 @@ returns-clause-right c opened =
     let nonce = c.chunk_nonce-nonce.result in
     let stream = xchacha_stream 10 key nonce in
     let accepted : IsOk c.decrypt_in_place_detached.result = sym c.is_ok.ensures.value ∙ opened in
-    let right : drop end bytes ≡ poly1305_tag stream c.header.result ciphertext =
+    let right : drop end bytes ≡ poly1305_tag stream [] ciphertext =
     sym (c.copy_from_slice.ensures.after ∙ take_rest bytes end)
     ∙ ((rw c.new-cipher.ensures at c.decrypt_in_place_detached.ensures.accepted).0 accepted).1 in
     let size : length text ≡ end = c.decrypt_in_place_detached.auto.message ∙ length-take-le end bytes (omega arith) in
@@ -45,14 +45,14 @@ returns-clause-right c opened =
     let encrypts : ciphertext ≡ encrypted stream text =
     sym (xor_stream-xor_stream stream 64 ciphertext) ∙ ap (encrypted stream) (sym plain) in
     sym (take-append-drop end bytes)
-    ∙ chunk-is key c.args.salt.now c.args.number c.args.last text nonce c.header.result ciphertext (drop end bytes)
-    c.chunk_nonce-nonce.ensures.value c.header.ensures encrypts right
+    ∙ chunk-is key c.args.salt.now c.args.number c.args.last text nonce ciphertext (drop end bytes)
+    c.chunk_nonce-nonce.ensures.value encrypts right
     ∙ ap (chunk key c.args.salt.now c.args.number c.args.last) (sym (take_at text (drop end bytes) end size))
 
 pub returns-clause-wrong : goal.returns-clause-wrong
 returns-clause-wrong c refused text some same =
     let tag = chunk-tag c.args.key.now c.args.salt.now c.args.number c.args.last text c.chunk_nonce-nonce.result
-    c.header.result c.args.bytes.now c.chunk_nonce-nonce.ensures.value c.header.ensures same in
+    c.args.bytes.now c.chunk_nonce-nonce.ensures.value same in
     let end = length c.args.bytes.now - 16 in
     let size = length-take-le end c.args.bytes.now (omega arith) in
     let accepted : IsOk c.decrypt_in_place_detached.result =
@@ -69,26 +69,3 @@ returns-clause-tag c =
     let end = length bytes - 16 in
     drop_at c.decrypt_in_place_detached.new.message (drop end bytes) end
     (c.decrypt_in_place_detached.auto.message ∙ length-take-le end bytes (omega arith))
-
--- answered for speed
-pub returns-clause-long : goal.returns-clause-long
-returns-clause-long c opened = (
-  elim c.if-number-eq0.branch [
-    | then-number-eq0 w ↦ omega (arith, w.least-is, c.if-bytes-least.false)
-    | else-number-eq0 w ↦ omega (arith, w.least-is, c.if-bytes-least.false)
-  ],
-  λ some. elim c.if-number-eq0.branch [
-    | then-number-eq0 w ↦ omega (arith, some, w.if-number-eq0.true)
-    | else-number-eq0 w ↦ omega (arith, w.least-is, c.if-bytes-least.false)
-  ],
-)
-
--- answered for speed
-pub returns-clause-refused : goal.returns-clause-refused
-returns-clause-refused c wrong =
-    let bytes = c.args.bytes.now in
-    let end = length bytes - 16 in
-    let kept = on_err-holds c.decrypt_in_place_detached.result
-    (λ accepted. true≢false (sym accepted ∙ sym c.is_ok.ensures.value ∙ wrong))
-    c.decrypt_in_place_detached.ensures.refused in
-    ap (λ front. front ++ drop end bytes) kept ∙ take-append-drop end bytes

@@ -3,7 +3,7 @@ use Rattle.std.proofs.lemmas.Slice.{take-put_mid_below}
 use Rattle.std.specs.Io.KnownBytes.{Consumes}
 use Rattle.std.proofs.KnownBytes.{Consumes-trans, Consumes-kept}
 use Rattle.sealed_file.proofs.BufferLemmas.{take-put_mid}
-use Rattle.sealed_file.proofs.stream.fill.Goals.{in-Ok, in-Err}
+use Rattle.sealed_file.proofs.stream.fill.Goals.{in-Ok, in-Err+in_default}
 use borrow.Rule.Slice.PartMut.{put_mid}
 use Rattle.sealed_file.proofs.stream.fill.Goals as goal
 
@@ -22,7 +22,7 @@ reads-preserved g c =
             ∙ take-put_mid c.reads.at w.in-Ok.n room old new within w.in-Ok.ensures.bound.0))
             (Consumes-trans _ _ _ _ _ read w.in-Ok.ensures.bytes.0),
       )
-      | in-Err w ↦ (
+      | in-Err+in_default w ↦ (
         search rules,
         search rules,
         subst (Consumes _ _)

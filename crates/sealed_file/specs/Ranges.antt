@@ -1,0 +1,65 @@
+-- Places and ranges of a file.
+use Rattle.std.specs.Prelude.{◌≡◌, ◌<◌, ◌≤◌, ◌+◌, ◌-◌, ◌*◌, ◌/◌, ◌%◌, ◌⊎◌, ℕ, List, ◌++◌, length, take, drop, min, nat_eq}
+use Rattle.std.specs.List.{slice_get}
+use Rattle.sealed_file.specs.declared.error.Damage.{Damage}
+use Rattle.sealed_file.specs.declared.error.RangeError.{RangeError}
+use Rattle.sealed_file.specs.declared.error.ReadError.{ReadError}
+use Rattle.sealed_file.specs.declared.error.ReadError.TheVariants.{Read, Damaged}
+use Rattle.sealed_file.specs.Sealed.{chunk, last_of, text_of, damage_at}
+
+-- a file, and the key and the salt that it is read with
+pub record File : Type 0 where
+  pub key : List ℕ
+  pub salt : List ℕ
+  pub bytes : List ℕ
+
+-- where chunk i begins
+abbrev pub place : ℕ → ℕ
+place i = 32 + 65552 * i
+
+-- how many bytes chunk i has in a file of so many
+abbrev pub chunk_size : ℕ → ℕ → ℕ
+chunk_size len i = min 65552 (len - place i)
+
+-- chunk i of a file is right, and this is its text; only chunk 0 may have an empty one
+abbrev pub HasChunk : File → ℕ → List ℕ → Type 0
+HasChunk f i text =
+    (0 < i → 0 < length text)
+    × (take 65552 (drop (place i) f.bytes)
+    ≡ chunk f.key f.salt i (nat_eq i (last_of (length f.bytes))) text)
+
+-- text from byte `start` on, each byte of which is one of a right chunk
+abbrev pub HasRange : File → ℕ → List ℕ → Type 0
+HasRange f start range =
+    (k : ℕ) → k < length range → (text : List ℕ)
+    × HasChunk f ((start + k) / 65536) text
+    × (slice_get range k ≡ slice_get text ((start + k) % 65536))
+
+-- chunk i is that of no text, and this is said of it
+abbrev pub IsWrong : File → ℕ → Damage → Type 0
+IsWrong f i damage =
+    (damage ≡ damage_at i (nat_eq i (last_of (length f.bytes))))
+    × ((text : List ℕ) → HasChunk f i text → ⊥)
+
+-- a window begins with the text from byte `start` on, up to chunk i
+abbrev pub FillsTo : File → ℕ → List ℕ → ℕ → Type 0
+FillsTo f start window i =
+    (start / 65536 ≤ i) × HasRange f start (take (65536 * i - start) window)
+
+-- of a window, only the first n bytes have changed, and there are more
+abbrev pub OnlyFront : List ℕ → List ℕ → ℕ → Type 0
+OnlyFront old new n = (n < length old) × (drop n new ≡ drop n old)
+
+-- n bytes of text from byte `start` on end where the chunk does, or at the end of the text of a file of so many bytes
+abbrev pub StopsAtEnd : ℕ → ℕ → ℕ → Type 0
+StopsAtEnd start n bytes = (start + n ≡ 65536 * (start / 65536 + 1)) ⊎ (text_of bytes ≤ start + n)
+
+-- n bytes of a text, from byte `from` on, have come to a window's start: up to the end of either
+abbrev pub CopiesFrom : List ℕ → ℕ → List ℕ → List ℕ → ℕ → Type 0
+CopiesFrom text from old new n =
+    (n ≡ min (length old) (length text - from)) × (new ≡ take n (drop from text) ++ drop n old)
+
+-- an error of `new` as one of a range
+abbrev pub as_range_error : ReadError → RangeError
+as_range_error (Read e) = RangeError.Read e
+as_range_error (Damaged damage) = RangeError.Damaged damage
