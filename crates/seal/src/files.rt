@@ -75,7 +75,7 @@ pub fn read_key(rt: &HostRuntime, path: &str) -> Result<Key, Failed> {
 // Fills a buffer with the first bytes of a file, and returns how many there are.
 fn read_start(rt: &HostRuntime, path: &str, bytes: &mut [u8]) -> Result<usize, Failed> {
     let mut file = open(rt, path)?;
-    read(rt, path, stream::fill(&mut file, bytes, 0))
+    read(rt, path, stream::fill(&mut file, bytes))
 }
 
 /// Opens a file to read it.

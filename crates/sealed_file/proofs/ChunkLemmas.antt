@@ -100,14 +100,7 @@ last-is : (i n : ℕ) → n ≤ 65536 → (0 < i → 0 < n) → (65536 * i + n -
 last-is zero n fits some = omega (arith, fits)
 last-is (suc i) n fits some = omega (arith, fits, some (omega arith))
 
-body-size : (len : ℕ) → let n = (len - 1) / 65536 in 65552 * n + (len - 65536 * n + 16) ≡ len + 16 * (n + 1)
-body-size len = omega arith
-
 module _ (key salt : List ℕ) where
-  -- the chunks of a text, and then its last one: a file without its header
-  abbrev pub body : List ℕ → List ℕ
-  body text = let n = last_number text in chunks key salt text n ++ chunk key salt n true (piece text n)
-
   -- chunks are those of the text's front
   pub chunks-front : (m rest : List ℕ) (n : ℕ) → 65536 * n ≤ length m
       → chunks key salt (m ++ rest) n ≡ chunks key salt m n
@@ -137,11 +130,6 @@ module _ (key salt : List ℕ) where
       ∙ ap₂ (λ cs p. (header salt ++ cs) ++ chunk key salt i true p) (chunks-front m t i (omega (arith, long)))
       (piece-next m t i long ∙ take_all 65536 t fits))
 
-  pub sealed-is : (text : List ℕ) → sealed key salt text ≡ header salt ++ body text
-  sealed-is text =
-      let n = last_number text in
-      append_assoc (header salt) (chunks key salt text n) (chunk key salt n true (piece text n))
-
   pub length-chunks : (text : List ℕ) (n : ℕ) → 65536 * n ≤ length text → length (chunks key salt text n) ≡ 65552 * n
   length-chunks text zero fits = refl
   length-chunks text (suc i) fits =
@@ -149,15 +137,6 @@ module _ (key salt : List ℕ) where
       ∙ ap₂ ◌+◌ (length-chunks text i (omega (arith, fits)))
       (full-chunk key salt i false (piece text i) (length-piece text i fits))
       ∙ omega arith
-
-  pub length-body : (text : List ℕ) → length (body text) ≡ length text + 16 * (last_number text + 1)
-  length-body text =
-      let n = last_number text in
-      let here = chunk key salt n true (piece text n) in
-      length-append (chunks key salt text n) here
-      ∙ ap₂ ◌+◌ (length-chunks text n (omega arith))
-      (length-chunk key salt n true (piece text n) ∙ ap (λ k. k + 16) (length-last text))
-      ∙ body-size (length text)
 
   -- the first i chunks of n
   chunks-of : (text : List ℕ) (n i : ℕ) → i ≤ n

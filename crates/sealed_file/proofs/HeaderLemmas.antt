@@ -1,10 +1,10 @@
 -- What is wrong with a header.
-use Rattle.std.proofs.Common.{◌≡◌, ◌≢◌, ◌<◌, ◌≤◌, ◌+◌, ◌*◌, ◌^◌, ◌∙◌, ℕ, List, [], ◌++◌, Some, None, inl, inr, IfSome, length, take, drop, codes, arith, sym, ap, subst, append-nil, length-append, length-drop, length-take-le, eq-or-lt_of_le, take_at, take_all}
+use Rattle.std.proofs.Common.{◌≡◌, ◌≢◌, ◌<◌, ◌≤◌, ◌+◌, ◌*◌, ◌^◌, ◌∙◌, ℕ, List, ◌++◌, Some, None, inl, inr, IfSome, length, take, drop, codes, arith, sym, ap, subst, append-nil, length-append, length-drop, length-take, length-take-le, eq-or-lt_of_le, take_at, take_all}
 use Rattle.std.proofs.lemmas.Bool.{cases_lt}
-use Rattle.std.proofs.lemmas.List.{take-append-le, take-append-drop, nil_from_length}
+use Rattle.std.proofs.lemmas.List.{take-append-le, take-append-drop}
+use Rattle.std.proofs.lemmas.Option.{IfSome_then}
 use Rattle.std.specs.declared.option.Option.{Option}
-use Rattle.std.specs.Io.KnownBytes.{Consumes, IsAtEnd, prepend_known}
-use Rattle.std.proofs.KnownBytes.{prepend_known-nil}
+use Rattle.std.specs.Io.KnownBytes.{Consumes, IsAtEnd}
 use Rattle.sealed_file.specs.declared.error.Damage.{Damage}
 use Rattle.sealed_file.specs.declared.error.Damage.TheVariants.{NotSealed, OtherVersion, CutHeader, TooLong, WrongChunk, WrongEnd}
 use Rattle.sealed_file.specs.Sealed.{header, HasSalt, IsFileDamage}
@@ -34,40 +34,6 @@ damage-more xs rest TooLong long many = omega (arith, many, length-append xs res
 damage-more xs rest (WrongChunk i) long none = none
 damage-more xs rest (WrongEnd i) long none = none
 
--- a reader's first 32 bytes, or all that it has
-pub front-read : (a b : Option (List ℕ)) (bytes : List ℕ) (n : ℕ) → Consumes (prepend_known [] a) b (take n bytes)
-    → length bytes ≡ 32 → n ≤ 32 → (n < 32 → IsAtEnd b) → IfSome a (λ all. take n bytes ≡ take 32 all)
-front-read None b bytes n read size most end = tt
-front-read (Some all) None bytes n read size most end = absurd read
-front-read (Some all) (Some left) bytes n read size most end =
-    let front = take n bytes in
-    let wide : length front ≡ n = length-take-le n bytes (omega (arith, size, most)) in
-    elim (eq-or-lt_of_le most) [
-      | inl whole ↦ sym (ap (take 32) read ∙ take_at front left 32 (wide ∙ whole))
-      | inr short ↦
-          let is : all ≡ front = read ∙ ap (λ ys. front ++ ys) (end short) ∙ append-nil front in
-          sym (ap (take 32) is ∙ take_all 32 front (omega (arith, wide, most)))
-    ]
-
--- a reader that gave a header
-pub header-read : (a b : Option (List ℕ)) (bytes salt : List ℕ) (n : ℕ)
-    → Consumes (prepend_known [] a) b (take n bytes) → length bytes ≡ 32 → n ≤ 32 → HasSalt (take n bytes) salt
-    → Consumes a b (header salt)
-header-read a b bytes salt n read size most (rest, long, is) =
-    let none : length rest ≡ 0 =
-    omega (
-      arith,
-      ap length is,
-      length-append (header salt) rest,
-      long,
-      length-take-le n bytes
-          (omega (arith, size, most)),
-      most,
-    ) in
-    let whole : take n bytes ≡ header salt =
-    is ∙ ap (λ xs. header salt ++ xs) (nil_from_length rest none) ∙ append-nil (header salt) in
-    subst (Consumes a b) whole (subst (λ o. Consumes o b (take n bytes)) (prepend_known-nil a) read)
-
 -- bytes behind a magic word
 pub salt-behind : (file salt : List ℕ) → file ≡ codes "chacha20seal1" ++ drop 13 file → 32 ≤ length file
     → salt ≡ take 19 (drop 13 file) → HasSalt file salt
@@ -85,14 +51,20 @@ salt-behind file salt begins long is =
 pub front-is : (file salt : List ℕ) → HasSalt file salt → take 32 file ≡ header salt
 front-is file salt (rest, size, is) = ap (take 32) is ∙ take_at (header salt) rest 32 (omega (arith, size))
 
+-- a reader that gave a header
+pub header-read : (a b : Option (List ℕ)) (bytes salt : List ℕ) (n : ℕ) → Consumes a b (take n bytes)
+    → length bytes ≡ 32 → HasSalt (take n bytes) salt → Consumes a b (header salt)
+header-read a b bytes salt n read size has =
+    let front = take n bytes in
+    subst (Consumes a b) (sym (take_all 32 front (omega (arith, length-take n bytes, size)))
+    ∙ front-is front salt has) read
+
 -- what the first 32 bytes of a file say of it, or all that it has
 pub front-damage : (a : Option (List ℕ)) (front : List ℕ) (damage : Damage) → IfSome a (λ all. front ≡ take 32 all)
     → IsFileDamage front damage → IfSome a (λ all. IsFileDamage all damage)
-front-damage None front damage read wrong = tt
-front-damage (Some all) front damage read wrong = elim (cases_lt (length all) 32) [
-  | inl short ↦
-      subst (λ xs. IsFileDamage xs damage) (read ∙ take_all 32 all (omega (arith, short))) wrong
+front-damage a front damage read wrong = IfSome_then a read (λ all is. elim (cases_lt (length all) 32) [
+  | inl short ↦ subst (λ xs. IsFileDamage xs damage) (is ∙ take_all 32 all (omega (arith, short))) wrong
   | inr long ↦
-      subst (λ xs. IsFileDamage xs damage) (ap (λ xs. xs ++ drop 32 all) read ∙ take-append-drop 32 all)
-      (damage-more front (drop 32 all) damage (omega (arith, ap length read, length-take-le 32 all long)) wrong)
-]
+      subst (λ xs. IsFileDamage xs damage) (ap (λ xs. xs ++ drop 32 all) is ∙ take-append-drop 32 all)
+      (damage-more front (drop 32 all) damage (omega (arith, ap length is, length-take-le 32 all long)) wrong)
+])

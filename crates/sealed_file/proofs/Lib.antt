@@ -1,11 +1,11 @@
 pub mod BufferLemmas
 pub mod ChunkLemmas
+pub mod DecryptLemmas
+pub mod EncryptLemmas
 pub mod FileLemmas
 pub mod FormatVectors
-pub mod FrontLemmas
 pub mod HeaderLemmas
 pub mod ListLemmas
 pub mod NonceLemmas
-pub mod OpenLemmas
 pub mod RangeLemmas
 pub mod WindowLemmas

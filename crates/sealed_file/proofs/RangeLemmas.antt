@@ -1,16 +1,18 @@
 -- Ranges of a text, by the chunks of its file.
-use Rattle.std.proofs.Common.{◌≡◌, ◌<◌, ◌≤◌, ◌+◌, ◌-◌, ◌*◌, ◌/◌, ◌%◌, ◌∙◌, ℕ, List, ◌++◌, Some, None, IfSome, ◌⊎◌, length, take, drop, min, nat_eq, arith, refl, sym, ap, ap₂, subst, inl, inr, length-append, length-take, length-take-le, length-drop, take_at, take_all, get_or}
-use Rattle.std.proofs.lemmas.Bool.{cases_lt}
-use Rattle.std.proofs.lemmas.List.{take-append-le, take_min}
+use Rattle.std.proofs.Common.{◌≡◌, ◌<◌, ◌≤◌, ◌+◌, ◌-◌, ◌*◌, ◌/◌, ◌%◌, ◌∙◌, ℕ, zero, suc, false, List, ◌++◌, Some, None, IfSome, ◌⊎◌, length, take, drop, min, nat_eq, arith, refl, sym, ap, ap₂, subst, inl, inr, length-append, length-take, length-take-le, length-drop, take_at, drop_at, take_all, get_or, append_assoc, eq-eqb}
+use Rattle.std.proofs.lemmas.Bool.{cases_lt, ne_eqb}
+use Rattle.std.proofs.lemmas.List.{ext_get_or, get_or_append_left, get_or-append_right, get_or-drop, get_or-take, take-append-le, take_min}
 use Rattle.std.specs.declared.option.Option.{Option}
-use Rattle.std.proofs.lemmas.Option.{slice_get-get_or, slice_get_within}
+use Rattle.std.proofs.lemmas.Option.{IfSome_then, get_or_from_slice_get, slice_get-get_or, slice_get_within}
 use Rattle.std.specs.List.{slice_get, slice_range}
-use Rattle.sealed_file.specs.Sealed.{chunk, piece, last_of, last_number, sealed, text_of, damage_at, IsNoChunk}
+use Rattle.sealed_file.specs.Sealed.{header, chunk, chunks, piece, last_of, last_number, sealed, text_of, damage_at, IsNoChunk, IsDamage, IsSealed}
 use Rattle.sealed_file.specs.declared.error.Damage.{Damage}
+use Rattle.sealed_file.specs.declared.error.Damage.TheVariants.{NotSealed, OtherVersion, CutHeader, TooLong, WrongChunk, WrongEnd}
 use Rattle.sealed_file.specs.Ranges.{File, place, HasChunk, HasRange, IsWrong, CopiesFrom, StopsAtEnd}
 use Rattle.sealed_file.proofs.ChunkLemmas.{length-chunk, some-chunk, length-piece-at, chunk-same}
-use Rattle.sealed_file.proofs.FileLemmas.{chunk-here, length-sealed}
-use Rattle.sealed_file.proofs.ListLemmas.{get-take, get-drop, get-front, get-behind, get-piece, list-same}
+use Rattle.sealed_file.proofs.FileLemmas.{chunk-here, has-salt, length-front, length-sealed, no-sealed, own}
+use Rattle.sealed_file.proofs.HeaderLemmas.{front-is}
+use Rattle.sealed_file.proofs.ListLemmas.{get-piece, slice-same}
 
 -- Numbers, apart from the lists, for speed.
 
@@ -24,19 +26,18 @@ stops-is w start len i text n t last all end at size count less before =
     let t_is = all (omega (arith, size)) in
     omega (arith, t_is, end, at, size, count, less, before)
 
--- a read that gives less than there is room for
-pub stops-at-end : (w start len i text n : ℕ) → i ≡ min (start / 65536) (last_of len)
-    → text + 16 ≡ min 65552 (len - place i) → n ≡ min w (text - (start - 65536 * i)) → n < w → StopsAtEnd start n len
-stops-at-end w start len i text n at size count less = elim (cases_lt (start + n) (text_of len)) [
-  | inl before ↦
-      inl (stops-is w start len i text n (text_of len) (last_of len) (text-of-is len) refl at size count less before)
-  | inr end ↦ inr end
-]
-
--- and where it ends
-pub read-within : (w start len i text n : ℕ) → i ≡ min (start / 65536) (last_of len)
-    → text + 16 ≡ min 65552 (len - place i) → n ≡ min w (text - (start - 65536 * i)) → 0 < n → start + n ≤ len
-read-within w start len i text n at size count some = omega (arith, at, size, count, some)
+-- a read that gives less than there is room for, and where it ends
+pub read-ends : (w start len i text n : ℕ) → i ≡ min (start / 65536) (last_of len)
+    → text + 16 ≡ min 65552 (len - place i) → n ≡ min w (text - (start - 65536 * i))
+    → (n < w → StopsAtEnd start n len) × (0 < n → start + n ≤ len)
+read-ends w start len i text n at size count = (
+  λ less. elim (cases_lt (start + n) (text_of len)) [
+    | inl before ↦
+        inl (stops-is w start len i text n (text_of len) (last_of len) (text-of-is len) refl at size count less before)
+    | inr end ↦ inr end
+  ],
+  λ some. omega (arith, at, size, count, some),
+)
 
 -- Of any file.
 
@@ -52,42 +53,38 @@ pub range-more : (f : File) (start : ℕ) (xs ys : List ℕ) → HasRange f star
     → HasRange f start (xs ++ ys)
 range-more f start xs ys before more = λ k less. elim (cases_lt k (length xs)) [
   | inl here ↦
-      let (text, right, is) = before k here in (text, right, get-front xs ys k here ∙ is)
+      let (text, right, is) = before k here in
+      (text, right, slice-same (xs ++ ys) xs k k less here (get_or_append_left xs ys 0 k here) ∙ is)
   | inr past ↦
       let j = k - length xs in
       let at : start + length xs + j ≡ start + k = omega (arith, past) in
-      let (text, right, is) = more j (omega (arith, less, past, length-append xs ys)) in (
+      let inside : j < length ys = omega (arith, less, past, length-append xs ys) in
+      let (text, right, is) = more j inside in (
         text,
         subst (λ p. HasChunk f (p / 65536) text) at right,
-        get-behind xs ys k past ∙ is ∙ ap (λ p. slice_get text (p % 65536)) at,
+        slice-same (xs ++ ys) ys k j less inside (get_or-append_right xs ys (length xs) k 0 refl past) ∙ is
+            ∙ ap (λ p. slice_get text (p % 65536)) at,
       )
 ]
 
--- a part of a chunk's text
-pub chunk-range : (f : File) (i start n : ℕ) (text : List ℕ) → HasChunk f i text → 65536 * i ≤ start
-    → HasRange f start (take n (drop (start - 65536 * i) text))
-chunk-range f i start n text right begins = λ k less.
-    let from = start - 65536 * i in
-    let fits = chunk-fits f i text right in
-    let inside : k < n = omega (arith, less, length-take n (drop from text)) in
-    let within : from + k < length text =
-    omega (arith, less, length-take n (drop from text), length-drop from text) in
-    let number : (start + k) / 65536 ≡ i = omega (arith, begins, fits, within) in
-    let at : (start + k) % 65536 ≡ from + k = omega (arith, begins, fits, within) in (
-      text,
-      subst (λ j. HasChunk f j text) (sym number) right,
-      get-take (drop from text) n k inside ∙ get-drop text from k ∙ ap (slice_get text) (sym at),
-    )
-
--- what is copied of a chunk
+-- what is copied of a chunk's text
 pub copied-range : (f : File) (i start n : ℕ) (text old new : List ℕ) → HasChunk f i text → 65536 * i ≤ start
     → CopiesFrom text (start - 65536 * i) old new n → HasRange f start (take n new)
 copied-range f i start n text old new right begins (count, is) =
-    let here = drop (start - 65536 * i) text in
-    let wide : length (take n here) ≡ n =
-    length-take-le n here (omega (arith, count, length-drop (start - 65536 * i) text)) in
-    subst (HasRange f start) (sym (ap (take n) is ∙ take_at (take n here) (drop n old) n wide))
-    (chunk-range f i start n text right begins)
+    let from = start - 65536 * i in
+    let part = take n (drop from text) in
+    let wide : length part ≡ n = length-take-le n (drop from text) (omega (arith, count, length-drop from text)) in
+    subst (HasRange f start) (sym (ap (take n) is ∙ take_at part (drop n old) n wide)) (λ k less.
+    let fits = chunk-fits f i text right in
+    let inside : k < n = omega (arith, less, wide) in
+    let within : from + k < length text = omega (arith, inside, count) in
+    let number : (start + k) / 65536 ≡ i = omega (arith, begins, fits, within) in
+    let at : from + k ≡ (start + k) % 65536 = omega (arith, begins, fits, within) in (
+      text,
+      subst (λ j. HasChunk f j text) (sym number) right,
+      slice-same part text k (from + k) less within (get_or-take n (drop from text) k 0 inside
+          ∙ get_or-drop from text k 0) ∙ ap (slice_get text) at,
+    ))
 
 -- Of a sealed file.
 
@@ -126,9 +123,11 @@ module _ (f : File) (text : List ℕ) (size : length f.salt ≡ 19) (is : f.byte
       let same : t ≡ piece text i =
       chunk-same f.key f.salt i (nat_eq i (last_of (length f.bytes))) t (piece text i)
       (sym right.1 ∙ (has-chunk i within).1) in
-      let at' : slice_get (piece text i) r ≡ Some x = subst (λ u. slice_get u r ≡ Some x) same at in (
-        omega (arith, slice_get_within (piece text i) r x at', length-piece-at text i),
-        get-piece text p ∙ at',
+      let at' : slice_get (piece text i) r ≡ Some x = subst (λ u. slice_get u r ≡ Some x) same at in
+      let inside : p < length text =
+      omega (arith, slice_get_within (piece text i) r x at', length-piece-at text i) in (
+        inside,
+        get-piece text p inside ∙ at',
       )
 
   -- a range of it
@@ -144,25 +143,87 @@ module _ (f : File) (text : List ℕ) (size : length f.salt ≡ 19) (is : f.byte
       let fits : 0 < length range → start + length range ≤ length text =
       λ some. let last : length range - 1 < length range = omega (arith, some) in omega
       (arith, (byte (length range - 1) last).0, some) in
-      list-same range (take w (drop start text))
+      ext_get_or 0 range (take w (drop start text))
       (elim (cases_lt 0 (length range)) [
         | inl some ↦ omega (arith, length-take w (drop start text), length-drop start text, fits some)
         | inr none ↦ omega (arith, length-take w (drop start text), none)
       ])
-      (λ k less. slice_get-get_or range k 0 less ∙ sym (byte k less).1
-      ∙ sym (get-take (drop start text) w k (omega (arith, less)) ∙ get-drop text start k))
+      (λ k less. sym (get_or_from_slice_get text (start + k) (get_or range k 0) 0 (byte k less).1)
+      ∙ sym (get_or-take w (drop start text) k 0 (omega (arith, less)) ∙ get_or-drop start text k 0))
+
+-- a file has one text
+pub one-text : (key salt salt' xs ys : List ℕ) → length salt ≡ 19 → length salt' ≡ 19
+    → sealed key salt xs ≡ sealed key salt' ys → xs ≡ ys
+one-text key salt salt' xs ys size size' same =
+    let file = sealed key salt xs in
+    let f : File = record { key = key; salt = salt; bytes = file } in
+    let is = (own key salt salt' ys file size' (front-is file salt (has-salt key salt xs file size refl)) same).1 in
+    let has : HasRange f 0 xs = λ k less. (
+      piece xs ((0 + k) / 65536),
+      has-chunk f xs size refl ((0 + k) / 65536) (omega (arith, less, length-file f xs size refl)),
+      ap (slice_get xs) (let at : k ≡ 0 + k = omega arith in at) ∙ get-piece xs (0 + k) (omega (arith, less)),
+    ) in
+    range-is f ys size is 0 xs has
+    ∙ take_all (0 + length xs - 0) ys (omega (arith, text-in f xs size refl, text-in f ys size is))
+
+-- what follows i chunks in a sealed file
+behind : (f : File) (salt m rest text : List ℕ) (i : ℕ) → length f.salt ≡ 19 → f.bytes ≡ sealed f.key f.salt text
+    → length salt ≡ 19 → length m ≡ 65536 * i → f.bytes ≡ (header salt ++ chunks f.key salt m i) ++ rest
+    → (f.salt ≡ salt) × (length f.bytes ≡ place i + length rest) × (drop (place i) f.bytes ≡ rest)
+behind f salt m rest text i size is size' long split =
+    let wide = length-front f.key salt m size' i (omega (arith, long)) in (
+      (own f.key salt f.salt text f.bytes size (front-is f.bytes salt
+          (chunks f.key salt m i ++ rest, size', split ∙ append_assoc (header salt) (chunks f.key salt m i) rest))
+          is).0,
+      ap length split ∙ length-append (header salt ++ chunks f.key salt m i) rest ∙ ap (λ k. k + length rest) wide,
+      ap (drop (place i)) split ∙ drop_at (header salt ++ chunks f.key salt m i) rest (place i) wide,
+    )
+
+-- a damaged file is no sealed file
+pub damage-refuses : (key file : List ℕ) (damage : Damage) → IsDamage key file damage
+    → (salt text : List ℕ) → IsSealed key salt text file → ⊥
+damage-refuses key file damage (inl wrong) salt text is = no-sealed key file damage wrong salt text is
+damage-refuses key file (WrongChunk i) (inr (salt, m, rest, (size, long, _, split), wide, wrong)) salt' text
+    (size', _, is) =
+    let f : File = record { key = key; salt = salt'; bytes = file } in
+    let (salts, all, at) = behind f salt m rest text i size' is size long split in
+    let (some, right) = has-chunk f text size' is i (omega (arith, all, wide)) in
+    let mark : nat_eq i (last_of (length file)) ≡ false =
+    ne_eqb i (last_of (length file)) (λ end. omega (arith, end, all, wide)) in
+    wrong (piece text i) some (ap (take 65552) (sym at) ∙ right
+    ∙ ap₂ (λ s last. chunk key s i last (piece text i)) salts mark)
+damage-refuses key file (WrongEnd i) (inr (salt, m, rest, (size, long, more, split), fits, wrong)) salt' text
+    (size', _, is) =
+    let f : File = record { key = key; salt = salt'; bytes = file } in
+    let (salts, all, at) = behind f salt m rest text i size' is size long split in
+    let end : i ≡ last_of (length file) = last-is i (length rest) (length file) more fits all in
+    let (some, right) = has-chunk f text size' is i (omega (arith, end)) in
+    wrong (piece text i) some (sym (take_all 65552 rest fits) ∙ ap (take 65552) (sym at) ∙ right
+    ∙ ap₂ (λ s last. chunk key s i last (piece text i)) salts (eq-eqb i (last_of (length file)) end))
+  where
+    last-is : (i rest len : ℕ) → (0 < i → 0 < rest) → rest ≤ 65552 → len ≡ 32 + 65552 * i + rest
+        → i ≡ (len - 33) / 65552
+    last-is zero rest len some fits all = omega (arith, all, fits)
+    last-is (suc i) rest len some fits all = omega (arith, all, fits, some (omega arith))
+damage-refuses key file NotSealed (inr none) salt text is = none
+damage-refuses key file CutHeader (inr none) salt text is = none
+damage-refuses key file OtherVersion (inr none) salt text is = none
+damage-refuses key file TooLong (inr none) salt text is = none
 
 -- What was read where chunk i stands, in a space of its size: all of it, where the bytes are known.
-module _ (key salt new : List ℕ) (len i size n last w at : ℕ) (part : size ≡ min 65552 (len - place i)) (end : last
-    ≡ last_of len) (wide : length new ≡ w) (all_of : w ≡ size) (begin : at ≡ place i) (fits : n ≤ w) where
+module _ (key salt new : List ℕ) (len i size n last w : ℕ) (part : size ≡ min 65552 (len - place i))
+    (end : last ≡ last_of len) (wide : length new ≡ w) (all_of : w ≡ size) (fits : n ≤ w) where
   abbrev of : List ℕ → File
   of bytes = record { key = key; salt = salt; bytes = bytes }
 
-  whole : (all : List ℕ) → len ≡ length all → take n new ≡ take w (drop at all)
-      → (n ≡ size) × (new ≡ take 65552 (drop (place i) all))
-  whole all long read =
+  whole : (a : Option (List ℕ)) → IfSome a (λ all. len ≡ length all)
+      → IfSome a (λ all. take n new ≡ take w (drop (place i) all))
+      → IfSome a (λ all. (n ≡ size) × (new ≡ take 65552 (drop (place i) all))
+      × (nat_eq i last ≡ nat_eq i (last_of (length all))))
+  whole None long read = tt
+  whole (Some all) long read =
       let left = drop (place i) all in
-      let read' : take n new ≡ take size left = read ∙ ap₂ (λ k p. take k (drop p all)) all_of begin in
+      let read' : take n new ≡ take size left = read ∙ ap (λ k. take k left) all_of in
       let count : n ≡ size =
       omega (
         arith,
@@ -180,45 +241,31 @@ module _ (key salt new : List ℕ) (len i size n last w at : ℕ) (part : size �
         count,
         sym (take_all n new (omega (arith, count, wide, all_of))) ∙ read' ∙ ap (λ k. take k left) most
             ∙ take_min 65552 left,
+        ap (nat_eq i) (end ∙ ap last_of long),
       )
 
   pub load-wrong : (a : Option (List ℕ)) (damage : Damage) → IfSome a (λ all. len ≡ length all)
-      → IfSome a (λ all. take n new ≡ take w (drop at all)) → damage_at i (nat_eq i last) ≡ damage
+      → IfSome a (λ all. take n new ≡ take w (drop (place i) all)) → damage_at i (nat_eq i last) ≡ damage
       → (n < size) ⊎ IsNoChunk key salt i (nat_eq i last) new → IfSome a (λ bytes. IsWrong (of bytes) i damage)
-  load-wrong None damage long read says wrong = tt
-  load-wrong (Some all) damage long read says wrong =
-      let (count, is) = whole all long read in
-      let same : nat_eq i last ≡ nat_eq i (last_of (length all)) = ap (nat_eq i) (end ∙ ap last_of long) in (
-        sym says ∙ ap (damage_at i) same,
-        λ text (some, right). elim wrong [
-          | inl short ↦ omega (arith, short, count)
-          | inr none ↦
-              none text some (is ∙ right ∙ ap (λ b. chunk key salt i b text) (sym same))
-        ],
-      )
+  load-wrong a damage long read says wrong = IfSome_then a (whole a long read) (λ all (count, is, same). (
+    sym says ∙ ap (damage_at i) same,
+    λ text (some, right). elim wrong [
+      | inl short ↦ omega (arith, short, count)
+      | inr none ↦ none text some (is ∙ right ∙ ap (λ b. chunk key salt i b text) (sym same))
+    ],
+  ))
 
   pub load-right : (a : Option (List ℕ)) (opened rest : List ℕ) → IfSome a (λ all. len ≡ length all)
-      → IfSome a (λ all. take n new ≡ take w (drop at all)) → length opened ≡ length new
+      → IfSome a (λ all. take n new ≡ take w (drop (place i) all)) → length opened ≡ length new
       → new ≡ chunk key salt i (nat_eq i last) (take (length new - 16) opened)
       → (16 ≤ length new) × (0 < i → 16 < length new)
       → IfSome a (λ bytes. HasChunk (of bytes) i (take (n - 16) (opened ++ rest)))
-  load-right None opened rest long read kept right some = tt
-  load-right (Some all) opened rest long read kept right (_, some) =
-      let (count, is) = whole all long read in
-      let same : nat_eq i last ≡ nat_eq i (last_of (length all)) = ap (nat_eq i) (end ∙ ap last_of long) in
+  load-right a opened rest long read kept right (_, some) = IfSome_then a (whole a long read) (λ all (count, is, same).
+      let room : n - 16 ≤ length opened = omega (arith, kept, wide, all_of, count) in
       let size' : length new - 16 ≡ n - 16 = omega (arith, wide, all_of, count) in
       let text : take (length new - 16) opened ≡ take (n - 16) (opened ++ rest) =
-      ap (λ k. take k opened) size'
-      ∙ sym (take-append-le (n - 16) opened rest (omega (arith, kept, wide, all_of, count))) in (
-        λ later. omega (
-          arith,
-          some later,
-          count,
-          wide,
-          all_of,
-          kept,
-          length-take (n - 16) (opened ++ rest),
-          length-append opened rest,
-        ),
+      ap (λ k. take k opened) size' ∙ sym (take-append-le (n - 16) opened rest room) in
+      let long = length-take-le (length new - 16) opened (omega (arith, kept)) in (
+        λ later. omega (arith, some later, size', ap length text, long),
         sym is ∙ right ∙ ap₂ (λ b t. chunk key salt i b t) same text,
-      )
+      ))

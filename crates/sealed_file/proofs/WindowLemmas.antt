@@ -2,27 +2,29 @@
 use Rattle.std.proofs.Common.{◌≡◌, ◌<◌, ◌≤◌, ◌+◌, ◌-◌, ◌*◌, ◌/◌, ◌%◌, ◌∙◌, ℕ, List, [], ◌++◌, Some, None, Err, IfSome, length, take, drop, min, arith, refl, sym, ap, subst, append-nil, inl, inr, length-take-le, take_all, ◌⊎◌, length-append, length-drop, drop_at, drop-drop}
 use Rattle.std.proofs.lemmas.Bool.{cases_lt}
 use Rattle.std.proofs.lemmas.List.{drop_all, take_rest}
-use Rattle.std.proofs.Math.Seq.{take-append-add}
+use Rattle.sealed_file.proofs.BufferLemmas.{take-put_mid}
 use Rattle.std.specs.declared.option.Option.{Option}
-use Rattle.std.specs.Option.{option_map}
+use Rattle.std.specs.List.{slice_range}
+use Rattle.std.specs.Option.{ForSome, option_map}
 use Rattle.std.specs.declared.result.Result.{Result}
 use Rattle.sealed_file.specs.declared.error.Damage.{Damage}
 use Rattle.sealed_file.specs.declared.error.IoError.{IoError}
 use Rattle.sealed_file.specs.declared.error.ReadError.{ReadError}
 use Rattle.sealed_file.specs.declared.error.ReadError.TheVariants.{Read, Damaged}
 use borrow.Rule.Slice.PartMut.{put_mid, put_same}
-use Rattle.sealed_file.specs.Sealed.{header, last_of, text_of, sealed, IsSealed}
-use Rattle.sealed_file.specs.Ranges.{File, HasRange, FillsTo, OnlyFront, StopsAtEnd}
-use Rattle.sealed_file.proofs.RangeLemmas.{range-more, text-in, text-of-is}
-use Rattle.sealed_file.proofs.FileLemmas.{own-is, own-salt}
+use Rattle.sealed_file.specs.Sealed.{header, last_of, piece, text_of, sealed, IsSealed}
+use Rattle.sealed_file.specs.Ranges.{File, HasRange, IsWrong, FillsTo, OnlyFront, StopsAtEnd}
+use Rattle.sealed_file.proofs.RangeLemmas.{has-chunk, range-is, range-more, text-in, text-of-is}
+use Rattle.sealed_file.proofs.FileLemmas.{own}
 
 put-rest : (k : ℕ) (xs ys : List ℕ) → put_mid k (length xs - k) xs ys ≡ take k xs ++ ys
 put-rest k xs ys =
     ap (λ zs. take k xs ++ (ys ++ zs)) (drop_all (length xs - k) (drop k xs) (omega (arith, length-drop k xs)))
     ∙ ap (λ zs. take k xs ++ zs) (append-nil ys)
 
--- so far, k bytes of the text from byte `start` on are in the window, which was `old`
-pub record Filled (a : Option File) (start k : ℕ) (old new : List ℕ) : Type 0 where
+-- so far, k bytes of the text of a file of so many bytes, from byte `start` on, are in the window, which was `old`
+pub record Filled (a : Option File) (len start k : ℕ) (old new : List ℕ) : Type 0 where
+  pub fits : start + length old ≤ text_of len
   pub within : k ≤ length old
   pub same : length new ≡ length old
   pub right : IfSome a (λ f. HasRange f start (take k new))
@@ -48,31 +50,31 @@ some-read p n w t stops within room = elim (cases_lt 0 n) [
 ]
 
 -- one more read
-pub filled-more : (a : Option File) (start k n len : ℕ) (old mid tail : List ℕ) → Filled a start k old mid
-    → start + length old ≤ text_of len → length tail ≡ length (take (length mid - k) (drop k mid)) → n ≤ length tail
+pub filled-more : (a : Option File) (start k n len : ℕ) (old mid tail : List ℕ) → Filled a len start k old mid
+    → length tail ≡ length (take (length mid - k) (drop k mid)) → n ≤ length tail
     → drop n tail ≡ drop n (take (length mid - k) (drop k mid)) → IfSome a (λ f. HasRange f (start + k) (take n tail))
     → (n < length (take (length mid - k) (drop k mid)) → StopsAtEnd (start + k) n len)
-    → Filled a start (k + n) old (put_mid k (length mid - k) mid tail)
-filled-more a start k n len old mid tail before fits size most kept more stops =
+    → Filled a len start (k + n) old (put_mid k (length mid - k) mid tail)
+filled-more a start k n len old mid tail before size most kept more stops =
     let room : take (length mid - k) (drop k mid) ≡ drop k mid = take_rest mid k in
     let left : length tail ≡ length old - k =
     size ∙ ap length room ∙ length-drop k mid ∙ ap (λ l. l - k) before.same in
     let front = take k mid in
     let wide : length front ≡ k = length-take-le k mid (omega (arith, before.within, before.same)) in
     let new : put_mid k (length mid - k) mid tail ≡ front ++ tail = put-rest k mid tail in
-    let taken : take (k + n) (front ++ tail) ≡ front ++ take n tail =
-    ap (λ l. take (l + n) (front ++ tail)) (sym wide) ∙ take-append-add front tail n in
     record {
+      fits = before.fits;
       within = omega (arith, most, left, before.within);
       same = ap length new ∙ length-append front tail ∙ omega (arith, wide, left, before.within);
-      right = both a before.right more (ap (take (k + n)) new ∙ taken) wide;
+      right = both a before.right more (take-put_mid k n (length mid - k) mid tail
+          (omega (arith, before.within, before.same)) most) wide;
       rest = ap (drop (k + n)) new ∙ sym (drop-drop n k (front ++ tail)) ∙ ap (drop n) (drop_at front tail k wide)
           ∙ kept ∙ ap (drop n) (room ∙ before.rest) ∙ drop-drop n k old;
       border = λ some less.
           let here : n < length (take (length mid - k) (drop k mid)) =
           omega (arith, less, sym size ∙ left, before.within) in
           let at = border-is (start + k) n (length (take (length mid - k) (drop k mid))) (text_of len) stops
-          (omega (arith, fits, before.within, sym size ∙ left)) here in
+          (omega (arith, before.fits, before.within, sym size ∙ left)) here in
           omega (arith, at);
     }
   where
@@ -93,13 +95,13 @@ number-is p len within =
     omega (arith, all, within)
 
 -- a read that fails
-pub stops-at : (a : Option File) (start k : ℕ) (old mid tail : List ℕ) (P : File → ℕ → Type 0) → Filled a start k old
-    mid
-    → k < length old → tail ≡ take (length mid - k) (drop k mid) → IfSome a (λ f. P f ((start + k) / 65536))
+pub stops-at : (a : Option File) (start k len : ℕ) (old mid tail : List ℕ) (P : File → ℕ → Type 0)
+    → Filled a len start k old mid → k < length old → tail ≡ take (length mid - k) (drop k mid)
+    → IfSome a (λ f. P f ((start + k) / 65536))
     → (let new = put_mid k (length mid - k) mid tail in
     IfSome a (λ f. (i : ℕ) × P f i × FillsTo f start new i × OnlyFront old new (65536 * i - start)))
-stops-at None start k old mid tail P before room kept wrong = tt
-stops-at (Some f) start k old mid tail P before room kept wrong =
+stops-at None start k len old mid tail P before room kept wrong = tt
+stops-at (Some f) start k len old mid tail P before room kept wrong =
     let i = (start + k) / 65536 in
     let whole : mid ≡ put_mid k (length mid - k) mid tail =
     sym (ap (put_mid k (length mid - k) mid) kept ∙ put_same k (length mid - k) mid) in
@@ -115,8 +117,10 @@ stops-at (Some f) start k old mid tail P before room kept wrong =
           (subst (λ n. OnlyFront old mid n) end (room, before.rest)),
     )
 
-pub filled-none : (a : Option File) (start : ℕ) (old : List ℕ) → Filled a start 0 old old
-filled-none a start old = record {
+pub filled-none : (a : Option File) (start len : ℕ) (old : List ℕ) → start + length old ≤ text_of len
+    → Filled a len start 0 old old
+filled-none a start len old fits = record {
+  fits = fits;
   within = omega arith;
   same = refl;
   right = none a;
@@ -128,9 +132,9 @@ filled-none a start old = record {
     none None = tt
     none (Some f) = λ k less. absurd (omega (arith, less))
 
-pub filled-all : (a : Option File) (start k : ℕ) (old new : List ℕ) → Filled a start k old new → length old ≤ k
-    → IfSome a (λ f. HasRange f start new)
-filled-all a start k old new filled all =
+pub filled-all : (a : Option File) (start k len : ℕ) (old new : List ℕ) → Filled a len start k old new
+    → length old ≤ k → IfSome a (λ f. HasRange f start new)
+filled-all a start k len old new filled all =
     subst (λ xs. IfSome a (λ f. HasRange f start xs)) (take_all k new (omega (arith, filled.same, all))) filled.right
 
 -- an error is one of these
@@ -139,23 +143,31 @@ pub neither : {T : Type 0} (x : ReadError) → ((e : IoError) → ◌≡◌ {A =
 neither (Read e) one other = one e refl
 neither (Damaged d) one other = other d refl
 
-pub always : {T : Type 0} (a : Option T) (Q : Type 0) → Q → IfSome a (λ _. Q)
-always None Q holds = tt
-always (Some x) Q holds = holds
+-- A sealed file that a reader reads: it has the salt of its header.
+module _ (key salt : List ℕ) (a : Option (List ℕ)) (len : ℕ)
+    (begins : ForSome a (λ all. (len ≡ length all) × (take 32 all ≡ header salt))) (text : List ℕ)
+    (reads : (salt' all : List ℕ) × (a ≡ Some all) × IsSealed key salt' text all) where
+  abbrev of : List ℕ → File
+  of all = record { key = key; salt = salt; bytes = all }
 
--- a sealed file has the salt of its header
-pub own-file : (key own salt text all : List ℕ) (len : ℕ) → (len ≡ length all) × (take 32 all ≡ header own)
-    → IsSealed key salt text all → (length own ≡ 19) × (all ≡ sealed key own text) × (text_of len ≡ length text)
-own-file key own salt text all len (long, begins) (size, _, is) =
-    let same = own-is key own salt text all size begins is in
-    let size' : length own ≡ 19 = subst (λ s. length s ≡ 19) same size in
-    let is' = own-salt key own salt text all size begins is in (
-      size',
-      is',
-      ap text_of long ∙ text-in (record { key = key; salt = own; bytes = all }) text size' is',
-    )
+  own-sealed : (length salt ≡ 19) × (reads.1 ≡ sealed key salt text)
+  own-sealed =
+      let (salt', all, known, (size, _, is)) = reads in
+      let (same, is') = own key salt salt' text all size (begins all known).1 is in
+      (subst (λ s. length s ≡ 19) same size, is')
 
--- what holds of a file whose bytes are known
-pub at-known : {T : Type 0} (a : Option T) (g : T → File) (x : T) (P : File → Type 0) → IfSome (option_map g a) P
-    → a ≡ Some x → P (g x)
-at-known a g x P holds known = subst (λ o. IfSome (option_map g o) P) known holds
+  pub length-read : text_of len ≡ length text
+  length-read = ap text_of (begins reads.1 reads.2).0 ∙ text-in (of reads.1) text own-sealed.0 own-sealed.1
+
+  pub reads-text : (start : ℕ) (range : List ℕ) → IfSome (option_map of a) (λ f. HasRange f start range)
+      → range ≡ slice_range text start (start + length range)
+  reads-text start range has =
+      range-is (of reads.1) text own-sealed.0 own-sealed.1 start range
+      (subst (λ o. IfSome (option_map of o) (λ f. HasRange f start range)) reads.2 has)
+
+  pub none-wrong : (i : ℕ) (damage : Damage) → i ≤ last_of len
+      → IfSome (option_map of a) (λ f. IsWrong f i damage) → ⊥
+  none-wrong i damage within wrong =
+      (subst (λ o. IfSome (option_map of o) (λ f. IsWrong f i damage)) reads.2 wrong).1 (piece text i)
+      (has-chunk (of reads.1) text own-sealed.0 own-sealed.1 i
+      (omega (arith, within, ap last_of (begins reads.1 reads.2).0)))

@@ -28,29 +28,29 @@ HasChunk f i text =
     × (take 65552 (drop (place i) f.bytes)
     ≡ chunk f.key f.salt i (nat_eq i (last_of (length f.bytes))) text)
 
--- text from byte `start` on, each byte of which is one of a right chunk
+-- text from byte `start` on, each byte of which is the one at its place in a right chunk
 abbrev pub HasRange : File → ℕ → List ℕ → Type 0
 HasRange f start range =
     (k : ℕ) → k < length range → (text : List ℕ)
     × HasChunk f ((start + k) / 65536) text
     × (slice_get range k ≡ slice_get text ((start + k) % 65536))
 
--- chunk i is that of no text, and this is said of it
+-- no text has this chunk i, and the damage names it
 abbrev pub IsWrong : File → ℕ → Damage → Type 0
 IsWrong f i damage =
     (damage ≡ damage_at i (nat_eq i (last_of (length f.bytes))))
     × ((text : List ℕ) → HasChunk f i text → ⊥)
 
--- a window begins with the text from byte `start` on, up to chunk i
+-- a window begins with the text from byte `start` on, up to where chunk i begins; i isn't before the chunk of that byte
 abbrev pub FillsTo : File → ℕ → List ℕ → ℕ → Type 0
 FillsTo f start window i =
     (start / 65536 ≤ i) × HasRange f start (take (65536 * i - start) window)
 
--- of a window, only the first n bytes have changed, and there are more
+-- of a window, which is longer than n bytes, only the first n have changed
 abbrev pub OnlyFront : List ℕ → List ℕ → ℕ → Type 0
 OnlyFront old new n = (n < length old) × (drop n new ≡ drop n old)
 
--- n bytes of text from byte `start` on end where the chunk does, or at the end of the text of a file of so many bytes
+-- n bytes of text from byte `start` on end where their chunk does, or not before the text of a file of so many bytes
 abbrev pub StopsAtEnd : ℕ → ℕ → ℕ → Type 0
 StopsAtEnd start n bytes = (start + n ≡ 65536 * (start / 65536 + 1)) ⊎ (text_of bytes ≤ start + n)
 

@@ -2,6 +2,9 @@
 -- random bytes.
 use Rattle.std.specs.Prelude.{◌≡◌, ◌≢◌, ◌⊎◌, ℕ, zero, suc, ◌+◌, ◌<◌, ◌≤◌, ◌-◌, ◌*◌, ◌/◌, ◌^◌, Bool, true, false, if◌then◌else◌}
 use Rattle.std.specs.Prelude.{List, [], ◌∷◌, ◌++◌, take, drop, length, codes}
+use Rattle.std.specs.Prelude.{Some, None}
+use Rattle.std.specs.declared.option.Option.{Option}
+use Rattle.std.specs.Io.KnownBytes.{prepend_known}
 use Rattle.std.specs.Int.{w32, to_be_bytes, div_ceil}
 use Rattle.chacha20.specs.XChaCha.{xchacha_stream}
 use Rattle.chacha20poly1305.specs.Aead.{sealed_message}
@@ -80,24 +83,33 @@ abbrev pub IsNoChunk : List ℕ → List ℕ → ℕ → Bool → List ℕ → T
 IsNoChunk key salt i last bytes =
     (text : List ℕ) → (0 < i → 0 < length text) → bytes ≢ chunk key salt i last text
 
--- what is wrong with a file that isn't sealed under the key: that, or the first chunk that isn't right
-abbrev pub IsDamage : List ℕ → List ℕ → Damage → Type 0
-IsDamage key file (WrongChunk i) =
+-- the first chunk of a file that isn't right
+abbrev pub IsChunkDamage : List ℕ → List ℕ → Damage → Type 0
+IsChunkDamage key file (WrongChunk i) =
     (salt text rest : List ℕ) × Splits key salt file text i rest
     × (65552 < length rest) × IsNoChunk key salt i false (take 65552 rest)
-IsDamage key file (WrongEnd i) =
+IsChunkDamage key file (WrongEnd i) =
     (salt text rest : List ℕ) × Splits key salt file text i rest
     × (length rest ≤ 65552) × IsNoChunk key salt i true rest
-IsDamage key file damage = IsFileDamage file damage
+IsChunkDamage key file _ = ⊥
+
+-- what is wrong with a file that isn't sealed under the key
+abbrev pub IsDamage : List ℕ → List ℕ → Damage → Type 0
+IsDamage key file damage = IsFileDamage file damage ⊎ IsChunkDamage key file damage
 
 -- the number of the last chunk of a file of so many bytes: 32 of the header, and at least one more
 abbrev pub last_of : ℕ → ℕ
 last_of bytes = (bytes - 33) / 65552
 
--- how many bytes of text such a file has
+-- how many bytes of text such a file has, by its length alone
 abbrev pub text_of : ℕ → ℕ
 text_of bytes = bytes - 32 - 16 * div_ceil (bytes - 32) 65552
 
 -- what is wrong with chunk i
 abbrev pub damage_at : ℕ → Bool → Damage
 damage_at i last = if last then WrongEnd i else WrongChunk i
+
+-- what a reader has left, with a byte that was read ahead
+abbrev pub left : Option ℕ → Option (List ℕ) → Option (List ℕ)
+left None known = known
+left (Some x) known = prepend_known (x ∷ []) known

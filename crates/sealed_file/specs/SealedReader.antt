@@ -27,7 +27,7 @@ len r = r.len
 abbrev pub position : {R : Type 0} {G : Ghosts R} → SealedReader R G → ℕ
 position r = r.position
 
--- the file with the key and the salt, where its bytes are known
+-- the file with the key and the salt, where its bytes are known to the proof
 abbrev pub file : {R : Type 0} {G : Ghosts R} → SealedReader R G → Option File
 file r = option_map (λ all. record { key = r.key; salt = r.salt; bytes = all }) (bytes r)
 
@@ -35,7 +35,7 @@ file r = option_map (λ all. record { key = r.key; salt = r.salt; bytes = all })
 abbrev pub Reads : {R : Type 0} {G : Ghosts R} → SealedReader R G → List ℕ → Type 0
 Reads r text = (salt all : List ℕ) × (bytes r ≡ Some all) × IsSealed (key_of r) salt text all
 
--- what no call changes
+-- what no call changes, also where the bytes aren't known, and so the file isn't
 abbrev pub IsSame : {R : Type 0} {G : Ghosts R} → SealedReader R G → SealedReader R G → Type 0
 IsSame r s =
     (file s ≡ file r) × (bytes s ≡ bytes r) × (may_fail s ≡ may_fail r) × (key_of s ≡ key_of r)

@@ -17,7 +17,7 @@ ghost use Rattle.sealed_file.specs.Ranges.{File, place, chunk_size, HasChunk, Ha
 use crate::chunk::{CHUNKS, Salt, TAG, open_chunk, salt_of};
 use crate::error::{Damage, IoError, RangeError, ReadError};
 use crate::file::{ReadAt, fill_at};
-use crate::places::{chunk_place, chunk_size, last_chunk, text_len};
+use crate::places::{last_chunk, text_len};
 use crate::stream::BUFFER;
 use chacha20::Key;
 use std::io::{self, ErrorKind, Read, Seek, SeekFrom};
@@ -105,7 +105,7 @@ impl<'b, R: ReadAt> SealedReader<'b, R> {
     /// Reads text from byte `start` on into the window's start, up to the window's end or that of the chunk, and
     /// returns how many bytes that are: 0 at the end of the text and past it, once the last chunk was right.
     pub fn read_at(&mut self, start: u64, window: &mut [u8]) -> Result<usize, ReadError>
-        ensures read { IfOk result (λ n. IfSome (file self.old) (λ f.
+        ensures right { IfOk result (λ n. IfSome (file self.old) (λ f.
             HasRange f start (take n window.new))) }
         ensures rest { IfOk result (λ n.
             (n ≤ length window.old) × (drop n window.new ≡ drop n window.old)) }
@@ -135,16 +135,16 @@ impl<'b, R: ReadAt> SealedReader<'b, R> {
         ensures past_end { IsErrOf result RangeError.PastEnd
             ↔ (text_of (len self.old) < start + length window.old) }
         ensures unchanged { IsErrOf result RangeError.PastEnd → window.new ≡ window.old }
-        ensures read { OnOk result (IfSome (file self.old) (λ f.
+        ensures right { OnOk result (IfSome (file self.old) (λ f.
             HasRange f start window.new)) }
         ensures text { (text : List ℕ) → Reads self.old text
             → OnOk result (window.new ≡ slice_range text start (start + length window.old)) }
         ensures accepted { (text : List ℕ) → Reads self.old text → IsFalse (may_fail self.old)
-            → IsOk result ↔ (start + length window.old ≤ length text) }
+            → (IsOk result ↔ (start + length window.old ≤ length text)) }
         ensures damaged { (damage : Damage) → IsErrOf result (RangeError.Damaged damage)
             → IfSome (file self.old) (λ f. (i : ℕ) × IsWrong f i damage
             × FillsTo f start window.new i × OnlyFront window.old window.new (65536 * i - start)) }
-        ensures stopped { (e : IoError) → IsErrOf result (RangeError.Read e)
+        ensures read_error { (e : IoError) → IsErrOf result (RangeError.Read e)
             → IfSome (file self.old) (λ f. (i : ℕ) × FillsTo f start window.new i
             × OnlyFront window.old window.new (65536 * i - start)) }
         ensures fails { (e : IoError) → IsErrOf result (RangeError.Read e)
@@ -227,8 +227,9 @@ fn load<R: ReadAt>(
         → IsTrue (R.may_fail source.now) }
 {
     let last = number == last_chunk(len);
-    let chunk = &mut buf[..chunk_size(len, number)];
-    let n = fill_at(source, chunk, chunk_place(number))?;
+    let place = 32 + 65552 * number;
+    let chunk = &mut buf[..len.saturating_sub(place).min(65552) as usize];
+    let n = fill_at(source, chunk, place)?;
     if n < chunk.len() || !open_chunk(key, salt, number, last, chunk) {
         return Err(ReadError::Damaged(Damage::of_chunk(number, last)));
     }
@@ -280,7 +281,7 @@ impl<R: ReadAt> Read for SealedReader<'_, R> {
     fn read(&mut self, buf: &mut [u8]) -> io::Result<usize>
         ensures bound { ReadsAtMost result buf.new }
         ensures bytes { ReadConsumes None None result buf.new }
-        ensures read { IfOk result (λ n. (position self.new ≡ position self.old + n)
+        ensures right { IfOk result (λ n. (position self.new ≡ position self.old + n)
             × (drop n buf.new ≡ drop n buf.old) × IfSome (file self.old) (λ f.
             HasRange f (position self.old) (take n buf.new))) }
         ensures end { IfOk result (λ n. n < length buf.old
@@ -309,7 +310,7 @@ impl<R: ReadAt> Read for SealedReader<'_, R> {
     /// stays, as after any error.
     fn read_exact(&mut self, buf: &mut [u8]) -> io::Result<()>
         ensures bytes { OnOk result (Consumes None None buf.new) }
-        ensures read { OnOk result ((position self.new ≡ position self.old + length buf.old)
+        ensures right { OnOk result ((position self.new ≡ position self.old + length buf.old)
             × IfSome (file self.old) (λ f. HasRange f (position self.old) buf.new)) }
         ensures end { text_of (len self.old) < position self.old + length buf.old
             → IfErr result (λ e. error_kind e ≡ ErrorKind.UnexpectedEof) }

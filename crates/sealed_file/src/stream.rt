@@ -1,10 +1,11 @@
 //! From a reader to a writer.
 
-ghost use Rattle.std.specs.Prelude.{◌≡◌, ◌≢◌, ◌<◌, ◌≤◌, ◌+◌, ◌*◌, ◌^◌, ◌++◌, ℕ, List, length, take, Some, IfOk, OnOk, IfErr, OnErr, IfSome, IsErrOf};
-ghost use Rattle.std.specs.Io.KnownBytes.{Appends, Consumes, IsAtEnd, prepend_known};
+ghost use Rattle.std.specs.Prelude.{◌≡◌, ◌≢◌, ◌<◌, ◌≤◌, ◌+◌, ◌*◌, ◌^◌, ◌++◌, ℕ, List, length, take, Some, IfOk, OnOk, IfErr, OnErr, IfSome, IsSome, IsNone, IsErrOf};
+ghost use Rattle.std.specs.Io.KnownBytes.{Appends, Consumes, IsAtEnd};
+ghost use Rattle.std.specs.declared.io.Error.{Error};
 ghost use Rattle.sealed_file.specs.declared.error.Damage.{Damage};
 ghost use Rattle.sealed_file.specs.declared.error.IoError.{IoError};
-ghost use Rattle.sealed_file.specs.Sealed.{header, chunk, sealed, damage_at, IsSealed, IsRight, IsNoChunk, IsFileDamage, IsDamage};
+ghost use Rattle.sealed_file.specs.Sealed.{header, sealed, left, IsSealed, IsRight, IsFileDamage, IsDamage};
 
 use crate::chunk::{CHUNK, CHUNKS, Salt, TAG, header, open_chunk, salt_of, seal_chunk};
 use crate::error::{Damage, DecryptError, EncryptError, IoError, ReadError};
@@ -40,58 +41,32 @@ pub fn encrypt<G: RandomSource, R: Read, W: Write>(
         × Appends (W.contents writer.old) (W.contents writer.new) bytes }
     ensures too_long { IsErrOf result EncryptError.TooLong
         → IfSome (R.remaining reader.old) (λ text. 2 ^ 48 < length text) }
+    ensures untouched { (e : Error) → IsErrOf result (EncryptError.Random e)
+        → (reader.new ≡ reader.old) × (writer.new ≡ writer.old) }
 {
     let mut salt = [0; 19];
-    match random.fill_bytes(&mut salt) {
-        Ok(()) => encrypt_all(key, &salt, reader, writer, buf),
-        Err(e) => Err(EncryptError::Random(e)),
+    if let Err(e) = random.fill_bytes(&mut salt) {
+        return Err(EncryptError::Random(e));
     }
-}
-
-// `encrypt` with this salt.
-fn encrypt_all<R: Read, W: Write>(
-    key: &Key,
-    salt: &Salt,
-    reader: &mut R,
-    writer: &mut W,
-    buf: &mut [u8; BUFFER],
-) -> Result<(), EncryptError>
-    ensures written { OnOk result ((text file : List ℕ)
-        × IfSome (R.remaining reader.old) (λ all. all ≡ text)
-        × IsSealed key.now salt.now text file
-        × Appends (W.contents writer.old) (W.contents writer.new) file) }
-    ensures only_sealed { OnErr result ((text : List ℕ) × (n : ℕ)
-        × IfSome (R.remaining reader.old) (λ all. all ≡ text)
-        × Appends (W.contents writer.old) (W.contents writer.new)
-        (take n (sealed key.now salt.now text))) }
-    ensures between { (e : IoError) → IsErrOf result (EncryptError.Read e)
-        → (bytes : List ℕ) × (i : ℕ) × (length bytes ≡ 32 + 65552 * i)
-        × Appends (W.contents writer.old) (W.contents writer.new) bytes }
-    ensures too_long { IsErrOf result EncryptError.TooLong
-        → IfSome (R.remaining reader.old) (λ text. 2 ^ 48 < length text) }
-{
-    if let Err(e) = write_whole(writer, &header(salt)) {
+    if let Err(e) = write_whole(writer, &header(&salt)) {
         return Err(EncryptError::Write(e));
     }
-    let buf = &mut buf[..];
-    let mut held = 0;
+    let mut next = None;
     'chunks: for number in 0..CHUNKS {
-        let n = match fill(reader, &mut buf[..CHUNK + 1], held) {
-            Ok(n) => n,
+        let (n, after) = match read_chunk(reader, next, buf, CHUNK) {
+            Ok(read) => read,
             Err(e) => return Err(EncryptError::Read(e)),
         };
-        let next = buf[CHUNK];
-        let last = n <= CHUNK;
-        let chunk = &mut buf[..n.min(CHUNK) + TAG];
-        seal_chunk(key, salt, number, last, chunk);
+        let last = after.is_none();
+        let chunk = &mut buf[..n + TAG];
+        seal_chunk(key, &salt, number, last, chunk);
         if let Err(e) = write_whole(writer, chunk) {
             return Err(EncryptError::Write(e));
         }
         if last {
             return Ok(());
         }
-        buf[0] = next;
-        held = 1;
+        next = after;
     }
     Err(EncryptError::TooLong)
 }
@@ -131,65 +106,84 @@ pub fn decrypt<R: Read, W: Write>(
         × (n < length text)
         × Appends (W.contents writer.old) (W.contents writer.new) (take n text) }
 {
-    let salt = read_header(reader)?;
-    let buf = &mut buf[..];
-    let mut held = 0;
+    let salt = match read_header(reader) {
+        Ok(salt) => salt,
+        Err(ReadError::Read(e)) => return Err(DecryptError::Read(e)),
+        Err(ReadError::Damaged(damage)) => return Err(DecryptError::Damaged(damage)),
+    };
+    let mut next = None;
     'chunks: for number in 0..CHUNKS {
-        let n = match fill(reader, buf, held) {
-            Ok(n) => n,
+        let (n, after) = match read_chunk(reader, next, buf, CHUNK + TAG) {
+            Ok(read) => read,
             Err(e) => return Err(DecryptError::Read(e)),
         };
-        let next = buf[CHUNK + TAG];
-        let last = n <= CHUNK + TAG;
-        let chunk = &mut buf[..n.min(CHUNK + TAG)];
+        let last = after.is_none();
+        let chunk = &mut buf[..n];
         if !open_chunk(key, &salt, number, last, chunk) {
             return Err(DecryptError::Damaged(Damage::of_chunk(number, last)));
         }
-        if let Err(e) = write_whole(writer, &chunk[..chunk.len() - TAG]) {
+        if let Err(e) = write_whole(writer, &chunk[..n - TAG]) {
             return Err(DecryptError::Write(e));
         }
         if last {
             return Ok(());
         }
-        buf[0] = next;
-        held = 1;
+        next = after;
     }
     Err(DecryptError::Damaged(Damage::TooLong))
 }
 
 // Reads the header, and returns its salt.
-fn read_header<R: Read>(reader: &mut R) -> Result<Salt, DecryptError>
-    ensures read { IfOk result (λ salt.
+fn read_header<R: Read>(reader: &mut R) -> Result<Salt, ReadError>
+    ensures right { IfOk result (λ salt.
         Consumes (R.remaining reader.old) (R.remaining reader.new) (header salt)) }
     ensures size { IfOk result (λ salt. length salt ≡ 19) }
-    ensures damaged { (damage : Damage) → IsErrOf result (DecryptError.Damaged damage)
+    ensures damaged { (damage : Damage) → IsErrOf result (ReadError.Damaged damage)
         → IfSome (R.remaining reader.old) (λ file. IsFileDamage file damage) }
-    ensures not_write { (e : IoError) → IsErrOf result (DecryptError.Write e) → ⊥ }
 {
     let mut bytes = [0; 32];
-    match fill(reader, &mut bytes, 0) {
-        Ok(n) => match salt_of(&bytes[..n]) {
-            Ok(salt) => Ok(salt),
-            Err(damage) => Err(DecryptError::Damaged(damage)),
-        },
-        Err(e) => Err(DecryptError::Read(e)),
-    }
+    let n = fill(reader, &mut bytes)?;
+    Ok(salt_of(&bytes[..n])?)
 }
 
-/// Reads until the buffer is full or the reader ends, behind the `held` bytes that the buffer has already. Returns how
-/// many bytes it has then. A read that is interrupted is tried again. After an error, the buffer has what was read.
-pub fn fill<R: Read>(reader: &mut R, buf: &mut [u8], held: usize) -> Result<usize, IoError>
-    requires { held ≤ length buf.old }
-    ensures read { IfOk result (λ n. Consumes
-        (prepend_known (take held buf.old) (R.remaining reader.old)) (R.remaining reader.new)
-        (take n buf.new)) }
-    ensures bounds { IfOk result (λ n. (held ≤ n) × (n ≤ length buf.old)) }
-    ensures end { IfOk result (λ n. n < length buf.old → IsAtEnd (R.remaining reader.new)) }
-    ensures partly { OnErr result ((n : ℕ) × (n < length buf.old) × Consumes
-        (prepend_known (take held buf.old) (R.remaining reader.old)) (R.remaining reader.new)
-        (take n buf.new)) }
+// Reads the next `size` bytes, or those that are left, into the buffer's start, and then one more: if there is one,
+// another chunk follows. `next` is the one that was read so before.
+fn read_chunk<R: Read>(
+    reader: &mut R,
+    next: Option<u8>,
+    buf: &mut [u8],
+    size: usize,
+) -> Result<(usize, Option<u8>), IoError>
+    requires { (0 < size) × (size < length buf.old) }
+    ensures bytes { IfOk result (λ (n, after). Consumes (left next (R.remaining reader.old))
+        (left after (R.remaining reader.new)) (take n buf.new)) }
+    ensures size { IfOk result (λ (n, after). (n ≤ size) × (IsSome next → 0 < n)) }
+    ensures whole { IfOk result (λ (n, after). IsSome after → n ≡ size) }
+    ensures end { IfOk result (λ (n, after). IsNone after → IsAtEnd (R.remaining reader.new)) }
 {
-    let mut at = held;
+    let mut held = 0;
+    if let Some(byte) = next {
+        buf[0] = byte;
+        held = 1;
+    }
+    let n = held + fill(reader, &mut buf[held..size + 1])?;
+    if n <= size {
+        return Ok((n, None));
+    }
+    Ok((size, Some(buf[size])))
+}
+
+/// Reads until the buffer is full or the reader ends, and returns how many bytes came. A read that a signal interrupts
+/// is repeated. After an error, the buffer has what was read.
+pub fn fill<R: Read>(reader: &mut R, buf: &mut [u8]) -> Result<usize, IoError>
+    ensures right { IfOk result (λ n.
+        Consumes (R.remaining reader.old) (R.remaining reader.new) (take n buf.new)) }
+    ensures bound { IfOk result (λ n. n ≤ length buf.old) }
+    ensures end { IfOk result (λ n. n < length buf.old → IsAtEnd (R.remaining reader.new)) }
+    ensures partly { OnErr result ((n : ℕ) × (n < length buf.old)
+        × Consumes (R.remaining reader.old) (R.remaining reader.new) (take n buf.new)) }
+{
+    let mut at = 0;
     'reads: for _ in 0..u64::MAX {
         if at >= buf.len() {
             return Ok(at);

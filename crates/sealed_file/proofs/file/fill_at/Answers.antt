@@ -1,6 +1,8 @@
-use Rattle.std.proofs.Common.{◌≡◌, ◌-◌, ℕ, IfSome, rules, length, take, drop, sym, subst}
+use Rattle.std.proofs.Common.{◌≡◌, ◌-◌, ◌∙◌, le_refl, ℕ, IfSome, rules, length, take, drop, sym, subst}
+use Rattle.std.proofs.lemmas.Option.{IfSome_then}
+use Rattle.std.proofs.lemmas.Slice.{take-put_mid_below}
 use borrow.Rule.Slice.PartMut.{put_mid}
-use Rattle.sealed_file.proofs.BufferLemmas.{part-kept, part-read}
+use Rattle.sealed_file.proofs.BufferLemmas.{part-read}
 use Rattle.sealed_file.proofs.file.fill_at.Goals.{in-Ok, in-Err+in_default}
 use Rattle.sealed_file.proofs.file.fill_at.Goals as goal
 
@@ -20,8 +22,8 @@ reads-preserved g c =
       )
       | in-Err+in_default w ↦ (
         search rules,
-        subst has (sym w.at-is) (part-kept known c.reads.at room c.args.place c.reads.buf c.read_at.new.buf within
-            read),
+        subst has (sym w.at-is) (IfSome_then known read (λ all is.
+            take-put_mid_below _ _ _ _ _ (le_refl _) within ∙ is)),
         search rules,
       )
     ]

@@ -5,12 +5,12 @@ use Rattle.sealed_file.proofs.reader.load.Goals as goal
 
 pub returns-then-n-chunk-clause-damaged : goal.returns-then-n-chunk-clause-damaged
 returns-then-n-chunk-clause-damaged g c damage is =
-    let size = c.chunk_size.result in
+    let size = c.min.result in
     let wide : length (take size c.args.buf.now) ≡ size =
-    length-take-le size c.args.buf.now (omega (arith, c.chunk_size.ensures, c.told-buf)) in
+    length-take-le size c.args.buf.now (omega (arith, c.min.ensures, c.told-buf)) in
     load-wrong c.args.key.now c.args.salt.now c.fill_at.new.buf c.args.len c.args.number size c.in_ok-n.n
-    c.last_chunk.result (length (take size c.args.buf.now)) c.chunk_place.result c.chunk_size.ensures
-    c.last_chunk.ensures.value c.fill_at.auto.buf wide c.chunk_place.ensures c.in_ok-n.ensures.bound _ damage
+    c.last_chunk.result (length (take size c.args.buf.now)) (omega (arith, c.min.ensures, c.saturating_sub.ensures))
+    c.last_chunk.ensures.value c.fill_at.auto.buf wide c.in_ok-n.ensures.bound _ damage
     c.requires.len c.in_ok-n.ensures.read (cc)
     (elim c.then-n-chunk.branch [
       | then-n-chunk-via-then-n-chunk w ↦ inl (omega (arith, w.if-n-chunk.true, c.fill_at.auto.buf, wide))
@@ -19,12 +19,12 @@ returns-then-n-chunk-clause-damaged g c damage is =
 
 pub returns-clause-right : goal.returns-clause-right
 returns-clause-right g c =
-    let size = c.chunk_size.result in
+    let size = c.min.result in
     let wide : length (take size c.args.buf.now) ≡ size =
-    length-take-le size c.args.buf.now (omega (arith, c.chunk_size.ensures, c.told-buf)) in
+    length-take-le size c.args.buf.now (omega (arith, c.min.ensures, c.told-buf)) in
     let opened = c.if-not-open_chunk.ensures in
     load-right c.args.key.now c.args.salt.now c.fill_at.new.buf c.args.len c.args.number size c.in_ok-n.n
-    c.last_chunk.result (length (take size c.args.buf.now)) c.chunk_place.result c.chunk_size.ensures
-    c.last_chunk.ensures.value c.fill_at.auto.buf wide c.chunk_place.ensures c.in_ok-n.ensures.bound _
+    c.last_chunk.result (length (take size c.args.buf.now)) (omega (arith, c.min.ensures, c.saturating_sub.ensures))
+    c.last_chunk.ensures.value c.fill_at.auto.buf wide c.in_ok-n.ensures.bound _
     c.open_chunk.new.bytes _ c.requires.len c.in_ok-n.ensures.read
     c.open_chunk.auto.bytes (opened.right refl) (opened.long refl)

@@ -1,15 +1,7 @@
-use Rattle.std.proofs.Common.{◌≡◌, ◌*◌, ◌≤◌, ◌<◌, ◌++◌, ℕ, List, length, take}
-use Rattle.std.specs.Io.KnownBytes.{Appends, Consumes, prepend_known}
-use Rattle.sealed_file.specs.Sealed.{header, chunks}
+use Rattle.sealed_file.proofs.DecryptLemmas.{Opened}
 use Rattle.sealed_file.proofs.stream.decrypt.Given as goal
 
--- the text of the chunks before this one is written, and the first byte of this one may be held
 abbrev pub invariant-chunks : goal.invariant-chunks
 invariant-chunks g l =
-    let key = l.fn.key in
-    let salt = l.salt in
-    (moved : List ℕ) × (l.held ≤ 1) × (0 < l.number → l.held ≡ 1)
-    × (length moved ≡ 65536 * l.number)
-    × Consumes (g.R.Read.remaining l.fn.reader) (prepend_known (take l.held l.buf) (g.R.Read.remaining l.reader))
-    (header salt ++ chunks key salt moved l.number)
-    × Appends (g.W.Write.contents l.fn.writer) (g.W.Write.contents l.writer) moved
+    Opened (g.R.Read.remaining l.fn.reader) (g.R.Read.remaining l.reader) (g.W.Write.contents l.fn.writer)
+    (g.W.Write.contents l.writer) l.next l.fn.key l.salt l.number

@@ -9,13 +9,12 @@ use Rattle.sealed_file.proofs.stream.fill.Goals as goal
 
 pub reads-preserved : goal.reads-preserved
 reads-preserved g c =
-    let (held, within, read) = c.reads.invariant in
+    let (within, read) = c.reads.invariant in
     let room = length c.reads.buf - c.reads.at in
     let old = c.reads.buf in
     let new = c.read.new.buf in
     elim c.match-read.branch [
       | in-Ok w ↦ (
-        search rules,
         search rules,
         subst (Consumes _ _)
             (sym (ap (λ n. take n (put_mid c.reads.at room old new)) w.at-is
@@ -23,7 +22,6 @@ reads-preserved g c =
             (Consumes-trans _ _ _ _ _ read w.in-Ok.ensures.bytes.0),
       )
       | in-Err+in_default w ↦ (
-        search rules,
         search rules,
         subst (Consumes _ _)
             (sym (ap (λ n. take n (put_mid c.reads.at room old new)) w.at-is

@@ -1,9 +1,8 @@
 use Rattle.std.proofs.Common.{◌≤◌, length, take}
-use Rattle.std.specs.Io.KnownBytes.{Consumes, prepend_known}
+use Rattle.std.specs.Io.KnownBytes.{Consumes}
 use Rattle.sealed_file.proofs.stream.fill.Given as goal
 
 abbrev pub invariant-reads : goal.invariant-reads
 invariant-reads g l =
-    (l.held ≤ l.at) × (l.at ≤ length l.buf)
-    × Consumes (prepend_known (take l.held l.initial.buf) (g.R.Read.remaining l.initial.reader))
-    (g.R.Read.remaining l.reader) (take l.at l.buf)
+    (l.at ≤ length l.buf)
+    × Consumes (g.R.Read.remaining l.initial.reader) (g.R.Read.remaining l.reader) (take l.at l.buf)

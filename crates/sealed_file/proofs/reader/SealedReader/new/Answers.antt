@@ -4,7 +4,7 @@ use Rattle.sealed_file.specs.declared.error.ReadError.{ReadError}
 use Rattle.sealed_file.specs.Sealed.{IsFileDamage}
 use Rattle.sealed_file.proofs.FileLemmas.{length-sealed}
 use Rattle.sealed_file.proofs.HeaderLemmas.{front-damage, front-is}
-use Rattle.sealed_file.proofs.ListLemmas.{some-weaker}
+use Rattle.std.proofs.lemmas.Option.{IfSome_then}
 use Rattle.sealed_file.proofs.reader.SealedReader.new.Goals as goal
 
 pub returns-in_err-salt-clause-damaged : goal.returns-in_err-salt-clause-damaged
@@ -24,9 +24,8 @@ returns-then-len-clause-opens g c salt text bytes known (size, most, sealed) sur
 pub returns-then-len-clause-damaged : goal.returns-then-len-clause-damaged
 returns-then-len-clause-damaged g c damage is =
     let same : Damage.TooLong ≡ damage = (cc) in
-    some-weaker (g.R.ReadAt.bytes c.args.source) _ _
+    IfSome_then (g.R.ReadAt.bytes c.args.source) c.in_ok-len.ensures.value
     (λ all told. subst (IsFileDamage all) same (omega (arith, told, c.if-len.true)))
-    c.in_ok-len.ensures.value
 
 pub invariant_of-result : goal.invariant_of-result
 invariant_of-result g c =

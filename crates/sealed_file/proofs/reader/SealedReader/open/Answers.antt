@@ -1,5 +1,6 @@
 use Rattle.std.proofs.Common.{IfSome, take, subst}
-use Rattle.sealed_file.proofs.ListLemmas.{if_some, in-file, passed-on, some-weaker}
+use Rattle.std.proofs.lemmas.Option.{IfSome_then}
+use Rattle.sealed_file.proofs.ListLemmas.{if_some, in-file, passed-on}
 use Rattle.sealed_file.specs.Ranges.{HasChunk}
 use Rattle.sealed_file.proofs.reader.SealedReader.open.Goals as goal
 
@@ -13,8 +14,8 @@ returns-in-Some-clause-right g c =
 
 pub load-requires-clause-len : goal.load-requires-clause-len
 load-requires-clause-len g c =
-    some-weaker (g.R.ReadAt.bytes c.args.self.now.source) _ _ (λ b is. is.0)
-    (if_some (g.R.ReadAt.bytes c.args.self.now.source) _ c.args.self.now.begins)
+    IfSome_then (g.R.ReadAt.bytes c.args.self.now.source)
+    (if_some (g.R.ReadAt.bytes c.args.self.now.source) _ c.args.self.now.begins) (λ b is. is.0)
 
 pub returns-in_err-len-clause-damaged : goal.returns-in_err-len-clause-damaged
 returns-in_err-len-clause-damaged g c damage is =
