@@ -1,6 +1,5 @@
 -- What proofs of callers cite.
 pub mod RepeatedLemmas
-pub mod SeekLemmas
 pub mod StdLemmas
 pub use Rattle.chacha_base.proofs.KeystreamLemmas
 pub use Rattle.chacha_base.proofs.PieceLemmas

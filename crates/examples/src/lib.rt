@@ -6,16 +6,12 @@
 //! equal, and `OnOk result (..)` says what holds if the call returns `Ok`. `specs` has the definitions of the examples.
 //! `proofs` has the answers that the prover needs, or that make its check quicker: often a line or two for a function.
 //!
-//! The proofs use only public contracts, definitions and lemmas: of `chacha20`, in `sectors` also of
-//! `chacha20poly1305`, and in `scalar` also of `chacha_base`.
+//! The proofs use only public contracts, definitions and lemmas: of `chacha20`, and in `sectors` also of
+//! `chacha20poly1305`.
 #![tactic(auto)]
 
-pub mod file;
-pub mod log;
 pub mod message;
 pub mod own_core;
 pub mod pieces;
-pub mod scalar;
 pub mod sectors;
 pub mod simulation;
-pub mod stream;

@@ -15,13 +15,9 @@ mod unsteady;
 
 // The tests of `packets` (wireguard.rt), of `secretstream`, and of `examples`, each under the name of its example.
 // `own_core` has its own in `tests`.
-mod file;
-mod log;
 mod message;
 mod pieces;
-mod scalar;
 mod secret_streams;
 mod sectors;
 mod simulation;
-mod stream;
 mod wireguard;

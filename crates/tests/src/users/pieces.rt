@@ -1,4 +1,4 @@
-//! A published stream in pieces, in two buffers and as a record, by any cipher.
+//! A published stream in pieces and in two buffers, by any cipher.
 
 ghost use Rattle.std.specs.Prelude.{◌≡◌, ◌≤◌, ◌+◌, ◌^◌};
 ghost use Rattle.chacha20.specs.Cipher.{limit_of};
@@ -7,7 +7,6 @@ use chacha20::backends::Lanes4;
 use chacha20::cipher::{KeyIvInit, StreamCipher, StreamCipherSeek};
 use chacha20::variants::Ietf;
 use chacha20::{ChaChaCore, Key, Nonce, R20, StreamCipherCoreWrapper};
-use examples::file::encrypt_record;
 use examples::pieces::{apply_in_two, try_apply_in_pieces};
 use known_answers::published::{COUNTING, KEYSTREAM, NONCE};
 
@@ -25,12 +24,6 @@ fn in_two<C: StreamCipher>(cipher: &mut C) -> bool
     KEYSTREAM.starts_with(&first[64..]) & KEYSTREAM.ends_with(&rest)
 }
 
-// Record 2 of 32 bytes is at the front of block 1.
-fn as_record<C: StreamCipherSeek>(cipher: &mut C) -> bool {
-    let mut record = [0; 32];
-    encrypt_record(cipher, 2, &mut record).is_ok() & KEYSTREAM.starts_with(&record)
-}
-
 fn at_block_1<C: StreamCipherSeek>(cipher: &mut C) -> bool
     requires { 2 ^ 32 ≤ limit_of C.modulus }
 {
@@ -38,13 +31,12 @@ fn at_block_1<C: StreamCipherSeek>(cipher: &mut C) -> bool
     cipher.current_pos::<u64>() == 64
 }
 
-fn each<C: KeyIvInit<Key = Key, Iv = Nonce> + StreamCipherSeek + Drop>() -> [bool; 4]
+fn each<C: KeyIvInit<Key = Key, Iv = Nonce> + StreamCipherSeek + Drop>() -> [bool; 3]
     requires { 2 ^ 32 ≤ limit_of C.modulus }
 {
     [
         in_pieces(&mut C::new(&COUNTING, &NONCE)),
         in_two(&mut C::new(&COUNTING, &NONCE)),
-        as_record(&mut C::new(&COUNTING, &NONCE)),
         at_block_1(&mut C::new(&COUNTING, &NONCE)),
     ]
 }
@@ -54,5 +46,5 @@ type ChaCha20Lanes4 = StreamCipherCoreWrapper<ChaChaCore<R20, Ietf, Lanes4>>;
 
 #[test]
 fn by_any_cipher(rt: HostRuntime) {
-    assert!(rt; each::<ChaCha20Lanes4>() == [true; 4]);
+    assert!(rt; each::<ChaCha20Lanes4>() == [true; 3]);
 }
