@@ -1,14 +1,13 @@
--- Generators as 49 bytes, written part by part and read back. The proofs of `serialize_state` and
--- `deserialize_state` cite these, and those of the exports for C. Read `state_bytes` of `Generator` first.
-use Rattle.std.proofs.Common.{inl, inr, ◌≡◌, ℕ, ◌+◌, ◌-◌, ◌*◌, ◌/◌, ◌%◌, ◌^◌, ◌<◌, List, [], ◌∷◌, ◌++◌, length, take, drop, slice_index, replicate, arith, refl, ap, ap₂, ◌∙◌, append_assoc, set, take-add, bit_and, bit_or}
+-- Generators as 49 bytes, written part by part and read back. The proofs of `stored` and `deserialize_state` cite
+-- these. Read `state_bytes` of `Generator` first.
+use Rattle.std.proofs.Common.{inl, inr, ◌≡◌, ℕ, ◌+◌, ◌-◌, ◌/◌, ◌%◌, ◌^◌, ◌<◌, List, [], ◌∷◌, ◌++◌, length, take, drop, slice_index, replicate, arith, refl, ap, ap₂, ◌∙◌, append_assoc, set, take-add, bit_and}
 use Rattle.std.proofs.lemmas.Bool.{cases_lt}
 use Rattle.std.proofs.lemmas.List.{take_at, drop_at, length-append, length-take, get_or-take, get_or-drop, get_or_past, drop-drop}
-use Rattle.std.proofs.lemmas.Grind.{or_after_shift}
 use Rattle.std.proofs.lemmas.Nat.{and_mask, le_bytes_8, from_le_bytes-to_le_bytes_8}
 use Rattle.std.specs.Int.{w64, to_le_bytes, from_le_bytes}
 use borrow.Rule.Slice.PartMut.{put_mid}
 use Rattle.chacha20.proofs.StdLemmas.{put_mid-at}
-use Rattle.chacha20.specs.Generator.{GeneratorState, positions, at_word_pos, state_bytes, of_state_bytes}
+use Rattle.chacha20.specs.Generator.{GeneratorState, positions, state_bytes, of_state_bytes}
 use Rattle.chacha_base.proofs.BytesLemmas.{Bytes}
 use Rattle.chacha_base.proofs.ListLemmas.{by_words, part_long}
 use Rattle.chacha20.proofs.GeneratorLemmas.{generator_is}
@@ -62,18 +61,6 @@ Bytes-part front len bs fits i =
 
 from_le_bytes-below : (bs : List ℕ) → Bytes bs → from_le_bytes w64 bs < 2 ^ 64
 from_le_bytes-below bs fits = omega (arith, fits 0, fits 1, fits 2, fits 3, fits 4, fits 5, fits 6, fits 7)
-
--- the generator that is put to what is read of 49 bytes
-pub read_back : {seed : List ℕ} {stream low : ℕ} (bs : List ℕ) → low < 2 ^ 64 → slice_index bs 48 < 256
-    → seed ≡ take 32 bs → stream ≡ from_le_bytes w64 (take 8 (drop 32 bs))
-    → low ≡ from_le_bytes w64 (take 8 (drop 40 bs))
-    → at_word_pos (record { seed = seed; stream = stream; word_pos = 0 })
-    (bit_or (slice_index bs 48 * 2 ^ 64 % 2 ^ 128) low) ≡ of_state_bytes bs
-read_back {low = low} bs less small seed_is stream_is low_is =
-    let top = slice_index bs 48 in
-    let joined : bit_or (top * 2 ^ 64 % 2 ^ 128) low ≡ low + 2 ^ 64 * top =
-    or_after_shift top (2 ^ 64) (2 ^ 128) low refl less (omega arith) ∙ omega arith in
-    generator_is _ _ seed_is stream_is (ap (λ w. w % positions) (joined ∙ ap (λ l. l + 2 ^ 64 * top) low_is))
 
 -- in and out again
 pub state_bytes-of_state_bytes : (bs : List ℕ) → length bs ≡ 49 → Bytes bs

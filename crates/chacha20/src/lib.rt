@@ -30,6 +30,7 @@ mod facts;
 mod legacy;
 mod rng;
 pub mod runs;
+pub mod state_bytes;
 mod xchacha;
 
 pub use chacha::{ChaCha8, ChaCha12, ChaCha20, Key, Nonce};
@@ -48,4 +49,4 @@ pub use legacy::{ChaCha20Legacy, ChaCha20LegacyCore, LegacyNonce};
 pub use rand_core;
 pub use rng::{ChaCha8Rng, ChaCha12Rng, ChaCha20Rng, ChaChaRng, Seed, SerializedRngState};
 pub use runs::{CipherAnswer, CipherCall, RngAnswer, RngCall, run_cipher, run_rng};
-pub use xchacha::{XChaCha8, XChaCha12, XChaCha20, XChaChaCore, XNonce, hchacha};
+pub use xchacha::{XChaCha8, XChaCha12, XChaCha20, XChaChaCore, XNonce, hchacha, subkey, subnonce};

@@ -2,13 +2,13 @@
 //! of 32 bits; the words are those of ChaCha's blocks in the legacy layout.
 
 ghost use Rattle.std.specs.Prelude.{◌≡◌, ◌↔◌, ◌≤◌, ◌<◌, ◌+◌, ◌-◌, ◌*◌, ◌/◌, ◌%◌, ◌^◌, [], ◌∷◌, ◌++◌, length, take, drop, slice_index, Some, IsTrue, codes};
-ghost use Rattle.std.specs.Int.{w64, from_le_bytes};
 ghost use Rattle.rand_core.specs.Steps.{stream_of};
 ghost use Rattle.rand_core.specs.Pcg32Seed.{pcg32_seed};
 ghost use Rattle.chacha20.specs.Generator.{at_word_pos, next_u32, next_u64, fill, reads, of_seed, same_generator, state_bytes, of_state_bytes};
 ghost use Rattle.chacha20.specs.GeneratorCore.{generator_of, IsUnread};
 
 use crate::chacha_core::{ChaChaCore, Generator, joined};
+use crate::state_bytes::{POSITIONS, seed_in, stored, stream_in, word_pos_in};
 use chacha_base::backends::Lanes8;
 use chacha_base::bytes::write_bytes;
 use chacha_base::cipher::RngBackend;
@@ -42,16 +42,6 @@ const BLOCK_WORDS: u128 = 16;
 const BUFFER_BLOCKS: u64 = 4;
 
 const BUFFER_WORDS: usize = 64;
-
-// How many word positions there are: sixteen words for each of 2^64 blocks.
-const POSITIONS: u128 = 1 << 68;
-
-// Where a stored state has its stream, its word position, and the position's last byte.
-const STREAM_AT: usize = 32;
-
-const POSITION_AT: usize = 40;
-
-const TOP_AT: usize = 48;
 
 /// A generator of random words.
 ///
@@ -218,21 +208,13 @@ impl<R: Rounds, B: RngBackend<R>> ChaChaRng<R, B> {
     }
 
     /// The state as 49 bytes, which give the generator again.
-    #[tactic(auto, using(crate::proofs::StateBytesLemmas::two_written_length))]
     pub fn serialize_state(&self) -> SerializedRngState
         ensures value { result ≡ state_bytes self.now }
         ensures restored { of_state_bytes result ≡ self.now }
         ensures within { self.now.word_pos < 2 ^ 68 }
     {
         let word_pos = self.get_word_pos();
-        let stream = self.get_stream().to_le_bytes();
-        let low = ((word_pos & u128::from(u64::MAX)) as u64).to_le_bytes();
-        let mut state = [0; 49];
-        state[..STREAM_AT].copy_from_slice(&self.get_seed());
-        state[STREAM_AT..POSITION_AT].copy_from_slice(&stream);
-        state[POSITION_AT..TOP_AT].copy_from_slice(&low);
-        state[TOP_AT] = (word_pos >> 64) as u8;
-        state
+        stored(&self.get_seed(), self.get_stream(), word_pos)
     }
 
     /// The generator of a state. Any 49 bytes are a state: the upper half of the last byte is ignored.
@@ -241,12 +223,9 @@ impl<R: Rounds, B: RngBackend<R>> ChaChaRng<R, B> {
         ensures stored { state_bytes result ≡ take 48 state.now
             ++ (slice_index state.now 48 % 16 ∷ []) }
     {
-        let mut seed = [0; 32];
-        seed.copy_from_slice(&state[..STREAM_AT]);
-        let low = read_u64(&state[POSITION_AT..TOP_AT]);
-        let mut rng = Self::from_seed(seed);
-        rng.set_stream(read_u64(&state[STREAM_AT..POSITION_AT]));
-        rng.set_word_pos((u128::from(state[TOP_AT]) << 64) | u128::from(low));
+        let mut rng = Self::from_seed(seed_in(state));
+        rng.set_stream(stream_in(state));
+        rng.set_word_pos(word_pos_in(state));
         rng
     }
 
@@ -299,16 +278,6 @@ fn refill<R: Rounds, B: RngBackend<R>>(
         core.generate(buffer);
         *index = 0;
     }
-}
-
-// The little-endian number of 8 bytes.
-fn read_u64(bytes: &[u8]) -> u64
-    requires { length bytes.now ≡ 8 }
-    ensures { result ≡ from_le_bytes w64 bytes.now }
-{
-    let mut number = [0; 8];
-    number.copy_from_slice(bytes);
-    u64::from_le_bytes(number)
 }
 
 /// `from_seed` and `seed_from_u64`, which makes a seed of a number as `rand_core` does.

@@ -1,9 +1,9 @@
 //! HChaCha, and the ciphers with a nonce of 24 bytes (draft-irtf-cfrg-xchacha, section 2).
 
 ghost use Rattle.std.specs.Prelude.{◌≡◌};
-ghost use Rattle.chacha20.specs.XChaCha.{hchacha};
+ghost use Rattle.chacha20.specs.XChaCha.{hchacha, subkey, subnonce};
 
-use crate::chacha::Key;
+use crate::chacha::{Key, Nonce};
 use crate::chacha_core::{ChaChaCore, start_state};
 use chacha_base::backends::Lanes16;
 use chacha_base::bytes::{read_words, write_bytes};
@@ -45,10 +45,30 @@ pub fn hchacha<R: Rounds>(key: &Key, input: &[u8; 16]) -> [u8; 32]
     subkey
 }
 
+/// The key under which ChaCha is XChaCha for a nonce: `hchacha` of the given key and the nonce's first 16 bytes
+/// (draft-irtf-cfrg-xchacha, section 2.3).
+pub fn subkey<R: Rounds>(key: &Key, nonce: &XNonce) -> Key
+    ensures { result ≡ subkey R.COUNT key.now nonce.now }
+{
+    let mut input = [0; 16];
+    input.copy_from_slice(&nonce[..16]);
+    hchacha::<R>(key, &input)
+}
+
+/// The nonce under that key: four zero bytes, and then the given nonce's last eight (draft-irtf-cfrg-xchacha, section
+/// 2.3).
+#[tactic(auto, using(crate::proofs::StartLemmas::subnonce_written))]
+pub fn subnonce(nonce: &XNonce) -> Nonce
+    ensures { result ≡ subnonce nonce.now }
+{
+    let mut short = [0; 12];
+    short[4..].copy_from_slice(&nonce[16..]);
+    short
+}
+
 /// The core of an XChaCha cipher: a core of RFC 8439's layout under a derived key and nonce (draft-irtf-cfrg-xchacha,
-/// section 2.3). The derived key is `hchacha` of the given key and the first 16 bytes of the given nonce, with as many
-/// double rounds; the derived nonce is four zero bytes and then the last eight bytes of the given one. Clauses see the
-/// core as the list of its sixteen words.
+/// section 2.3), by `subkey` with as many double rounds and `subnonce`. Clauses see the core as the list of its sixteen
+/// words.
 #[derive_where(Debug)]
 pub struct XChaChaCore<R: Rounds, B> {
     core: ChaChaCore<R, Ietf, B>,
@@ -115,7 +135,6 @@ impl<R: Rounds, B> IvSizeUser for XChaChaCore<R, B> {
 
 impl<R: Rounds, B> KeyIvInit for XChaChaCore<R, B> {
     ghost use Rattle.chacha_base.specs.ChaCha.{ietf, start, block};
-    ghost use Rattle.chacha20.specs.XChaCha.{subkey, subnonce};
 
     type Key = Key;
 
@@ -126,13 +145,8 @@ impl<R: Rounds, B> KeyIvInit for XChaChaCore<R, B> {
     ghost blocks_of = { λ key iv. block R.COUNT ietf (subkey R.COUNT key iv) (subnonce iv) };
 
     fn new(key: &Key, iv: &XNonce) -> Self {
-        let mut input = [0; 16];
-        input.copy_from_slice(&iv[..16]);
-        let mut nonce = [0; 12];
-        nonce[4..].copy_from_slice(&iv[16..]);
-        let subkey = hchacha::<R>(key, &input);
         XChaChaCore {
-            core: ChaChaCore::new(&subkey, &nonce),
+            core: ChaChaCore::new(&subkey::<R>(key, iv), &subnonce(iv)),
         }
     }
 }

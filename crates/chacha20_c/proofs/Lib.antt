@@ -1,2 +1,1 @@
 pub mod FillLemmas
-pub mod MessageVectors

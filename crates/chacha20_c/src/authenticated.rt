@@ -1,45 +1,21 @@
 //! ChaCha20-Poly1305 (RFC 8439, section 2.8), XChaCha20-Poly1305 (draft-irtf-cfrg-xchacha, section 2), and the MAC.
 
-ghost use Rattle.std.specs.Prelude.{◌≡◌, ◌↔◌, ◌⊎◌, cond, is_ok, IfOk, OnErr};
+ghost use Rattle.std.specs.Prelude.{◌≡◌, ◌≢◌, ◌↔◌, ◌⊎◌, ◌≤◌, ◌+◌, ◌++◌, length};
 ghost use Rattle.chacha20.specs.ChaCha.{chacha_stream, ietf, modulus};
 ghost use Rattle.chacha20.specs.Cipher.{limit_of};
 ghost use Rattle.chacha20.specs.XChaCha.{xchacha_stream};
 ghost use Rattle.poly1305.specs.Poly1305.{poly1305};
-ghost use Rattle.chacha20_c.specs.Results.{Decrypted, DecryptedInto, Encrypted, EncryptedInto};
+ghost use Rattle.chacha20poly1305.specs.Aead.{poly1305_tag, sealed_message};
 
 use crate::backend::Backend;
-use crate::xchacha::{subkey, subnonce};
-use chacha20::{ChaChaCore, Ietf, Key, Nonce, R20, StreamCipherCoreWrapper, XNonce};
-use chacha20poly1305::{ChaChaPoly1305, Error};
-use poly1305::{Tag, authenticate};
+use chacha20::{
+    ChaChaCore, Ietf, Key, Nonce, R20, StreamCipherCoreWrapper, XNonce, subkey, subnonce,
+};
+use chacha20poly1305::ChaChaPoly1305;
+use poly1305::{Tag, authenticate, is_equal};
 
 // The AEAD for nonces of 12 bytes.
 type Aead = ChaChaPoly1305<StreamCipherCoreWrapper<ChaChaCore<R20, Ietf, Backend>>>;
-
-// 0 and the tag for a message that was encrypted, and else 1.
-fn answer_with(made: Result<Tag, Error>, tag: &mut Tag) -> u32
-    ensures value { result ≡ cond (is_ok made) 0 1 }
-    ensures tag { IfOk made (λ t. tag.new ≡ t) }
-    ensures refused { OnErr made (tag.new ≡ tag.old) }
-{
-    match made {
-        Ok(right) => {
-            *tag = right;
-            0
-        }
-        Err(_) => 1,
-    }
-}
-
-// 0 for a message that was decrypted, and else 1.
-fn answer(outcome: Result<(), Error>) -> u32
-    ensures { result ≡ cond (is_ok outcome) 0 1 }
-{
-    match outcome {
-        Ok(()) => 0,
-        Err(_) => 1,
-    }
-}
 
 /// ChaCha20-Poly1305: encrypts `data` in place, and writes the tag of `aad` and the ciphertext.
 /// Returns 0. Where the message has more bytes than the stream from block 1 on, it returns 1 and writes nothing.
@@ -52,11 +28,19 @@ pub extern "C" fn chacha20_aead_encrypt_in_place(
     data: &mut [u8],
     tag: &mut Tag,
 ) -> u32
-    ensures { Encrypted (limit_of (modulus ietf)) (chacha_stream 10 ietf key.now nonce.now)
-        aad.now result «data».old «data».new tag.old tag.new }
+    ensures accepted { result ≡ 0 ↔ (64 + length «data».old ≤ limit_of (modulus ietf)) }
+    ensures sealed { result ≡ 0 → «data».new ++ tag.new
+        ≡ sealed_message (chacha_stream 10 ietf key.now nonce.now) aad.now «data».old }
+    ensures refused { result ≢ 0
+        → (result ≡ 1) × («data».new ≡ «data».old) × (tag.new ≡ tag.old) }
 {
-    let made = Aead::new(key).encrypt_in_place_detached(nonce, aad, data);
-    answer_with(made, tag)
+    match Aead::new(key).encrypt_in_place_detached(nonce, aad, data) {
+        Ok(made) => {
+            *tag = made;
+            0
+        }
+        Err(_) => 1,
+    }
 }
 
 /// `chacha20_aead_encrypt_in_place` from `input` to `output`, which overlaps no other argument.
@@ -70,14 +54,22 @@ pub extern "C" fn chacha20_aead_encrypt_between(
     input: &[u8],
     tag: &mut Tag,
 ) -> u32
-    ensures { EncryptedInto (limit_of (modulus ietf)) (chacha_stream 10 ietf key.now nonce.now)
-        aad.now result input.now output.old output.new tag.old tag.new }
+    ensures accepted { result ≡ 0 ↔ ((length input.now ≡ length output.old)
+        × (64 + length input.now ≤ limit_of (modulus ietf))) }
+    ensures sealed { result ≡ 0 → output.new ++ tag.new
+        ≡ sealed_message (chacha_stream 10 ietf key.now nonce.now) aad.now input.now }
+    ensures refused { result ≢ 0
+        → (result ≡ 1) × (output.new ≡ output.old) × (tag.new ≡ tag.old) }
 {
-    if output.len() == input.len() {
-        let made = Aead::new(key).encrypt_detached(nonce, aad, input, output);
-        answer_with(made, tag)
-    } else {
-        1
+    if output.len() != input.len() {
+        return 1;
+    }
+    match Aead::new(key).encrypt_detached(nonce, aad, input, output) {
+        Ok(made) => {
+            *tag = made;
+            0
+        }
+        Err(_) => 1,
     }
 }
 
@@ -92,10 +84,17 @@ pub extern "C" fn chacha20_aead_decrypt_in_place(
     data: &mut [u8],
     tag: &Tag,
 ) -> u32
-    ensures { Decrypted (limit_of (modulus ietf)) (chacha_stream 10 ietf key.now nonce.now)
-        aad.now tag.now result «data».old «data».new }
+    ensures accepted { let stream = chacha_stream 10 ietf key.now nonce.now in
+        result ≡ 0 ↔ ((64 + length «data».old ≤ limit_of (modulus ietf))
+        × (tag.now ≡ poly1305_tag stream aad.now «data».old)) }
+    ensures opened { result ≡ 0 → «data».old ++ tag.now
+        ≡ sealed_message (chacha_stream 10 ietf key.now nonce.now) aad.now «data».new }
+    ensures refused { result ≢ 0 → (result ≡ 1) × («data».new ≡ «data».old) }
 {
-    answer(Aead::new(key).decrypt_in_place_detached(nonce, aad, data, tag))
+    match Aead::new(key).decrypt_in_place_detached(nonce, aad, data, tag) {
+        Ok(()) => 0,
+        Err(_) => 1,
+    }
 }
 
 /// `chacha20_aead_decrypt_in_place` from `input` to `output`, which overlaps no other argument.
@@ -109,13 +108,20 @@ pub extern "C" fn chacha20_aead_decrypt_between(
     input: &[u8],
     tag: &Tag,
 ) -> u32
-    ensures { DecryptedInto (limit_of (modulus ietf)) (chacha_stream 10 ietf key.now nonce.now)
-        aad.now tag.now result input.now output.old output.new }
+    ensures accepted { let stream = chacha_stream 10 ietf key.now nonce.now in
+        result ≡ 0 ↔ ((length input.now ≡ length output.old)
+        × (64 + length input.now ≤ limit_of (modulus ietf))
+        × (tag.now ≡ poly1305_tag stream aad.now input.now)) }
+    ensures opened { result ≡ 0 → input.now ++ tag.now
+        ≡ sealed_message (chacha_stream 10 ietf key.now nonce.now) aad.now output.new }
+    ensures refused { result ≢ 0 → (result ≡ 1) × (output.new ≡ output.old) }
 {
-    if output.len() == input.len() {
-        answer(Aead::new(key).decrypt_detached(nonce, aad, input, output, tag))
-    } else {
-        1
+    if output.len() != input.len() {
+        return 1;
+    }
+    match Aead::new(key).decrypt_detached(nonce, aad, input, output, tag) {
+        Ok(()) => 0,
+        Err(_) => 1,
     }
 }
 
@@ -128,10 +134,13 @@ pub extern "C" fn xchacha20_aead_encrypt_in_place(
     data: &mut [u8],
     tag: &mut Tag,
 ) -> u32
-    ensures { Encrypted (limit_of (modulus ietf)) (xchacha_stream 10 key.now nonce.now)
-        aad.now result «data».old «data».new tag.old tag.new }
+    ensures accepted { result ≡ 0 ↔ (64 + length «data».old ≤ limit_of (modulus ietf)) }
+    ensures sealed { result ≡ 0 → «data».new ++ tag.new
+        ≡ sealed_message (xchacha_stream 10 key.now nonce.now) aad.now «data».old }
+    ensures refused { result ≢ 0
+        → (result ≡ 1) × («data».new ≡ «data».old) × (tag.new ≡ tag.old) }
 {
-    chacha20_aead_encrypt_in_place(&subkey(key, nonce), &subnonce(nonce), aad, data, tag)
+    chacha20_aead_encrypt_in_place(&subkey::<R20>(key, nonce), &subnonce(nonce), aad, data, tag)
 }
 
 /// XChaCha20-Poly1305: `chacha20_aead_encrypt_between` with a nonce of 24 bytes.
@@ -144,11 +153,15 @@ pub extern "C" fn xchacha20_aead_encrypt_between(
     input: &[u8],
     tag: &mut Tag,
 ) -> u32
-    ensures { EncryptedInto (limit_of (modulus ietf)) (xchacha_stream 10 key.now nonce.now)
-        aad.now result input.now output.old output.new tag.old tag.new }
+    ensures accepted { result ≡ 0 ↔ ((length input.now ≡ length output.old)
+        × (64 + length input.now ≤ limit_of (modulus ietf))) }
+    ensures sealed { result ≡ 0 → output.new ++ tag.new
+        ≡ sealed_message (xchacha_stream 10 key.now nonce.now) aad.now input.now }
+    ensures refused { result ≢ 0
+        → (result ≡ 1) × (output.new ≡ output.old) × (tag.new ≡ tag.old) }
 {
     chacha20_aead_encrypt_between(
-        &subkey(key, nonce),
+        &subkey::<R20>(key, nonce),
         &subnonce(nonce),
         aad,
         output,
@@ -166,10 +179,14 @@ pub extern "C" fn xchacha20_aead_decrypt_in_place(
     data: &mut [u8],
     tag: &Tag,
 ) -> u32
-    ensures { Decrypted (limit_of (modulus ietf)) (xchacha_stream 10 key.now nonce.now)
-        aad.now tag.now result «data».old «data».new }
+    ensures accepted { let stream = xchacha_stream 10 key.now nonce.now in
+        result ≡ 0 ↔ ((64 + length «data».old ≤ limit_of (modulus ietf))
+        × (tag.now ≡ poly1305_tag stream aad.now «data».old)) }
+    ensures opened { result ≡ 0 → «data».old ++ tag.now
+        ≡ sealed_message (xchacha_stream 10 key.now nonce.now) aad.now «data».new }
+    ensures refused { result ≢ 0 → (result ≡ 1) × («data».new ≡ «data».old) }
 {
-    chacha20_aead_decrypt_in_place(&subkey(key, nonce), &subnonce(nonce), aad, data, tag)
+    chacha20_aead_decrypt_in_place(&subkey::<R20>(key, nonce), &subnonce(nonce), aad, data, tag)
 }
 
 /// XChaCha20-Poly1305: `chacha20_aead_decrypt_between` with a nonce of 24 bytes.
@@ -182,11 +199,16 @@ pub extern "C" fn xchacha20_aead_decrypt_between(
     input: &[u8],
     tag: &Tag,
 ) -> u32
-    ensures { DecryptedInto (limit_of (modulus ietf)) (xchacha_stream 10 key.now nonce.now)
-        aad.now tag.now result input.now output.old output.new }
+    ensures accepted { let stream = xchacha_stream 10 key.now nonce.now in
+        result ≡ 0 ↔ ((length input.now ≡ length output.old)
+        × (64 + length input.now ≤ limit_of (modulus ietf))
+        × (tag.now ≡ poly1305_tag stream aad.now input.now)) }
+    ensures opened { result ≡ 0 → input.now ++ tag.now
+        ≡ sealed_message (xchacha_stream 10 key.now nonce.now) aad.now output.new }
+    ensures refused { result ≢ 0 → (result ≡ 1) × (output.new ≡ output.old) }
 {
     chacha20_aead_decrypt_between(
-        &subkey(key, nonce),
+        &subkey::<R20>(key, nonce),
         &subnonce(nonce),
         aad,
         output,
@@ -211,12 +233,5 @@ pub extern "C" fn chacha20_verify(one: &[u8], other: &[u8]) -> u32
     ensures accepted { result ≡ 0 ↔ (one.now ≡ other.now) }
     ensures refused { (result ≡ 0) ⊎ (result ≡ 1) }
 {
-    if one.len() != other.len() {
-        return 1;
-    }
-    let mut difference = 0u8;
-    'each: for i in 0..one.len() {
-        difference |= one[i] ^ other[i];
-    }
-    if difference == 0 { 0 } else { 1 }
+    if is_equal(one, other) { 0 } else { 1 }
 }

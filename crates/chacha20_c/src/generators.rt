@@ -6,26 +6,16 @@
 //! bytes.
 
 ghost use Rattle.std.specs.Prelude.{◌≡◌, ◌<◌, ◌+◌, ◌*◌, ◌/◌, ◌%◌, ◌^◌, length, take, drop, slice_index};
-ghost use Rattle.std.specs.Int.{w64, from_le_bytes};
 ghost use Rattle.chacha20.specs.Generator.{of_seed, at_word_pos, fill, state_bytes, of_state_bytes};
 
 use crate::legacy::Core;
 use crate::stateless;
 use chacha20::backends::Lanes8;
+use chacha20::state_bytes::{seed_in, stored, stream_in, word_pos_in};
 use chacha20::{ChaChaRng, R20, Seed, SerializedRngState};
 
 // `ChaCha20Rng`.
 type Generator = ChaChaRng<R20, Lanes8>;
-
-// How many word positions there are: sixteen words for each of 2^64 blocks.
-const POSITIONS: u128 = 1 << 68;
-
-// Where a stored state has its stream, its word position, and the position's last byte.
-const STREAM_AT: usize = 32;
-
-const POSITION_AT: usize = 40;
-
-const TOP_AT: usize = 48;
 
 /// Writes the state of a seed: the start of stream 0. `state` and `seed` do not overlap.
 #[unsafe(no_mangle)]
@@ -42,8 +32,9 @@ pub extern "C" fn chacha_rng_get_word_pos(state: &SerializedRngState, low: &mut 
     ensures value { low.new + 2 ^ 64 * high.new ≡ (of_state_bytes state.now).word_pos }
     ensures below { high.new < 16 }
 {
-    *low = read_u64(&state[POSITION_AT..TOP_AT]);
-    *high = u64::from(state[TOP_AT] % 16);
+    let position = word_pos_in(state);
+    *low = (position & u128::from(u64::MAX)) as u64;
+    *high = (position >> 64) as u64;
 }
 
 /// Sets the word position to low + 2^64 * high, modulo 2^68.
@@ -61,8 +52,7 @@ pub extern "C" fn chacha_rng_set_word_pos(state: &mut SerializedRngState, low: u
 pub extern "C" fn chacha_rng_get_block_pos(state: &SerializedRngState) -> u64
     ensures { result ≡ (of_state_bytes state.now).word_pos / 16 }
 {
-    let low = read_u64(&state[POSITION_AT..TOP_AT]);
-    (low >> 4) + (u64::from(state[TOP_AT] % 16) << 60)
+    (word_pos_in(state) / 16) as u64
 }
 
 /// Moves to the first word of a block.
@@ -134,55 +124,4 @@ fn joined(low: u64, high: u64) -> u128
     ensures { result ≡ low + 2 ^ 64 * high }
 {
     (u128::from(high) << 64) + u128::from(low)
-}
-
-// The state of a seed, a stream and a word position, which counts modulo 2^68.
-#[tactic(auto, using(chacha20::proofs::StateBytesLemmas::two_written_length))]
-fn stored(seed: &Seed, stream: u64, word_pos: u128) -> SerializedRngState
-    ensures value { of_state_bytes result
-        ≡ record { seed = seed.now; stream = stream; word_pos = word_pos % 2 ^ 68 } }
-    ensures stored { result ≡ state_bytes (of_state_bytes result) }
-{
-    let position = word_pos % POSITIONS;
-    let low = ((position & u128::from(u64::MAX)) as u64).to_le_bytes();
-    let mut state = [0; 49];
-    state[..STREAM_AT].copy_from_slice(seed);
-    state[STREAM_AT..POSITION_AT].copy_from_slice(&stream.to_le_bytes());
-    state[POSITION_AT..TOP_AT].copy_from_slice(&low);
-    state[TOP_AT] = (position >> 64) as u8;
-    state
-}
-
-// The seed of a state.
-fn seed_in(state: &SerializedRngState) -> Seed
-    ensures { result ≡ (of_state_bytes state.now).seed }
-{
-    let mut seed = [0; 32];
-    seed.copy_from_slice(&state[..STREAM_AT]);
-    seed
-}
-
-// The stream of a state.
-fn stream_in(state: &SerializedRngState) -> u64
-    ensures { result ≡ (of_state_bytes state.now).stream }
-{
-    read_u64(&state[STREAM_AT..POSITION_AT])
-}
-
-// The word position of a state.
-fn word_pos_in(state: &SerializedRngState) -> u128
-    ensures { result ≡ (of_state_bytes state.now).word_pos }
-{
-    let low = read_u64(&state[POSITION_AT..TOP_AT]);
-    joined(low, u64::from(state[TOP_AT] % 16))
-}
-
-// The number of 8 bytes, little-endian.
-fn read_u64(bytes: &[u8]) -> u64
-    requires { length bytes.now ≡ 8 }
-    ensures { result ≡ from_le_bytes w64 bytes.now }
-{
-    let mut number = [0; 8];
-    number.copy_from_slice(bytes);
-    u64::from_le_bytes(number)
 }

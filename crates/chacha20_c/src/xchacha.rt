@@ -7,26 +7,7 @@ ghost use Rattle.chacha20.specs.XChaCha.{hchacha, subkey, subnonce};
 ghost use Rattle.chacha20_c.specs.Results.{Written, Xored, XoredInto};
 
 use crate::chacha::{chacha20_keystream, chacha20_xor_between, chacha20_xor_in_place};
-use chacha20::{Key, Nonce, R20, XNonce, hchacha};
-
-// The key and the nonce under which ChaCha20 is XChaCha20 (draft-irtf-cfrg-xchacha, section 2.3).
-
-pub(crate) fn subkey(key: &Key, nonce: &XNonce) -> Key
-    ensures { result ≡ subkey 10 key.now nonce.now }
-{
-    let mut input = [0; 16];
-    input.copy_from_slice(&nonce[..16]);
-    hchacha::<R20>(key, &input)
-}
-
-#[tactic(auto, using(chacha20::proofs::StartLemmas::subnonce_written))]
-pub(crate) fn subnonce(nonce: &XNonce) -> Nonce
-    ensures { result ≡ subnonce nonce.now }
-{
-    let mut short = [0; 12];
-    short[4..].copy_from_slice(&nonce[16..]);
-    short
-}
+use chacha20::{Key, R20, XNonce, hchacha, subkey, subnonce};
 
 /// XChaCha20 (draft-irtf-cfrg-xchacha, section 2.3):
 /// XORs `data` in place with the keystream from byte `position` on.
@@ -43,7 +24,7 @@ pub extern "C" fn xchacha20_xor_in_place(
         (block 10 ietf (subkey 10 key.now nonce.now) (subnonce nonce.now)))
         position result «data».old «data».new }
 {
-    chacha20_xor_in_place(&subkey(key, nonce), &subnonce(nonce), position, data)
+    chacha20_xor_in_place(&subkey::<R20>(key, nonce), &subnonce(nonce), position, data)
 }
 
 /// `xchacha20_xor_in_place` from `input` to `output`, which overlaps no other argument.
@@ -61,7 +42,7 @@ pub extern "C" fn xchacha20_xor_between(
         position result input.now output.old output.new }
 {
     chacha20_xor_between(
-        &subkey(key, nonce),
+        &subkey::<R20>(key, nonce),
         &subnonce(nonce),
         position,
         output,
@@ -83,7 +64,12 @@ pub extern "C" fn xchacha20_keystream(
         (block 10 ietf (subkey 10 key.now nonce.now) (subnonce nonce.now)))
         position result output.old output.new }
 {
-    chacha20_keystream(&subkey(key, nonce), &subnonce(nonce), position, output)
+    chacha20_keystream(
+        &subkey::<R20>(key, nonce),
+        &subnonce(nonce),
+        position,
+        output,
+    )
 }
 
 /// HChaCha20 (draft-irtf-cfrg-xchacha, section 2.2): writes the 32 bytes that it makes of a key and of 16 bytes more.

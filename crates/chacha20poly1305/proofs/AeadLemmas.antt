@@ -38,10 +38,16 @@ tag-sealed_message stream aad text n xs same long =
     ∙ sym (ap (poly1305_tag stream aad) (ap (take n) same ∙ take-sealed_message stream aad text n long))
 
 -- a ciphertext and its tag are the sealed message of the decrypted text
+pub sealed_message-parts : (stream : ℕ → ℕ) (aad ciphertext tag text : List ℕ)
+    → tag ≡ poly1305_tag stream aad ciphertext → text ≡ encrypted stream ciphertext
+    → ciphertext ++ tag ≡ sealed_message stream aad text
+sealed_message-parts stream aad ciphertext tag text right decrypted =
+    ap (λ t. ciphertext ++ t) right
+    ∙ ap (λ c. c ++ poly1305_tag stream aad c)
+    (sym (ap (encrypted stream) decrypted ∙ xor_stream-xor_stream stream 64 ciphertext))
+
 pub is-sealed_message : (stream : ℕ → ℕ) (aad input : List ℕ) (n : ℕ)
     → drop n input ≡ poly1305_tag stream aad (take n input)
     → input ≡ sealed_message stream aad (encrypted stream (take n input))
 is-sealed_message stream aad input n right =
-    sym (take-append-drop n input) ∙ ap (λ tag. take n input ++ tag) right
-    ∙ ap (λ ciphertext. ciphertext ++ poly1305_tag stream aad ciphertext)
-    (sym (xor_stream-xor_stream stream 64 (take n input)))
+    sym (take-append-drop n input) ∙ sealed_message-parts stream aad _ _ _ right refl

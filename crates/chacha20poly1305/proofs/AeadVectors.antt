@@ -6,8 +6,8 @@ use Rattle.std.proofs.lemmas.List.{length-append}
 use Rattle.std.proofs.lemmas.Nat.{from_le_bytes-to_le_bytes_8}
 use Rattle.std.specs.Int.{w64, to_le_bytes, from_le_bytes}
 use Rattle.chacha20.specs.ChaCha.{ietf, chacha_stream, quarter, columns, diagonals, rounds, add_states}
-use Rattle.poly1305.specs.Poly1305.{number, accumulator, tag_from}
-use Rattle.chacha20poly1305.specs.Aead.{mac_key, mac_text, padding, sealed_message}
+use Rattle.poly1305.specs.Poly1305.{number, accumulator, padding, tag_from}
+use Rattle.chacha20poly1305.specs.Aead.{mac_key, mac_text, sealed_message}
 
 -- the key of RFC 8439, 2.6.2 and 2.8.2
 abbrev pub key : List ℕ

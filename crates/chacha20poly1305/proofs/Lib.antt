@@ -2,5 +2,4 @@
 pub use Rattle.chacha20.proofs.StdLemmas
 pub mod AeadLemmas
 pub mod AeadVectors
-pub mod MacLemmas
 pub mod MessageLemmas

@@ -1,11 +1,11 @@
 -- The accumulator of a text in parts.
-use Rattle.std.proofs.Common.{◌≡◌, ℕ, zero, suc, ◌+◌, ◌-◌, ◌*◌, ◌/◌, ◌%◌, ◌≤◌, ◌<◌, List, [], ◌∷◌, ◌++◌, length, take, drop, get_or, ◌∙◌, sym, ap, refl, arith, length-append, length-drop}
-use Rattle.std.proofs.lemmas.List.{take_all, drop-drop, drop-append-le, take-append-le}
+use Rattle.std.proofs.Common.{◌≡◌, ℕ, zero, suc, ◌+◌, ◌-◌, ◌*◌, ◌/◌, ◌%◌, ◌≤◌, ◌<◌, List, [], ◌∷◌, ◌++◌, length, take, drop, get_or, ◌∙◌, sym, ap, refl, arith, length-append, length-drop, ◌≢◌, ap₂, replicate}
+use Rattle.std.proofs.lemmas.List.{take_all, drop-drop, drop-append-le, take-append-le, append-nil, length-replicate, nil_from_length}
 use Rattle.std.proofs.Math.Seq.{drop-append_seam}
 use Rattle.std.specs.List.{slice_range}
 use Rattle.std.specs.Int.{div_ceil}
 use Rattle.std.specs.Simd.{first_chunks}
-use Rattle.poly1305.specs.Poly1305.{prime, number, block, accumulator, r_of, s_of, tag_from, poly1305, after}
+use Rattle.poly1305.specs.Poly1305.{prime, number, block, accumulator, r_of, s_of, tag_from, poly1305, padding, State, after}
 use Rattle.poly1305.specs.Absorbed.{Absorbed}
 
 -- 16 bytes from 16 * i on
@@ -128,6 +128,51 @@ after-absorbed key text a rest (k, fits, a_is, rest_is) =
     accumulator_behind r 0 text k m ∙ ap (λ b. accumulator r b (drop (16 * k) text) m) (sym a_is)
     ∙ ap (λ xs. accumulator r a xs m) (sym rest_is) in
     rw (count, behind, same) refl
+
+-- the state after whole blocks, a piece, and zeros up to a multiple of 16 bytes
+module _ (key text piece : List ℕ) {tail : List ℕ} (whole : length text % 16 ≡ 0)
+    (back : tail ≡ drop (length piece / 16 * 16) piece) where
+  abbrev absorbed : State
+  absorbed = record (after key text) {
+    accumulator = accumulator (r_of key) (after key text).accumulator piece (length piece / 16);
+    rest = tail;
+  }
+
+  left : length tail ≡ length piece % 16
+  left = omega (arith, ap length back, length-drop (length piece / 16 * 16) piece)
+
+  after-piece : after key (text ++ piece) ≡ absorbed
+  after-piece =
+      after-absorbed key (text ++ piece) _ piece (absorbed-whole key text piece whole)
+      ∙ ap (λ bs. record absorbed { rest = bs }) (ap (λ n. drop n piece) (omega arith) ∙ sym back)
+
+  pub padded-whole : length tail ≡ 0
+      → after key (text ++ piece ++ padding (length piece)) ≡ record absorbed { rest = [] }
+  padded-whole none =
+      let no_zeros : (16 - length piece % 16) % 16 ≡ 0 = omega (arith, left, none) in
+      ap (λ n. after key (text ++ piece ++ replicate n 0)) no_zeros ∙ ap (after key) (append-nil (text ++ piece))
+      ∙ after-piece ∙ ap (λ bs. record absorbed { rest = bs }) (nil_from_length tail none)
+
+  pub padded-tail : length tail ≢ 0 → (last : List ℕ) → last ≡ tail ++ replicate (16 - length tail) 0
+      → after key (text ++ piece ++ padding (length piece)) ≡ record absorbed {
+        accumulator = r_of key * (absorbed.accumulator + number (last ++ 1 ∷ [])) % prime;
+        rest = [];
+      }
+  unfolding accumulator
+  padded-tail some last made =
+      let zeros : List ℕ = replicate (16 - length tail) 0 in
+      let long : length last ≡ 16 =
+      omega (arith, left, ap length made, length-append tail zeros, length-replicate {A = ℕ} (16 - length tail) 0) in
+      let count : 16 - length tail ≡ (16 - length piece % 16) % 16 = omega (arith, left, some) in
+      let filled : last ++ [] ≡ (after key (text ++ piece)).rest ++ padding (length piece) =
+      append-nil last ∙ made
+      ∙ ap₂ ◌++◌ (sym (ap (λ (m : State). m.rest) after-piece)) (ap (λ n. replicate n 0) count) in
+      after-absorbed key (text ++ piece ++ padding (length piece)) _ []
+      (absorbed-block key (text ++ piece) (padding (length piece)) last [] filled long)
+      ∙ ap (λ (m : State). record m {
+        accumulator = m.r * (m.accumulator + number (last ++ 1 ∷ [])) % prime;
+        rest = [];
+      }) after-piece
 
 -- the tag of whole blocks
 pub poly1305-whole : (key text : List ℕ) → length text % 16 ≡ 0

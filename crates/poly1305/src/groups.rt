@@ -122,7 +122,7 @@ fn absorb_last_group(d: Lanes, factors: Factors, bytes: &[u8], at: usize) -> Acc
     sum_of_lanes(absorb_group(d, factors.last, bytes, at))
 }
 
-// The accumulator after all groups of `bytes`. Inlined, it would give short texts a frame of a KiB.
+// The accumulator after all groups of `bytes`.
 #[inline(never)]
 fn absorb_in_lanes(h: Accumulator, r: Multiplier, bytes: &[u8]) -> Accumulator
     requires h { h.h2 ≤ 4 }
@@ -142,7 +142,21 @@ fn absorb_in_lanes(h: Accumulator, r: Multiplier, bytes: &[u8]) -> Accumulator
     )
 }
 
-// The accumulator after all whole blocks of `bytes`.
+// The accumulator after all whole blocks of `bytes`, in lanes. Inlined, it would give short texts a frame of a KiB.
+#[inline(never)]
+fn absorb_long(h: Accumulator, r: Multiplier, bytes: &[u8]) -> Accumulator
+    requires h { h.h2 ≤ 4 }
+    requires some { 64 ≤ length bytes.now }
+    ensures value { value_of result % prime
+        ≡ accumulator (r_value r) (value_of h % prime) bytes.now (length bytes.now / 16) }
+    ensures small { result.h2 ≤ 4 }
+{
+    let (_, rest) = bytes.split_at(bytes.len() / 64 * 64);
+    absorb_blocks(absorb_in_lanes(h, r, bytes), r, rest)
+}
+
+// The accumulator after all whole blocks of `bytes`. A call of it would take as long as a block.
+#[inline(always)]
 pub fn absorb_all(h: Accumulator, r: Multiplier, bytes: &[u8]) -> Accumulator
     requires { h.h2 ≤ 4 }
     ensures value { value_of result % prime
@@ -150,8 +164,8 @@ pub fn absorb_all(h: Accumulator, r: Multiplier, bytes: &[u8]) -> Accumulator
     ensures small { result.h2 ≤ 4 }
 {
     if bytes.len() < LONG {
-        return absorb_blocks(h, r, bytes);
+        absorb_blocks(h, r, bytes)
+    } else {
+        absorb_long(h, r, bytes)
     }
-    let (_, rest) = bytes.split_at(bytes.len() / 64 * 64);
-    absorb_blocks(absorb_in_lanes(h, r, bytes), r, rest)
 }

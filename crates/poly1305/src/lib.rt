@@ -17,7 +17,7 @@
 //! cipher's block 0 (section 2.6).
 //!
 //! Contracts say that a tag is exactly that of the RFC's definition, for each key and text, and however the text is cut
-//! into pieces. No call fails or has a `requires`.
+//! into pieces. No call fails, and only `update_padded` has a `requires`.
 //!
 //! Pieces of at least 512 bytes go through SIMD lanes, four blocks at a time. A block of a shorter piece takes 6
 //! products, sums and shifts.

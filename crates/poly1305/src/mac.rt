@@ -1,12 +1,12 @@
 //! Poly1305 over a text in pieces.
 
 ghost use Rattle.std.specs.Prelude.{◌≡◌, ◌≤◌, ◌+◌, ◌%◌, ◌++◌, [], ℕ, List, length};
-ghost use Rattle.poly1305.specs.Poly1305.{prime, poly1305, after};
+ghost use Rattle.poly1305.specs.Poly1305.{prime, padding, poly1305, after};
 ghost use Rattle.poly1305.specs.Limbs.{value_of};
 ghost use Rattle.poly1305.specs.Absorbed.{Absorbed};
 
 use crate::accumulator::{Accumulator, absorb, absorb_last, tag};
-use crate::bytes::{clamp, copy_behind, padded, read_half};
+use crate::bytes::{clamp, copy_behind, padded, read_half, with_zeros};
 use crate::groups::absorb_all;
 use crate::multiplier::Multiplier;
 use crate::tag::Tag;
@@ -44,6 +44,7 @@ impl Model for Poly1305 {
 
 impl Poly1305 {
     /// Starts with a key of 32 bytes, before any text. No two messages may have the same key.
+    #[inline(always)]
     pub fn new(key: &[u8; 32]) -> Self
         ensures { result ≡ after key.now [] }
     {
@@ -80,6 +81,22 @@ impl Poly1305 {
         self.filled = tail.len();
     }
 
+    /// Takes the next piece, behind whole blocks, and zeros up to a multiple of 16 bytes (RFC 8439, section 2.8). The
+    /// buffer isn't used.
+    #[inline(always)]
+    pub fn update_padded(&mut self, piece: &[u8])
+        requires { self.old.rest ≡ [] }
+        ensures value { (key text : List ℕ) → self.old ≡ after key text
+            → self.new ≡ after key (text ++ piece.now ++ padding (length piece.now)) }
+        ensures whole { self.new.rest ≡ [] }
+    {
+        let (_, tail) = piece.split_at(piece.len() / 16 * 16);
+        self.accumulator = absorb_all(self.accumulator, self.r, piece);
+        if !tail.is_empty() {
+            self.accumulator = absorb(self.accumulator, self.r, &with_zeros(tail));
+        }
+    }
+
     // The accumulator after the block that the buffer has begun, if any, and the rest of the piece.
     #[inline(always)]
     fn absorb_begun<'p>(&self, piece: &'p [u8]) -> (Accumulator, &'p [u8])
@@ -98,6 +115,7 @@ impl Poly1305 {
     }
 
     /// The tag of the text.
+    #[inline(always)]
     pub fn finish(self) -> Tag
         ensures { (key text : List ℕ) → self ≡ after key text → result ≡ poly1305 key text }
     {

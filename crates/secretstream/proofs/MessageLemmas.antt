@@ -5,8 +5,8 @@ use Rattle.std.specs.Int.{w64, to_le_bytes}
 use Rattle.std.specs.Int.Bits.{xor_assoc, xor_self, xor_zero_r}
 use Rattle.chacha20.specs.ChaCha.{xor_stream}
 use Rattle.chacha20.proofs.KeystreamLemmas.{length-xor_stream, xor_stream-xor_stream, take-xor_stream, drop-xor_stream, xor_stream-zeros}
-use Rattle.poly1305.specs.Poly1305.{poly1305, tag_from}
-use Rattle.chacha20poly1305.specs.Aead.{mac_key, padding}
+use Rattle.poly1305.specs.Poly1305.{padding, poly1305, tag_from}
+use Rattle.chacha20poly1305.specs.Aead.{mac_key}
 use Rattle.secretstream.specs.Stream.{State, stream_of, mac_text, mac_of, message_of, IsMessage}
 
 -- the text of the MAC in the pieces in which it is taken

@@ -3,8 +3,8 @@ use Rattle.std.specs.Prelude.{◌≡◌, ◌≤◌, ◌+◌, ◌%◌, ◌^◌, �
 use Rattle.std.specs.Int.{to_le_bytes, w32, w64}
 use Rattle.chacha20poly1305.specs.ChaCha.{ietf, chacha_stream, xor_stream}
 use Rattle.chacha20poly1305.specs.XChaCha.{hchacha}
-use Rattle.chacha20poly1305.specs.Poly1305.{poly1305}
-use Rattle.chacha20poly1305.specs.Aead.{encrypted, mac_key, padding}
+use Rattle.chacha20poly1305.specs.Poly1305.{padding, poly1305}
+use Rattle.chacha20poly1305.specs.Aead.{encrypted, mac_key}
 
 -- a key, and the two parts of a nonce of ChaCha20: a counter of 32 bits, and the inner nonce of 8 bytes
 pub record State : Type 0 where

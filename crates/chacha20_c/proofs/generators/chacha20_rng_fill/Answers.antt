@@ -14,6 +14,6 @@ returns-then-write_keystream-eq0-clause-bytes c =
     let nonce = c.to_le_bytes-nonce.ensures ∙ ap (to_le_bytes w64) c.stream_in-stream.ensures in
     c.write_keystream.ensures.bytes c.if-write_keystream-eq0.true
     ∙ ap (λ p. stream_part (chacha_stream 10 legacy c.seed_in-seed.result c.to_le_bytes-nonce.result) (4 * p) len)
-    c.word_pos_in-position.ensures
+    c.word_pos_in-position.ensures.value
     ∙ ap₂ (λ k n. stream_part (chacha_stream 10 legacy k n) (4 * g.word_pos) len) key nonce
     ∙ sym (fill-stream 10 len g)

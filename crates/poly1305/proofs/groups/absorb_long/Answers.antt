@@ -2,7 +2,7 @@ use Rattle.std.proofs.Common.{◌≡◌, ℕ, List, ◌+◌, ◌*◌, ◌/◌, �
 use Rattle.poly1305.specs.Poly1305.{prime, accumulator}
 use Rattle.poly1305.specs.Limbs.{value_of, r_value}
 use Rattle.poly1305.proofs.AccumulatorLemmas.{accumulator_behind}
-use Rattle.poly1305.proofs.groups.absorb_all.Goals as goal
+use Rattle.poly1305.proofs.groups.absorb_long.Goals as goal
 
 pub returns-clause-value : goal.returns-clause-value
 returns-clause-value c =
@@ -16,7 +16,7 @@ returns-clause-value c =
     ∙ (let place : length text / 64 * 64 ≡ 16 * k = omega arith in ap (λ n. drop n text) place) in
     let count : k + length rest / 16 ≡ length text / 16 =
     omega (arith, ap length behind, length-drop (16 * k) text) in
-    c.absorb_blocks-2.ensures.value
+    c.absorb_blocks.ensures.value
     ∙ ap (λ b. accumulator r b rest (length rest / 16)) c.absorb_in_lanes.ensures.value
     ∙ ap (λ xs. accumulator r (accumulator r a text k) xs (length rest / 16)) behind
     ∙ sym (accumulator_behind r a text k (length rest / 16)) ∙ ap (accumulator r a text) count

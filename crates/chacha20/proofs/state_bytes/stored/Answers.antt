@@ -1,7 +1,7 @@
 use Rattle.std.proofs.Common.{◌%◌, ◌^◌, refl, sym, ap, arith, ◌∙◌}
 use Rattle.chacha20.specs.Generator.{state_bytes, of_state_bytes}
 use Rattle.chacha20.proofs.StateBytesLemmas.{IsWritten, state_is, of_state_bytes-state_bytes}
-use Rattle.chacha20_c.proofs.generators.stored.Goals as goal
+use Rattle.chacha20.proofs.state_bytes.stored.Goals as goal
 
 pub returns : goal.returns
 returns c =
