@@ -100,9 +100,9 @@ AUTHENTICATED(chacha20_aead_decrypt, 12, const uint8_t, 0, 0, 0)
 AUTHENTICATED(xchacha20_aead_encrypt, 24, uint8_t, 1, 16, 0)
 AUTHENTICATED(xchacha20_aead_decrypt, 24, const uint8_t, 0, 16, 16)
 
-DECLARE(void, chacha_poly1305, const uint8_t *key, const uint8_t *input, size_t len, uint8_t *tag)
-void chacha_poly1305(const uint8_t key[32], const uint8_t *input, size_t len, uint8_t tag[16]) {
-    PROVED(chacha_poly1305, key, len == 0 ? key : input, len, tag);
+DECLARE(void, chacha20_onetime_poly1305, const uint8_t *key, const uint8_t *input, size_t len, uint8_t *tag)
+void chacha20_onetime_poly1305(const uint8_t key[32], const uint8_t *input, size_t len, uint8_t tag[16]) {
+    PROVED(chacha20_onetime_poly1305, key, len == 0 ? key : input, len, tag);
 }
 
 DECLARE(uint32_t, chacha20_verify, const uint8_t *one, size_t len, const uint8_t *other, size_t other_len)
@@ -112,7 +112,7 @@ int chacha20_verify(const uint8_t *one, const uint8_t *other, size_t len) {
 
 /* Vectors, since a loop over bytes would become a call of memset, which may take another 3000 bytes while it is
    bound. The frame itself takes a few. */
-__attribute__((noinline)) void chacha_wipe_stack(void) {
+__attribute__((noinline)) void chacha20_wipe_stack(void) {
     typedef uint64_t vector __attribute__((vector_size(64), aligned(16)));
     volatile vector below[CHACHA20_STACK_BYTES / sizeof(vector) - 1];
     for (size_t i = 0; i < sizeof below / sizeof below[0]; i++) below[i] = (vector){0};
@@ -177,9 +177,9 @@ void hchacha20(const uint8_t key[32], const uint8_t input[16], uint8_t subkey[32
 
 /* Generators */
 
-DECLARE(void, chacha_rng_from_seed, const uint8_t *seed, uint8_t *state)
-void chacha_rng_from_seed(const uint8_t seed[32], uint8_t state[49]) {
-    PROVED(chacha_rng_from_seed, seed, state);
+DECLARE(void, chacha20_rng_from_seed, const uint8_t *seed, uint8_t *state)
+void chacha20_rng_from_seed(const uint8_t seed[32], uint8_t state[49]) {
+    PROVED(chacha20_rng_from_seed, seed, state);
 }
 
 DECLARE(void, chacha20_rng_fill, uint8_t *state, uint8_t *output, size_t len)
@@ -189,32 +189,32 @@ void chacha20_rng_fill(uint8_t state[49], uint8_t *output, size_t len) {
     PROVED(chacha20_rng_fill, state, output, len);
 }
 
-DECLARE(void, chacha_rng_get_word_pos, const uint8_t *state, uint64_t *low, uint64_t *high)
-void chacha_rng_get_word_pos(const uint8_t state[49], uint64_t *low, uint64_t *high) {
-    PROVED(chacha_rng_get_word_pos, state, low, high);
+DECLARE(void, chacha20_rng_get_word_pos, const uint8_t *state, uint64_t *low, uint64_t *high)
+void chacha20_rng_get_word_pos(const uint8_t state[49], uint64_t *low, uint64_t *high) {
+    PROVED(chacha20_rng_get_word_pos, state, low, high);
 }
 
-DECLARE(void, chacha_rng_set_word_pos, uint8_t *state, uint64_t low, uint64_t high)
-void chacha_rng_set_word_pos(uint8_t state[49], uint64_t low, uint64_t high) {
-    PROVED(chacha_rng_set_word_pos, state, low, high);
+DECLARE(void, chacha20_rng_set_word_pos, uint8_t *state, uint64_t low, uint64_t high)
+void chacha20_rng_set_word_pos(uint8_t state[49], uint64_t low, uint64_t high) {
+    PROVED(chacha20_rng_set_word_pos, state, low, high);
 }
 
-DECLARE(uint64_t, chacha_rng_get_block_pos, const uint8_t *state)
-uint64_t chacha_rng_get_block_pos(const uint8_t state[49]) {
-    return PROVED(chacha_rng_get_block_pos, state);
+DECLARE(uint64_t, chacha20_rng_get_block_pos, const uint8_t *state)
+uint64_t chacha20_rng_get_block_pos(const uint8_t state[49]) {
+    return PROVED(chacha20_rng_get_block_pos, state);
 }
 
-DECLARE(void, chacha_rng_set_block_pos, uint8_t *state, uint64_t block_pos)
-void chacha_rng_set_block_pos(uint8_t state[49], uint64_t block_pos) {
-    PROVED(chacha_rng_set_block_pos, state, block_pos);
+DECLARE(void, chacha20_rng_set_block_pos, uint8_t *state, uint64_t block_pos)
+void chacha20_rng_set_block_pos(uint8_t state[49], uint64_t block_pos) {
+    PROVED(chacha20_rng_set_block_pos, state, block_pos);
 }
 
-DECLARE(uint64_t, chacha_rng_get_stream, const uint8_t *state)
-uint64_t chacha_rng_get_stream(const uint8_t state[49]) { return PROVED(chacha_rng_get_stream, state); }
+DECLARE(uint64_t, chacha20_rng_get_stream, const uint8_t *state)
+uint64_t chacha20_rng_get_stream(const uint8_t state[49]) { return PROVED(chacha20_rng_get_stream, state); }
 
-DECLARE(void, chacha_rng_set_stream, uint8_t *state, uint64_t stream)
-void chacha_rng_set_stream(uint8_t state[49], uint64_t stream) {
-    PROVED(chacha_rng_set_stream, state, stream);
+DECLARE(void, chacha20_rng_set_stream, uint8_t *state, uint64_t stream)
+void chacha20_rng_set_stream(uint8_t state[49], uint64_t stream) {
+    PROVED(chacha20_rng_set_stream, state, stream);
 }
 
 /* Words one by one. On both machines the bytes of a word lie in the order of the fill's. */
@@ -239,9 +239,9 @@ uint32_t chacha20_words_next(chacha20_words *words) {
 
 void chacha20_words_to_state(const chacha20_words *words, uint8_t state[49]) {
     uint64_t low, high, unread = words->unread / sizeof(uint32_t);
-    chacha_rng_get_word_pos(words->state, &low, &high);
+    chacha20_rng_get_word_pos(words->state, &low, &high);
     memcpy(state, words->state, sizeof words->state);
-    chacha_rng_set_word_pos(state, low - unread, high - (low < unread));
+    chacha20_rng_set_word_pos(state, low - unread, high - (low < unread));
 }
 
 const char *chacha20_version(void) { return CHACHA20_VERSION; }

@@ -32,7 +32,7 @@
    - A call takes at most CHACHA20_STACK_BYTES of the stack. A signal handler with a stack of its own
      needs that and sysconf(_SC_MINSIGSTKSZ) bytes; the constant SIGSTKSZ may be too small.
    - Copies of keys and keystream may remain in that part of the stack and in registers;
-     chacha_wipe_stack overwrites the stack alone.
+     chacha20_wipe_stack overwrites the stack alone.
    - The proved code has no unwind tables. A thread that is cancelled asynchronously during a call
      may skip its cleanup handlers, and a backtrace from within a call can show keystream. */
 
@@ -62,8 +62,8 @@ extern "C" {
 #define CHACHA20_BLOCK_BYTES 64
 #define HCHACHA20_INPUT_BYTES 16
 #define HCHACHA20_SUBKEY_BYTES 32
-#define CHACHA_RNG_SEED_BYTES 32
-#define CHACHA_RNG_STATE_BYTES 49
+#define CHACHA20_RNG_SEED_BYTES 32
+#define CHACHA20_RNG_STATE_BYTES 49
 #define CHACHA20_TAG_BYTES 16
 
 /* The length of the keystream of a key and a nonce of 12 or 24 bytes: 2^32 blocks. A legacy
@@ -167,18 +167,18 @@ int xchacha20_aead_decrypt(const uint8_t key[CHACHA20_AT_LEAST 32],
                            size_t aad_len, uint8_t *output, const uint8_t *input, size_t len,
                            const uint8_t tag[CHACHA20_AT_LEAST 16]) CHACHA20_ATTR_SEAL;
 
-/* chacha_poly1305 writes the tag of |input| under a key that serves one message alone (RFC 8439,
+/* chacha20_onetime_poly1305 writes the tag of |input| under a key that serves one message alone (RFC 8439,
    section 2.5). Whoever sees the tags of two messages under one key can forge others. */
-void chacha_poly1305(const uint8_t key[CHACHA20_AT_LEAST 32], const uint8_t *input, size_t len,
+void chacha20_onetime_poly1305(const uint8_t key[CHACHA20_AT_LEAST 32], const uint8_t *input, size_t len,
                      uint8_t tag[CHACHA20_AT_LEAST 16]) CHACHA20_ATTR_TAG;
 
 /* chacha20_verify returns CHACHA20_OK if |len| bytes are equal, and else CHACHA20_REFUSED. It reads all
    bytes, wherever they differ: compare tags with it, not with memcmp. */
 int chacha20_verify(const uint8_t *one, const uint8_t *other, size_t len) CHACHA20_ATTR_VERIFY;
 
-/* chacha_wipe_stack overwrites what the caller's earlier calls of this library left on the stack. Call it
+/* chacha20_wipe_stack overwrites what the caller's earlier calls of this library left on the stack. Call it
    from the function that made these calls. */
-void chacha_wipe_stack(void);
+void chacha20_wipe_stack(void);
 
 /* Ciphers */
 
@@ -257,8 +257,8 @@ void hchacha20(const uint8_t key[CHACHA20_AT_LEAST 32], const uint8_t input[CHAC
    The state is secret: it determines all words, past and future. A copy of it repeats the stream,
    also in a child after fork; give each its own stream or seed. */
 
-/* chacha_rng_from_seed writes the state of |seed|: word 0 of stream 0. */
-void chacha_rng_from_seed(const uint8_t seed[CHACHA20_AT_LEAST 32],
+/* chacha20_rng_from_seed writes the state of |seed|: word 0 of stream 0. */
+void chacha20_rng_from_seed(const uint8_t seed[CHACHA20_AT_LEAST 32],
                           uint8_t state[CHACHA20_AT_LEAST 49]) CHACHA20_ATTR_NONNULL;
 
 /* chacha20_rng_fill writes the next |len| bytes, each word little-endian. Unused bytes of the last
@@ -288,19 +288,19 @@ void chacha20_words_to_state(const chacha20_words *words, uint8_t state[CHACHA20
 
 /* The word position, |*low| + 2^64 * |*high| with |*high| below 16. Setting takes any two numbers,
    modulo 2^68. |low| and |high| are different objects. */
-void chacha_rng_get_word_pos(const uint8_t state[CHACHA20_AT_LEAST 49], uint64_t *low,
+void chacha20_rng_get_word_pos(const uint8_t state[CHACHA20_AT_LEAST 49], uint64_t *low,
                              uint64_t *high) CHACHA20_ATTR_NONNULL;
-void chacha_rng_set_word_pos(uint8_t state[CHACHA20_AT_LEAST 49], uint64_t low, uint64_t high)
+void chacha20_rng_set_word_pos(uint8_t state[CHACHA20_AT_LEAST 49], uint64_t low, uint64_t high)
                              CHACHA20_ATTR_NONNULL;
 
 /* The block of the next word. Setting moves to the first word of the block. */
-uint64_t chacha_rng_get_block_pos(const uint8_t state[CHACHA20_AT_LEAST 49]) CHACHA20_ATTR_NONNULL;
-void chacha_rng_set_block_pos(uint8_t state[CHACHA20_AT_LEAST 49], uint64_t block_pos)
+uint64_t chacha20_rng_get_block_pos(const uint8_t state[CHACHA20_AT_LEAST 49]) CHACHA20_ATTR_NONNULL;
+void chacha20_rng_set_block_pos(uint8_t state[CHACHA20_AT_LEAST 49], uint64_t block_pos)
                               CHACHA20_ATTR_NONNULL;
 
 /* The stream. Setting moves to word 0 of the stream. */
-uint64_t chacha_rng_get_stream(const uint8_t state[CHACHA20_AT_LEAST 49]) CHACHA20_ATTR_NONNULL;
-void chacha_rng_set_stream(uint8_t state[CHACHA20_AT_LEAST 49], uint64_t stream)
+uint64_t chacha20_rng_get_stream(const uint8_t state[CHACHA20_AT_LEAST 49]) CHACHA20_ATTR_NONNULL;
+void chacha20_rng_set_stream(uint8_t state[CHACHA20_AT_LEAST 49], uint64_t stream)
                            CHACHA20_ATTR_NONNULL;
 
 /* chacha20_version returns the version of the library that runs. */

@@ -50,7 +50,7 @@ static void positions(void) {
 enum { STACK = 1 << 15, PLACES = 64, LONGEST = (1 << 14) + 1000, LONG = 1024, PAINT = 0xa5 };
 
 static volatile uint8_t stack[STACK] __attribute__((aligned(4096)));
-static uint8_t one_key[32], one_nonce[24], one_aad[30], one_tag[16], one_state[CHACHA_RNG_STATE_BYTES];
+static uint8_t one_key[32], one_nonce[24], one_aad[30], one_tag[16], one_state[CHACHA20_RNG_STATE_BYTES];
 static uint8_t input[LONGEST], output[LONGEST];
 static size_t call_len;
 static int call_kind;
@@ -82,7 +82,7 @@ static void on_stack(void) {
         case 15: answer = xchacha20_aead_decrypt(MESSAGE, output, output, call_len, one_tag); break;
         case 16: answer = xchacha20_aead_decrypt(MESSAGE, output, input, call_len, one_tag); break;
         case 17: chacha20_rng_fill(one_state, output, call_len); break;
-        case 18: chacha_poly1305(one_key, input, call_len, one_tag); break;
+        case 18: chacha20_onetime_poly1305(one_key, input, call_len, one_tag); break;
         case 19: (void)chacha20_words_next(&words); break;
         default: hchacha20(one_key, one_nonce, output);
     }
@@ -146,7 +146,7 @@ static int is_wiped;
 static void then_wiped(void) {
     call_begin = __builtin_frame_address(0);
     is("an answer", chacha20_keystream(one_key, one_nonce, 0, output, 1000) == CHACHA20_OK);
-    if (is_wiped) chacha_wipe_stack();
+    if (is_wiped) chacha20_wipe_stack();
 }
 
 /* How many bytes below a function aren't zero after it called a cipher, and wiped the stack or not. Left out are those next to

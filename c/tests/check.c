@@ -254,7 +254,7 @@ static void by_generator(struct run *run, const struct call *it, uint8_t *state)
 /* Reads of a generator: its stream is that of the legacy cipher under the seed, from the word's place on, and begins
    again after 2^68 words. */
 static void one_generator(struct run *run) {
-    uint8_t seed[32], nonce[24], state[CHACHA_RNG_STATE_BYTES], kept[CHACHA_RNG_STATE_BYTES];
+    uint8_t seed[32], nonce[24], state[CHACHA20_RNG_STATE_BYTES], kept[CHACHA20_RNG_STATE_BYTES];
     random_bytes(run, seed, sizeof seed), random_bytes(run, nonce, sizeof nonce), random_bytes(run, state, sizeof state);
     size_t words = random_length(run) / 4, done = 0;
     uint8_t *output = made + (below(run, 2) ? ROOM - 4 * words : 0);
@@ -264,10 +264,10 @@ static void one_generator(struct run *run) {
     if (below(run, 4) == 0) block = UINT64_MAX - below(run, below(run, 2) ? 8 : LONGEST / 64);
     wrapping_blocks(any_other(run), seed, nonce, block, expected, 4 * (words + in_block));
     const uint8_t *right = expected + 4 * in_block;
-    any_level(run), chacha_rng_from_seed(seed, state);
-    any_level(run), chacha_rng_set_stream(state, stream);
-    if (in_block == 0) chacha_rng_set_block_pos(state, block);
-    else chacha_rng_set_word_pos(state, block << 4 | in_block, block >> 60 | next(run) << 4);
+    any_level(run), chacha20_rng_from_seed(seed, state);
+    any_level(run), chacha20_rng_set_stream(state, stream);
+    if (in_block == 0) chacha20_rng_set_block_pos(state, block);
+    else chacha20_rng_set_word_pos(state, block << 4 | in_block, block >> 60 | next(run) << 4);
     while (done < words) {
         size_t left = 4 * (words - done), len = below(run, (left < 70 || below(run, 2) ? left : 70) + 1);
         struct call call = {LEGACY, (enum way)(FILL + below(run, 2)), block + (in_block + done) / 16, (in_block + done) % 16 * 4, len,
@@ -284,17 +284,17 @@ static void one_generator(struct run *run) {
     wide word_pos = (((wide)block << 4) + in_block + words) % ((wide)1 << 68);
     state[48] |= (uint8_t)(below(run, 16) << 4);
     memcpy(kept, state, sizeof kept);
-    any_level(run), chacha_rng_get_word_pos(state, &low, &high);
+    any_level(run), chacha20_rng_get_word_pos(state, &low, &high);
     holds(run, low == (uint64_t)word_pos && high == (uint64_t)(word_pos >> 64), "a word position");
-    holds(run, chacha_rng_get_block_pos(state) == (uint64_t)(word_pos / 16), "a block position");
-    holds(run, chacha_rng_get_stream(state) == stream && memcmp(state, seed, 32) == 0, "a stream or a seed");
+    holds(run, chacha20_rng_get_block_pos(state) == (uint64_t)(word_pos / 16), "a block position");
+    holds(run, chacha20_rng_get_stream(state) == stream && memcmp(state, seed, 32) == 0, "a stream or a seed");
     same_bytes(run, state, kept, sizeof kept, "a state that was read");
-    any_level(run), chacha_rng_set_block_pos(state, block);
-    any_level(run), chacha_rng_get_word_pos(state, &low, &high);
-    holds(run, low == block << 4 && high == block >> 60 && chacha_rng_get_stream(state) == stream, "a block's first word");
-    any_level(run), chacha_rng_set_stream(state, stream + 1);
-    any_level(run), chacha_rng_get_word_pos(state, &low, &high);
-    holds(run, low == 0 && high == 0 && state[48] == 0 && chacha_rng_get_stream(state) == stream + 1 && memcmp(state, seed, 32) == 0,
+    any_level(run), chacha20_rng_set_block_pos(state, block);
+    any_level(run), chacha20_rng_get_word_pos(state, &low, &high);
+    holds(run, low == block << 4 && high == block >> 60 && chacha20_rng_get_stream(state) == stream, "a block's first word");
+    any_level(run), chacha20_rng_set_stream(state, stream + 1);
+    any_level(run), chacha20_rng_get_word_pos(state, &low, &high);
+    holds(run, low == 0 && high == 0 && state[48] == 0 && chacha20_rng_get_stream(state) == stream + 1 && memcmp(state, seed, 32) == 0,
           "another stream begins at its first word");
 }
 
@@ -405,7 +405,7 @@ static void one_tag(struct run *run) {
     if (kind == 0) len = close_to_prime(key, input, below(run, 3), (uint8_t)below(run, 12));
     if (kind == 1) memset(key, 255, 16), memset(input, 255, len);
     any_other(run)->poly1305(key, input, len, right);
-    any_level(run), chacha_poly1305(key, len ? input : NULL, len, tag);
+    any_level(run), chacha20_onetime_poly1305(key, len ? input : NULL, len, tag);
     same_bytes(run, tag, right, TAG, "a MAC");
     size_t compared = below(run, 100), at = below(run, compared + 1);
     memcpy(made, input, compared);
@@ -652,13 +652,13 @@ static int is_behind(uint8_t *room) {
 static void over_4_gib(struct run *run, int is_whole) {
     run->level = set_level(run->level_count - 1);
     const size_t len = 4 * GIB + OVER;
-    uint8_t *room = windows(), *from = windows(), state[CHACHA_RNG_STATE_BYTES] = {0}, tag[2][CHACHA20_TAG_BYTES];
+    uint8_t *room = windows(), *from = windows(), state[CHACHA20_RNG_STATE_BYTES] = {0}, tag[2][CHACHA20_TAG_BYTES];
     uint64_t low, high;
     holds(run, chacha20_verify(room, from, len) == CHACHA20_OK, "equal bytes over 4 GiB were refused");
-    chacha_poly1305(far_key, room, len, tag[0]), chacha_poly1305(far_key, room, OVER, tag[1]);
+    chacha20_onetime_poly1305(far_key, room, len, tag[0]), chacha20_onetime_poly1305(far_key, room, OVER, tag[1]);
     holds(run, memcmp(tag[0], tag[1], sizeof tag[0]) != 0, "the MAC of 4 GiB less");
     chacha20_rng_fill(state, room, len);
-    chacha_rng_get_word_pos(state, &low, &high);
+    chacha20_rng_get_word_pos(state, &low, &high);
     holds(run, is_behind(room) && low == len / 4 && high == 0, "a fill over 4 GiB");
     from[2 * OVER] = 1;
     holds(run, chacha20_verify(room, from, len) == CHACHA20_REFUSED, "unequal bytes over 4 GiB");

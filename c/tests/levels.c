@@ -75,17 +75,17 @@ OF_CIPHER(xchacha20, uint64_t position)
 OF_CIPHER(chacha20_legacy, uint64_t block, uint64_t offset)
 STUBS(uint32_t, chacha20_check, (uint64_t position, size_t len), POINTERS(&ran))
 STUBS(uint32_t, chacha20_legacy_check, (uint64_t block, uint64_t offset, size_t len), POINTERS(&ran))
-VOID_STUBS(chacha_poly1305, (const uint8_t *key, INPUT, uint8_t *tag), POINTERS(key, input, tag))
+VOID_STUBS(chacha20_onetime_poly1305, (const uint8_t *key, INPUT, uint8_t *tag), POINTERS(key, input, tag))
 STUBS(uint32_t, chacha20_verify, (const uint8_t *one, size_t len, INPUT), POINTERS(one, input))
 VOID_STUBS(hchacha20, (const uint8_t *key, const uint8_t *input, uint8_t *subkey), POINTERS(key, input, subkey))
-VOID_STUBS(chacha_rng_from_seed, (const uint8_t *seed, uint8_t *state), POINTERS(seed, state))
+VOID_STUBS(chacha20_rng_from_seed, (const uint8_t *seed, uint8_t *state), POINTERS(seed, state))
 VOID_STUBS(chacha20_rng_fill, (uint8_t *state, OUTPUT), POINTERS(state, output))
-VOID_STUBS(chacha_rng_get_word_pos, (const uint8_t *state, uint64_t *low, uint64_t *high), POINTERS(state, low, high))
-VOID_STUBS(chacha_rng_set_word_pos, (uint8_t *state, uint64_t low, uint64_t high), POINTERS(state))
-STUBS(uint64_t, chacha_rng_get_block_pos, (const uint8_t *state), POINTERS(state))
-VOID_STUBS(chacha_rng_set_block_pos, (uint8_t *state, uint64_t block_pos), POINTERS(state))
-STUBS(uint64_t, chacha_rng_get_stream, (const uint8_t *state), POINTERS(state))
-VOID_STUBS(chacha_rng_set_stream, (uint8_t *state, uint64_t stream), POINTERS(state))
+VOID_STUBS(chacha20_rng_get_word_pos, (const uint8_t *state, uint64_t *low, uint64_t *high), POINTERS(state, low, high))
+VOID_STUBS(chacha20_rng_set_word_pos, (uint8_t *state, uint64_t low, uint64_t high), POINTERS(state))
+STUBS(uint64_t, chacha20_rng_get_block_pos, (const uint8_t *state), POINTERS(state))
+VOID_STUBS(chacha20_rng_set_block_pos, (uint8_t *state, uint64_t block_pos), POINTERS(state))
+STUBS(uint64_t, chacha20_rng_get_stream, (const uint8_t *state), POINTERS(state))
+VOID_STUBS(chacha20_rng_set_stream, (uint8_t *state, uint64_t stream), POINTERS(state))
 
 /* Every function, with buffers of so many bytes, null if there are none: the build for the level runs, if one does. */
 static void all_calls(size_t len) {
@@ -110,17 +110,17 @@ static void all_calls(size_t len) {
     BOTH(chacha20_legacy, 0, 0);
     RUN(answers |= chacha20_check(0, len));
     RUN(answers |= chacha20_legacy_check(0, 0, len));
-    RUN(chacha_poly1305(key, from, len, state));
+    RUN(chacha20_onetime_poly1305(key, from, len, state));
     RUN(answers |= chacha20_verify(to, from, len));
     RUN(hchacha20(key, nonce, one));
-    RUN(chacha_rng_from_seed(key, state));
+    RUN(chacha20_rng_from_seed(key, state));
     RUN(chacha20_rng_fill(state, to, len));
-    RUN(chacha_rng_get_word_pos(state, &low, &high));
-    RUN(chacha_rng_set_word_pos(state, 0, 0));
-    RUN((void)chacha_rng_get_block_pos(state));
-    RUN(chacha_rng_set_block_pos(state, 0));
-    RUN((void)chacha_rng_get_stream(state));
-    RUN(chacha_rng_set_stream(state, 0));
+    RUN(chacha20_rng_get_word_pos(state, &low, &high));
+    RUN(chacha20_rng_set_word_pos(state, 0, 0));
+    RUN((void)chacha20_rng_get_block_pos(state));
+    RUN(chacha20_rng_set_block_pos(state, 0));
+    RUN((void)chacha20_rng_get_stream(state));
+    RUN(chacha20_rng_set_stream(state, 0));
     is(answers == 0, "an answer");
 }
 
