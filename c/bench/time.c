@@ -1,10 +1,11 @@
 /* SPDX-License-Identifier: Apache-2.0 OR MIT
 
-   time [PASSES]: nanoseconds of a call, its key and nonce included, by each level of the library and by others, in turns. A call's
-   time also depends on where its stack and its buffers lie modulo 4096, so each turn has another place. The time at a place is the
-   least of its turns, in processor time, so that what else runs on the machine disturbs it least. A row has the medians of the
-   places; then, of the highest level, median and most divided by the median of the first of the others. All must make the same
-   bytes. */
+   time [PASSES]: nanoseconds of a call, its key and nonce included, by each level of the library and by others, which all must
+   make the same bytes. A call's time also depends on where its stack and its buffers lie modulo 4096. So each turn has another
+   place, whose time is the least of its turns, in processor time: what else runs disturbs that least. A row has the medians of
+   the places, and then, of the highest level, median and most divided by the median of the first of the others. */
+
+#define _GNU_SOURCE
 
 #include <dlfcn.h>
 #include <stdio.h>
@@ -14,21 +15,19 @@
 
 #include "../tests/compare.h"
 
+static int count, levels;
 enum { OTHERS = 3, MOST = MOST_LEVELS + OTHERS, PAGE = 4096, PLACES = PAGE / 16, ROOM = (1 << 16) + 3 * PAGE, TAG = 16 };
 
 static const size_t lengths[] = {0, 16, 64, 128, 256, 512, 1024, 1500, 4096, 1 << 16};
 enum { LENGTHS = sizeof lengths / sizeof lengths[0], TASKS = 4 * LENGTHS };
 
-/* A level of the library, or another. */
-static struct contestant { const char *name; int level; const struct other *other; } all[MOST];
-static int count, levels;
+static struct contestant { const char *name; int level; const struct other *other; } all[MOST]; /* a level, or another */
 static double times[TASKS][MOST][PLACES];
 static uint8_t output_room[ROOM] __attribute__((aligned(4096))), input_room[ROOM] __attribute__((aligned(4096)));
 static const uint8_t key[32] = {1, 2, 3}, nonce[12] = {4, 5, 6}, aad[13] = {7};
 
 /* Ciphers and then messages; of each, calls in place and then between two buffers. */
 static int is_message(int task) { return task / LENGTHS / 2; }
-static int is_between(int task) { return task / LENGTHS % 2; }
 
 static int has(int i, int task) {
     return !all[i].other || (is_message(task) ? all[i].other->encrypt[IETF] != NULL : all[i].other->xor_from_block[IETF] != NULL);
@@ -37,13 +36,11 @@ static int has(int i, int task) {
 static void call(int i, int task, uint8_t *output, const uint8_t *input) {
     const struct other *other = all[i].other;
     size_t len = lengths[task % LENGTHS];
-    int answer = CHACHA20_OK;
-    if (!is_between(task)) input = output;
+    if (task / LENGTHS % 2 == 0) input = output;
     if (!is_message(task) && other) other->xor_from_block[IETF](key, nonce, 0, output, input, len);
-    else if (!is_message(task)) answer = ciphers[IETF].xor(key, nonce, 0, 0, output, input, len);
+    else if (!is_message(task)) (void)!ciphers[IETF].xor(key, nonce, 0, 0, output, input, len);
     else if (other) other->encrypt[IETF](key, nonce, aad, sizeof aad, output, input, len, output + len);
-    else answer = aeads[IETF].encrypt(key, nonce, aad, sizeof aad, output, input, len, output + len);
-    if (answer != CHACHA20_OK) puts("wrong: a call is refused"), exit(1);
+    else (void)!aeads[IETF].encrypt(key, nonce, aad, sizeof aad, output, input, len, output + len);
 }
 
 /* The time of a call at a place, which moves the stack by a multiple of 16 bytes and each buffer by one of 64. The first call
@@ -59,7 +56,7 @@ static double at_place(int i, int task, int place, int calls) {
     memset(output, 1, len), memset(input, 1, len);
     call(i, task, output, input);
     if (place == 0 && i == 0) memcpy(right, output, len);
-    if (place == 0 && memcmp(output, right, len) != 0) printf("wrong: other bytes by %s\n", all[i].name), exit(1);
+    if (place == 0 && memcmp(output, right, len) != 0) printf("wrong: other bytes by contestant %d\n", i), exit(1);
     clock_gettime(CLOCK_PROCESS_CPUTIME_ID, &begin);
     for (int j = 0; j < calls; j++) call(i, task, output, input);
     clock_gettime(CLOCK_PROCESS_CPUTIME_ID, &end);
@@ -70,22 +67,17 @@ static double at_place(int i, int task, int place, int calls) {
 static void take_turns(int task) {
     int calls[MOST];
     for (int i = 0; i < count; i++) calls[i] = has(i, task) ? (int)(4 + 1e5 / (1 + at_place(i, task, 0, 4))) : 0;
-    for (int place = 0; place < PLACES; place++) {
-        for (int j = 0; j < count; j++) {
-            int i = (place + j) % count;
-            double *least = &times[task][i][place], time = has(i, task) ? at_place(i, task, place, calls[i]) : 0;
-            if (*least == 0 || time < *least) *least = time;
-        }
+    for (int turn = 0; turn < PLACES * count; turn++) {
+        int place = turn / count, i = (place + turn) % count;
+        double *least = &times[task][i][place], time = has(i, task) ? at_place(i, task, place, calls[i]) : 0;
+        if (*least == 0 || time < *least) *least = time;
     }
 }
 
-static int is_less(const void *one, const void *other) {
-    double x = *(const double *)one, y = *(const double *)other;
-    return (x > y) - (x < y);
-}
+static int is_less(const void *one, const void *other) { return *(const double *)one > *(const double *)other ? 1 : -1; }
 
 static void print_row(int task) {
-    printf("| %s of %zu bytes%s |", is_message(task) ? "message" : "cipher", lengths[task % LENGTHS], is_between(task) ? ", two buffers" : "");
+    printf("| %s of %zu bytes%s |", is_message(task) ? "message" : "cipher", lengths[task % LENGTHS], task / LENGTHS % 2 ? ", two buffers" : "");
     for (int i = 0; i < count; i++) {
         qsort(times[task][i], PLACES, sizeof(double), is_less);
         printf(has(i, task) ? " %.0f |" : " |", times[task][i][PLACES / 2]);
@@ -120,18 +112,16 @@ static int find_openssl(struct other *found) {
         !look_up(it, "EVP_EncryptInit_ex", &evp_init) || !look_up(it, "EVP_EncryptUpdate", &evp_update) ||
         !look_up(it, "EVP_chacha20_poly1305", &evp_aead) || !look_up(it, "EVP_EncryptFinal_ex", &evp_final) ||
         !look_up(it, "EVP_CIPHER_CTX_ctrl", &evp_ctrl) || !evp_init(xor_context = evp_new(), evp_chacha20(), NULL, NULL, NULL) ||
-        !evp_init(aead_context = evp_new(), evp_aead(), NULL, NULL, NULL)) return puts("not found: OpenSSL"), 0;
+        !evp_init(aead_context = evp_new(), evp_aead(), NULL, NULL, NULL)) return 0;
     *found = (struct other){.name = "OpenSSL", .xor_from_block = {openssl_xor}, .encrypt = {openssl_encrypt}};
     return 1;
 }
 
-/* BoringSSL, as Debian's android-libboringssl: messages alone. It writes the tag behind the ciphertext, as all do here. In a name
-   space of its own, since OpenSSL's library has its names. */
+/* BoringSSL, by Debian's android-libboringssl: messages alone. OpenSSL's library has its names, so it has a space of its own. */
 static void *(*boringssl_new)(const void *, const uint8_t *, size_t, size_t);
 static void (*boringssl_free)(void *);
 static const void *(*boringssl_aead)(void);
-static int (*boringssl_seal)(const void *, uint8_t *, size_t *, size_t, const uint8_t *, size_t, const uint8_t *, size_t,
-                             const uint8_t *, size_t);
+static int (*boringssl_seal)(const void *, uint8_t *, size_t *, size_t, const uint8_t *, size_t, const uint8_t *, size_t, const uint8_t *, size_t);
 
 static void boringssl_encrypt(AEAD_PARAMETERS, uint8_t *tag) {
     void *context = boringssl_new(boringssl_aead(), key, 32, TAG);
@@ -142,8 +132,7 @@ static void boringssl_encrypt(AEAD_PARAMETERS, uint8_t *tag) {
 static int find_boringssl(struct other *found) {
     void *it = dlmopen(LM_ID_NEWLM, "/usr/lib/x86_64-linux-gnu/android/libcrypto.so.0", RTLD_NOW);
     if (!it || !look_up(it, "EVP_AEAD_CTX_new", &boringssl_new) || !look_up(it, "EVP_AEAD_CTX_free", &boringssl_free) ||
-        !look_up(it, "EVP_aead_chacha20_poly1305", &boringssl_aead) || !look_up(it, "EVP_AEAD_CTX_seal", &boringssl_seal))
-        return puts("not found: BoringSSL"), 0;
+        !look_up(it, "EVP_aead_chacha20_poly1305", &boringssl_aead) || !look_up(it, "EVP_AEAD_CTX_seal", &boringssl_seal)) return 0;
     *found = (struct other){.name = "BoringSSL", .encrypt = {boringssl_encrypt}};
     return 1;
 }
@@ -151,18 +140,15 @@ static int find_boringssl(struct other *found) {
 int main(int argc, char **argv) {
     static int (*const find[OTHERS])(struct other *) = {find_sodium, find_openssl, find_boringssl};
     static struct other others[OTHERS];
-    int passes = argc > 1 ? atoi(argv[1]) : 32;
+    const int passes = argc > 1 ? atoi(argv[1]) : 32;
     count = levels = find_levels();
     for (int i = 0; i < count; i++) all[i] = (struct contestant){set_level(i), i, NULL};
-    for (int i = 0; i < OTHERS; i++) {
-        if (find[i](&others[i])) all[count++] = (struct contestant){others[i].name, 0, &others[i]};
-    }
+    for (int i = 0; i < OTHERS; i++) all[count] = (struct contestant){NULL, 0, &others[i]}, count += find[i](&others[i]);
     /* A task has its turns over the whole time, so that a minute in which the machine is busy isn't that of one task. */
     for (int i = 0; i < passes * TASKS; i++) take_turns(i % TASKS);
     printf("| nanoseconds |");
-    for (int i = 0; i < count; i++) printf(" %s |", all[i].name);
-    puts(" |");
-    for (int i = 0; i <= count + 1; i++) printf(i <= count ? "|---" : "|---|\n");
+    for (int i = 0; i < count; i++) printf(" %s |", all[i].other ? all[i].other->name : all[i].name);
+    printf(" |\n%.*s|\n", 4 * (count + 2), "|---|---|---|---|---|---|---|---");
     for (int task = 0; task < TASKS; task++) print_row(task);
     printf("time: %d rows, %d turns at each of %d places\n", TASKS, passes, PLACES);
     return passes < 1;
