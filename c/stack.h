@@ -3,8 +3,9 @@
    Where the stack of a long call begins. This changes no byte that a call makes, only its time.
 
    The build for x86-64-v3 stores vectors of 32 bytes on the stack. Where such a store crosses a cache line of 64 bytes,
-   or a page, it is slow. LLVM aligns frames to 16 bytes alone, so it depends on where the caller's stack ends. Without
-   this file, on Cascade Lake, ciphers take 3 to 8 percent longer from 4 KiB on, and messages 1 to 6 percent. */
+   or a page, it is slow. LLVM aligns frames to 16 bytes alone, so it depends on where the caller's stack ends. On
+   Cascade Lake, calls of 4 KiB and more would take 3 to 5 percent longer without this, as a mean over the places of a
+   stack, and up to a third longer at the worst of them. */
 
 #ifndef CHACHA20_STACK_H
 #define CHACHA20_STACK_H

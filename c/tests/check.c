@@ -227,14 +227,14 @@ static void one_generator(struct run *run) {
     const uint8_t *right = expected + 4 * in_block;
     /* At any address; the state may lie on the seed. */
     memcpy(own, seed, sizeof seed), any_level(run), chacha20_rng_from_seed(own, state);
+    holds(run, !memcmp(state, seed, 32) && !chacha20_rng_get_stream(state) && !chacha20_rng_get_block_pos(state) && !state[48], "a seed");
     any_level(run), chacha20_rng_set_stream(state, stream);
     if (in_block == 0) chacha20_rng_set_block_pos(state, block);
     else chacha20_rng_set_word_pos(state, block << 4 | in_block, block >> 60 | next(run) << 4);
     while (done < words) {
         size_t left = 4 * (words - done), len = below(run, (left < 70 || below(run, 2) ? left : 70) + 1);
         struct call call = {LEGACY, FILL, block + (in_block + done) / 16, (in_block + done) % 16 * 4, len, output + 4 * done, NULL};
-        any_level(run);
-        state[48] |= (uint8_t)(below(run, 16) << 4);
+        any_level(run), state[48] |= (uint8_t)(below(run, 16) << 4);
         chacha20_rng_fill(state, call.len ? call.output : NULL, call.len);
         if (call.len == 0) state[48] &= 15;
         right_call(run, &call, call.output, right + 4 * done);
