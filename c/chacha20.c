@@ -11,9 +11,10 @@
 #include "proved.h"
 #include "stack.h"
 
+/* Inlined, since calls of a few bytes would notice. */
 #define CHECK __attribute__((always_inline)) static inline int
 
-/* Whether two objects have no byte in common. Nothing is added to an address, which could wrap. */
+/* Whether two objects, neither empty, have no byte in common. Nothing is added to an address, which could wrap. */
 CHECK apart(const uint8_t *one, size_t one_len, const uint8_t *other, size_t other_len) {
     uintptr_t at = (uintptr_t)one, other_at = (uintptr_t)other;
     return at < other_at ? other_at - at >= one_len : at - other_at >= other_len;
@@ -27,7 +28,7 @@ CHECK output_fits(const uint8_t *output, const uint8_t *input, size_t len, const
            apart(output, len, nonce, nonce_len);
 }
 
-/* Whether an output lies apart from what messages have beside. */
+/* Whether the output of a message lies apart from its associated data and its tag. */
 CHECK message_fits(const uint8_t *output, size_t len, const uint8_t *aad, size_t aad_len, const uint8_t *tag) {
     return aad_len <= PTRDIFF_MAX && apart(output, len, aad, aad_len) && apart(output, len, tag, 16);
 }
@@ -39,8 +40,8 @@ CHECK tag_fits(const uint8_t *tag, const uint8_t *key, const uint8_t *nonce, siz
            apart(tag, 16, input, len);
 }
 
-/* Authenticated encryption. Data of length 0 may be null, or lie on other arguments. |none| stands for them: it isn't
-   null, is apart from all arguments, and is neither read nor written. */
+/* Authenticated encryption. Data of length 0 may be null, or lie on other arguments. |none| stands for them, a byte
+   apart from all arguments, which is neither read nor written. A tag that is only read may lie on what is read. */
 
 int chacha20_aead_encrypt(const uint8_t key[32], const uint8_t nonce[12], const uint8_t *aad, size_t aad_len,
                           uint8_t *output, const uint8_t *input, size_t len, uint8_t tag[16]) {
@@ -86,7 +87,8 @@ int xchacha20_aead_decrypt(const uint8_t key[32], const uint8_t nonce[24], const
     return LONG(len, xchacha20_aead_decrypt_between, key, nonce, aad, aad_len, output, len, input, len, tag);
 }
 
-/* An output of a fixed size is made in a local object and then copied, so it may overlap the arguments. */
+/* An output of a fixed size is made in a local object and then copied, so it may overlap the arguments. In place of
+   data of length 0, which may be null, the key is handed on. */
 
 void chacha20_onetime_poly1305(const uint8_t key[32], const uint8_t *input, size_t len, uint8_t tag[16]) {
     uint8_t made[16];
@@ -106,7 +108,7 @@ __attribute__((noinline)) void chacha20_wipe_stack(void) {
     for (size_t i = 0; i < sizeof below / sizeof below[0]; i++) below[i] = (vector){0};
 }
 
-/* Ciphers. Where |len| is 0, the pointers may be null, and the check alone is called. */
+/* Ciphers. Where |len| is 0, the pointers may be null, and the check of the position alone is called. */
 
 int chacha20_check(uint64_t position, size_t len) { return PROVED(chacha20_check, position, len); }
 
@@ -166,7 +168,7 @@ void hchacha20(const uint8_t key[32], const uint8_t input[16], uint8_t subkey[32
     memcpy(subkey, made, sizeof made);
 }
 
-/* Generators */
+/* Generators. Nothing is refused: the header says what may not overlap. */
 
 void chacha20_rng_from_seed(const uint8_t seed[32], uint8_t state[49]) {
     uint8_t made[49];

@@ -41,15 +41,15 @@ enum {
 
 /* What lies between the end of the stack and the place is taken from it, until the calling function returns. The first
    alloca shows where the stack ends: compilers agree on what they take for sizes of 16 n + 8. The assembler lines are
-   empty. The first hides what the address is, so that the compiler assumes nothing of it; the second uses what was taken,
-   so that it stays. */
-#define MOVE_STACK(LEN, PLACE)                                              \
-    if (this_level() == 3 && (LEN) >= LONG_CALL) {                          \
-        char *here = __builtin_alloca(8);                                   \
-        __asm__ volatile("" : "+r"(here));                                  \
-        size_t shift = (LEN) < SIXTEEN_BLOCKS ? 16 - (PLACE) : (PLACE);     \
-        here = __builtin_alloca((uintptr_t)here % 64 + 56 - shift);         \
-        __asm__ volatile("" : : "r"(here) : "memory");                      \
+   empty. The first hides what the address is, so that the compiler assumes nothing of it; the second uses what was
+   taken, so that it stays. */
+#define MOVE_STACK(LEN, PLACE)                                          \
+    if (this_level() == 3 && (LEN) >= LONG_CALL) {                      \
+        char *here = __builtin_alloca(8);                               \
+        __asm__ volatile("" : "+r"(here));                              \
+        size_t shift = (LEN) < SIXTEEN_BLOCKS ? 16 - (PLACE) : (PLACE); \
+        here = __builtin_alloca((uintptr_t)here % 64 + 56 - shift);     \
+        __asm__ volatile("" : : "r"(here) : "memory");                  \
     }
 #define LONG(LEN, NAME, ...) \
     __extension__({ MOVE_STACK(LEN, PLACE_##NAME) PROVED(NAME, __VA_ARGS__); })
