@@ -1,8 +1,8 @@
 /* SPDX-License-Identifier: Apache-2.0 OR MIT
 
-   The functions of chacha20.h. Each checks what no contract can speak of, null and overlapping pointers, and calls a
-   proved function: by PROVED (proved.h), or by LONG (stack.h), which first moves the stack where the call is long. This
-   file is trusted: it is tested, not proved. */
+   The functions of chacha20.h, each written out, so that a search finds it. Each checks what no contract can speak of,
+   null and overlapping pointers, and calls a proved function: by PROVED (proved.h), or by LONG (stack.h), which first
+   moves the stack where the call is long. This file is trusted: it is tested, not proved. */
 
 #include "../include/chacha20.h"
 
@@ -100,8 +100,8 @@ int chacha20_verify(const uint8_t *one, const uint8_t *other, size_t len) {
     return len == 0 ? CHACHA20_OK : PROVED(chacha20_verify, one, len, other, len);
 }
 
-/* By vectors, since a loop over bytes would become a call of memset, which may take another 3000 bytes while it is
-   bound. They end below CHACHA20_STACK_BYTES, since the frame itself takes a few. */
+/* By vectors, since a loop over bytes would become a call of memset, which may take another 3000 bytes while the
+   dynamic linker binds it. They are one less than CHACHA20_STACK_BYTES have, since the frame itself takes a few. */
 __attribute__((noinline)) void chacha20_wipe_stack(void) {
     typedef uint64_t vector __attribute__((vector_size(64), aligned(16)));
     volatile vector below[CHACHA20_STACK_BYTES / sizeof(vector) - 1];
