@@ -20,10 +20,9 @@
 
 #include "compare.h"
 
-enum { OFTEN_LONGEST = 1 << 18, MOST_CUTS = 40, TAG = CHACHA20_TAG_BYTES, MOST_AAD = 20000 };
-
-/* Room for messages, their random_length and a page more. */
+/* In the room there is a page beside the longest message. */
 enum { PAGE = 4096, LONGEST = 1 << 22, ROOM = LONGEST + PAGE };
+enum { OFTEN_LONGEST = 1 << 18, MOST_CUTS = 40, TAG = CHACHA20_TAG_BYTES, MOST_AAD = 20000 };
 
 /* The cases of a kind that a run makes at least, and of calls by each level. */
 enum { KINDS = 5, LEAST_CASES = 10, LEAST_CALLS = 100 };
@@ -98,12 +97,10 @@ static void holds(struct run *run, int fact, const char *what) { if (!fact) wron
 
 /* What a call made. */
 static void right_call(struct run *run, const struct call *it, const uint8_t *found, const uint8_t *right) {
-    static const char *const layouts[] = {"ietf", "xchacha", "legacy"};
-    static const char *const ways[] = {"in place", "between", "keystream", "fill"};
     char text[300];
     if (memcmp(found, right, it->len) == 0) return;
-    snprintf(text, sizeof text, "level %s, %s, %s, block %" PRIu64 ", offset %" PRIu64 ", %zu bytes at %p from %p", run->level,
-             layouts[it->layout], ways[it->way], it->block, it->offset, it->len, (void *)it->output, (const void *)it->input);
+    snprintf(text, sizeof text, "level %s, layout %d, way %d, block %" PRIu64 ", offset %" PRIu64 ", %zu bytes at %p from %p", run->level,
+             it->layout, it->way, it->block, it->offset, it->len, (void *)it->output, (const void *)it->input);
     same_bytes(run, found, right, it->len, text);
 }
 
@@ -215,7 +212,8 @@ static void wrapping_blocks(const struct other *other, const uint8_t *key, const
 /* Reads of a generator: its stream is that of the legacy cipher under the seed, from the word's place on, and begins
    again after 2^68 words. */
 static void one_generator(struct run *run) {
-    uint8_t seed[32], nonce[24], room[64], kept[CHACHA20_RNG_STATE_BYTES], *state = room + below(run, 16), *own = room + below(run, 33);
+    uint8_t seed[32], nonce[24], room[64], kept[CHACHA20_RNG_STATE_BYTES];
+    uint8_t *state = room + below(run, 16), *own = room + below(run, 33);
     random_bytes(run, seed, sizeof seed), random_bytes(run, nonce, sizeof nonce);
     size_t words = random_length(run) / 4, done = 0;
     uint8_t *output = made + (below(run, 2) ? ROOM - 4 * words : 0);
@@ -227,7 +225,7 @@ static void one_generator(struct run *run) {
     const uint8_t *right = expected + 4 * in_block;
     /* At any address; the state may lie on the seed. */
     memcpy(own, seed, sizeof seed), any_level(run), chacha20_rng_from_seed(own, state);
-    holds(run, !memcmp(state, seed, 32) && !chacha20_rng_get_stream(state) && !chacha20_rng_get_block_pos(state) && !state[48], "a seed");
+    for (int i = 32; i < 49; i++) holds(run, state[i] == 0, "a seed's first word");
     any_level(run), chacha20_rng_set_stream(state, stream);
     if (in_block == 0) chacha20_rng_set_block_pos(state, block);
     else chacha20_rng_set_word_pos(state, block << 4 | in_block, block >> 60 | next(run) << 4);
@@ -250,13 +248,11 @@ static void one_generator(struct run *run) {
     holds(run, chacha20_rng_get_block_pos(state) == (uint64_t)(word_pos / 16), "a block position");
     holds(run, chacha20_rng_get_stream(state) == stream && memcmp(state, seed, 32) == 0, "a stream or a seed");
     same_bytes(run, state, kept, sizeof kept, "a state that was read");
-    any_level(run), chacha20_rng_set_block_pos(state, block);
-    any_level(run), chacha20_rng_get_word_pos(state, &low, &high);
+    any_level(run), chacha20_rng_set_block_pos(state, block), chacha20_rng_get_word_pos(state, &low, &high);
     holds(run, low == block << 4 && high == block >> 60 && chacha20_rng_get_stream(state) == stream, "a block's first word");
-    any_level(run), chacha20_rng_set_stream(state, stream + 1);
-    any_level(run), chacha20_rng_get_word_pos(state, &low, &high);
-    holds(run, low == 0 && high == 0 && state[48] == 0 && chacha20_rng_get_stream(state) == stream + 1 && memcmp(state, seed, 32) == 0,
-          "another stream begins at its first word");
+    any_level(run), chacha20_rng_set_stream(state, stream + 1), chacha20_rng_get_word_pos(state, &low, &high);
+    holds(run, low == 0 && high == 0 && state[48] == 0 && chacha20_rng_get_stream(state) == stream + 1, "another stream begins");
+    holds(run, memcmp(state, seed, 32) == 0, "a seed after another stream");
 }
 
 /* At any address; the subkey may lie on what it is made of. */
@@ -325,8 +321,7 @@ static void forge(struct run *run, struct sealed *it) {
 static void one_sealed(struct run *run) {
     struct sealed it = {.layout = (enum layout)below(run, AEADS), .len = random_length(run)};
     it.aad_len = below(run, below(run, 4) ? 70 : below(run, 2) ? 3000 : MOST_AAD + 1);
-    random_bytes(run, it.key, sizeof it.key), random_bytes(run, it.nonce, sizeof it.nonce);
-    random_bytes(run, it.aad, it.aad_len);
+    random_bytes(run, it.key, sizeof it.key), random_bytes(run, it.nonce, sizeof it.nonce), random_bytes(run, it.aad, it.aad_len);
     seal_by_other(run, &it);
     any_level(run), is_right(run, &it, (int)below(run, 2));
     forge(run, &it);
@@ -381,7 +376,7 @@ static const uint8_t far_key[32] = {1, 2, 3}, far_nonce[24] = {4, 5, 6};
 
 /* Lengths that pass the end of the stream by one byte, or by none. */
 static void ends(struct run *run) {
-    static const size_t lengths[] = {1, 2, 63, 64, 4096, 65536, (1 << 20) + 1, 2 * GIB, 4 * GIB - 1, 4 * GIB, 4 * GIB + 1, 5 * GIB};
+    static const size_t lengths[] = {1, 2, 63, 64, 4096, (1 << 20) + 1, 2 * GIB, 4 * GIB - 1, 4 * GIB, 4 * GIB + 1, 5 * GIB};
     uint8_t *room = reserve(11 * GIB);
     for (size_t i = 0; i < LAYOUTS * sizeof lengths / sizeof lengths[0]; i++) {
         /* The last byte is the stream's byte 2^38 or 2^70. */
@@ -449,26 +444,28 @@ static void seal_windows(const struct cipher *it, uint8_t *from, size_t len, uin
     chacha20_onetime_poly1305(key, from, len + 16, tag);
 }
 
+#define DOES(CALL) holds(run, (CALL) == CHACHA20_OK, #CALL)
+#define OVER_ALL(CALL) DOES(CALL), holds(run, is_behind(room), "4 GiB less by " #CALL)
+
 /* By associated data of more than 4 GiB, and by a text: a length of 32 bits would make the tag of what it shrinks to. */
 static void message_over_4_gib(struct run *run, enum layout layout, uint8_t *room, uint8_t *from, size_t len, int is_whole) {
     const struct aead *it = &aeads[layout];
     uint8_t tag[2][TAG];
     for (int i = 0; i < 2; i++) {
-        const size_t aad_len = i ? len : OVER;
-        holds(run, it->encrypt(far_key, far_nonce, from, aad_len, room, room, 8, tag[i]) == CHACHA20_OK, "long associated data");
-        holds(run, it->decrypt(far_key, far_nonce, from, aad_len, room, room, 8, tag[i]) == CHACHA20_OK, "long associated data");
+        DOES(it->encrypt(far_key, far_nonce, from, i ? len : OVER, room, room, 8, tag[i]));
+        DOES(it->decrypt(far_key, far_nonce, from, i ? len : OVER, room, room, 8, tag[i]));
     }
     holds(run, memcmp(tag[0], tag[1], TAG) != 0, "the tag of 4 GiB less of associated data");
-    for (int i = 0; i < 2; i++) {
-        is_behind(room);
-        holds(run, it->encrypt(far_key, far_nonce, NULL, 0, room, room, i ? len : OVER, tag[i]) == CHACHA20_OK, "in place over 4 GiB");
-    }
-    holds(run, memcmp(tag[0], tag[1], TAG) != 0 && is_behind(room), "the tag of 4 GiB less");
+    DOES(it->encrypt(far_key, far_nonce, NULL, 0, room, room, OVER, tag[0]));
+    is_behind(room);
+    OVER_ALL(it->encrypt(far_key, far_nonce, NULL, 0, room, room, len, tag[1]));
+    holds(run, memcmp(tag[0], tag[1], TAG) != 0, "the tag of 4 GiB less");
     seal_windows(&ciphers[layout], from, len, tag[0]);
-    holds(run, it->decrypt(far_key, far_nonce, NULL, 0, room, from, len, tag[0]) == CHACHA20_OK && is_behind(room), "decryption over 4 GiB");
+    OVER_ALL(it->decrypt(far_key, far_nonce, NULL, 0, room, from, len, tag[0]));
     if (!is_whole) return;
-    holds(run, it->encrypt(far_key, far_nonce, NULL, 0, room, from, len, tag[1]) == CHACHA20_OK && is_behind(room), "encryption over 4 GiB");
-    holds(run, it->decrypt(far_key, far_nonce, NULL, 0, from, from, len, tag[0]) == CHACHA20_OK && is_behind(from), "in place over 4 GiB");
+    OVER_ALL(it->encrypt(far_key, far_nonce, NULL, 0, room, from, len, tag[1]));
+    memcpy(room, from, WINDOW);
+    OVER_ALL(it->decrypt(far_key, far_nonce, NULL, 0, room, room, len, tag[0]));
 }
 
 static void over_4_gib(struct run *run, int is_whole) {
@@ -476,7 +473,7 @@ static void over_4_gib(struct run *run, int is_whole) {
     const size_t len = 4 * GIB + OVER;
     uint8_t *room = windows(), *from = windows(), state[CHACHA20_RNG_STATE_BYTES] = {0}, tag[2][TAG];
     uint64_t low, high;
-    holds(run, chacha20_verify(room, from, len) == CHACHA20_OK, "equal bytes over 4 GiB were refused");
+    DOES(chacha20_verify(room, from, len));
     chacha20_onetime_poly1305(far_key, room, len, tag[0]), chacha20_onetime_poly1305(far_key, room, OVER, tag[1]);
     holds(run, memcmp(tag[0], tag[1], TAG) != 0, "the MAC of 4 GiB less");
     chacha20_rng_fill(state, room, len);
@@ -489,9 +486,9 @@ static void over_4_gib(struct run *run, int is_whole) {
     for (int i = 0; i < LAYOUTS && is_whole; i++) {
         const struct cipher *it = &ciphers[i];
         is_behind(room);
-        holds(run, it->xor(far_key, far_nonce, 0, 0, room, room, len) == CHACHA20_OK && is_behind(room), "XOR in place over 4 GiB");
-        holds(run, it->xor(far_key, far_nonce, 0, 0, room, from, len) == CHACHA20_OK && is_behind(room), "XOR over 4 GiB");
-        holds(run, it->keystream(far_key, far_nonce, 0, 0, room, len) == CHACHA20_OK && is_behind(room), "a keystream over 4 GiB");
+        OVER_ALL(it->xor(far_key, far_nonce, 0, 0, room, room, len));
+        OVER_ALL(it->xor(far_key, far_nonce, 0, 0, room, from, len));
+        OVER_ALL(it->keystream(far_key, far_nonce, 0, 0, room, len));
     }
     munmap(room, (size_t)WINDOWS * WINDOW), munmap(from, (size_t)WINDOWS * WINDOW);
 }

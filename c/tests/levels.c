@@ -38,7 +38,6 @@ static void is(int fact, const char *what) {
 }
 
 /* What each stub does with its arguments, in their order: the Makefile writes the stubs by the declarations of proved.h. */
-uint32_t proved(int build, int pointer_count, const void *const *pointers, int number_count, const uint64_t *numbers);
 uint32_t proved(int build, int pointer_count, const void *const *pointers, int number_count, const uint64_t *numbers) {
     ran = build, calls++;
     for (int i = 0; i < pointer_count; i++) is((got.pointers[i] = pointers[i]) != NULL, "null reaches a proved function");
@@ -47,7 +46,6 @@ uint32_t proved(int build, int pointer_count, const void *const *pointers, int n
 }
 
 #define OVER_4_GIB (((size_t)4 << 30) + 600)
-
 static uint8_t *at_address(uintptr_t address) { return (uint8_t *)address; }
 
 /* What a call is given. The calls by number: first those that write a tag, then the others with one, with an input, without. */
@@ -122,7 +120,7 @@ static void try_call(int call, uint8_t *const *at, const size_t *len) {
     int must = must_run(call, at, len), is_between = call < HAVE_INPUT && at[OUTPUT] != at[INPUT], p = 0, n = 0;
     ran = 0;
     int answer = run_call(call, at, len);
-    is(answer == (must ? CHACHA20_OK : CHACHA20_REFUSED) && (ran == level) == must, must ? "a right call is refused" : "a wrong call is taken");
+    is(answer == (must ? CHACHA20_OK : CHACHA20_REFUSED) && ran == (must ? level : 0), must ? "a right call" : "a wrong call");
     if (!must || ran == 0) return;
     for (int i = 0; i < PARTS; i++) {
         enum part part = order[i];
@@ -135,9 +133,7 @@ static void try_call(int call, uint8_t *const *at, const size_t *len) {
 }
 
 /* Each part far from the others. */
-static void lay_apart(uint8_t **at) {
-    for (int i = 0; i < PARTS; i++) at[i] = at_address((uintptr_t)(i + 1) << 40);
-}
+static void lay_apart(uint8_t **at) { for (int i = 0; i < PARTS; i++) at[i] = at_address((uintptr_t)(i + 1) << 40); }
 
 /* What is written at each distance of another part, also where it ends with the greatest address, and sums wrap. */
 static void overlaps(int call, const size_t *len) {
@@ -145,8 +141,8 @@ static void overlaps(int call, const size_t *len) {
     for (int i = 0; i < 4 * PARTS; i++) {
         int one = i % 2 ? OUTPUT : TAG, other = i / 4;
         const uintptr_t first = len[one], second = len[other];
-        const uintptr_t all[] = {0 - second, 1 - second, 0 - (uintptr_t)1, 0, 1, first - 1, first, 100, 4096, 1 << 16, 1 << 20, far / 4,
-                                 far / 2, far - 1, far, far + 1, 0 - far, 1 - far, 0 - far - 1, far * 8};
+        const uintptr_t all[] = {0 - second, 1 - second, 0 - (uintptr_t)1, 0, 1, first - 1, first, 100, 4096, 1 << 16, 1 << 20,
+                                 far / 4, far / 2, far - 1, far, far + 1, 0 - far, 1 - far, 0 - far - 1, far * 8};
         for (size_t j = 0; j < sizeof all / sizeof all[0] && one != other; j++) {
             uint8_t *at[PARTS];
             lay_apart(at);
@@ -163,15 +159,16 @@ static void all_overlaps_and_lengths(void) {
     static const size_t longest[] = {PTRDIFF_MAX, (size_t)PTRDIFF_MAX + 1, SIZE_MAX - 15, SIZE_MAX};
     for (int i = 0; i < 16 * CALLS; i++) {
         int call = i / 16;
-        size_t text = lengths[i % 4], aad = call < HAVE_TAG ? aad_lengths[i / 4 % 4] : 0, len[PARTS] = {32, nonce_len[call], aad, text, text, 16};
+        size_t aad_len = aad_lengths[i / 4 % 4], len[PARTS] = {32, nonce_len[call], aad_len, lengths[i % 4], lengths[i % 4], 16};
         uint8_t *at[PARTS], *upper_half = at_address(UINTPTR_MAX / 2 + 1);
-        if (call >= HAVE_TAG) len[TAG] = 0;
+        if (call >= HAVE_TAG) len[AAD] = len[TAG] = 0;
         if (call >= HAVE_INPUT) len[INPUT] = 0;
         overlaps(call, len);
         /* The longest object, and longer data, apart from all else; first the associated ones. */
-        lay_apart(at), at[AAD] = upper_half, len[AAD] = call < HAVE_TAG ? longest[i % 4] : 0;
-        try_call(call, at, len);
-        lay_apart(at), at[OUTPUT] = at[INPUT] = upper_half, len[AAD] = aad, len[OUTPUT] = longest[i % 4], len[INPUT] = len[INPUT] ? len[OUTPUT] : 0;
+        lay_apart(at), at[AAD] = upper_half;
+        if (call < HAVE_TAG) len[AAD] = longest[i % 4], try_call(call, at, len), len[AAD] = aad_len;
+        lay_apart(at), at[OUTPUT] = at[INPUT] = upper_half, len[OUTPUT] = longest[i % 4];
+        if (call < HAVE_INPUT) len[INPUT] = longest[i % 4];
         try_call(call, at, len);
     }
 }
@@ -211,7 +208,7 @@ static void try(struct processor it, int level_wanted) {
         __builtin_ia32_writeeflags_u64(__builtin_ia32_readeflags_u64() | TRAP);
         choose_level();
         __builtin_ia32_writeeflags_u64(__builtin_ia32_readeflags_u64() & ~(unsigned long long)TRAP);
-        if (level != wanted) printf("%s, %x %x %x %x: not %d\n", vendor, it.leaf_1_ecx, it.leaf_7_ebx, it.leaf_80000001_ecx, it.xcr0, wanted);
+        if (level != wanted) printf("not %d for %s, %x %x %x\n", wanted, vendor, it.leaf_1_ecx, it.leaf_7_ebx, it.leaf_80000001_ecx);
         is(level == wanted, "a level");
         is(!is_xgetbv_run || (it.leaf_1_ecx & OSXSAVE), "xgetbv runs where there is none");
         all_calls(0), all_calls(600), all_calls(OVER_4_GIB);
@@ -242,7 +239,6 @@ static void all_processors(void) {
     try((struct processor){0x0098e3bd, 0, LAHF_ALONE, 0}, 2);         /* Nehalem */
     try((struct processor){0x1fbae3bf, 0, LAHF_ALONE, SAVES_256}, 2); /* Sandy Bridge */
     try((struct processor){0x7ed8320b, 0x219c91a9, 0x35c233ff, SAVES_256}, 3); /* Zen */
-    level = 3;
     is(steps > 1000, "no steps");
 }
 #else
