@@ -238,7 +238,7 @@ static void all_processors(void) {
     try((struct processor){0x80002001, 0, LAHF_ALONE, 0}, 1);         /* qemu64 */
     try((struct processor){0x0098e3bd, 0, LAHF_ALONE, 0}, 2);         /* Nehalem */
     try((struct processor){0x1fbae3bf, 0, LAHF_ALONE, SAVES_256}, 2); /* Sandy Bridge */
-    try((struct processor){0x7ed8320b, 0x219c91a9, 0x35c233ff, SAVES_256}, 3); /* Zen */
+    try((struct processor){0x7ed8320b, 0x209c01a9, 0x35c233ff, SAVES_256}, 3); /* Zen */
     is(steps > 1000, "no steps");
 }
 #else
