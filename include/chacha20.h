@@ -170,8 +170,8 @@ int xchacha20_aead_decrypt(const uint8_t key[CHACHA20_AT_LEAST 32],
 /* chacha20_onetime_poly1305 writes the tag of |input| by the MAC Poly1305, under a key that serves one
    message alone (RFC 8439, section 2.5). It encrypts nothing. Whoever sees the tags of two messages
    under one key can forge others. |tag| may overlap |key| and |input|. */
-void chacha20_onetime_poly1305(const uint8_t key[CHACHA20_AT_LEAST 32], const uint8_t *input, size_t len,
-                     uint8_t tag[CHACHA20_AT_LEAST 16]) CHACHA20_ATTR_TAG;
+void chacha20_onetime_poly1305(const uint8_t key[CHACHA20_AT_LEAST 32], const uint8_t *input,
+                               size_t len, uint8_t tag[CHACHA20_AT_LEAST 16]) CHACHA20_ATTR_TAG;
 
 /* chacha20_verify returns CHACHA20_OK if |len| bytes are equal, and else CHACHA20_REFUSED. It reads all
    bytes, wherever they differ: compare tags with it, not with memcmp. */
@@ -261,7 +261,7 @@ void hchacha20(const uint8_t key[CHACHA20_AT_LEAST 32], const uint8_t input[CHAC
 
 /* chacha20_rng_from_seed writes the state of |seed|: word 0 of stream 0. |state| may overlap |seed|. */
 void chacha20_rng_from_seed(const uint8_t seed[CHACHA20_AT_LEAST 32],
-                          uint8_t state[CHACHA20_AT_LEAST 49]) CHACHA20_ATTR_NONNULL;
+                            uint8_t state[CHACHA20_AT_LEAST 49]) CHACHA20_ATTR_NONNULL;
 
 /* chacha20_rng_fill writes the next |len| bytes, each word little-endian. Unused bytes of the last
    word are lost. Length 0 takes no word. |output| must not overlap |state|; this isn't checked, and
@@ -274,19 +274,19 @@ void chacha20_rng_fill(uint8_t state[CHACHA20_AT_LEAST 49], uint8_t *output, siz
 /* The word position, |*low| + 2^64 * |*high| with |*high| below 16. Setting takes any two numbers,
    modulo 2^68. |low| and |high| are different objects, apart from |state|. */
 void chacha20_rng_get_word_pos(const uint8_t state[CHACHA20_AT_LEAST 49], uint64_t *low,
-                             uint64_t *high) CHACHA20_ATTR_NONNULL;
+                               uint64_t *high) CHACHA20_ATTR_NONNULL;
 void chacha20_rng_set_word_pos(uint8_t state[CHACHA20_AT_LEAST 49], uint64_t low, uint64_t high)
-                             CHACHA20_ATTR_NONNULL;
+                               CHACHA20_ATTR_NONNULL;
 
 /* The block of the next word. Setting moves to the first word of the block. */
 uint64_t chacha20_rng_get_block_pos(const uint8_t state[CHACHA20_AT_LEAST 49]) CHACHA20_ATTR_NONNULL;
 void chacha20_rng_set_block_pos(uint8_t state[CHACHA20_AT_LEAST 49], uint64_t block)
-                              CHACHA20_ATTR_NONNULL;
+                                CHACHA20_ATTR_NONNULL;
 
 /* The stream. Setting moves to word 0 of the stream. */
 uint64_t chacha20_rng_get_stream(const uint8_t state[CHACHA20_AT_LEAST 49]) CHACHA20_ATTR_NONNULL;
 void chacha20_rng_set_stream(uint8_t state[CHACHA20_AT_LEAST 49], uint64_t stream)
-                           CHACHA20_ATTR_NONNULL;
+                             CHACHA20_ATTR_NONNULL;
 
 /* chacha20_version returns the version of the library that runs. */
 const char *chacha20_version(void);
