@@ -43,7 +43,7 @@ static inline int this_level(void) { return __atomic_load_n(&level, __ATOMIC_REL
 #endif
 
 /* A slice is a pointer and a length, an array a pointer. No pointer may be null, and what is written overlaps no other
-   argument. Results of 32 bits are 0, or 1 for a refused call, which has written nothing. */
+   argument. A result of 32 bits is CHACHA20_OK or CHACHA20_REFUSED; a refused call has written nothing. */
 #define KEY_NONCE const uint8_t *key, const uint8_t *nonce
 #define MESSAGE KEY_NONCE, const uint8_t *aad, size_t aad_len
 #define OUTPUT uint8_t *output, size_t len
