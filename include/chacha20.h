@@ -13,7 +13,7 @@
 
    All output bytes, tags and words are computed by functions that are proved to meet their
    contracts (crates/chacha20_c). The plain C before them (c/chacha20.c) is tested, not proved: it
-   takes null for empty data, refuses overlap, and takes words from a buffer.
+   takes null for empty data, and refuses overlap.
 
    For every function:
 
@@ -22,17 +22,17 @@
    - Positions and lengths count bytes, blocks of 64 bytes where a name has |block|, and words of 32
      bits where it has |word_pos|.
    - Data of length 0 may be null. With any other null pointer the behaviour is undefined.
-   - |output| may be |input|. Outputs must not otherwise overlap any argument; data of length 0
-     overlap nothing. Authenticated encryption and the ciphers refuse other overlap, and lengths above
-     PTRDIFF_MAX, which no object has. For other functions both are undefined. Inputs may overlap: a
-     key and a nonce may be parts of one buffer.
+   - |output| may be |input|. Authenticated encryption and the ciphers refuse any other overlap of what
+     they write with an argument, and lengths above PTRDIFF_MAX, which no object has. Other functions
+     say what may overlap. Inputs may overlap: a key and a nonce may be parts of one buffer. Data of
+     length 0 overlap nothing.
    - Bytes need no alignment.
    - No function allocates, takes a lock, throws or keeps state between calls. Threads and signal
      handlers may call any function at any time if none writes memory that another uses.
    - A call takes at most CHACHA20_STACK_BYTES of the stack. A signal handler with a stack of its own
      needs that and sysconf(_SC_MINSIGSTKSZ) bytes; the constant SIGSTKSZ may be too small.
    - Copies of keys and keystream may remain in that part of the stack and in registers;
-     chacha_wipe_stack overwrites the stack alone.
+     chacha20_wipe_stack overwrites the stack alone.
    - The proved code has no unwind tables. A thread that is cancelled asynchronously during a call
      may skip its cleanup handlers, and a backtrace from within a call can show keystream. */
 
@@ -48,10 +48,10 @@ extern "C" {
 
 /* The version of this header. While the major version is 0, the minor version changes whenever a
    function, its parameters or its meaning changes, and with it the soname of the shared library,
-   libchacha20.so.0.9, and the version node of its symbols, CHACHA20_0.9. */
-#define CHACHA20_VERSION "0.9.0"
+   libchacha20.so.0.10, and the version node of its symbols, CHACHA20_0.10. */
+#define CHACHA20_VERSION "0.10.0"
 #define CHACHA20_VERSION_MAJOR 0
-#define CHACHA20_VERSION_MINOR 9
+#define CHACHA20_VERSION_MINOR 10
 #define CHACHA20_VERSION_PATCH 0
 
 /* Sizes. */
@@ -62,8 +62,8 @@ extern "C" {
 #define CHACHA20_BLOCK_BYTES 64
 #define HCHACHA20_INPUT_BYTES 16
 #define HCHACHA20_SUBKEY_BYTES 32
-#define CHACHA_RNG_SEED_BYTES 32
-#define CHACHA_RNG_STATE_BYTES 49
+#define CHACHA20_RNG_SEED_BYTES 32
+#define CHACHA20_RNG_STATE_BYTES 49
 #define CHACHA20_TAG_BYTES 16
 
 /* The length of the keystream of a key and a nonce of 12 or 24 bytes: 2^32 blocks. A legacy
@@ -167,18 +167,19 @@ int xchacha20_aead_decrypt(const uint8_t key[CHACHA20_AT_LEAST 32],
                            size_t aad_len, uint8_t *output, const uint8_t *input, size_t len,
                            const uint8_t tag[CHACHA20_AT_LEAST 16]) CHACHA20_ATTR_SEAL;
 
-/* chacha_poly1305 writes the tag of |input| under a key that serves one message alone (RFC 8439,
-   section 2.5). Whoever sees the tags of two messages under one key can forge others. */
-void chacha_poly1305(const uint8_t key[CHACHA20_AT_LEAST 32], const uint8_t *input, size_t len,
-                     uint8_t tag[CHACHA20_AT_LEAST 16]) CHACHA20_ATTR_TAG;
+/* chacha20_onetime_poly1305 writes the tag of |input| by the MAC Poly1305, under a key that serves one
+   message alone (RFC 8439, section 2.5). It encrypts nothing. Whoever sees the tags of two messages
+   under one key can forge others. |tag| may overlap |key| and |input|. */
+void chacha20_onetime_poly1305(const uint8_t key[CHACHA20_AT_LEAST 32], const uint8_t *input,
+                               size_t len, uint8_t tag[CHACHA20_AT_LEAST 16]) CHACHA20_ATTR_TAG;
 
 /* chacha20_verify returns CHACHA20_OK if |len| bytes are equal, and else CHACHA20_REFUSED. It reads all
    bytes, wherever they differ: compare tags with it, not with memcmp. */
 int chacha20_verify(const uint8_t *one, const uint8_t *other, size_t len) CHACHA20_ATTR_VERIFY;
 
-/* chacha_wipe_stack overwrites what the caller's earlier calls of this library left on the stack. Call it
+/* chacha20_wipe_stack overwrites what the caller's earlier calls of this library left on the stack. Call it
    from the function that made these calls. */
-void chacha_wipe_stack(void);
+void chacha20_wipe_stack(void);
 
 /* Ciphers */
 
@@ -238,7 +239,8 @@ int chacha20_legacy_check(uint64_t block, uint64_t offset, size_t len) CHACHA20_
 
 /* HChaCha */
 
-/* hchacha20 derives a subkey from |key| and |input| (draft-irtf-cfrg-xchacha, section 2.2).
+/* hchacha20 derives a subkey from |key| and |input| (draft-irtf-cfrg-xchacha, section 2.2). |subkey|
+   may overlap both.
 
    xchacha20_xor derives the subkey of the first 16 bytes of its nonce in each call. To derive it
    once, call chacha20_xor with the subkey, and as nonce four zero bytes and the last 8 bytes. */
@@ -257,51 +259,34 @@ void hchacha20(const uint8_t key[CHACHA20_AT_LEAST 32], const uint8_t input[CHAC
    The state is secret: it determines all words, past and future. A copy of it repeats the stream,
    also in a child after fork; give each its own stream or seed. */
 
-/* chacha_rng_from_seed writes the state of |seed|: word 0 of stream 0. */
-void chacha_rng_from_seed(const uint8_t seed[CHACHA20_AT_LEAST 32],
-                          uint8_t state[CHACHA20_AT_LEAST 49]) CHACHA20_ATTR_NONNULL;
+/* chacha20_rng_from_seed writes the state of |seed|: word 0 of stream 0. |state| may overlap |seed|. */
+void chacha20_rng_from_seed(const uint8_t seed[CHACHA20_AT_LEAST 32],
+                            uint8_t state[CHACHA20_AT_LEAST 49]) CHACHA20_ATTR_NONNULL;
 
 /* chacha20_rng_fill writes the next |len| bytes, each word little-endian. Unused bytes of the last
-   word are lost. Length 0 takes no word.
+   word are lost. Length 0 takes no word. |output| must not overlap |state|; this isn't checked, and
+   the behaviour is undefined.
 
-   Each fill computes at least four blocks; chacha20_words_next takes words one by one at a lower price. */
+   Each fill computes at least four blocks, 64 words. To take words one by one, fill an array of 64. */
 void chacha20_rng_fill(uint8_t state[CHACHA20_AT_LEAST 49], uint8_t *output, size_t len)
                        CHACHA20_ATTR_FILL;
 
-/* Words one by one, from an object that the caller owns: a fill makes 64 at once. Don't access its
-   members. Keep it secret, and wipe it after use; a copy repeats its words. Never draw from a wiped
-   one: zeros are the generator of a seed of zeros, which is no secret. */
-typedef struct {
-    uint8_t words[256]; /* the last |unread| bytes are unread, the others zero */
-    uint8_t state[49];  /* of the word after them */
-    size_t unread;
-} chacha20_words;
-
-/* chacha20_words_from_state begins at the next word of |state|, which doesn't move.
-   chacha20_words_next returns the next word, and zeroes it in |words|. chacha20_words_to_state writes
-   the state whose next word is that of |words|, to go on from there later. */
-void chacha20_words_from_state(chacha20_words *words, const uint8_t state[CHACHA20_AT_LEAST 49])
-                               CHACHA20_ATTR_NONNULL;
-uint32_t chacha20_words_next(chacha20_words *words) CHACHA20_ATTR_NONNULL;
-void chacha20_words_to_state(const chacha20_words *words, uint8_t state[CHACHA20_AT_LEAST 49])
-                             CHACHA20_ATTR_NONNULL;
-
 /* The word position, |*low| + 2^64 * |*high| with |*high| below 16. Setting takes any two numbers,
-   modulo 2^68. |low| and |high| are different objects. */
-void chacha_rng_get_word_pos(const uint8_t state[CHACHA20_AT_LEAST 49], uint64_t *low,
-                             uint64_t *high) CHACHA20_ATTR_NONNULL;
-void chacha_rng_set_word_pos(uint8_t state[CHACHA20_AT_LEAST 49], uint64_t low, uint64_t high)
-                             CHACHA20_ATTR_NONNULL;
+   modulo 2^68. |low| and |high| are different objects, apart from |state|. */
+void chacha20_rng_get_word_pos(const uint8_t state[CHACHA20_AT_LEAST 49], uint64_t *low,
+                               uint64_t *high) CHACHA20_ATTR_NONNULL;
+void chacha20_rng_set_word_pos(uint8_t state[CHACHA20_AT_LEAST 49], uint64_t low, uint64_t high)
+                               CHACHA20_ATTR_NONNULL;
 
 /* The block of the next word. Setting moves to the first word of the block. */
-uint64_t chacha_rng_get_block_pos(const uint8_t state[CHACHA20_AT_LEAST 49]) CHACHA20_ATTR_NONNULL;
-void chacha_rng_set_block_pos(uint8_t state[CHACHA20_AT_LEAST 49], uint64_t block_pos)
-                              CHACHA20_ATTR_NONNULL;
+uint64_t chacha20_rng_get_block_pos(const uint8_t state[CHACHA20_AT_LEAST 49]) CHACHA20_ATTR_NONNULL;
+void chacha20_rng_set_block_pos(uint8_t state[CHACHA20_AT_LEAST 49], uint64_t block)
+                                CHACHA20_ATTR_NONNULL;
 
 /* The stream. Setting moves to word 0 of the stream. */
-uint64_t chacha_rng_get_stream(const uint8_t state[CHACHA20_AT_LEAST 49]) CHACHA20_ATTR_NONNULL;
-void chacha_rng_set_stream(uint8_t state[CHACHA20_AT_LEAST 49], uint64_t stream)
-                           CHACHA20_ATTR_NONNULL;
+uint64_t chacha20_rng_get_stream(const uint8_t state[CHACHA20_AT_LEAST 49]) CHACHA20_ATTR_NONNULL;
+void chacha20_rng_set_stream(uint8_t state[CHACHA20_AT_LEAST 49], uint64_t stream)
+                             CHACHA20_ATTR_NONNULL;
 
 /* chacha20_version returns the version of the library that runs. */
 const char *chacha20_version(void);

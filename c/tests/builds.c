@@ -45,12 +45,12 @@ typedef int sodium_aead(uint8_t *, uint8_t *, unsigned long long *, const uint8_
 static sodium_aead *sodium_aeads[AEADS];
 static int (*sodium_mac)(uint8_t *, const uint8_t *, unsigned long long, const uint8_t *);
 
-static void sodium_ietf_encrypt(AEAD_PARAMETERS, uint8_t *tag) {
-    sodium_aeads[IETF](output, tag, NULL, input, len, aad, aad_len, NULL, nonce, key);
-}
-static void sodium_xchacha_encrypt(AEAD_PARAMETERS, uint8_t *tag) {
-    sodium_aeads[XCHACHA](output, tag, NULL, input, len, aad, aad_len, NULL, nonce, key);
-}
+#define SODIUM_ENCRYPT(NAME, LAYOUT) \
+    static void NAME(AEAD_PARAMETERS, uint8_t *tag) {                                                 \
+        sodium_aeads[LAYOUT](output, tag, NULL, input, len, aad, aad_len, NULL, nonce, key);         \
+    }
+SODIUM_ENCRYPT(sodium_ietf_encrypt, IETF)
+SODIUM_ENCRYPT(sodium_xchacha_encrypt, XCHACHA)
 static void sodium_poly1305(const uint8_t *key, const uint8_t *input, size_t len, uint8_t *tag) {
     sodium_mac(tag, input, len, key);
 }

@@ -1,7 +1,7 @@
 /* SPDX-License-Identifier: Apache-2.0 OR MIT
 
-   How much of the stack calls take; calls before the library has chosen a level, and in a signal handler; positions, the version
-   and the size of a struct.
+   How much of the stack calls take; calls before the library has chosen a level, and in a signal handler; positions, and the
+   version.
 
    `calls marked` makes each call of which ./spills looks at the stack, and sets `mark` before it. */
 
@@ -50,7 +50,7 @@ static void positions(void) {
 enum { STACK = 1 << 15, PLACES = 64, LONGEST = (1 << 14) + 1000, LONG = 1024, PAINT = 0xa5 };
 
 static volatile uint8_t stack[STACK] __attribute__((aligned(4096)));
-static uint8_t one_key[32], one_nonce[24], one_aad[30], one_tag[16], one_state[CHACHA_RNG_STATE_BYTES];
+static uint8_t one_key[32], one_nonce[24], one_aad[30], one_tag[16], one_state[CHACHA20_RNG_STATE_BYTES];
 static uint8_t input[LONGEST], output[LONGEST];
 static size_t call_len;
 static int call_kind;
@@ -61,7 +61,7 @@ static ucontext_t home, away;
 
 static void on_stack(void) {
     int answer = CHACHA20_OK;
-    chacha20_words words = {.unread = 0};
+    uint64_t low, high;
     call_begin = __builtin_frame_address(0);
     switch (call_kind) {
         case 0: answer = chacha20_xor(one_key, one_nonce, 5, output, input, call_len); break;
@@ -82,14 +82,19 @@ static void on_stack(void) {
         case 15: answer = xchacha20_aead_decrypt(MESSAGE, output, output, call_len, one_tag); break;
         case 16: answer = xchacha20_aead_decrypt(MESSAGE, output, input, call_len, one_tag); break;
         case 17: chacha20_rng_fill(one_state, output, call_len); break;
-        case 18: chacha_poly1305(one_key, input, call_len, one_tag); break;
-        case 19: (void)chacha20_words_next(&words); break;
-        default: hchacha20(one_key, one_nonce, output);
+        case 18: chacha20_onetime_poly1305(one_key, input, call_len, one_tag); break;
+        case 19: answer = chacha20_verify(input, input, call_len); break;
+        case 20: hchacha20(one_key, one_nonce, output); break;
+        case 21: chacha20_rng_from_seed(one_key, one_state), chacha20_rng_set_stream(one_state, 5); break;
+        case 22: chacha20_rng_set_word_pos(one_state, 5, 6), chacha20_rng_get_word_pos(one_state, &low, &high); break;
+        case 23: chacha20_rng_set_block_pos(one_state, chacha20_rng_get_block_pos(one_state)); break;
+        case 24: answer = chacha20_rng_get_stream(one_state) > 5 || !chacha20_version() || chacha20_block_position(0); break;
+        default: answer = chacha20_check(5, call_len) | chacha20_legacy_check(5, 5, call_len);
     }
     is("an answer", answer == CHACHA20_OK);
 }
 /* Those whose stack is moved, and all. */
-enum { MOVED = 18, CALL_KINDS = 21 };
+enum { MOVED = 18, CALL_KINDS = 26 };
 
 /* What is decrypted has its right tag. */
 static void before_call(void) {
@@ -146,7 +151,7 @@ static int is_wiped;
 static void then_wiped(void) {
     call_begin = __builtin_frame_address(0);
     is("an answer", chacha20_keystream(one_key, one_nonce, 0, output, 1000) == CHACHA20_OK);
-    if (is_wiped) chacha_wipe_stack();
+    if (is_wiped) chacha20_wipe_stack();
 }
 
 /* How many bytes below a function aren't zero after it called a cipher, and wiped the stack or not. Left out are those next to
@@ -195,8 +200,6 @@ int main(int argc, char **argv) {
     char version[32];
     snprintf(version, sizeof version, "%d.%d.%d", CHACHA20_VERSION_MAJOR, CHACHA20_VERSION_MINOR, CHACHA20_VERSION_PATCH);
     is("the version", strcmp(version, CHACHA20_VERSION) == 0 && strcmp(version, chacha20_version()) == 0);
-    /* A struct of another size needs another interface, and so another soname. Write both here. */
-    is("the interface of a size", CHACHA20_VERSION_MAJOR == 0 && CHACHA20_VERSION_MINOR == 9 && sizeof(chacha20_words) == 320);
     positions(), in_handler();
     is("the stack that a call takes", depth > 500 && depth <= CHACHA20_STACK_BYTES);
     is("the wiped stack", left > 500 && wiped == 0);

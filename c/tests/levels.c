@@ -1,35 +1,188 @@
 /* SPDX-License-Identifier: Apache-2.0 OR MIT
 
-   chacha20.c over builds of stubs, which note their level and look for null pointers: which build runs on described processors,
-   whole ones and one that lacks each of what a level has, and before the choice; and what a call hands on where data are null. */
+   chacha20.c over builds of stubs, which note what reaches them and touch nothing. So buffers can have any address and length:
+   which calls are refused, and what the others hand on. And, on x86-64, the choice between the builds: on described processors,
+   whole ones and one that lacks each of what a level has, and before it. */
 
-#include <cpuid.h>
+#define _DEFAULT_SOURCE
+
+#include <signal.h>
 #include <stdint.h>
 #include <stdio.h>
+#include <string.h>
+
+#if defined(__x86_64__)
+#include <cpuid.h>
 
 /* What the instructions say of a described processor; of another subleaf come other bits. */
 static int cpuid_here(unsigned leaf, unsigned subleaf, unsigned *a, unsigned *b, unsigned *c, unsigned *d);
 static uint32_t xcr0_here(void);
+#undef __cpuid
+#undef __cpuid_count
+#define __cpuid(LEAF, A, B, C, D) cpuid_here(LEAF, 99, &(A), &(B), &(C), &(D))
+#define __cpuid_count(LEAF, SUBLEAF, A, B, C, D) cpuid_here(LEAF, SUBLEAF, &(A), &(B), &(C), &(D))
 #define __get_cpuid(LEAF, A, B, C, D) cpuid_here(LEAF, 99, A, B, C, D)
 #define __get_cpuid_count(LEAF, SUBLEAF, A, B, C, D) cpuid_here(LEAF, SUBLEAF, A, B, C, D)
 #define READ_XCR0 xcr0_here
+#else
+enum { level = 1 };
+#endif
 
 #include "../chacha20.c"
 
-#undef POSITION
-
-static struct processor described;
-static int is_xgetbv_run, wrong, calls, ran; /* the last: the level of the stub that ran last */
+static int wrong, calls, ran; /* the last: the level of the stub that ran last */
+static struct { const void *pointers[6]; uint64_t numbers[4]; } got;
 
 static void is(int fact, const char *what) {
-    if (!fact) printf("wrong: %s, level %d\n", what, level), wrong++;
+    if (!fact && wrong++ < 20) printf("wrong: %s, level %d\n", what, level);
 }
 
+/* What each stub does with its arguments, in their order: the Makefile writes the stubs by the declarations of proved.h. */
+uint32_t proved(int build, int pointer_count, const void *const *pointers, int number_count, const uint64_t *numbers) {
+    ran = build, calls++;
+    for (int i = 0; i < pointer_count; i++) is((got.pointers[i] = pointers[i]) != NULL, "null reaches a proved function");
+    for (int i = 0; i < number_count; i++) got.numbers[i] = numbers[i];
+    return 0;
+}
+
+#define OVER_4_GIB (((size_t)4 << 30) + 600)
+static uint8_t *at_address(uintptr_t address) { return (uint8_t *)address; }
+
+/* What a call is given. The calls by number: first those that write a tag, then the others with one, with an input, without. */
+enum part { KEY, NONCE, AAD, INPUT, OUTPUT, TAG, PARTS };
+enum { WRITE_TAG = 2, HAVE_TAG = 4, HAVE_INPUT = 7, CALLS = 10 };
+static const size_t nonce_len[CALLS] = {12, 24, 12, 24, 12, 24, 8, 12, 24, 8};
+static const uint64_t block = 0x123456789abcdef0, offset = 0xfedcba9876543210;
+
+static int run_call(int call, uint8_t *const *at, const size_t *len) {
+#define MESSAGE_AT at[KEY], at[NONCE], at[AAD], len[AAD], at[OUTPUT], at[INPUT], len[OUTPUT], at[TAG]
+    switch (call) {
+        case 0: return chacha20_aead_encrypt(MESSAGE_AT);
+        case 1: return xchacha20_aead_encrypt(MESSAGE_AT);
+        case 2: return chacha20_aead_decrypt(MESSAGE_AT);
+        case 3: return xchacha20_aead_decrypt(MESSAGE_AT);
+        case 4: return chacha20_xor(at[KEY], at[NONCE], block, at[OUTPUT], at[INPUT], len[OUTPUT]);
+        case 5: return xchacha20_xor(at[KEY], at[NONCE], block, at[OUTPUT], at[INPUT], len[OUTPUT]);
+        case 6: return chacha20_legacy_xor(at[KEY], at[NONCE], block, offset, at[OUTPUT], at[INPUT], len[OUTPUT]);
+        case 7: return chacha20_keystream(at[KEY], at[NONCE], block, at[OUTPUT], len[OUTPUT]);
+        case 8: return xchacha20_keystream(at[KEY], at[NONCE], block, at[OUTPUT], len[OUTPUT]);
+        default: return chacha20_legacy_keystream(at[KEY], at[NONCE], block, offset, at[OUTPUT], len[OUTPUT]);
+    }
+}
+
+/* Every function, with data of so many bytes, null if there are none: the build for the level runs, if one does, and gets the
+   whole length. What has a fixed size lies on the arguments, and so is made elsewhere. */
+static void all_calls(size_t len) {
+    static uint8_t both[64], state[49], tag[16];
+    uint8_t *to = len ? at_address((uintptr_t)1 << 40) : NULL, *from = len ? at_address((uintptr_t)1 << 41) : NULL;
+    uint8_t *at[PARTS] = {both, both, NULL, from, to, tag};
+    const size_t lengths[PARTS] = {[OUTPUT] = len};
+    uint64_t low = 0, high = 0;
+    int answers = 0;
+#define RUN(CALL) (ran = level, got.numbers[0] = len, (CALL), is(ran == level, #CALL))
+#define WHOLE(CALL) (RUN(CALL), is(got.numbers[0] == len, "a length of " #CALL))
+#define APART(CALL, MADE) (RUN(CALL), is((uintptr_t)got.pointers[MADE] - (uintptr_t)both >= sizeof both, "an overlap of " #CALL))
+    for (int i = 0; i < 2 * CALLS; i++) at[INPUT] = i % 2 ? to : from, RUN(answers |= run_call(i / 2, at, lengths));
+    WHOLE(answers |= chacha20_check(len, len));
+    WHOLE(answers |= chacha20_legacy_check(len, len, len));
+    WHOLE(answers |= chacha20_verify(to, from, len));
+    WHOLE(chacha20_rng_fill(state, to, len));
+    WHOLE(chacha20_onetime_poly1305(both, from, len, tag));
+    APART(chacha20_onetime_poly1305(both, both, len, both + 5), 2);
+    APART(hchacha20(both, both + 16, both + 1), 2);
+    APART(chacha20_rng_from_seed(both, both + 8), 1);
+    RUN(chacha20_rng_get_word_pos(state, &low, &high));
+    RUN(chacha20_rng_set_word_pos(state, 0, 0));
+    RUN((void)chacha20_rng_get_block_pos(state));
+    RUN(chacha20_rng_set_block_pos(state, 0));
+    RUN((void)chacha20_rng_get_stream(state));
+    RUN(chacha20_rng_set_stream(state, 0));
+    is(answers == 0, "an answer");
+}
+
+/* The rule of the header, by sums that don't wrap: what is written overlaps nothing, but for an output that is the input. */
+static int must_run(int call, uint8_t *const *at, const size_t *len) {
+    __extension__ typedef unsigned __int128 wide;
+    if (len[OUTPUT] > PTRDIFF_MAX || len[AAD] > PTRDIFF_MAX) return 0;
+    for (int i = OUTPUT; i <= (call < WRITE_TAG ? TAG : OUTPUT); i++) {
+        for (int j = 0; j < PARTS; j++) {
+            wide one = (uintptr_t)at[i], other = (uintptr_t)at[j];
+            if (j == i || len[i] == 0 || len[j] == 0 || (i == OUTPUT && j == INPUT && one == other)) continue;
+            if (one < other + len[j] && other < one + len[i]) return 0;
+        }
+    }
+    return 1;
+}
+
+/* Whether a call runs where it must, and hands on what it was given. */
+static void try_call(int call, uint8_t *const *at, const size_t *len) {
+    static const enum part order[] = {KEY, NONCE, AAD, OUTPUT, INPUT, TAG};
+    int must = must_run(call, at, len), is_between = call < HAVE_INPUT && at[OUTPUT] != at[INPUT], p = 0, n = 0;
+    ran = 0;
+    int answer = run_call(call, at, len);
+    is(answer == (must ? CHACHA20_OK : CHACHA20_REFUSED) && ran == (must ? level : 0), must ? "a right call" : "a wrong call");
+    if (!must || ran == 0) return;
+    for (int i = 0; i < PARTS; i++) {
+        enum part part = order[i];
+        if (part == INPUT ? !is_between : (part == AAD || part == TAG) && call >= HAVE_TAG) continue;
+        is(got.pointers[p++] == at[part] || len[part] == 0, "another pointer is handed on");
+    }
+    is(got.numbers[n++] == (call < HAVE_TAG ? len[AAD] : block), "another number is handed on");
+    if (call == HAVE_INPUT - 1 || call == CALLS - 1) is(got.numbers[n++] == offset, "another offset is handed on");
+    for (int i = 0; i <= is_between; i++) is(got.numbers[n++] == len[OUTPUT], "another length is handed on");
+}
+
+/* Each part far from the others. */
+static void lay_apart(uint8_t **at) { for (int i = 0; i < PARTS; i++) at[i] = at_address((uintptr_t)(i + 1) << 40); }
+
+/* What is written at each distance of another part, also where it ends with the greatest address, and sums wrap. */
+static void overlaps(int call, const size_t *len) {
+    const uintptr_t far = (uintptr_t)4 << 30;
+    for (int i = 0; i < 4 * PARTS; i++) {
+        int one = i % 2 ? OUTPUT : TAG, other = i / 4;
+        const uintptr_t first = len[one], second = len[other];
+        const uintptr_t all[] = {0 - second, 1 - second, 0 - (uintptr_t)1, 0, 1, first - 1, first, 100, 4096, 1 << 16, 1 << 20,
+                                 far / 4, far / 2, far - 1, far, far + 1, 0 - far, 1 - far, 0 - far - 1, far * 8};
+        for (size_t j = 0; j < sizeof all / sizeof all[0] && one != other; j++) {
+            uint8_t *at[PARTS];
+            lay_apart(at);
+            if (i % 4 > 1) at[one] = at_address(0 - first);
+            at[other] = at_address((uintptr_t)at[one] + all[j]);
+            /* No object passes the greatest address. */
+            if (at[other] && (uintptr_t)at[other] <= 0 - second) try_call(call, at, len);
+        }
+    }
+}
+
+static void all_overlaps_and_lengths(void) {
+    static const size_t lengths[] = {1, 16, 100, OVER_4_GIB}, aad_lengths[] = {0, 13, 5000, OVER_4_GIB + 1};
+    static const size_t longest[] = {PTRDIFF_MAX, (size_t)PTRDIFF_MAX + 1, SIZE_MAX - 15, SIZE_MAX};
+    for (int i = 0; i < 16 * CALLS; i++) {
+        int call = i / 16;
+        size_t aad_len = aad_lengths[i / 4 % 4], len[PARTS] = {32, nonce_len[call], aad_len, lengths[i % 4], lengths[i % 4], 16};
+        uint8_t *at[PARTS], *upper_half = at_address(UINTPTR_MAX / 2 + 1);
+        if (call >= HAVE_TAG) len[AAD] = len[TAG] = 0;
+        if (call >= HAVE_INPUT) len[INPUT] = 0;
+        overlaps(call, len);
+        /* The longest object, and longer data, apart from all else; first the associated ones. */
+        lay_apart(at), at[AAD] = upper_half;
+        if (call < HAVE_TAG) len[AAD] = longest[i % 4], try_call(call, at, len), len[AAD] = aad_len;
+        lay_apart(at), at[OUTPUT] = at[INPUT] = upper_half, len[OUTPUT] = longest[i % 4];
+        if (call < HAVE_INPUT) len[INPUT] = longest[i % 4];
+        try_call(call, at, len);
+    }
+}
+
+#if defined(__x86_64__)
+static struct processor described;
+static const char *vendor;
+static int is_xgetbv_run, wanted, steps;
+
 static int cpuid_here(unsigned leaf, unsigned subleaf, unsigned *a, unsigned *b, unsigned *c, unsigned *d) {
-    is(level == 1, "a level before it is known");
-    *a = *d = 0;
+    *a = leaf == 0 ? 7 : 0, *d = 0;
     *b = leaf != 7 ? 0 : subleaf == 0 ? described.leaf_7_ebx : ~described.leaf_7_ebx;
     *c = leaf == 1 ? described.leaf_1_ecx : leaf == 0x80000001 ? described.leaf_80000001_ecx : 0;
+    if (leaf == 0) memcpy(b, vendor, 4), memcpy(d, vendor + 4, 4), memcpy(c, vendor + 8, 4);
     return 1;
 }
 
@@ -38,109 +191,33 @@ static uint32_t xcr0_here(void) {
     return described.xcr0;
 }
 
-static void proved(int number, const void *const *pointers, size_t count) {
-    ran = number, calls++;
-    for (size_t i = 0; i < count; i++) is(pointers[i] != NULL, "null reaches a proved function");
-}
-
-#pragma GCC diagnostic ignored "-Wunused-parameter"
-#define POINTERS(...) (const void *const[]){__VA_ARGS__}, sizeof((const void *const[]){__VA_ARGS__}) / sizeof(void *)
-#define STUBS(RESULT, NAME, PARAMETERS, POINTERS)                                    \
-    RESULT NAME##_x86_64 PARAMETERS { return proved(1, POINTERS), (RESULT)0; }       \
-    RESULT NAME##_x86_64_v2 PARAMETERS { return proved(2, POINTERS), (RESULT)0; }    \
-    RESULT NAME##_x86_64_v3 PARAMETERS { return proved(3, POINTERS), (RESULT)0; }
-#define VOID_STUBS(NAME, PARAMETERS, POINTERS)                    \
-    void NAME##_x86_64 PARAMETERS { proved(1, POINTERS); }        \
-    void NAME##_x86_64_v2 PARAMETERS { proved(2, POINTERS); }     \
-    void NAME##_x86_64_v3 PARAMETERS { proved(3, POINTERS); }
-#define OF_CIPHER(NAME, ...)                                                                                                \
-    STUBS(uint32_t, NAME##_xor_in_place, (KEY_NONCE, __VA_ARGS__, OUTPUT), POINTERS(key, nonce, output))                    \
-    STUBS(uint32_t, NAME##_xor_between, (KEY_NONCE, __VA_ARGS__, OUTPUT, INPUT), POINTERS(key, nonce, output, input))       \
-    STUBS(uint32_t, NAME##_keystream, (KEY_NONCE, __VA_ARGS__, OUTPUT), POINTERS(key, nonce, output))
-#define OF_AEAD(NAME, TAG)                                                                                                  \
-    STUBS(uint32_t, NAME##_in_place, (KEY_NONCE, const uint8_t *aad, size_t aad_len, OUTPUT, TAG *tag),                     \
-          POINTERS(key, nonce, aad, output, tag))                                                                           \
-    STUBS(uint32_t, NAME##_between, (KEY_NONCE, const uint8_t *aad, size_t aad_len, OUTPUT, INPUT, TAG *tag),               \
-          POINTERS(key, nonce, aad, output, input, tag))
-#define KEY_NONCE const uint8_t *key, const uint8_t *nonce
-#define OUTPUT uint8_t *output, size_t len
-#define INPUT const uint8_t *input, size_t input_len
-
-OF_AEAD(chacha20_aead_encrypt, uint8_t)
-OF_AEAD(xchacha20_aead_encrypt, uint8_t)
-OF_AEAD(chacha20_aead_decrypt, const uint8_t)
-OF_AEAD(xchacha20_aead_decrypt, const uint8_t)
-OF_CIPHER(chacha20, uint64_t position)
-OF_CIPHER(xchacha20, uint64_t position)
-OF_CIPHER(chacha20_legacy, uint64_t block, uint64_t offset)
-STUBS(uint32_t, chacha20_check, (uint64_t position, size_t len), POINTERS(&ran))
-STUBS(uint32_t, chacha20_legacy_check, (uint64_t block, uint64_t offset, size_t len), POINTERS(&ran))
-VOID_STUBS(chacha_poly1305, (const uint8_t *key, INPUT, uint8_t *tag), POINTERS(key, input, tag))
-STUBS(uint32_t, chacha20_verify, (const uint8_t *one, size_t len, INPUT), POINTERS(one, input))
-VOID_STUBS(hchacha20, (const uint8_t *key, const uint8_t *input, uint8_t *subkey), POINTERS(key, input, subkey))
-VOID_STUBS(chacha_rng_from_seed, (const uint8_t *seed, uint8_t *state), POINTERS(seed, state))
-VOID_STUBS(chacha20_rng_fill, (uint8_t *state, OUTPUT), POINTERS(state, output))
-VOID_STUBS(chacha_rng_get_word_pos, (const uint8_t *state, uint64_t *low, uint64_t *high), POINTERS(state, low, high))
-VOID_STUBS(chacha_rng_set_word_pos, (uint8_t *state, uint64_t low, uint64_t high), POINTERS(state))
-STUBS(uint64_t, chacha_rng_get_block_pos, (const uint8_t *state), POINTERS(state))
-VOID_STUBS(chacha_rng_set_block_pos, (uint8_t *state, uint64_t block_pos), POINTERS(state))
-STUBS(uint64_t, chacha_rng_get_stream, (const uint8_t *state), POINTERS(state))
-VOID_STUBS(chacha_rng_set_stream, (uint8_t *state, uint64_t stream), POINTERS(state))
-
-/* Every function, with buffers of so many bytes, null if there are none: the build for the level runs, if one does. */
-static void all_calls(size_t len) {
-    static uint8_t key[32], nonce[24], state[49], one[1000], other[1000];
-    uint8_t *to = len ? one : NULL, *from = len ? other : NULL;
-    uint64_t low = 0, high = 0;
-    int answers = 0;
-#define RUN(CALL) ran = level, (CALL), is(ran == level, #CALL)
-#define BOTH(CIPHER, ...)                                                 \
-    RUN(answers |= CIPHER##_xor(key, nonce, __VA_ARGS__, to, to, len));   \
-    RUN(answers |= CIPHER##_xor(key, nonce, __VA_ARGS__, to, from, len)); \
-    RUN(answers |= CIPHER##_keystream(key, nonce, __VA_ARGS__, to, len))
-    for (int i = 0; i < 2; i++, from = to) {
-        RUN(answers |= chacha20_aead_encrypt(key, nonce, from, len, to, from, len, state));
-        RUN(answers |= chacha20_aead_decrypt(key, nonce, NULL, 0, to, from, len, state));
-        RUN(answers |= xchacha20_aead_encrypt(key, nonce, NULL, 0, to, from, len, state));
-        RUN(answers |= xchacha20_aead_decrypt(key, nonce, NULL, 0, to, from, len, state));
-        if (len) answers &= ~CHACHA20_REFUSED;
-    }
-    BOTH(chacha20, 0);
-    BOTH(xchacha20, 0);
-    BOTH(chacha20_legacy, 0, 0);
-    RUN(answers |= chacha20_check(0, len));
-    RUN(answers |= chacha20_legacy_check(0, 0, len));
-    RUN(chacha_poly1305(key, from, len, state));
-    RUN(answers |= chacha20_verify(to, from, len));
-    RUN(hchacha20(key, nonce, one));
-    RUN(chacha_rng_from_seed(key, state));
-    RUN(chacha20_rng_fill(state, to, len));
-    RUN(chacha_rng_get_word_pos(state, &low, &high));
-    RUN(chacha_rng_set_word_pos(state, 0, 0));
-    RUN((void)chacha_rng_get_block_pos(state));
-    RUN(chacha_rng_set_block_pos(state, 0));
-    RUN((void)chacha_rng_get_stream(state));
-    RUN(chacha_rng_set_stream(state, 0));
-    is(answers == 0, "an answer");
-}
-
 /* The loader calls it before the constructor. */
 static void before_choice(void) { is(level == 1, "a level before the choice"), all_calls(600); }
 __attribute__((section(".preinit_array"), used)) static void (*const first)(void) = before_choice;
 
-/* The whole choice on a processor, and every call. */
-static void try(struct processor it, int wanted) {
-    static int processors;
-    described = it, level = 1, is_xgetbv_run = 0, processors++;
-    choose_level();
-    if (level != wanted) printf("wrong: processor %d has level %d and not %d\n", processors, level, wanted), wrong++;
-    is(!is_xgetbv_run || (it.leaf_1_ecx & OSXSAVE), "xgetbv runs where there is none");
-    all_calls(0), all_calls(600);
+/* After each instruction of the choice, since another thread may call. */
+static void at_step(int number) { (void)number, steps++, is(level == 1 || level == wanted, "another level for a moment"); }
+
+/* The whole choice on a processor of each vendor, and every call. */
+static void try(struct processor it, int level_wanted) {
+    static const char *const vendors[] = {"GenuineIntel", "AuthenticAMD"};
+    enum { TRAP = 0x100 };
+    for (int i = 0; i < 2; i++) {
+        described = it, vendor = vendors[i], level = 1, is_xgetbv_run = 0, wanted = level_wanted;
+        signal(SIGTRAP, at_step);
+        __builtin_ia32_writeeflags_u64(__builtin_ia32_readeflags_u64() | TRAP);
+        choose_level();
+        __builtin_ia32_writeeflags_u64(__builtin_ia32_readeflags_u64() & ~(unsigned long long)TRAP);
+        if (level != wanted) printf("not %d for %s, %x %x %x\n", wanted, vendor, it.leaf_1_ecx, it.leaf_7_ebx, it.leaf_80000001_ecx);
+        is(level == wanted, "a level");
+        is(!is_xgetbv_run || (it.leaf_1_ecx & OSXSAVE), "xgetbv runs where there is none");
+        all_calls(0), all_calls(600), all_calls(OVER_4_GIB);
+    }
 }
 
 enum { SAVES_256 = 7, LAHF_ALONE = 1 };
 
-int main(void) {
+static void all_processors(void) {
     static const struct processor haswell = {0x7ffafbff, 0x000027ab, 0x00000021, SAVES_256};
     /* Of the leaves 1, 7 and 80000001, each with the level of a processor that lacks the bit; and what the system may save. */
     static const uint32_t bits[][3] = {{SSE3, 0, 0}, {SSSE3, 0, 0}, {CMPXCHG16B, 0, 0}, {SSE41, 0, 0}, {SSE42, 0, 0}, {POPCNT, 0, 0},
@@ -161,6 +238,15 @@ int main(void) {
     try((struct processor){0x80002001, 0, LAHF_ALONE, 0}, 1);         /* qemu64 */
     try((struct processor){0x0098e3bd, 0, LAHF_ALONE, 0}, 2);         /* Nehalem */
     try((struct processor){0x1fbae3bf, 0, LAHF_ALONE, SAVES_256}, 2); /* Sandy Bridge */
+    try((struct processor){0x7ed8320b, 0x209c01a9, 0x35c233ff, SAVES_256}, 3); /* Zen */
+    is(steps > 1000, "no steps");
+}
+#else
+static void all_processors(void) { all_calls(0), all_calls(600), all_calls(OVER_4_GIB); }
+#endif
+
+int main(void) {
+    all_processors(), all_overlaps_and_lengths();
     printf("levels: %d calls of stubs, %d wrong\n", calls, wrong);
-    return wrong != 0 || calls < 1600;
+    return wrong != 0 || calls < 9000;
 }

@@ -18,7 +18,7 @@
 
 enum { LONGEST = (1 << 16) + 1000, TAG = CHACHA20_TAG_BYTES };
 
-static uint8_t key[32], nonce[24], state[CHACHA_RNG_STATE_BYTES], aad[300], tag[TAG], input[LONGEST], output[LONGEST];
+static uint8_t key[32], nonce[24], state[CHACHA20_RNG_STATE_BYTES], aad[300], tag[TAG], input[LONGEST], output[LONGEST];
 static unsigned calls, wrong_answers, verdicts, wrong_verdicts;
 
 /* A program that knows no secret may look at an answer. */
@@ -59,7 +59,7 @@ static void by_aead(enum layout layout, size_t aad_len, size_t len) {
         if (i % 2 == 0) done(aead->encrypt(key, nonce, aad, aad_len, output, input, len, tag));
         by_decryption(aead, aad_len, len, i % 2, (int[]){TAG, 0, TAG - 1}[i / 2]);
     }
-    chacha_poly1305(key, input, len, tag);
+    chacha20_onetime_poly1305(key, input, len, tag);
     int answer = chacha20_verify(input, output, len);
     (void)VALGRIND_MAKE_MEM_DEFINED(&answer, sizeof answer);
     calls += 2;
@@ -67,22 +67,18 @@ static void by_aead(enum layout layout, size_t aad_len, size_t len) {
 
 static void by_generator(uint64_t position, size_t len) {
     uint64_t low, high, stream = 5;
-    chacha20_words words;
     (void)VALGRIND_MAKE_MEM_UNDEFINED(&stream, sizeof stream);
     memset(state, 0, sizeof state);
-    chacha_rng_from_seed(key, state);
-    chacha_rng_set_stream(state, stream);
-    chacha_rng_set_word_pos(state, position, 1);
+    chacha20_rng_from_seed(key, state);
+    chacha20_rng_set_stream(state, stream);
+    chacha20_rng_set_word_pos(state, position, 1);
     chacha20_rng_fill(state, output, len);
-    (void)chacha_rng_get_stream(state);
-    chacha20_words_from_state(&words, state);
-    (void)chacha20_words_next(&words);
-    chacha20_words_to_state(&words, state);
-    chacha_rng_get_word_pos(state, &low, &high);
+    (void)chacha20_rng_get_stream(state);
+    chacha20_rng_get_word_pos(state, &low, &high);
     /* The word position isn't secret, and no secret has come into it. */
-    if (high == 1 && low == position + (len + 3) / 4 + 1) calls += 9;
-    chacha_rng_set_block_pos(state, chacha_rng_get_block_pos(state) + 1);
-    chacha_rng_set_stream(state, stream);
+    if (high == 1 && low == position + (len + 3) / 4) calls += 6;
+    chacha20_rng_set_block_pos(state, chacha20_rng_get_block_pos(state) + 1);
+    chacha20_rng_set_stream(state, stream);
     calls += 3;
 }
 

@@ -52,7 +52,7 @@ wrong = 0
 for mark, (stores, right) in sorted(found.items()):
     if 2 * right < stores:
         wrong += 1
-        print(f"wrong: {KINDS[mark // 100]}, {LENGTHS[mark % 100 - 1]} bytes: {right} of {stores} stores are aligned; its SHIFT is the other")
+        print(f"wrong: {KINDS[mark // 100]}, {LENGTHS[mark % 100 - 1]} bytes: {right} of {stores} stores are aligned; its PLACE in stack.h is the other")
 lost = len(KINDS) * len(LENGTHS) - len(found)
 print(f"spills: {len(entries)} functions with many stores, {len(found)} calls, {wrong} wrong, {lost} lost")
 gdb.execute(f"quit {1 if wrong or lost else 0}")

@@ -220,7 +220,7 @@ pub extern "C" fn xchacha20_aead_decrypt_between(
 /// Poly1305 (RFC 8439, section 2.5): writes the tag of `input` under a key for one message. `tag` overlaps no other
 /// argument.
 #[unsafe(no_mangle)]
-pub extern "C" fn chacha_poly1305(key: &Key, input: &[u8], tag: &mut Tag)
+pub extern "C" fn chacha20_onetime_poly1305(key: &Key, input: &[u8], tag: &mut Tag)
     ensures { tag.new ≡ poly1305 key.now input.now }
 {
     *tag = authenticate(key, input);

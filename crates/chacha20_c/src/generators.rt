@@ -19,7 +19,7 @@ type Generator = ChaChaRng<R20, Lanes8>;
 
 /// Writes the state of a seed: the start of stream 0. `state` and `seed` do not overlap.
 #[unsafe(no_mangle)]
-pub extern "C" fn chacha_rng_from_seed(seed: &Seed, state: &mut SerializedRngState)
+pub extern "C" fn chacha20_rng_from_seed(seed: &Seed, state: &mut SerializedRngState)
     ensures value { of_state_bytes state.new ≡ of_seed seed.now }
     ensures stored { state.new ≡ state_bytes (of_state_bytes state.new) }
 {
@@ -28,7 +28,11 @@ pub extern "C" fn chacha_rng_from_seed(seed: &Seed, state: &mut SerializedRngSta
 
 /// The word position: writes its low 64 bits and, below 16, the rest. The three do not overlap.
 #[unsafe(no_mangle)]
-pub extern "C" fn chacha_rng_get_word_pos(state: &SerializedRngState, low: &mut u64, high: &mut u64)
+pub extern "C" fn chacha20_rng_get_word_pos(
+    state: &SerializedRngState,
+    low: &mut u64,
+    high: &mut u64,
+)
     ensures value { low.new + 2 ^ 64 * high.new ≡ (of_state_bytes state.now).word_pos }
     ensures below { high.new < 16 }
 {
@@ -39,7 +43,7 @@ pub extern "C" fn chacha_rng_get_word_pos(state: &SerializedRngState, low: &mut 
 
 /// Sets the word position to low + 2^64 * high, modulo 2^68.
 #[unsafe(no_mangle)]
-pub extern "C" fn chacha_rng_set_word_pos(state: &mut SerializedRngState, low: u64, high: u64)
+pub extern "C" fn chacha20_rng_set_word_pos(state: &mut SerializedRngState, low: u64, high: u64)
     ensures value { of_state_bytes state.new
         ≡ at_word_pos (of_state_bytes state.old) (low + 2 ^ 64 * high) }
     ensures stored { state.new ≡ state_bytes (of_state_bytes state.new) }
@@ -49,7 +53,7 @@ pub extern "C" fn chacha_rng_set_word_pos(state: &mut SerializedRngState, low: u
 
 /// The number of the block that the next word lies in.
 #[unsafe(no_mangle)]
-pub extern "C" fn chacha_rng_get_block_pos(state: &SerializedRngState) -> u64
+pub extern "C" fn chacha20_rng_get_block_pos(state: &SerializedRngState) -> u64
     ensures { result ≡ (of_state_bytes state.now).word_pos / 16 }
 {
     (word_pos_in(state) / 16) as u64
@@ -57,7 +61,7 @@ pub extern "C" fn chacha_rng_get_block_pos(state: &SerializedRngState) -> u64
 
 /// Moves to the first word of a block.
 #[unsafe(no_mangle)]
-pub extern "C" fn chacha_rng_set_block_pos(state: &mut SerializedRngState, block_pos: u64)
+pub extern "C" fn chacha20_rng_set_block_pos(state: &mut SerializedRngState, block_pos: u64)
     ensures value { of_state_bytes state.new
         ≡ record (of_state_bytes state.old) { word_pos = 16 * block_pos } }
     ensures stored { state.new ≡ state_bytes (of_state_bytes state.new) }
@@ -71,7 +75,7 @@ pub extern "C" fn chacha_rng_set_block_pos(state: &mut SerializedRngState, block
 
 /// The stream.
 #[unsafe(no_mangle)]
-pub extern "C" fn chacha_rng_get_stream(state: &SerializedRngState) -> u64
+pub extern "C" fn chacha20_rng_get_stream(state: &SerializedRngState) -> u64
     ensures { result ≡ (of_state_bytes state.now).stream }
 {
     stream_in(state)
@@ -79,7 +83,7 @@ pub extern "C" fn chacha_rng_get_stream(state: &SerializedRngState) -> u64
 
 /// Moves to the first word of a stream; the seed stays.
 #[unsafe(no_mangle)]
-pub extern "C" fn chacha_rng_set_stream(state: &mut SerializedRngState, stream: u64)
+pub extern "C" fn chacha20_rng_set_stream(state: &mut SerializedRngState, stream: u64)
     ensures value { of_state_bytes state.new
         ≡ record (of_state_bytes state.old) { stream = stream; word_pos = 0 } }
     ensures stored { state.new ≡ state_bytes (of_state_bytes state.new) }

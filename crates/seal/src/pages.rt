@@ -1,6 +1,6 @@
 //! What the program says of itself.
 
-const VERSION: &str = "seal 0.9.0\n";
+const VERSION: &str = "seal 0.10.0\n";
 
 // At most 24 lines of 80 columns.
 const HELP: &str = "\

@@ -5,8 +5,8 @@
 
 use chacha20::{Key, Nonce, R20, SerializedRngState, XNonce, hchacha};
 use chacha20_c::authenticated::{
-    chacha_poly1305, chacha20_aead_decrypt_between, chacha20_aead_decrypt_in_place,
-    chacha20_aead_encrypt_between, chacha20_aead_encrypt_in_place, chacha20_verify,
+    chacha20_aead_decrypt_between, chacha20_aead_decrypt_in_place, chacha20_aead_encrypt_between,
+    chacha20_aead_encrypt_in_place, chacha20_onetime_poly1305, chacha20_verify,
     xchacha20_aead_decrypt_between, xchacha20_aead_decrypt_in_place,
     xchacha20_aead_encrypt_between, xchacha20_aead_encrypt_in_place,
 };
@@ -14,8 +14,9 @@ use chacha20_c::chacha::{
     chacha20_check, chacha20_keystream, chacha20_xor_between, chacha20_xor_in_place,
 };
 use chacha20_c::generators::{
-    chacha_rng_from_seed, chacha_rng_get_block_pos, chacha_rng_get_stream, chacha_rng_get_word_pos,
-    chacha_rng_set_block_pos, chacha_rng_set_stream, chacha_rng_set_word_pos, chacha20_rng_fill,
+    chacha20_rng_fill, chacha20_rng_from_seed, chacha20_rng_get_block_pos, chacha20_rng_get_stream,
+    chacha20_rng_get_word_pos, chacha20_rng_set_block_pos, chacha20_rng_set_stream,
+    chacha20_rng_set_word_pos,
 };
 use chacha20_c::legacy::{
     chacha20_legacy_check, chacha20_legacy_keystream, chacha20_legacy_xor_between,
@@ -123,7 +124,7 @@ fn checks() -> bool {
 // The state of a seed of zeros.
 fn seeded() -> SerializedRngState {
     let mut state = [1; 49];
-    chacha_rng_from_seed(&ZEROS, &mut state);
+    chacha20_rng_from_seed(&ZEROS, &mut state);
     state
 }
 
@@ -139,24 +140,24 @@ fn reads() -> bool {
 
 fn word_pos_is(state: &SerializedRngState, low: u64, high: u64) -> bool {
     let (mut read_low, mut read_high) = (1, 1);
-    chacha_rng_get_word_pos(state, &mut read_low, &mut read_high);
+    chacha20_rng_get_word_pos(state, &mut read_low, &mut read_high);
     (read_low == low) & (read_high == high)
 }
 
 // The stream is set first, since that moves to its first word.
 fn positions() -> bool {
     let mut state = [0xff; 49];
-    chacha_rng_set_stream(&mut state, 0x0807_0605_0403_0201);
+    chacha20_rng_set_stream(&mut state, 0x0807_0605_0403_0201);
     let first = word_pos_is(&state, 0, 0) & (state[48] == 0);
-    chacha_rng_set_block_pos(&mut state, u64::MAX);
-    let last = (chacha_rng_get_block_pos(&state) == u64::MAX)
+    chacha20_rng_set_block_pos(&mut state, u64::MAX);
+    let last = (chacha20_rng_get_block_pos(&state) == u64::MAX)
         & word_pos_is(&state, u64::MAX - 15, 15);
-    chacha_rng_set_word_pos(&mut state, 5, 0x1_0000_000a);
+    chacha20_rng_set_word_pos(&mut state, 5, 0x1_0000_000a);
     first & last & word_pos_is(&state, 5, 10) & stream_is_stored(&state)
 }
 
 fn stream_is_stored(state: &SerializedRngState) -> bool {
-    (chacha_rng_get_stream(state) == 0x0807_0605_0403_0201)
+    (chacha20_rng_get_stream(state) == 0x0807_0605_0403_0201)
         & state[32..41].starts_with(b"\x01\x02\x03\x04\x05\x06\x07\x08\x05")
 }
 
@@ -243,7 +244,7 @@ fn mac() -> bool {
     let mut tag = [0; 16];
     let key = *b"\x85\xd6\xbe\x78\x57\x55\x6d\x33\x7f\x44\x52\xfe\x42\xd5\x06\xa8\
         \x01\x03\x80\x8a\xfb\x0d\xb2\xfd\x4a\xbf\xf6\xaf\x41\x49\xf5\x1b";
-    chacha_poly1305(&key, b"Cryptographic Forum Research Group", &mut tag);
+    chacha20_onetime_poly1305(&key, b"Cryptographic Forum Research Group", &mut tag);
     tag == *b"\xa8\x06\x1d\xc1\x30\x51\x36\xc6\xc2\x2b\x8b\xaf\x0c\x01\x27\xa9"
 }
 
