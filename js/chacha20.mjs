@@ -16,28 +16,26 @@ const {
 
 async function load(url) {
   // Node's fetch reads no files.
-  const readFile = async () => new Response(await (await import("node:fs/promises")).readFile(url));
-  const response = await (url.protocol === "file:" ? readFile() : fetch(url));
+  const readFile = async () => (await import("node:fs/promises")).readFile(url);
+  const response = url.protocol === "file:" ? { ok: true, arrayBuffer: readFile } : await fetch(url);
   if (!response.ok) throw new Error(`${url}: ${response.status} ${response.statusText}`);
   const wasm = await response.arrayBuffer();
-  if (!WebAssembly.validate(wasm)) throw new Error("this engine has no 64-bit WebAssembly memory");
+  if (!WebAssembly.validate(wasm)) throw new Error(`${url} needs 64-bit memory: Chrome 133, Firefox 134 or Node 24`);
   return (await WebAssembly.instantiate(wasm)).instance.exports;
 }
 
 // The memory: a stack that grows down from STACK, of which no call takes more than DEPTH; constants; and from START on
 // the arguments and the result of a call.
 const STACK = 65536;
-const DEPTH = 8192;
+const DEPTH = 4096;
 const START = Math.ceil(Number(heapBase.value) / 64) * 64;
 let bytes = new Uint8Array(memory.buffer);
 
-// Whether a value is of a class of the language, be it this window's or another's.
-const isOf = (name, value) => Object.prototype.toString.call(value) === `[object ${name}]`;
-
-// Demands a Uint8Array, of `length` bytes if that is given, which no thread and no call changes.
+// Demands a Uint8Array, also of another window, of `length` bytes if that is given, which no thread or call changes.
 function demand(name, value, length) {
-  if (!isOf("Uint8Array", value)) throw new TypeError(`${name} must be a Uint8Array`);
-  if (!isOf("ArrayBuffer", value.buffer)) throw new TypeError(`${name} must not be in a SharedArrayBuffer`);
+  const kindOf = (object) => object?.[Symbol.toStringTag];
+  if (kindOf(value) !== "Uint8Array") throw new TypeError(`${name} must be a Uint8Array`);
+  if (kindOf(value.buffer) !== "ArrayBuffer") throw new TypeError(`${name} must not be in a SharedArrayBuffer`);
   if (value.buffer === memory.buffer) throw new TypeError(`${name} must not be in the module's memory`);
   if (value.length !== (length ?? value.length)) throw new RangeError(`${name} must have ${length} bytes`);
   return value;
@@ -79,12 +77,14 @@ function grow(name, length) {
   bytes = new Uint8Array(memory.buffer);
 }
 
+// Copies of an array, and of bytes of the memory.
 const copyOf = (array) => new Uint8Array(array);
-// A copy of bytes of the memory.
 const taken = (place, length) => bytes.slice(Number(place), Number(place) + length);
 
+const NONE = new Uint8Array();
+
 // Authenticated encryption by two exports.
-const aead = (encrypt_in_place, decrypt_in_place, nonceLength) => (key, nonce, aad = new Uint8Array()) => {
+const aead = (encrypt_in_place, decrypt_in_place, nonceLength) => (key, nonce, aad = NONE) => {
   // Copied, since a caller may change them before the call.
   const own = [demand("key", key, 32), demand("nonce", nonce, nonceLength), demand("aad", aad)].map(copyOf);
   const aadLength = BigInt(aad.length);
@@ -242,9 +242,9 @@ function openChunk(key, salt, number, last, chunk) {
     if (number > 0 && chunk.length <= 16) throw new RangeError("no text");
     return chunkCipher(key, salt, number, last).decrypt(chunk);
   } catch (cause) {
-    const from = CHUNK * number;
-    const inside = `bytes ${from} to ${from + CHUNK - 1} are damaged`;
-    const where = number < last ? inside : `the end from byte ${from} on is damaged or cut`;
-    throw new Error(number > 0 ? where : `the key is wrong, or ${where}`, { cause });
+    const [from, next] = [CHUNK * number, CHUNK * (number + 1)];
+    const inside = `bytes ${from} to ${next - 1} are damaged`;
+    const what = number === last ? `the end from byte ${from} on is damaged or cut` : inside;
+    throw new Error(number === 0 ? `the key is wrong, or ${what}` : what, { cause });
   }
 }

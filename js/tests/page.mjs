@@ -223,7 +223,8 @@ const violated = (act) => evaluate(`new Promise((done) => {
   setTimeout(() => done("allowed"), 2000);
   ${act};
 })`);
-const adds = (name, more) => violated(`document.body.append(Object.assign(document.createElement("${name}"), ${more}))`);
+const made = (name, more) => `Object.assign(document.createElement("${name}"), ${more})`;
+const adds = (...words) => violated(`document.body.append(${made(...words)})`);
 is(await adds("script", `{ text: "1" }`), "script-src-elem", "a script");
 is(await adds("img", `{ src: "${elsewhere}/seal.svg" }`), "img-src", "an image");
 is(await adds("iframe", `{ src: "/blank" }`), "frame-src", "a frame");
