@@ -7,14 +7,13 @@
 // A line for each part says how many comparisons it made; too few are a failure. The last line has the sum.
 
 import assert from "node:assert/strict";
-import { createCipheriv, createDecipheriv, webcrypto } from "node:crypto";
+import { createCipheriv } from "node:crypto";
 import { readdirSync, readFileSync, writeFileSync } from "node:fs";
 import { join, resolve } from "node:path";
 import { pathToFileURL } from "node:url";
 
 const [PACKAGE, ROOM] = process.argv.slice(2).map((it) => resolve(it));
 const read = (name) => new Uint8Array(readFileSync(join(ROOM, name)));
-globalThis.crypto ??= webcrypto;
 
 // The instance is private, so what the engine hands out is kept on its way.
 const { instantiate, validate } = WebAssembly;
