@@ -54,7 +54,7 @@ export function sealBlob(key: Uint8Array, blob: Blob): ReadableStream<Uint8Array
 export function openBlob(key: Uint8Array, blob: Blob): ReadableStream<Uint8Array>;
 
 /**
- * The text from byte `start` up to `end`, by the chunks that it is in, and no others: it doesn't notice damage elsewhere,
- * nor that the file was cut after them. The stream fails with a RangeError if `end` is past the end of the text.
+ * The text from byte `start` up to `end`. Only the chunks that it is in are read, so damage elsewhere, or that the file
+ * was cut after them, goes unnoticed. The stream fails with a RangeError if `end` is past the end of the text.
  */
 export function readRange(key: Uint8Array, blob: Blob, start: number, end: number): ReadableStream<Uint8Array>;

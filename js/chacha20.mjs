@@ -201,7 +201,7 @@ function streamOf(generator, key, blob, ...range) {
     const { value, done } = await parts.next();
     return done ? controller.close() : controller.enqueue(value);
   };
-  return new ReadableStream({ pull, cancel: () => parts.return() }, { highWaterMark: 0 });
+  return new ReadableStream({ pull }, { highWaterMark: 0 });
 }
 
 // The cipher of a chunk.

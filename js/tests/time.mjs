@@ -1,7 +1,7 @@
 // SPDX-License-Identifier: Apache-2.0 OR MIT
 //
 // Prints how many nanoseconds calls take, each the least of 60 turns: in Node by `node time.mjs`, beside Node's own
-// ChaCha20-Poly1305; in a browser, on a server of the repository, by `await import("/js/tests/time.mjs")` in the console.
+// ChaCha20-Poly1305; in a browser, on a server of the repository, by `import("/js/tests/time.mjs")` in the console.
 
 const PACKAGE = new URL("../../c/out/wasm64-unknown-unknown/js/", import.meta.url);
 const { xchacha20poly1305, xchacha20 } = await import(`${PACKAGE}chacha20.mjs`);
