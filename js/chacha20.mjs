@@ -15,8 +15,7 @@ const {
 } = await load(new URL("chacha20.wasm", import.meta.url));
 
 async function load(url) {
-  // Node's fetch reads no files.
-  const readFile = async () => (await import("node:fs/promises")).readFile(url);
+  const readFile = async () => (await import("node:fs/promises")).readFile(url); // Node's fetch reads no files.
   const response = url.protocol === "file:" ? { ok: true, arrayBuffer: readFile } : await fetch(url);
   if (!response.ok) throw new Error(`${url}: ${response.status} ${response.statusText}`);
   const wasm = await response.arrayBuffer();
@@ -26,10 +25,12 @@ async function load(url) {
 
 // The memory: a stack that grows down from STACK, of which no call takes more than DEPTH; constants; and from START on
 // the arguments and the result of a call.
-const STACK = 65536;
-const DEPTH = 4096;
+const [STACK, DEPTH] = [65536, 4096];
 const START = Math.ceil(Number(heapBase.value) / 64) * 64;
 let bytes = new Uint8Array(memory.buffer);
+
+// The language's own, which an object can't replace.
+const lengthOf = Object.getOwnPropertyDescriptor(Object.getPrototypeOf(Uint8Array.prototype), "length").get;
 
 // Demands a Uint8Array, also of another window, of `length` bytes if that is given, which no thread or call changes.
 function demand(name, value, length) {
@@ -37,7 +38,7 @@ function demand(name, value, length) {
   if (kindOf(value) !== "Uint8Array") throw new TypeError(`${name} must be a Uint8Array`);
   if (kindOf(value.buffer) !== "ArrayBuffer") throw new TypeError(`${name} must not be in a SharedArrayBuffer`);
   if (value.buffer === memory.buffer) throw new TypeError(`${name} must not be in the module's memory`);
-  if (value.length !== (length ?? value.length)) throw new RangeError(`${name} must have ${length} bytes`);
+  if (length >= 0 && lengthOf.call(value) !== length) throw new RangeError(`${name} must have ${length} bytes`);
   return value;
 }
 
@@ -54,11 +55,11 @@ function call(name, parts, run) {
   let end = START;
   for (const part of parts) {
     places.push(BigInt(end));
-    end += part.length ?? part;
+    end += typeof part === "number" ? part : lengthOf.call(part);
   }
   if (end > bytes.length) grow(name, end);
   try {
-    parts.forEach((part, i) => part.length && bytes.set(part, Number(places[i])));
+    parts.forEach((part, i) => typeof part === "number" || bytes.set(part, Number(places[i])));
     return run(...places);
   } finally {
     bytes.fill(0, START, end);
@@ -77,21 +78,20 @@ function grow(name, length) {
   bytes = new Uint8Array(memory.buffer);
 }
 
+const NONE = new Uint8Array();
 // Copies of an array, and of bytes of the memory.
 const copyOf = (array) => new Uint8Array(array);
 const taken = (place, length) => bytes.slice(Number(place), Number(place) + length);
-
-const NONE = new Uint8Array();
 
 // Authenticated encryption by two exports.
 const aead = (encrypt_in_place, decrypt_in_place, nonceLength) => (key, nonce, aad = NONE) => {
   // Copied, since a caller may change them before the call.
   const own = [demand("key", key, 32), demand("nonce", nonce, nonceLength), demand("aad", aad)].map(copyOf);
-  const aadLength = BigInt(aad.length);
+  const aadLength = BigInt(own[2].length);
   let isUsed = false;
   return {
     encrypt(text) {
-      const length = demand("text", text).length;
+      const length = lengthOf.call(demand("text", text));
       if (isUsed) throw new Error("the nonce was used: make a cipher with another one");
       const sealed = call("text", [text, 16, ...own], (text, tag, key, nonce, aad) => {
         const isRefused = encrypt_in_place(key, nonce, aad, aadLength, text, BigInt(length), tag);
@@ -102,7 +102,7 @@ const aead = (encrypt_in_place, decrypt_in_place, nonceLength) => (key, nonce, a
       return sealed;
     },
     decrypt(sealed) {
-      const length = demand("sealed", sealed).length - 16;
+      const length = lengthOf.call(demand("sealed", sealed)) - 16;
       if (length < 0) throw new RangeError("sealed must have at least 16 bytes, those of the tag");
       return call("sealed", [sealed, ...own], (text, key, nonce, aad) => {
         const tag = text + BigInt(length);
@@ -117,11 +117,12 @@ const aead = (encrypt_in_place, decrypt_in_place, nonceLength) => (key, nonce, a
 // A cipher without a tag, by an export.
 const cipher = (xor_in_place, nonceLength) => (key, nonce, data, position = 0) => {
   const parts = [demand("data", data), demand("key", key, 32), demand("nonce", nonce, nonceLength)];
+  const length = lengthOf.call(data);
   demandNumber("position", position, 2 ** 38);
   return call("data", parts, (text, key, nonce) => {
-    const isRefused = xor_in_place(key, nonce, BigInt(position), text, BigInt(data.length));
+    const isRefused = xor_in_place(key, nonce, BigInt(position), text, BigInt(length));
     if (isRefused) throw new RangeError("position: the data would pass the end of the keystream, byte 2^38");
-    return taken(text, data.length);
+    return taken(text, length);
   });
 };
 
@@ -148,7 +149,7 @@ export class ChaCha20Rng {
   }
 
   fill(output) {
-    const length = demand("output", output).length;
+    const length = lengthOf.call(demand("output", output));
     output.set(this.#call([length, this.#state], (words, state) => rng_fill(state, words, BigInt(length))));
     return output;
   }
@@ -177,8 +178,7 @@ export class ChaCha20Rng {
 
 // Sealed files: a header of 32 bytes, and chunks of CHUNK bytes of text, each with its tag.
 const MAGIC = new TextEncoder().encode("chacha20seal1");
-const CHUNK = 65536;
-const SEALED = CHUNK + 16;
+const [CHUNK, SEALED] = [65536, 65552];
 
 export const sealBlob = (key, blob) => streamOf(sealed, key, blob);
 export const openBlob = (key, blob) => streamOf(opened, key, blob, 0, Infinity);
@@ -242,8 +242,8 @@ function openChunk(key, salt, number, last, chunk) {
     if (number > 0 && chunk.length <= 16) throw new RangeError("no text");
     return chunkCipher(key, salt, number, last).decrypt(chunk);
   } catch (cause) {
-    const [from, next] = [CHUNK * number, CHUNK * (number + 1)];
-    const inside = `bytes ${from} to ${next - 1} are damaged`;
+    const from = CHUNK * number;
+    const inside = `bytes ${from} to ${from + CHUNK - 1} are damaged`;
     const what = number === last ? `the end from byte ${from} on is damaged or cut` : inside;
     throw new Error(number === 0 ? `the key is wrong, or ${what}` : what, { cause });
   }
