@@ -27,10 +27,12 @@ const is = (found, wanted, words) => {
 // A plain static server, which notes what is asked for. /room has the values, /blank no page of ours and no policy.
 const TYPES = { css: "text/css", svg: "image/svg+xml", mjs: "text/javascript", wasm: "application/wasm" };
 let asked = [];
+let missing;
 const server = createServer(({ url }, response) => {
   asked.push(url);
   const [, folder, name] = url.match(/^\/(room\/)?([\w.]+)$/) ?? [];
   try {
+    if (url === missing) throw new Error("a file that isn't there");
     const body = url === "/blank" ? "<!doctype html>" : readFileSync(join(folder ? ROOM : PACKAGE, name));
     response.writeHead(200, { "Content-Type": TYPES[url.split(".").pop()] ?? "text/html" }).end(body);
   } catch {
@@ -231,6 +233,16 @@ is(await adds("iframe", `{ src: "/blank" }`), "frame-src", "a frame");
 is(await violated(`setTimeout("1")`), "script-src", "text as code");
 is(asked.sort(), LOADED, "requests after all");
 
+// Without its module the page says so.
+missing = "/chacha20.wasm";
+const other = await tab(`${SITE}/seal.html`);
+const why = await until(async () => {
+  const found = await other.evaluate(`document.getElementById("said")?.textContent ?? ""`);
+  return !found.startsWith("Loading") && found;
+}, "a sentence");
+is(why, `This page can't work here: ${SITE}/chacha20.wasm: 404 Not Found.`, "without a module");
+missing = undefined;
+
 // The messages of libsodium, in this engine.
 const blank = await tab(`${SITE}/blank`);
 await until(() => blank.evaluate(`location.pathname === "/blank"`), "another page");
@@ -258,6 +270,6 @@ const messages = await blank.evaluate(`(async () => {
 is(messages, 3 * 2206, "messages of libsodium");
 count += messages;
 await send("Browser.close").catch(() => {});
-server.close();
+assert(count >= 6668, "fewer than 6668 comparisons");
 console.log(`page: ${count} comparisons, 0 wrong`);
 process.exit(0);
