@@ -1,0 +1,60 @@
+// SPDX-License-Identifier: Apache-2.0 OR MIT
+//
+// ChaCha20-Poly1305 and what belongs to it, by proved functions in WebAssembly, for Node, Deno and browsers with 64-bit
+// memories. The import fails where the engine has none.
+//
+// A value of a wrong type is a TypeError, one of a wrong length or out of range a RangeError; both name the argument,
+// and nothing is computed. No argument may be in a SharedArrayBuffer. Results are new arrays. Take keys, and nonces of
+// 24 bytes, from crypto.getRandomValues. Never use a nonce twice under one key.
+
+/** One message's cipher, under its key and nonce. */
+export interface Cipher {
+  /** The ciphertext, and behind it the tag of 16 bytes. A second call throws, since a nonce serves one message. */
+  encrypt(text: Uint8Array): Uint8Array;
+  /** The text. Throws the Error "wrong tag" if key, nonce, aad, ciphertext or tag differ from those of `encrypt`. */
+  decrypt(sealed: Uint8Array): Uint8Array;
+}
+
+/** ChaCha20-Poly1305 (RFC 8439): a key of 32 bytes, a nonce of 12, too short to be random, and associated data. */
+export function chacha20poly1305(key: Uint8Array, nonce: Uint8Array, aad?: Uint8Array): Cipher;
+
+/** XChaCha20-Poly1305 (draft-irtf-cfrg-xchacha): a nonce of 24 bytes, which may be random. */
+export function xchacha20poly1305(key: Uint8Array, nonce: Uint8Array, aad?: Uint8Array): Cipher;
+
+/**
+ * ChaCha20 (RFC 8439), which doesn't authenticate: the XOR of `data` and the keystream from byte `position`, 0 if left
+ * out, on. The RFC encrypts messages from byte 64 on. Throws a RangeError past 2^38 bytes. Decryption is the same call.
+ */
+export function chacha20(key: Uint8Array, nonce: Uint8Array, data: Uint8Array, position?: number): Uint8Array;
+
+/** XChaCha20: `chacha20` with a nonce of 24 bytes. */
+export function xchacha20(key: Uint8Array, nonce: Uint8Array, data: Uint8Array, position?: number): Uint8Array;
+
+/** A generator for repeatable simulations: words of 32 bits, little-endian, of the keystream of a seed. */
+export class ChaCha20Rng {
+  /** Begins at word 0 of stream 0 of a seed of 32 bytes. */
+  constructor(seed: Uint8Array);
+  /** Goes on from a state: 32 bytes of seed, 8 of stream, 9 of word position, both little-endian. */
+  static fromState(state: Uint8Array): ChaCha20Rng;
+  /** A copy of the 49 bytes, which tell all words, past and future. */
+  get state(): Uint8Array;
+  /** The number of the next word, below 2^68. Can be set. */
+  wordPosition: bigint;
+  /** Writes the next bytes over all of `output`, and returns it. Unused bytes of the last word are lost. */
+  fill(output: Uint8Array): Uint8Array;
+}
+
+/** Seals a file in the format of the program `seal`, under a random salt: 32 bytes more, and 16 for each 64 KiB. */
+export function sealBlob(key: Uint8Array, blob: Blob): ReadableStream<Uint8Array>;
+
+/**
+ * The text of a sealed file. Each part comes once its tag was right. After damage or a cut the stream fails, with an
+ * Error that says where, so what came before is the start of the text: use it only after the stream's end.
+ */
+export function openBlob(key: Uint8Array, blob: Blob): ReadableStream<Uint8Array>;
+
+/**
+ * The text from byte `start` up to `end`. Only the chunks that it is in are read, so damage elsewhere, or that the file
+ * was cut after them, goes unnoticed. The stream fails with a RangeError if `end` is past the end of the text.
+ */
+export function readRange(key: Uint8Array, blob: Blob, start: number, end: number): ReadableStream<Uint8Array>;

@@ -1,0 +1,460 @@
+// SPDX-License-Identifier: Apache-2.0 OR MIT
+//
+// Tests chacha20.mjs in Node. `run` calls it with the folder of the package, and one of values by libsodium:
+//
+//     node calls.mjs PACKAGE ROOM
+//
+// A line for each part says how many comparisons it made; too few are a failure. The last line has the sum.
+
+import assert from "node:assert/strict";
+import { createCipheriv } from "node:crypto";
+import { readdirSync, readFileSync, writeFileSync } from "node:fs";
+import { join, resolve } from "node:path";
+import { pathToFileURL } from "node:url";
+import { runInNewContext } from "node:vm";
+
+const [PACKAGE, ROOM] = process.argv.slice(2).map((it) => resolve(it));
+const read = (name) => new Uint8Array(readFileSync(join(ROOM, name)));
+
+// The instance is private, so what the engine hands out is kept on its way.
+const { instantiate, validate } = WebAssembly;
+let module, proved;
+WebAssembly.instantiate = async (...words) => {
+  const made = await instantiate(...words);
+  [module, proved] = [made.module, made.instance.exports];
+  return made;
+};
+const load = (query = "") => import(`${pathToFileURL(join(PACKAGE, "chacha20.mjs"))}${query}`);
+const chacha = await load();
+WebAssembly.instantiate = instantiate;
+const { chacha20poly1305, xchacha20poly1305, chacha20, xchacha20, ChaCha20Rng } = chacha;
+const { sealBlob, openBlob, readRange } = chacha;
+const memory = () => new Uint8Array(proved.memory.buffer);
+const fresh = memory().slice();
+
+// Bytes for keys, nonces and texts, of the same file for libsodium and for us.
+const POOL = read("pool");
+const part = (start, length) => POOL.slice(start, start + length);
+const [KEY, NONCE, XNONCE, AAD] = [part(0, 32), part(32, 12), part(32, 24), part(77, 13)];
+
+let count;
+const same = (found, wanted, words) => {
+  count++;
+  // Buffers are compared as bytes; equal, which prints the difference, is slow.
+  if (Buffer.compare(found, wanted) !== 0) assert.fail(`${words}: other bytes`);
+};
+const is = (found, wanted, words) => {
+  count++;
+  assert.equal(found, wanted, words);
+};
+// The call throws an error of the class, whose sentence begins so.
+const fails = (act, kind, words) => {
+  count++;
+  assert.throws(act, (e) => e.constructor === kind && e.message.startsWith(words), words);
+};
+const failsLater = async (stream, kind, words) => {
+  count++;
+  const parts = [];
+  await assert.rejects(
+    (async () => { for await (const it of stream) assert(parts.push(it) < 100, words); })(),
+    (e) => e.constructor === kind && e.message === words,
+    words,
+  );
+  return Buffer.concat(parts);
+};
+const all = async (stream) => new Uint8Array(await new Response(stream).arrayBuffer());
+// The memory is as it was before the first call, and zero where it has grown.
+const clean = (words) => {
+  count++;
+  const now = memory();
+  if (Buffer.compare(now.subarray(0, fresh.length), fresh) !== 0) assert.fail(`${words}: the memory keeps bytes`);
+  if (now.subarray(fresh.length).some((it) => it !== 0)) assert.fail(`${words}: the memory keeps bytes where it grew`);
+};
+
+// A number that seems to have nothing to do with i.
+const mixed = (i) => (i + 1) * 2654435761;
+
+// Each length below 2200, and some long ones.
+const LENGTHS = [...Array(2200).keys(), 4096, 65535, 65536, 65537, 200000, 1 << 20];
+
+const EXPORTS = `__heap_base memory
+  chacha20_aead_decrypt_between chacha20_aead_decrypt_in_place
+  chacha20_aead_encrypt_between chacha20_aead_encrypt_in_place
+  xchacha20_aead_decrypt_between xchacha20_aead_decrypt_in_place
+  xchacha20_aead_encrypt_between xchacha20_aead_encrypt_in_place
+  chacha20_check chacha20_keystream chacha20_xor_between chacha20_xor_in_place
+  xchacha20_keystream xchacha20_xor_between xchacha20_xor_in_place
+  chacha20_legacy_check chacha20_legacy_keystream chacha20_legacy_xor_between chacha20_legacy_xor_in_place
+  hchacha20 chacha_poly1305 chacha20_verify
+  chacha20_rng_fill chacha20_rng_from_seed chacha20_rng_get_block_pos chacha20_rng_get_stream chacha20_rng_get_word_pos
+  chacha20_rng_set_block_pos chacha20_rng_set_stream chacha20_rng_set_word_pos`;
+
+const parts = {
+  // The module imports nothing, and exports what it should. So do the types.
+  async module() {
+    is(WebAssembly.Module.imports(module).length, 0, "imports");
+    const names = WebAssembly.Module.exports(module).map((it) => it.name);
+    is(names.sort().join(), EXPORTS.split(/\s+/).sort().join(), "exports");
+    const types = readFileSync(join(PACKAGE, "chacha20.d.ts"), "utf8").matchAll(/^export (?:function|class) (\w+)/gm);
+    is([...types].map((it) => it[1]).sort().join(), Object.keys(chacha).sort().join(), "types");
+    WebAssembly.validate = () => false;
+    await assert.rejects(load("?old"), /^Error: file:.*chacha20.wasm needs 64-bit memory/);
+    WebAssembly.validate = validate;
+    count++;
+  },
+
+  // ChaCha20-Poly1305 and ChaCha20, beside OpenSSL.
+  openssl() {
+    for (const [i, length] of LENGTHS.entries()) {
+      const [key, nonce, aad, text] = [part(i, 32), part(i + 32, 12), part(i + 44, i % 67), part(i, length)];
+      const theirs = createCipheriv("chacha20-poly1305", key, nonce, { authTagLength: 16 });
+      theirs.setAAD(aad, { plaintextLength: length });
+      const sealed = Buffer.concat([theirs.update(text), theirs.final(), theirs.getAuthTag()]);
+      const cipher = chacha20poly1305(key, nonce, aad);
+      same(cipher.encrypt(text), sealed, `encrypt ${length}`);
+      same(cipher.decrypt(sealed), text, `decrypt ${length}`);
+      const block = mixed(i) % (2 ** 32 - 2 ** 14);
+      const counter = Buffer.alloc(4);
+      counter.writeUInt32LE(block);
+      const stream = createCipheriv("chacha20", key, Buffer.concat([counter, nonce])).update(text);
+      same(chacha20(key, nonce, text, 64 * block), stream, `chacha20 ${length}`);
+      const cut = mixed(i) % (length + 1);
+      const rest = chacha20(key, nonce, stream.subarray(cut), 64 * block + cut);
+      same(rest, text.slice(cut), `chacha20 ${length} from ${cut}`);
+    }
+    same(chacha20(KEY, NONCE, AAD), chacha20(KEY, NONCE, AAD, 0), "no position");
+    const none = chacha20poly1305(KEY, NONCE, part(0, 0)).encrypt(AAD);
+    same(chacha20poly1305(KEY, NONCE).encrypt(AAD), none, "no aad");
+  },
+
+  // XChaCha20-Poly1305 and XChaCha20, beside libsodium, whose messages lie one behind the other.
+  libsodium() {
+    const messages = read("messages");
+    let at = 0;
+    for (const [i, length] of LENGTHS.entries()) {
+      const [key, nonce, aad, text] = [part(i, 32), part(i + 32, 24), part(i + 56, i % 67), part(i, length)];
+      const sealed = messages.slice(at, (at += length + 16));
+      const cipher = xchacha20poly1305(key, nonce, aad);
+      same(cipher.encrypt(text), sealed, `encrypt ${length}`);
+      same(cipher.decrypt(sealed), text, `decrypt ${length}`);
+      // The ciphertext begins at block 1.
+      const cut = mixed(i) % (length + 1);
+      const rest = xchacha20(key, nonce, text.slice(cut), 64 + cut);
+      same(rest, sealed.slice(cut, length), `xchacha20 ${length} from ${cut}`);
+    }
+    is(at, messages.length, "messages");
+  },
+
+  // One bit of anything changed is a wrong tag.
+  forgeries() {
+    for (const [make, nonce] of [[chacha20poly1305, NONCE], [xchacha20poly1305, XNONCE]]) {
+      for (const length of [0, 1, 64, 65, 500, 70000]) {
+        const sealed = make(KEY, nonce, AAD).encrypt(part(5, length));
+        const refuse = (key, nonce, aad, sealed, words) =>
+          fails(() => make(key, nonce, aad).decrypt(sealed), Error, "wrong tag", words);
+        // Each bit of the last 100 bytes.
+        const bits = (bytes) => [...Array(8 * Math.min(bytes.length, 100)).keys()].map((bit) => {
+          const changed = bytes.slice();
+          changed[bytes.length - 1 - (bit >> 3)] ^= 1 << (bit & 7);
+          return changed;
+        });
+        for (const it of bits(sealed)) refuse(KEY, nonce, AAD, it);
+        for (const it of bits(AAD)) refuse(KEY, nonce, it, sealed);
+        for (const it of bits(nonce)) refuse(KEY, it, AAD, sealed);
+        for (const it of bits(KEY)) refuse(it, nonce, AAD, sealed);
+        refuse(KEY, nonce, part(0, 0), sealed);
+        refuse(KEY, nonce, AAD, new Uint8Array([...sealed, 0]));
+        if (length > 0) refuse(KEY, nonce, AAD, sealed.slice(0, -1));
+        else fails(() => make(KEY, nonce, AAD).decrypt(sealed.slice(0, -1)), RangeError, "sealed ");
+        clean("after forgeries");
+      }
+    }
+  },
+
+  // Each wrong argument of each call, by its name.
+  arguments() {
+    const shared = (length) => new Uint8Array(new SharedArrayBuffer(length));
+    const inside = (length) => memory().subarray(0, length);
+    const never = [undefined, null, 32, "k".repeat(32), [...KEY], KEY.buffer, new Uint16Array(32)];
+    never.push(new DataView(KEY.buffer), new Uint8ClampedArray(32), { length: 32, buffer: KEY.buffer });
+    never.push(Object.create(Uint8Array.prototype));
+    const lengths = [0, 1, 8, 12, 16, 24, 31, 32, 33, 48, 49, 50, 64];
+    // `right` is the length that is demanded, if one is; `isOptional`, whether `undefined` is a value.
+    const bytes = (name, call, right, isOptional = false) => {
+      for (const it of never) if (!(isOptional && it === undefined)) fails(() => call(it), TypeError, `${name} must`);
+      fails(() => call(shared(right ?? 20)), TypeError, `${name} must not be in a SharedArrayBuffer`);
+      fails(() => call(inside(right ?? 20)), TypeError, `${name} must not be in the module's memory`);
+      for (const it of right === undefined ? [] : lengths.filter((it) => it !== right)) {
+        fails(() => call(new Uint8Array(it)), RangeError, `${name} must have ${right} bytes`);
+      }
+    };
+    const number = (name, call, most) => {
+      const others = [null, "0", 0n, NaN, 0.5, Infinity, {}, KEY];
+      for (const it of others) fails(() => call(it), TypeError, `${name} must be a whole number`);
+      for (const it of [-1, most + 1]) fails(() => call(it), RangeError, `${name} must be from 0 to ${most}`);
+    };
+    for (const [make, stream, nonce] of [[chacha20poly1305, chacha20, NONCE], [xchacha20poly1305, xchacha20, XNONCE]]) {
+      bytes("key", (it) => make(it, nonce), 32);
+      bytes("nonce", (it) => make(KEY, it), nonce.length);
+      bytes("aad", (it) => make(KEY, nonce, it), undefined, true);
+      bytes("text", (it) => make(KEY, nonce).encrypt(it));
+      bytes("sealed", (it) => make(KEY, nonce).decrypt(it));
+      for (let i = 0; i < 16; i++) fails(() => make(KEY, nonce).decrypt(part(0, i)), RangeError, "sealed must have");
+      bytes("key", (it) => stream(it, nonce, AAD), 32);
+      bytes("nonce", (it) => stream(KEY, it, AAD), nonce.length);
+      bytes("data", (it) => stream(KEY, nonce, it));
+      number("position", (it) => stream(KEY, nonce, AAD, it), 2 ** 38);
+      fails(() => stream(KEY, nonce, AAD, 2 ** 38 - 12), RangeError, "position");
+      is(stream(KEY, nonce, AAD, 2 ** 38 - 13).length, 13, "the end of the keystream");
+      is(stream(KEY, nonce, part(0, 0), 2 ** 38).length, 0, "nothing, at the end of the keystream");
+      // A nonce serves one message; a text that was refused wasn't one.
+      const cipher = make(KEY, nonce);
+      fails(() => cipher.encrypt("text"), TypeError, "text must");
+      const sealed = cipher.encrypt(AAD);
+      fails(() => cipher.encrypt(AAD), Error, "the nonce was used");
+      for (let i = 0; i < 3; i++) same(cipher.decrypt(sealed), AAD, "decrypted again");
+      // What a caller does later with the arguments changes nothing.
+      const mine = [KEY, nonce, AAD].map((it) => it.slice());
+      const kept = make(...mine);
+      mine.forEach((it) => it.fill(0));
+      same(kept.encrypt(AAD), make(KEY, nonce, AAD).encrypt(AAD), "own copies");
+      // A Buffer is a Uint8Array, as is one of another context, which has a class of its own.
+      same(make(Buffer.from(KEY), Buffer.from(nonce)).encrypt(Buffer.from(AAD)), sealed, "Buffers");
+      const [k, n, a] = [KEY, nonce, AAD].map((it) => runInNewContext("new Uint8Array(bytes)", { bytes: [...it] }));
+      same(make(k, n).encrypt(a), sealed, "of another context");
+      // What an array of a class of its own says of its length has no effect.
+      const Liar = class extends Uint8Array { get length() { return 500; } };
+      same(make(new Liar(KEY), new Liar(nonce), new Liar(0)).encrypt(new Liar(AAD)), sealed, "another length");
+      same(make(KEY, nonce).decrypt(new Liar(sealed)), AAD, "another length");
+      same(stream(KEY, nonce, new Liar(AAD)), stream(KEY, nonce, AAD), "another length");
+    }
+    bytes("seed", (it) => new ChaCha20Rng(it), 32);
+    bytes("state", (it) => ChaCha20Rng.fromState(it), 49);
+    const rng = new ChaCha20Rng(KEY);
+    bytes("output", (it) => rng.fill(it));
+    for (const it of [undefined, null, 0, "0"]) fails(() => (rng.wordPosition = it), TypeError, "wordPosition must");
+    for (const it of [-1n, 1n << 68n]) fails(() => (rng.wordPosition = it), RangeError, "wordPosition must");
+    is(rng.wordPosition, 0n, "after what was refused");
+    const blob = new Blob([AAD]);
+    for (const [call, ...range] of [[sealBlob], [openBlob], [readRange, 0, 1]]) {
+      bytes("key", (it) => call(it, blob, ...range), 32);
+      for (const it of [undefined, null, "blob", AAD, KEY.buffer, {}]) {
+        fails(() => call(KEY, it, ...range), TypeError, "blob must");
+      }
+    }
+    number("end", (it) => readRange(KEY, blob, 0, it), 2 ** 48);
+    number("start", (it) => readRange(KEY, blob, it, 7), 7);
+    clean("after wrong arguments");
+  },
+
+  // After each call the memory is as it was, and no call goes further down the stack than is zeroed.
+  memory() {
+    for (const length of [0, 1, 63, 64, 65, 500, 512, 1500, 66000]) {
+      const [text, cipher] = [part(0, length), chacha20poly1305(KEY, NONCE, AAD)];
+      const extended = xchacha20poly1305(KEY, XNONCE, AAD);
+      let sealed;
+      const calls = {
+        encrypt: () => (sealed = cipher.encrypt(text)),
+        decrypt: () => cipher.decrypt(sealed),
+        "encrypt, extended": () => (sealed = extended.encrypt(text)),
+        "decrypt, extended": () => extended.decrypt(sealed),
+        "wrong tag": () => assert.throws(() => cipher.decrypt(sealed), /^Error: wrong tag$/),
+        chacha20: () => chacha20(KEY, NONCE, text, 77),
+        xchacha20: () => xchacha20(KEY, XNONCE, text, 77),
+        "past the end": () => assert.throws(() => chacha20(KEY, NONCE, part(0, length + 1), 2 ** 38), /^RangeError/),
+        fill: () => new ChaCha20Rng(KEY).fill(new Uint8Array(length)),
+        wordPosition: () => (new ChaCha20Rng(KEY).wordPosition += BigInt(length)),
+      };
+      for (const [name, act] of Object.entries(calls)) {
+        const unused = memory().subarray(0, 65536 - 4096).fill(0xa5);
+        act();
+        is(unused.every((it) => it === 0xa5), true, `${name} ${length}: the stack`);
+        unused.fill(0);
+        clean(`${name} ${length}`);
+      }
+    }
+    // A throw in the middle of a call: results can't be allocated.
+    const { slice } = Uint8Array.prototype;
+    Uint8Array.prototype.slice = () => { throw new RangeError("no room"); };
+    const act = () => xchacha20poly1305(KEY, XNONCE).encrypt(POOL);
+    fails(act, RangeError, "no room");
+    Uint8Array.prototype.slice = slice;
+    clean("after a throw");
+    // A memory that can't grow.
+    const has = memory().length;
+    proved.memory.grow = () => { throw new RangeError("no pages"); };
+    const long = new Uint8Array(has);
+    const tooLong = "text is too long: the module's memory can't have";
+    fails(() => xchacha20poly1305(KEY, XNONCE).encrypt(long), RangeError, tooLong);
+    fails(() => xchacha20poly1305(KEY, XNONCE).decrypt(long), RangeError, "sealed is too long");
+    fails(() => chacha20(KEY, NONCE, long), RangeError, "data is too long");
+    fails(() => new ChaCha20Rng(KEY).fill(long), RangeError, "output is too long");
+    delete proved.memory.grow;
+    clean("after what doesn't fit");
+    is(memory().length, has, "the memory's length");
+    same(chacha20(KEY, NONCE, chacha20(KEY, NONCE, long)), long, "what fits once the memory grows");
+    clean("after it has grown");
+  },
+
+  // The generator, beside OpenSSL: the seed is the key, and the block and the stream are the 16 bytes of its iv.
+  generator() {
+    const words = (seed, stream, place, length) => {
+      const iv = Buffer.alloc(16);
+      iv.writeBigUInt64LE(place / 16n);
+      iv.writeBigUInt64LE(stream, 8);
+      const skipped = 4 * Number(place % 16n);
+      return createCipheriv("chacha20", seed, iv).update(new Uint8Array(skipped + length)).subarray(skipped);
+    };
+    const stateOf = (seed, stream, place) => {
+      const state = Buffer.alloc(49);
+      state.set(seed);
+      state.writeBigUInt64LE(stream, 32);
+      state.writeBigUInt64LE(BigInt.asUintN(64, place), 40);
+      state[48] = Number(place >> 64n);
+      return state;
+    };
+    const places = [0n, 1n, 15n, 16n, 1000n, 2n ** 32n, 2n ** 63n, 2n ** 64n - 1n, 2n ** 64n, 2n ** 67n + 5n];
+    for (const [i, place] of places.entries()) {
+      for (const length of [0, 1, 3, 4, 5, 64, 100, 255, 256, 257, 1000, 70000]) {
+        const [seed, stream] = [part(i, 32), BigInt(i) * 0x123456789abcdefn];
+        const rng = ChaCha20Rng.fromState(stateOf(seed, stream, place));
+        is(rng.wordPosition, place, "position");
+        const output = new Uint8Array(length);
+        is(rng.fill(output), output, "fill returns its argument");
+        same(output, words(seed, stream, place, length), `fill of ${length} at ${place}`);
+        is(rng.wordPosition, place + BigInt(Math.ceil(length / 4)), "position after it");
+        same(rng.state, stateOf(seed, stream, rng.wordPosition), "state");
+        rng.wordPosition = place;
+        same(rng.fill(new Uint8Array(length)), output, "again");
+        const second = new ChaCha20Rng(seed);
+        second.wordPosition = place;
+        same(second.fill(new Uint8Array(length)), words(seed, 0n, place, length), "of a seed");
+      }
+    }
+    const rng = new ChaCha20Rng(KEY);
+    same(rng.state, stateOf(KEY, 0n, 0n), "state of a seed");
+    rng.wordPosition = 2n ** 68n - 1n;
+    rng.fill(new Uint8Array(8));
+    is(rng.wordPosition, 1n, "after the last word");
+    rng.state.fill(0);
+    same(rng.state, stateOf(KEY, 0n, 1n), "a copy of the state");
+  },
+
+  // Files by the Python of seal's page are opened, whole and in parts, and files for it are made.
+  async files() {
+    const texts = readdirSync(ROOM).filter((it) => it.endsWith(".text")).map((it) => it.slice(0, -5));
+    is(texts.length >= 9, true, "files");
+    for (const name of texts) {
+      const [text, file] = [read(`${name}.text`), read(`${name}.sealed`)];
+      // Says what was read.
+      let places = [];
+      const blob = new Blob([file]);
+      blob.slice = (start, end) => {
+        places.push([start, Math.min(end, file.length)]);
+        return Blob.prototype.slice.call(blob, start, end);
+      };
+      same(await all(openBlob(KEY, blob)), text, `open ${name}`);
+      const edges = [0, 1, 65535, 65536, 65537, 131072, text.length].filter((it) => it <= text.length);
+      for (const start of edges) {
+        for (const end of edges.filter((it) => it >= start)) {
+          places = [];
+          same(await all(readRange(KEY, blob, start, end)), text.slice(start, end), `${name} from ${start} to ${end}`);
+          const wanted = [[0, Math.min(32, file.length)]];
+          for (let i = Math.floor(start / 65536); i * 65536 < end && start < end; i++) {
+            wanted.push([32 + 65552 * i, Math.min(32 + 65552 * (i + 1), file.length)]);
+          }
+          is(JSON.stringify(places), JSON.stringify(wanted), `what ${name} from ${start} to ${end} reads`);
+        }
+      }
+      const past = `end must be from 0 to ${text.length}`;
+      await failsLater(readRange(KEY, blob, 0, text.length + 1), RangeError, past);
+      writeFileSync(join(ROOM, `${name}.made`), await all(sealBlob(KEY, new Blob([text]))));
+    }
+    const one = await all(sealBlob(KEY, new Blob([AAD])));
+    is(Buffer.compare(one, await all(sealBlob(KEY, new Blob([AAD])))) !== 0, true, "two salts");
+    // A caller may zero its key at once, and cancel.
+    const mine = KEY.slice();
+    const stream = openBlob(mine, new Blob([one]));
+    mine.fill(0);
+    same(await all(stream), AAD, "own key");
+    const cancelled = openBlob(KEY, new Blob([read("200000.sealed")])).getReader();
+    is((await cancelled.read()).value.length, 65536, "a first part");
+    await cancelled.cancel();
+    is((await cancelled.read()).done, true, "after cancel");
+    clean("after files");
+  },
+
+  // Damage is told by the sentences of `seal`, behind the text of the chunks before it.
+  async damage() {
+    const [text, file] = [read("200000.text"), read("200000.sealed")];
+    const refuse = async (bytes, front, words, key = KEY) => {
+      const got = await failsLater(openBlob(key, new Blob([bytes])), Error, words);
+      same(got, text.subarray(0, front), `what comes before: ${words}`);
+    };
+    const changed = (at, by = 1) => {
+      const bytes = file.slice();
+      bytes[at] ^= by;
+      return bytes;
+    };
+    const first = "the key is wrong, or bytes 0 to 65535 are damaged";
+    for (let at = 0; at < 12; at++) await refuse(changed(at), 0, "not a sealed file");
+    await refuse(changed(12), 0, "sealed in another version of the format");
+    for (let at = 13; at < 32; at++) await refuse(changed(at), 0, first);
+    for (const at of [32, 100, 32 + 65551]) await refuse(changed(at), 0, first);
+    const second = "bytes 65536 to 131071 are damaged";
+    for (const at of [32 + 65552, 32 + 2 * 65552 - 1]) await refuse(changed(at), 65536, second);
+    const end = "the end from byte 196608 on is damaged or cut";
+    for (const at of [32 + 3 * 65552, file.length - 1]) await refuse(changed(at), 196608, end);
+    for (const cut of [1, 15, 16, 17, 1000, 3391, 3392, 3393, 3407]) await refuse(file.slice(0, -cut), 196608, end);
+    await refuse(file.slice(0, 32 + 3 * 65552), 131072, "the end from byte 131072 on is damaged or cut");
+    await refuse(file.slice(0, 32 + 65552), 0, "the key is wrong, or the end from byte 0 on is damaged or cut");
+    await refuse(file.slice(0, 40), 0, "the key is wrong, or the end from byte 0 on is damaged or cut");
+    await refuse(file.slice(0, 32), 0, "the key is wrong, or the end from byte 0 on is damaged or cut");
+    for (const length of [12, 13, 31]) await refuse(file.slice(0, length), 0, "the file ends in its header");
+    for (const length of [0, 1, 11]) await refuse(file.slice(0, length), 0, "not a sealed file");
+    await refuse(new Uint8Array([...file, 0]), 196608, end);
+    const header = file.slice(0, 32);
+    const chunks = [0, 1, 2, 3].map((i) => file.slice(32 + 65552 * i, 32 + 65552 * (i + 1)));
+    const joined = (...order) => Buffer.concat([header, ...order.map((i) => chunks[i])]);
+    await refuse(joined(0, 2, 1, 3), 65536, second);
+    await refuse(joined(0, 1, 1, 2, 3), 131072, "bytes 131072 to 196607 are damaged");
+    await refuse(joined(0, 2, 3), 65536, second);
+    // A last chunk without text, whose tag is right.
+    const salt = header.slice(13);
+    const whole = xchacha20poly1305(KEY, new Uint8Array([...salt, 0, 0, 0, 0, 0])).encrypt(text.slice(0, 65536));
+    const none = xchacha20poly1305(KEY, new Uint8Array([...salt, 0, 0, 0, 1, 1])).encrypt(part(0, 0));
+    await refuse(Buffer.concat([header, whole, none]), 65536, "the end from byte 65536 on is damaged or cut");
+    await refuse(file, 0, first, part(1, 32));
+    // What a range doesn't touch may be damaged.
+    const damaged = new Blob([changed(40)]);
+    same(await all(readRange(KEY, damaged, 65536, 131072)), text.slice(65536, 131072), "beside the damage");
+    await failsLater(readRange(KEY, damaged, 65535, 65537), Error, first);
+    // Lengths that no file of the room has.
+    const huge = (size) => Object.defineProperty(new Blob([header]), "size", { value: size });
+    await failsLater(openBlob(KEY, huge(32 + 65552 * 2 ** 32 + 1)), Error, "longer than a sealed file can be");
+    const tooLong = "blob has more than 2^48 bytes, which no sealed file may have";
+    await failsLater(sealBlob(KEY, huge(2 ** 48 + 1)), RangeError, tooLong);
+    // The number of a chunk, up to the last one that a file may have.
+    for (const number of [[1, 2, 3, 4], [255, 255, 255, 255]]) {
+      const last = xchacha20poly1305(KEY, new Uint8Array([...salt, ...number, 1])).encrypt(AAD);
+      const chunks = number.reduce((sum, byte) => 256 * sum + byte);
+      const far = huge(32 + 65552 * chunks + last.length);
+      far.slice = (start) => new Blob([start === 0 ? header : last]);
+      same(await all(readRange(KEY, far, 65536 * chunks, 65536 * chunks + 13)), AAD, `chunk ${number}`);
+    }
+    clean("after damage");
+  },
+};
+
+const wanted = { module: 4, openssl: 8826, libsodium: 6619, forgeries: 12400, arguments: 566, memory: 190 };
+Object.assign(wanted, { generator: 843, files: 356, damage: 135 });
+assert.deepEqual(Object.keys(wanted), Object.keys(parts));
+let sum = 0;
+for (const [name, run] of Object.entries(parts)) {
+  count = 0;
+  await run();
+  console.log(`${name}: ${count} comparisons`);
+  assert(count >= wanted[name], `${name} made fewer than ${wanted[name]} comparisons`);
+  sum += count;
+}
+console.log(`calls: ${sum} comparisons, 0 wrong`);
