@@ -1,6 +1,6 @@
 // SPDX-License-Identifier: Apache-2.0 OR MIT
 //
-// ChaCha20-Poly1305 and what belongs to it, by proved functions in WebAssembly, for Node, Deno and browsers with 64-bit
+// ChaCha20-Poly1305 and what belongs to it, by proved functions in WebAssembly, for Node and browsers with 64-bit
 // memories. The import fails where the engine has none.
 //
 // A value of a wrong type is a TypeError, one of a wrong length or out of range a RangeError; both name the argument,

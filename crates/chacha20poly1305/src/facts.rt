@@ -4,10 +4,11 @@ ghost use Rattle.std.specs.Prelude.{◌≡◌};
 ghost use Rattle.chacha20.specs.ChaCha.{chacha_stream, ietf};
 ghost use Rattle.chacha20.specs.XChaCha.{xchacha_stream};
 
+use crate::chacha_poly1305::KeyedStream;
 // By the root's names, so that an export under another's name fails.
 use crate::{
-    ChaCha8Poly1305, ChaCha12Poly1305, ChaCha20Poly1305, KeyedStream, XChaCha8Poly1305,
-    XChaCha12Poly1305, XChaCha20Poly1305,
+    ChaCha8Poly1305, ChaCha12Poly1305, ChaCha20Poly1305, XChaCha8Poly1305, XChaCha12Poly1305,
+    XChaCha20Poly1305,
 };
 
 // The keystream of each. A named type with a wrong cipher would break one of these.

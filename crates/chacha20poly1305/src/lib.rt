@@ -31,7 +31,7 @@ mod mac;
 mod message;
 mod named;
 
-pub use chacha_poly1305::{ChaChaPoly1305, KeyedStream};
+pub use chacha_poly1305::ChaChaPoly1305;
 pub use chacha20::{Key, Nonce, XNonce};
 pub use error::Error;
 pub use named::{

@@ -8,6 +8,23 @@ ghost use Rattle.chacha20poly1305.specs.Aead.{sealed_message};
 use chacha20poly1305::{Error, XChaCha20Poly1305, XNonce};
 use std::{io, str};
 
+fn main(rt: HostRuntime) -> io::Result<()> {
+    let key = XChaCha20Poly1305::generate_key(&rt)?;
+    let nonce = XChaCha20Poly1305::generate_nonce(&rt)?;
+    let cipher = XChaCha20Poly1305::new(&key);
+
+    let mut sealed = [0; 14 + 16];
+    seal(&cipher, &nonce, b"attack at dawn", &mut sealed).unwrap();
+
+    let mut text = [0; 14];
+    let opened = open(&cipher, &nonce, &sealed, &mut text);
+    println!(rt; "{opened:?}: {:?}", str::from_utf8(&text))?;
+
+    sealed[0] ^= 1;
+    let forged = open(&cipher, &nonce, &sealed, &mut text);
+    println!(rt; "{forged:?}")
+}
+
 // Writes the ciphertext, followed by a tag of 16 bytes (draft-irtf-cfrg-xchacha, section 2).
 fn seal(
     cipher: &XChaCha20Poly1305,
@@ -41,21 +58,4 @@ fn open(
     ensures refused { OnErr result (text.new ≡ text.old) }
 {
     cipher.decrypt(nonce, b"", sealed, text)
-}
-
-fn main(rt: HostRuntime) -> io::Result<()> {
-    let key = XChaCha20Poly1305::generate_key(&rt)?;
-    let nonce = XChaCha20Poly1305::generate_nonce(&rt)?;
-    let cipher = XChaCha20Poly1305::new(&key);
-
-    let mut sealed = [0; 14 + 16];
-    seal(&cipher, &nonce, b"attack at dawn", &mut sealed).unwrap();
-
-    let mut text = [0; 14];
-    let opened = open(&cipher, &nonce, &sealed, &mut text);
-    println!(rt; "{opened:?}: {:?}", str::from_utf8(&text))?;
-
-    sealed[0] ^= 1;
-    let forged = open(&cipher, &nonce, &sealed, &mut text);
-    println!(rt; "{forged:?}")
 }

@@ -10,11 +10,11 @@ use chacha20::{
     StreamCipher, StreamCipherBackend, StreamCipherCore, StreamCipherCoreWrapper,
     StreamCipherCounter, StreamCipherError, StreamCipherSeek, StreamCipherSeekCore, Variant,
     XChaCha8, XChaCha12, XChaCha20, XChaChaCore, XNonce, backends, cipher, hchacha, rand_core,
-    run_cipher, run_rng, runs, variants,
+    run_cipher, run_rng, runs, state_bytes, subkey, subnonce, variants,
 };
 use chacha20poly1305::{
     ChaCha8Poly1305, ChaCha12Poly1305, ChaCha20Poly1305, ChaChaPoly1305, Error, Key as KeyOfAead,
-    KeyedStream, Nonce as NonceOfAead, Tag, XChaCha8Poly1305, XChaCha12Poly1305, XChaCha20Poly1305,
+    Nonce as NonceOfAead, Tag, XChaCha8Poly1305, XChaCha12Poly1305, XChaCha20Poly1305,
     XNonce as XNonceOfAead,
 };
 use known_answers::R0;
