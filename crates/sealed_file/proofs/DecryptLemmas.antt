@@ -23,8 +23,8 @@ damage-refused a key damage wrong = IfSome_then a wrong (λ file is. damage-refu
 -- one text
 pub text-of : (a w v : Option (List ℕ)) (key salt text file : List ℕ) → IfSome a (λ all. all ≡ file)
     → IsSealed key salt text file → Appends w v text
-    → (salt' text' file' : List ℕ) → IsSealed key salt' text' file' → a ≡ Some file' → Appends w v text'
-text-of a w v key salt text file same (size, _, is) written salt' text' file' (size', _, is') known =
+    → (salt' text' file' : List ℕ) → a ≡ Some file' → IsSealed key salt' text' file' → Appends w v text'
+text-of a w v key salt text file same (size, _, is) written salt' text' file' known (size', _, is') =
     subst (Appends w v) (one-text key salt salt' text text' size size'
     (sym is ∙ sym (subst (λ o. IfSome o (λ all. all ≡ file)) known same) ∙ is')) written
 

@@ -17,9 +17,9 @@ use std::random::RandomSource;
 pub const BUFFER: usize = CHUNK + TAG + 1;
 
 /// Writes a sealed file of all that the reader has left, with a salt from a source of random bytes, such as a program's
-/// `HostRuntime`. No clause says that the salt is random: the trait promises nothing of what its call writes. Fails for
-/// a text of more than 2^48 bytes, and where the source, the reader or the writer fails; then the writer has a prefix
-/// of that file. Don't read `buf` afterwards: no clause says what it holds.
+/// `HostRuntime`. No clause says that the salt is random, or no secret: the trait promises nothing of what its call
+/// writes. Fails for a text of more than 2^48 bytes, and where the source, the reader or the writer fails; then the
+/// writer has a prefix of that file. Don't read `buf` afterwards: no clause says what it holds.
 pub fn encrypt<G: RandomSource, R: Read, W: Write>(
     random: &G,
     key: &Key,
@@ -84,12 +84,12 @@ pub fn decrypt<R: Read, W: Write>(
         × IfSome (R.remaining reader.old) (λ all. all ≡ file)
         × IsSealed key.now salt text file
         × Appends (W.contents writer.old) (W.contents writer.new) text) }
-    ensures text { (salt text file : List ℕ) → IsSealed key.now salt text file
-        → R.remaining reader.old ≡ Some file
+    ensures text { (salt text file : List ℕ) → R.remaining reader.old ≡ Some file
+        → IsSealed key.now salt text file
         → OnOk result (Appends (W.contents writer.old) (W.contents writer.new) text) }
     ensures damaged { (damage : Damage) → IsErrOf result (DecryptError.Damaged damage)
         → IfSome (R.remaining reader.old) (λ file. IsDamage key.now file damage) }
-    ensures refused { (damage : Damage) → IsErrOf result (DecryptError.Damaged damage)
+    ensures not_sealed { (damage : Damage) → IsErrOf result (DecryptError.Damaged damage)
         → IfSome (R.remaining reader.old) (λ file. (salt text : List ℕ)
         → IsSealed key.now salt text file → ⊥) }
     ensures only_right { OnErr result ((file text : List ℕ) × (n : ℕ)

@@ -22,8 +22,8 @@ returns-in-Err-Damaged-clause-damaged g c damage is =
     (IfSome_then (g.R.Read.remaining c.args.reader.now)
     (c.in-Err-Damaged.ensures.damaged c.in-Err-Damaged.damage (ap Err c.in-Err-Damaged.field-0-is)) (λ file. inl))
 
-pub returns-in-Err-Damaged-clause-refused : goal.returns-in-Err-Damaged-clause-refused
-returns-in-Err-Damaged-clause-refused g c damage is =
+pub returns-in-Err-Damaged-clause-not_sealed : goal.returns-in-Err-Damaged-clause-not_sealed
+returns-in-Err-Damaged-clause-not_sealed g c damage is =
     damage-refused _ _ damage (returns-in-Err-Damaged-clause-damaged g c damage is)
 
 pub returns-in-Err-Damaged-clause-only_right : goal.returns-in-Err-Damaged-clause-only_right
@@ -59,8 +59,8 @@ returns-then-not-open_chunk-clause-damaged g c damage is =
     subst (HasDamage (g.R.Read.remaining c.args.reader.now) c.args.key.now) (sym c.of_chunk.ensures ∙ same)
     (tells.wrong (c.if-not-open_chunk.ensures.wrong refl))
 
-pub returns-then-not-open_chunk-clause-refused : goal.returns-then-not-open_chunk-clause-refused
-returns-then-not-open_chunk-clause-refused g c damage is =
+pub returns-then-not-open_chunk-clause-not_sealed : goal.returns-then-not-open_chunk-clause-not_sealed
+returns-then-not-open_chunk-clause-not_sealed g c damage is =
     damage-refused _ _ damage (returns-then-not-open_chunk-clause-damaged g c damage is)
 
 pub returns-then-not-open_chunk-clause-only_right : goal.returns-then-not-open_chunk-clause-only_right
@@ -138,8 +138,8 @@ returns-clause-damaged g c damage is =
     (32 + 65552 * 2 ^ 32) before.read (omega (arith, wide, c.chunks-test.false))
     (before.some (omega (arith, c.chunks-test.false)))) (λ file. inl))
 
-pub returns-clause-refused : goal.returns-clause-refused
-returns-clause-refused g c damage is = damage-refused _ _ damage (returns-clause-damaged g c damage is)
+pub returns-clause-not_sealed : goal.returns-clause-not_sealed
+returns-clause-not_sealed g c damage is = damage-refused _ _ damage (returns-clause-damaged g c damage is)
 
 pub returns-clause-only_right : goal.returns-clause-only_right
 returns-clause-only_right g c = so-far c.in-Ok.ensures.size c.chunks.invariant
