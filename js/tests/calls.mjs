@@ -85,7 +85,7 @@ const EXPORTS = `__heap_base memory
   chacha20_check chacha20_keystream chacha20_xor_between chacha20_xor_in_place
   xchacha20_keystream xchacha20_xor_between xchacha20_xor_in_place
   chacha20_legacy_check chacha20_legacy_keystream chacha20_legacy_xor_between chacha20_legacy_xor_in_place
-  hchacha20 chacha_poly1305 chacha20_verify
+  hchacha20 chacha20_onetime_poly1305 chacha20_verify
   chacha20_rng_fill chacha20_rng_from_seed chacha20_rng_get_block_pos chacha20_rng_get_stream chacha20_rng_get_word_pos
   chacha20_rng_set_block_pos chacha20_rng_set_stream chacha20_rng_set_word_pos`;
 
