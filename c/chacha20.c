@@ -1,8 +1,8 @@
 /* SPDX-License-Identifier: Apache-2.0 OR MIT
 
-   The functions of chacha20.h, each written out, so that a search finds it. Each checks what no contract can speak of,
-   null and overlapping pointers, and calls a proved function: by PROVED (proved.h), or by LONG (stack.h), which first
-   moves the stack where the call is long. This file is trusted: it is tested, not proved. */
+   The functions of chacha20.h, each written out, so that a search finds it. Each does what no contract can express: it
+   replaces the pointers of empty data, refuses overlaps, and calls a proved function, by PROVED (proved.h), or by LONG
+   (stack.h), which first moves the stack where the call is long. This file is trusted: it is tested, not proved. */
 
 #include "../include/chacha20.h"
 
@@ -11,10 +11,11 @@
 #include "proved.h"
 #include "stack.h"
 
-/* Inlined, since calls of a few bytes would notice. */
+/* Always inlined: a call would cost noticeable time on messages of a few bytes. */
 #define CHECK __attribute__((always_inline)) static inline int
 
-/* Whether two objects, neither empty, have no byte in common. Nothing is added to an address, which could wrap. */
+/* Whether two objects have no byte in common, and an empty one isn't inside the other. It never adds to an address,
+   since the sum could wrap. */
 CHECK apart(const uint8_t *one, size_t one_len, const uint8_t *other, size_t other_len) {
     uintptr_t at = (uintptr_t)one, other_at = (uintptr_t)other;
     return at < other_at ? other_at - at >= one_len : at - other_at >= other_len;
@@ -40,8 +41,8 @@ CHECK tag_fits(const uint8_t *tag, const uint8_t *key, const uint8_t *nonce, siz
            apart(tag, 16, input, len);
 }
 
-/* Authenticated encryption. Data of length 0 may be null, or lie on other arguments. |none| stands for them, a byte
-   apart from all arguments, which is neither read nor written. A tag that is only read may lie on what is read. */
+/* Authenticated encryption. Data of length 0 may be null, or overlap other arguments; |none|, a byte apart from all of
+   them, takes their place, and is never read or written. A tag that is only read may overlap what is read. */
 
 int chacha20_aead_encrypt(const uint8_t key[32], const uint8_t nonce[12], const uint8_t *aad, size_t aad_len,
                           uint8_t *output, const uint8_t *input, size_t len, uint8_t tag[16]) {
@@ -87,8 +88,8 @@ int xchacha20_aead_decrypt(const uint8_t key[32], const uint8_t nonce[24], const
     return LONG(len, xchacha20_aead_decrypt_between, key, nonce, aad, aad_len, output, len, input, len, tag);
 }
 
-/* An output of a fixed size is made in a local object and then copied, so it may overlap the arguments. In place of
-   data of length 0, which may be null, the key is handed on. */
+/* An output of a fixed size is made in a local object and then copied, so it may overlap the arguments. For
+   empty input, whose pointer may be null, the key is passed instead. */
 
 void chacha20_onetime_poly1305(const uint8_t key[32], const uint8_t *input, size_t len, uint8_t tag[16]) {
     uint8_t made[16];
@@ -100,15 +101,15 @@ int chacha20_verify(const uint8_t *one, const uint8_t *other, size_t len) {
     return len == 0 ? CHACHA20_OK : PROVED(chacha20_verify, one, len, other, len);
 }
 
-/* By vectors, since a loop over bytes would become a call of memset, which may take another 3000 bytes while the
-   dynamic linker binds it. They are one less than CHACHA20_STACK_BYTES have, since the frame itself takes a few. */
+/* By vectors, for speed, and volatile: else it could be left out, or become a call of memset, which uses stack itself.
+   The array is one vector shorter than CHACHA20_STACK_BYTES, to leave room for the rest of the frame. */
 __attribute__((noinline)) void chacha20_wipe_stack(void) {
     typedef uint64_t vector __attribute__((vector_size(64), aligned(16)));
     volatile vector below[CHACHA20_STACK_BYTES / sizeof(vector) - 1];
     for (size_t i = 0; i < sizeof below / sizeof below[0]; i++) below[i] = (vector){0};
 }
 
-/* Ciphers. Where |len| is 0, the pointers may be null, and the check of the position alone is called. */
+/* Ciphers. If |len| is 0, input and output may be null, and only the position is checked. */
 
 int chacha20_check(uint64_t position, size_t len) { return PROVED(chacha20_check, position, len); }
 

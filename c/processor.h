@@ -1,7 +1,7 @@
 /* SPDX-License-Identifier: Apache-2.0 OR MIT
 
-   Which level of x86-64 a processor has, by what it and the system say of it. Not proved; `make -C c/tests levels` tries
-   the decision on described processors. */
+   Which level of x86-64 a processor has, according to CPUID and to the system (XCR0). Not proved; `make -C c/tests
+   levels` tries the decision on described processors. */
 
 #ifndef CHACHA20_PROCESSOR_H
 #define CHACHA20_PROCESSOR_H

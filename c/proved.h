@@ -1,8 +1,8 @@
 /* SPDX-License-Identifier: Apache-2.0 OR MIT
 
    The proved functions (crates/chacha20_c), and which build of them runs. PROVED(NAME, ...) calls NAME in the build for
-   the processor; the Makefile adds the level of each build to its names. A table of pointers instead would keep every
-   function of every level in each static program. */
+   the processor; the Makefile appends the level of each build to its names. A table of pointers instead would keep
+   every function of every level in each static program. */
 
 #ifndef CHACHA20_PROVED_H
 #define CHACHA20_PROVED_H
@@ -14,10 +14,13 @@
 #include "processor.h"
 
 #if defined(CHACHA20_LEVEL)
+#if CHACHA20_LEVEL < 1 || CHACHA20_LEVEL > 3
+#error "CHACHA20_LEVEL must be 1, 2 or 3"
+#endif
 static inline int this_level(void) { return CHACHA20_LEVEL; }
 #else
-/* Chosen before main, or when the shared library is loaded. A call before that takes the build for x86-64, which makes
-   the same bytes. A thread that an earlier constructor began may call meanwhile, so access is atomic. */
+/* Chosen before main, or when the shared library is loaded. An earlier call uses the build for x86-64, which makes the
+   same bytes. A thread that an earlier constructor started may call at the same time, so access is atomic. */
 static int level = 1;
 
 __attribute__((constructor)) static void choose_level(void) {
@@ -42,8 +45,9 @@ static inline int this_level(void) { return __atomic_load_n(&level, __ATOMIC_REL
 #error "the library is proved for x86-64 and for little-endian aarch64"
 #endif
 
-/* A slice is a pointer and a length, an array a pointer. No pointer may be null, and what is written overlaps no other
-   argument. A result of 32 bits is CHACHA20_OK or CHACHA20_REFUSED; a refused call has written nothing. */
+/* A slice is a pointer and a length, an array a pointer. No pointer may be null. What is written overlaps no other
+   argument, and may be uninitialised before. A result of 32 bits is CHACHA20_OK or CHACHA20_REFUSED; a refused call has
+   written nothing. */
 #define KEY_NONCE const uint8_t *key, const uint8_t *nonce
 #define MESSAGE KEY_NONCE, const uint8_t *aad, size_t aad_len
 #define OUTPUT uint8_t *output, size_t len

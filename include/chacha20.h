@@ -110,7 +110,7 @@ typedef char chacha20_size_t_has_64_bits[sizeof(size_t) == 8 ? 1 : -1];
 #define CHACHA20_ATTR_WRITES(TO, LEN)
 #define CHACHA20_ATTR_READS(FROM, LEN)
 #endif
-/* C++ has no such word, and C has it since C99. */
+/* C++ has no such keyword; C has had it since C99. */
 #if defined(__STDC_VERSION__) && __STDC_VERSION__ >= 199901L
 #define CHACHA20_AT_LEAST static
 #else
@@ -173,12 +173,13 @@ int xchacha20_aead_decrypt(const uint8_t key[CHACHA20_AT_LEAST 32],
 void chacha20_onetime_poly1305(const uint8_t key[CHACHA20_AT_LEAST 32], const uint8_t *input,
                                size_t len, uint8_t tag[CHACHA20_AT_LEAST 16]) CHACHA20_ATTR_TAG;
 
-/* chacha20_verify returns CHACHA20_OK if |len| bytes are equal, and else CHACHA20_REFUSED. It reads all
-   bytes, wherever they differ: compare tags with it, not with memcmp. */
+/* chacha20_verify returns CHACHA20_OK if |len| bytes are equal, and else CHACHA20_REFUSED. It reads every
+   byte, even after a difference: compare tags with it, not with memcmp. */
 int chacha20_verify(const uint8_t *one, const uint8_t *other, size_t len) CHACHA20_ATTR_VERIFY;
 
 /* chacha20_wipe_stack overwrites what the caller's earlier calls of this library left on the stack. Call it
-   from the function that made these calls. */
+   from the function that made these calls, and not last: a compiler may turn a last call into a jump, after
+   it has freed the function's own stack. */
 void chacha20_wipe_stack(void);
 
 /* Ciphers */
@@ -264,15 +265,15 @@ void chacha20_rng_from_seed(const uint8_t seed[CHACHA20_AT_LEAST 32],
                             uint8_t state[CHACHA20_AT_LEAST 49]) CHACHA20_ATTR_NONNULL;
 
 /* chacha20_rng_fill writes the next |len| bytes, each word little-endian. Unused bytes of the last
-   word are lost. Length 0 takes no word. |output| must not overlap |state|; this isn't checked, and
-   the behaviour is undefined.
+   word are lost. Length 0 takes no word. |output| must not overlap |state|: this isn't checked, and
+   if it does, the behaviour is undefined.
 
    Each fill computes at least four blocks, 64 words. To take words one by one, fill an array of 64. */
 void chacha20_rng_fill(uint8_t state[CHACHA20_AT_LEAST 49], uint8_t *output, size_t len)
                        CHACHA20_ATTR_FILL;
 
-/* The word position, |*low| + 2^64 * |*high| with |*high| below 16. Setting takes any two numbers,
-   modulo 2^68. |low| and |high| are different objects, apart from |state|. */
+/* The word position, |*low| + 2^64 * |*high| with |*high| below 16. The setter takes any two
+   numbers, modulo 2^68. |low| and |high| are different objects, apart from |state|. */
 void chacha20_rng_get_word_pos(const uint8_t state[CHACHA20_AT_LEAST 49], uint64_t *low,
                                uint64_t *high) CHACHA20_ATTR_NONNULL;
 void chacha20_rng_set_word_pos(uint8_t state[CHACHA20_AT_LEAST 49], uint64_t low, uint64_t high)
