@@ -1,5 +1,5 @@
 -- Chunks of a file: where each stands, and that a file has one text.
-use Rattle.std.proofs.Common.{◌≡◌, ◌<◌, ◌≤◌, ◌+◌, ◌-◌, ◌*◌, ◌/◌, ◌∙◌, ℕ, zero, suc, Bool, true, false, List, [], ◌++◌, length, take, drop, arith, refl, sym, ap, ap₂, subst, append_assoc, append-nil, length-append, length-drop, length-take, length-take-le, take_at, drop_at, take_all, min, inl, inr, eq-or-lt_of_le, add-one}
+use Rattle.std.proofs.Common.{◌≡◌, ◌<◌, ◌≤◌, ◌+◌, ◌-◌, ◌*◌, ◌/◌, ◌∙◌, ℕ, zero, suc, Bool, true, false, List, [], ◌++◌, length, take, drop, arith, refl, sym, ap, ap₂, append_assoc, append-nil, length-append, length-drop, length-take, length-take-le, take_at, drop_at, take_all, min, inl, inr, eq-or-lt_of_le, add-one}
 use Rattle.std.proofs.Math.Nat.{min_comm}
 use Rattle.std.proofs.lemmas.List.{take-append-le, drop-append-le}
 use Rattle.chacha20.specs.ChaCha.{xor_stream}
@@ -14,9 +14,6 @@ pub length-chunk : (key salt : List ℕ) (i : ℕ) (last : Bool) (text : List �
 unfolding chunk
 length-chunk key salt i last text =
     length-sealed_message (xchacha_stream 10 key (chunk_nonce salt i last)) [] text
-
-pub some-chunk : (key salt : List ℕ) (i : ℕ) (last : Bool) (text : List ℕ) → 0 < length (chunk key salt i last text)
-some-chunk key salt i last text = subst (λ k. 0 < k) (sym (length-chunk key salt i last text)) (omega arith)
 
 pub full-chunk : (key salt : List ℕ) (i : ℕ) (last : Bool) (text : List ℕ) → length text ≡ 65536
     → length (chunk key salt i last text) ≡ 65552

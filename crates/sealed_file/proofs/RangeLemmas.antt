@@ -9,7 +9,7 @@ use Rattle.sealed_file.specs.Sealed.{header, chunk, chunks, piece, last_of, last
 use Rattle.sealed_file.specs.declared.error.Damage.{Damage}
 use Rattle.sealed_file.specs.declared.error.Damage.TheVariants.{NotSealed, OtherVersion, CutHeader, TooLong, WrongChunk, WrongEnd}
 use Rattle.sealed_file.specs.Ranges.{File, place, HasChunk, HasRange, IsWrong, CopiesFrom, StopsAtEnd}
-use Rattle.sealed_file.proofs.ChunkLemmas.{length-chunk, some-chunk, length-piece-at, chunk-same}
+use Rattle.sealed_file.proofs.ChunkLemmas.{length-chunk, length-piece-at, chunk-same}
 use Rattle.sealed_file.proofs.FileLemmas.{chunk-here, has-salt, length-front, length-sealed, no-sealed, own}
 use Rattle.sealed_file.proofs.HeaderLemmas.{front-is}
 use Rattle.sealed_file.proofs.ListLemmas.{get-piece, slice-same}
@@ -115,7 +115,7 @@ module _ (f : File) (text : List ℕ) (size : length f.salt ≡ 19) (is : f.byte
       let within : i ≤ last_of (length f.bytes) =
       omega (
         arith,
-        some-chunk f.key f.salt i (nat_eq i (last_of (length f.bytes))) t,
+        length-chunk f.key f.salt i (nat_eq i (last_of (length f.bytes))) t,
         ap length right.1,
         length-take 65552 (drop (place i) f.bytes),
         length-drop (place i) f.bytes,

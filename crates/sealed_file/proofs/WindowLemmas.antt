@@ -3,6 +3,7 @@ use Rattle.std.proofs.Common.{◌≡◌, ◌<◌, ◌≤◌, ◌+◌, ◌-◌, �
 use Rattle.std.proofs.lemmas.Bool.{cases_lt}
 use Rattle.std.proofs.lemmas.List.{drop_all, take_rest}
 use Rattle.sealed_file.proofs.BufferLemmas.{take-put_mid}
+use Rattle.std.proofs.lemmas.Option.{IfSome_then}
 use Rattle.std.specs.declared.option.Option.{Option}
 use Rattle.std.specs.List.{slice_range}
 use Rattle.std.specs.Option.{ForSome, option_map}
@@ -13,7 +14,7 @@ use Rattle.sealed_file.specs.declared.error.ReadError.{ReadError}
 use Rattle.sealed_file.specs.declared.error.ReadError.TheVariants.{Read, Damaged}
 use borrow.Rule.Slice.PartMut.{put_mid, put_same}
 use Rattle.sealed_file.specs.Sealed.{header, last_of, piece, text_of, sealed, IsSealed}
-use Rattle.sealed_file.specs.Ranges.{File, HasRange, IsWrong, FillsTo, OnlyFront, StopsAtEnd}
+use Rattle.sealed_file.specs.Ranges.{File, HasRange, IsWrong, before, FillsTo, OnlyBefore, StopsAtEnd}
 use Rattle.sealed_file.proofs.RangeLemmas.{has-chunk, range-is, range-more, text-in, text-of-is}
 use Rattle.sealed_file.proofs.FileLemmas.{own}
 
@@ -49,6 +50,10 @@ some-read p n w t stops within room = elim (cases_lt 0 n) [
   ]
 ]
 
+both : (a : Option File) (P Q : File → Type 0) → IfSome a P → IfSome a Q → IfSome a (λ f. P f × Q f)
+both None P Q x y = tt
+both (Some f) P Q x y = (x, y)
+
 -- one more read
 pub filled-more : (a : Option File) (start k n len : ℕ) (old mid tail : List ℕ) → Filled a len start k old mid
     → length tail ≡ length (take (length mid - k) (drop k mid)) → n ≤ length tail
@@ -66,8 +71,10 @@ filled-more a start k n len old mid tail before size most kept more stops =
       fits = before.fits;
       within = omega (arith, most, left, before.within);
       same = ap length new ∙ length-append front tail ∙ omega (arith, wide, left, before.within);
-      right = both a before.right more (take-put_mid k n (length mid - k) mid tail
-          (omega (arith, before.within, before.same)) most) wide;
+      right = IfSome_then a (both a _ _ before.right more) (λ f (x, y). subst (HasRange f start)
+          (sym (take-put_mid k n (length mid - k) mid tail (omega (arith, before.within, before.same)) most))
+          (range-more f start front (take n tail) x
+          (subst (λ l. HasRange f (start + l) (take n tail)) (sym wide) y)));
       rest = ap (drop (k + n)) new ∙ sym (drop-drop n k (front ++ tail)) ∙ ap (drop n) (drop_at front tail k wide)
           ∙ kept ∙ ap (drop n) (room ∙ before.rest) ∙ drop-drop n k old;
       border = λ some less.
@@ -77,16 +84,6 @@ filled-more a start k n len old mid tail before size most kept more stops =
           (omega (arith, before.fits, before.within, sym size ∙ left)) here in
           omega (arith, at);
     }
-  where
-    both : (a : Option File) → IfSome a (λ f. HasRange f start (take k mid))
-        → IfSome a (λ f. HasRange f (start + k) (take n tail))
-        → take (k + n) (put_mid k (length mid - k) mid tail) ≡ take k mid ++ take n tail → length (take k mid) ≡ k
-        → IfSome a (λ f. HasRange f start (take (k + n) (put_mid k (length mid - k) mid tail)))
-    both None x y is wide = tt
-    both (Some f) x y is wide =
-        subst (HasRange f start) (sym is)
-        (range-more f start (take k mid) (take n tail) x
-        (subst (λ l. HasRange f (start + l) (take n tail)) (sym wide) y))
 
 -- the number of the chunk of a byte of the text
 pub number-is : (p len : ℕ) → p < text_of len → min (p / 65536) (last_of len) ≡ p / 65536
@@ -99,22 +96,21 @@ pub stops-at : (a : Option File) (start k len : ℕ) (old mid tail : List ℕ) (
     → Filled a len start k old mid → k < length old → tail ≡ take (length mid - k) (drop k mid)
     → IfSome a (λ f. P f ((start + k) / 65536))
     → (let new = put_mid k (length mid - k) mid tail in
-    IfSome a (λ f. (i : ℕ) × P f i × FillsTo f start new i × OnlyFront old new (65536 * i - start)))
-stops-at None start k len old mid tail P before room kept wrong = tt
-stops-at (Some f) start k len old mid tail P before room kept wrong =
+    (i : ℕ) × OnlyBefore start i old new × IfSome a (λ f. P f i × FillsTo f start new i))
+stops-at a start k len old mid tail P filled room kept wrong =
     let i = (start + k) / 65536 in
     let whole : mid ≡ put_mid k (length mid - k) mid tail =
     sym (ap (put_mid k (length mid - k) mid) kept ∙ put_same k (length mid - k) mid) in
-    let end : k ≡ 65536 * i - start = elim (cases_lt 0 k) [
-      | inl some ↦ omega (arith, before.border some room)
+    let end : k ≡ before start i = elim (cases_lt 0 k) [
+      | inl some ↦ omega (arith, filled.border some room)
       | inr none ↦ omega (arith, none)
     ] in (
       i,
-      wrong,
-      subst (λ xs. FillsTo f start xs i) whole
-          (omega arith, subst (λ n. HasRange f start (take n mid)) end before.right),
-      subst (λ xs. OnlyFront old xs (65536 * i - start)) whole
-          (subst (λ n. OnlyFront old mid n) end (room, before.rest)),
+      subst (OnlyBefore start i old) whole (subst
+          (λ n. (start / 65536 ≤ i) × (n < length old) × (drop n mid ≡ drop n old)) end
+          (omega arith, room, filled.rest)),
+      both a _ _ wrong (subst (λ xs. IfSome a (λ f. FillsTo f start xs i)) whole
+          (subst (λ n. IfSome a (λ f. HasRange f start (take n mid))) end filled.right)),
     )
 
 pub filled-none : (a : Option File) (start len : ℕ) (old : List ℕ) → start + length old ≤ text_of len

@@ -41,14 +41,19 @@ IsWrong f i damage =
     (damage ≡ damage_at i (nat_eq i (last_of (length f.bytes))))
     × ((text : List ℕ) → HasChunk f i text → ⊥)
 
--- a window begins with the text from byte `start` on, up to where chunk i begins; i isn't before the chunk of that byte
-abbrev pub FillsTo : File → ℕ → List ℕ → ℕ → Type 0
-FillsTo f start window i =
-    (start / 65536 ≤ i) × HasRange f start (take (65536 * i - start) window)
+-- how many bytes from byte `start` on stand before chunk i
+abbrev pub before : ℕ → ℕ → ℕ
+before start i = 65536 * i - start
 
--- of a window, which is longer than n bytes, only the first n have changed
-abbrev pub OnlyFront : List ℕ → List ℕ → ℕ → Type 0
-OnlyFront old new n = (n < length old) × (drop n new ≡ drop n old)
+-- a window begins with the text from byte `start` on, up to where chunk i begins
+abbrev pub FillsTo : File → ℕ → List ℕ → ℕ → Type 0
+FillsTo f start window i = HasRange f start (take (before start i) window)
+
+-- chunk i has bytes of a window's range, and only those before them have changed
+abbrev pub OnlyBefore : ℕ → ℕ → List ℕ → List ℕ → Type 0
+OnlyBefore start i old new =
+    (start / 65536 ≤ i) × (before start i < length old)
+    × (drop (before start i) new ≡ drop (before start i) old)
 
 -- n bytes of text from byte `start` on end where their chunk does, or not before the text of a file of so many bytes
 abbrev pub StopsAtEnd : ℕ → ℕ → ℕ → Type 0

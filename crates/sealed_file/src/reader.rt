@@ -12,7 +12,7 @@ ghost use Rattle.std.specs.IoError.{error_kind};
 ghost use Rattle.sealed_file.specs.declared.error.Damage.{Damage};
 ghost use Rattle.sealed_file.specs.declared.error.IoError.{IoError};
 ghost use Rattle.sealed_file.specs.Sealed.{header, last_of, text_of, sealed, IsSealed, IsFileDamage};
-ghost use Rattle.sealed_file.specs.Ranges.{File, place, chunk_size, HasChunk, HasRange, IsWrong, FillsTo, OnlyFront, StopsAtEnd, CopiesFrom};
+ghost use Rattle.sealed_file.specs.Ranges.{File, place, chunk_size, HasChunk, HasRange, IsWrong, FillsTo, OnlyBefore, StopsAtEnd, CopiesFrom};
 
 use crate::chunk::{CHUNKS, Salt, TAG, open_chunk, salt_of};
 use crate::error::{Damage, IoError, RangeError, ReadError};
@@ -142,11 +142,11 @@ impl<'b, R: ReadAt> SealedReader<'b, R> {
         ensures accepted { (text : List ℕ) → Reads self.old text → IsFalse (may_fail self.old)
             → (IsOk result ↔ (start + length window.old ≤ length text)) }
         ensures damaged { (damage : Damage) → IsErrOf result (RangeError.Damaged damage)
-            → IfSome (file self.old) (λ f. (i : ℕ) × IsWrong f i damage
-            × FillsTo f start window.new i × OnlyFront window.old window.new (65536 * i - start)) }
+            → (i : ℕ) × OnlyBefore start i window.old window.new
+            × IfSome (file self.old) (λ f. IsWrong f i damage × FillsTo f start window.new i) }
         ensures read_error { (e : IoError) → IsErrOf result (RangeError.Read e)
-            → IfSome (file self.old) (λ f. (i : ℕ) × FillsTo f start window.new i
-            × OnlyFront window.old window.new (65536 * i - start)) }
+            → (i : ℕ) × OnlyBefore start i window.old window.new
+            × IfSome (file self.old) (λ f. FillsTo f start window.new i) }
         ensures fails { (e : IoError) → IsErrOf result (RangeError.Read e)
             → IsTrue (may_fail self.old) }
         ensures same { IsSame self.old self.new × (position self.new ≡ position self.old) }

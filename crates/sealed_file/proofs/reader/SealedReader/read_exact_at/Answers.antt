@@ -56,12 +56,11 @@ returns-then-not-is_within-clause-accepted g c text reads sure =
 pub returns-in-Err-Read-clause-read_error : goal.returns-in-Err-Read-clause-read_error
 returns-in-Err-Read-clause-read_error g c e is =
     let filled = c.chunks.invariant.0 in
-    IfSome_then (file c.args.self.now)
-    (stops-at (file c.args.self.now) c.args.start c.chunks.done (len c.args.self.now) c.args.window.now
-    c.chunks.window c.read_at.new.window
-    (λ f i. HasRange f c.args.start (take c.chunks.done c.chunks.window)) filled
-    (omega (arith, c.chunks-test.true, filled.same)) c.in-Err-Read.ensures.unchanged filled.right)
-    (λ f (i, _, fills, front). (i, fills, front))
+    let (i, only, fills) =
+    stops-at (file c.args.self.now) c.args.start c.chunks.done (len c.args.self.now) c.args.window.now c.chunks.window
+    c.read_at.new.window (λ f i. HasRange f c.args.start (take c.chunks.done c.chunks.window)) filled
+    (omega (arith, c.chunks-test.true, filled.same)) c.in-Err-Read.ensures.unchanged filled.right in
+    (i, only, IfSome_then (file c.args.self.now) fills (λ f (_, is). is))
 
 pub returns-in-Err-Read-clause-fails : goal.returns-in-Err-Read-clause-fails
 returns-in-Err-Read-clause-fails g c e is =
