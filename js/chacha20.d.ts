@@ -9,13 +9,19 @@
 
 /** One message's cipher, under its key and nonce. */
 export interface Cipher {
-  /** The ciphertext, and behind it the tag of 16 bytes. A second call throws, since a nonce serves one message. */
+  /**
+   * The ciphertext, and behind it the tag of 16 bytes. A second call on this object throws; two objects with one nonce
+   * aren't noticed.
+   */
   encrypt(text: Uint8Array): Uint8Array;
   /** The text. Throws the Error "wrong tag" if key, nonce, aad, ciphertext or tag differ from those of `encrypt`. */
   decrypt(sealed: Uint8Array): Uint8Array;
 }
 
-/** ChaCha20-Poly1305 (RFC 8439): a key of 32 bytes, a nonce of 12, too short to be random, and associated data. */
+/**
+ * ChaCha20-Poly1305 (RFC 8439): a key of 32 bytes, a nonce of 12 bytes, which must be a counter: too short to choose at
+ * random; and associated data.
+ */
 export function chacha20poly1305(key: Uint8Array, nonce: Uint8Array, aad?: Uint8Array): Cipher;
 
 /** XChaCha20-Poly1305 (draft-irtf-cfrg-xchacha): a nonce of 24 bytes, which may be random. */
@@ -23,24 +29,32 @@ export function xchacha20poly1305(key: Uint8Array, nonce: Uint8Array, aad?: Uint
 
 /**
  * ChaCha20 (RFC 8439), which doesn't authenticate: the XOR of `data` and the keystream from byte `position`, 0 if left
- * out, on. The RFC encrypts messages from byte 64 on. Throws a RangeError past 2^38 bytes. Decryption is the same call.
+ * out, on. RFC 8439's AEAD encrypts from byte 64 on; bytes 0 to 31 are its Poly1305 key, so never use position 0 under
+ * the same key and nonce. Throws a RangeError past 2^38 bytes, and a TypeError for a fifth argument, since noble's
+ * fourth and fifth are an output and a counter of blocks. Decryption is the same call.
  */
 export function chacha20(key: Uint8Array, nonce: Uint8Array, data: Uint8Array, position?: number): Uint8Array;
 
 /** XChaCha20: `chacha20` with a nonce of 24 bytes. */
 export function xchacha20(key: Uint8Array, nonce: Uint8Array, data: Uint8Array, position?: number): Uint8Array;
 
-/** A generator for repeatable simulations: words of 32 bits, little-endian, of the keystream of a seed. */
+/**
+ * A generator for repeatable simulations, not for keys: words of 32 bits, little-endian, of the keystream of a seed.
+ * After word 2^68 - 1 comes word 0 again.
+ */
 export class ChaCha20Rng {
   /** Begins at word 0 of stream 0 of a seed of 32 bytes. */
   constructor(seed: Uint8Array);
-  /** Goes on from a state: 32 bytes of seed, 8 of stream, 9 of word position, both little-endian. */
+  /**
+   * Goes on from a state: 32 bytes of seed, 8 of stream, 9 of word position, both little-endian. The high 4
+   * bits of the last byte are ignored.
+   */
   static fromState(state: Uint8Array): ChaCha20Rng;
   /** A copy of the 49 bytes, which tell all words, past and future. */
   get state(): Uint8Array;
   /** The number of the next word, below 2^68. Can be set. */
   wordPosition: bigint;
-  /** Writes the next bytes over all of `output`, and returns it. Unused bytes of the last word are lost. */
+  /** Fills `output` with the next bytes, and returns it. Unused bytes of the last word are lost. */
   fill(output: Uint8Array): Uint8Array;
 }
 
@@ -48,13 +62,20 @@ export class ChaCha20Rng {
 export function sealBlob(key: Uint8Array, blob: Blob): ReadableStream<Uint8Array>;
 
 /**
- * The text of a sealed file. Each part comes once its tag was right. After damage or a cut the stream fails, with an
- * Error that says where, so what came before is the start of the text: use it only after the stream's end.
+ * The text of a sealed file. Each part comes only after its tag was checked. After damage or a cut the stream fails,
+ * with an Error that says where, so what came before is the start of the text: use it only after the stream's end.
+ *
+ * Read it by `for await`: Chromium's `new Response(openBlob(..)).text()` fails with an error of its own, which hides
+ * this one. A file that changes under its Blob makes each of these streams fail with a DOMException NotReadableError.
  */
 export function openBlob(key: Uint8Array, blob: Blob): ReadableStream<Uint8Array>;
 
 /**
- * The text from byte `start` up to `end`. Only the chunks that it is in are read, so damage elsewhere, or that the file
- * was cut after them, goes unnoticed. The stream fails with a RangeError if `end` is past the end of the text.
+ * The text from byte `start` up to `end`. Only the chunks that it is in are read, so damage elsewhere, or a cut behind
+ * them, goes unnoticed if `end` is still inside what is left. An empty range checks no tag. The stream fails with a
+ * RangeError if `end` is past the end of the text.
  */
 export function readRange(key: Uint8Array, blob: Blob, start: number, end: number): ReadableStream<Uint8Array>;
+
+/** The key in a key file of `seal`: the line `seal-key-v1:` and base64, as text or as bytes, or 32 bytes, as they are. */
+export function readKey(file: string | Uint8Array): Uint8Array;

@@ -8,7 +8,7 @@
 
 import assert from "node:assert/strict";
 import { createCipheriv } from "node:crypto";
-import { readdirSync, readFileSync, writeFileSync } from "node:fs";
+import { copyFileSync, mkdirSync, readdirSync, readFileSync, writeFileSync } from "node:fs";
 import { join, resolve } from "node:path";
 import { pathToFileURL } from "node:url";
 import { runInNewContext } from "node:vm";
@@ -28,7 +28,7 @@ const load = (query = "") => import(`${pathToFileURL(join(PACKAGE, "chacha20.mjs
 const chacha = await load();
 WebAssembly.instantiate = instantiate;
 const { chacha20poly1305, xchacha20poly1305, chacha20, xchacha20, ChaCha20Rng } = chacha;
-const { sealBlob, openBlob, readRange } = chacha;
+const { sealBlob, openBlob, readRange, readKey } = chacha;
 const memory = () => new Uint8Array(proved.memory.buffer);
 const fresh = memory().slice();
 
@@ -97,10 +97,22 @@ const parts = {
     is(names.sort().join(), EXPORTS.split(/\s+/).sort().join(), "exports");
     const types = readFileSync(join(PACKAGE, "chacha20.d.ts"), "utf8").matchAll(/^export (?:function|class) (\w+)/gm);
     is([...types].map((it) => it[1]).sort().join(), Object.keys(chacha).sort().join(), "types");
+    // An engine without 64-bit memory, and files that aren't the module.
     WebAssembly.validate = () => false;
-    await assert.rejects(load("?old"), /^Error: file:.*chacha20.wasm needs 64-bit memory/);
+    await assert.rejects(load("?old"), /^Error: no 64-bit memory here, .* Node 20 to 23 with --experimental-wasm-mem/);
     WebAssembly.validate = validate;
     count++;
+    const wasm = readFileSync(join(PACKAGE, "chacha20.wasm"));
+    const files = [...[0, 7, 5000, wasm.length - 1].map((it) => wasm.subarray(0, it)), "<!doctype html>"];
+    for (const [i, file] of files.entries()) {
+      const folder = join(ROOM, `damaged${i}`);
+      mkdirSync(folder);
+      writeFileSync(join(folder, "chacha20.wasm"), file);
+      copyFileSync(join(PACKAGE, "chacha20.mjs"), join(folder, "chacha20.mjs"));
+      const words = /^Error: file:.*chacha20.wasm isn't the module, or not all of it$/;
+      await assert.rejects(import(pathToFileURL(join(folder, "chacha20.mjs"))), words);
+      count++;
+    }
   },
 
   // ChaCha20-Poly1305 and ChaCha20, beside OpenSSL.
@@ -177,12 +189,17 @@ const parts = {
     const inside = (length) => memory().subarray(0, length);
     const never = [undefined, null, 32, "k".repeat(32), [...KEY], KEY.buffer, new Uint16Array(32)];
     never.push(new DataView(KEY.buffer), new Uint8ClampedArray(32), { length: 32, buffer: KEY.buffer });
-    never.push(Object.create(Uint8Array.prototype));
+    never.push(Object.create(Uint8Array.prototype), { [Symbol.toStringTag]: "Uint8Array", buffer: KEY.buffer });
     const lengths = [0, 1, 8, 12, 16, 24, 31, 32, 33, 48, 49, 50, 64];
     // `right` is the length that is demanded, if one is; `isOptional`, whether `undefined` is a value.
     const bytes = (name, call, right, isOptional = false) => {
       for (const it of never) if (!(isOptional && it === undefined)) fails(() => call(it), TypeError, `${name} must`);
-      fails(() => call(shared(right ?? 20)), TypeError, `${name} must not be in a SharedArrayBuffer`);
+      // What an array says of its buffer, or of what it is, has no effect.
+      const lying = (value, more) => Object.defineProperty(value, more, { value: KEY.buffer });
+      for (const it of [shared(right ?? 20), lying(shared(right ?? 20), "buffer")]) {
+        fails(() => call(it), TypeError, `${name} must not be in a SharedArrayBuffer`);
+      }
+      fails(() => call(lying(inside(right ?? 20), "buffer")), TypeError, `${name} must not be in the module's memory`);
       fails(() => call(inside(right ?? 20)), TypeError, `${name} must not be in the module's memory`);
       for (const it of right === undefined ? [] : lengths.filter((it) => it !== right)) {
         fails(() => call(new Uint8Array(it)), RangeError, `${name} must have ${right} bytes`);
@@ -204,6 +221,11 @@ const parts = {
       bytes("nonce", (it) => stream(KEY, it, AAD), nonce.length);
       bytes("data", (it) => stream(KEY, nonce, it));
       number("position", (it) => stream(KEY, nonce, AAD, it), 2 ** 38);
+      // The arguments of noble, an output and a counter.
+      for (const it of [0, 1, undefined]) {
+        fails(() => stream(KEY, nonce, AAD, undefined, it), TypeError, "noble's output and counter aren't taken");
+      }
+      fails(() => stream(KEY, nonce, AAD, new Uint8Array(13)), TypeError, "position must be a whole number");
       fails(() => stream(KEY, nonce, AAD, 2 ** 38 - 12), RangeError, "position");
       is(stream(KEY, nonce, AAD, 2 ** 38 - 13).length, 13, "the end of the keystream");
       is(stream(KEY, nonce, part(0, 0), 2 ** 38).length, 0, "nothing, at the end of the keystream");
@@ -244,6 +266,7 @@ const parts = {
     }
     number("end", (it) => readRange(KEY, blob, 0, it), 2 ** 48);
     number("start", (it) => readRange(KEY, blob, it, 7), 7);
+    bytes("file", (it) => readKey(typeof it === "string" ? undefined : it));
     clean("after wrong arguments");
   },
 
@@ -371,7 +394,34 @@ const parts = {
       writeFileSync(join(ROOM, `${name}.made`), await all(sealBlob(KEY, new Blob([text]))));
     }
     const one = await all(sealBlob(KEY, new Blob([AAD])));
-    is(Buffer.compare(one, await all(sealBlob(KEY, new Blob([AAD])))) !== 0, true, "two salts");
+    // 19 random bytes: among 64 files each place has many values, and each salt has many.
+    const salts = [];
+    for (let i = 0; i < 64; i++) salts.push((await all(sealBlob(KEY, new Blob([])))).slice(13, 32));
+    for (let at = 0; at < 19; at++) is(new Set(salts.map((it) => it[at])).size > 30, true, `byte ${at} of salts`);
+    for (const it of salts) is(new Set(it).size > 8, true, `the salt ${it}`);
+    // A Blob that gives fewer bytes, or more, than it has.
+    const changed = (bytes, by) => {
+      const blob = new Blob([bytes]);
+      blob.slice = (start, end) => {
+        const slice = Blob.prototype.slice.call(blob, start, end);
+        return by < 0 ? slice.slice(0, by) : new Blob([slice, new Uint8Array(by)]);
+      };
+      return blob;
+    };
+    const words = "blob doesn't give as many bytes as its size says";
+    const long = read("200000.text");
+    for (const by of [-65535, -13, -1, 1, 16]) {
+      for (const it of [sealBlob(KEY, changed(long, by)), openBlob(KEY, changed(one, by))]) {
+        is((await failsLater(it, DOMException, words)).length <= 32, true, "what comes before it");
+      }
+    }
+    const shrinking = new Blob([long]);
+    const rest = new Blob([long.slice(0, 70000)]);
+    shrinking.slice = (...range) => {
+      Object.defineProperty(shrinking, "size", { value: rest.size, configurable: true });
+      return rest.slice(...range);
+    };
+    is((await failsLater(sealBlob(KEY, shrinking), DOMException, words)).length, 32 + 65552, "a file that shrinks");
     // A caller may zero its key at once, and cancel.
     const mine = KEY.slice();
     const stream = openBlob(mine, new Blob([one]));
@@ -382,6 +432,42 @@ const parts = {
     await cancelled.cancel();
     is((await cancelled.read()).done, true, "after cancel");
     clean("after files");
+  },
+
+  // The keys of key files, which Node's base64 makes. What `seal` refuses is refused.
+  keys() {
+    for (let i = 0; i < 30; i++) {
+      const key = part(i, 32);
+      const line = `seal-key-v1:${Buffer.from(key).toString("base64")}`;
+      same(readKey(key), key, "32 bytes");
+      for (const it of [line, `${line}\n`, `${line}\r\n`]) {
+        same(readKey(it), key, it);
+        same(readKey(Buffer.from(it)), key, it);
+      }
+      for (const end of ["\r", "\n\n", " ", "=", "A", "\n\r"]) fails(() => readKey(line + end), Error, "not a key");
+      for (const start of [" ", "\n", "\ufeff"]) {
+        fails(() => readKey(start + line), Error, "not a key");
+        fails(() => readKey(Buffer.from(start + line)), Error, "not a key");
+      }
+      for (let at = 0; at < 56; at++) {
+        fails(() => readKey(line.slice(0, at)), Error, "not a key");
+        fails(() => readKey(`${line.slice(0, at)}.${line.slice(at + 1)}`), Error, "not a key");
+      }
+      // Another form of the same bytes.
+      const letters = "ABCDEFGHIJKLMNOPQRSTUVWXYZabcdefghijklmnopqrstuvwxyz0123456789+/";
+      const last = letters.indexOf(line[54]);
+      for (let by = 1; by < 4; by++) {
+        const other = `${line.slice(0, 54)}${letters[last + by]}=`;
+        same(Buffer.from(other.slice(12), "base64"), key, "what Node reads");
+        fails(() => readKey(other), Error, "not a key");
+      }
+    }
+    for (const length of [0, 1, 31, 33, 56]) fails(() => readKey(part(0, length)), Error, "not a key");
+    fails(() => readKey("k".repeat(32)), Error, "not a key");
+    const mine = KEY.slice();
+    const read = readKey(mine);
+    mine.fill(0);
+    same(read, KEY, "a copy");
   },
 
   // Damage is told by the sentences of `seal`, behind the text of the chunks before it.
@@ -434,20 +520,21 @@ const parts = {
     await failsLater(openBlob(KEY, huge(32 + 65552 * 2 ** 32 + 1)), Error, "longer than a sealed file can be");
     const tooLong = "blob has more than 2^48 bytes, which no sealed file may have";
     await failsLater(sealBlob(KEY, huge(2 ** 48 + 1)), RangeError, tooLong);
-    // The number of a chunk, up to the last one that a file may have.
-    for (const number of [[1, 2, 3, 4], [255, 255, 255, 255]]) {
-      const last = xchacha20poly1305(KEY, new Uint8Array([...salt, ...number, 1])).encrypt(AAD);
-      const chunks = number.reduce((sum, byte) => 256 * sum + byte);
-      const far = huge(32 + 65552 * chunks + last.length);
-      far.slice = (start) => new Blob([start === 0 ? header : last]);
-      same(await all(readRange(KEY, far, 65536 * chunks, 65536 * chunks + 13)), AAD, `chunk ${number}`);
+    // Chunks with large numbers, by libsodium, each behind its number and whether it is the last.
+    const numbers = read("far");
+    for (let at = 0; at < numbers.length; at += 34) {
+      const number = Buffer.from(numbers).readUInt32BE(at);
+      const chunk = numbers.slice(at + 5, at + 34);
+      const far = huge(32 + 65552 * number + chunk.length);
+      far.slice = (start) => new Blob([start === 0 ? header : chunk]);
+      same(await all(readRange(KEY, far, 65536 * number, 65536 * number + 13)), part(7, 13), `chunk ${number}`);
     }
     clean("after damage");
   },
 };
 
-const wanted = { module: 4, openssl: 8826, libsodium: 6619, forgeries: 12400, arguments: 566, memory: 190 };
-Object.assign(wanted, { generator: 843, files: 356, damage: 135 });
+const wanted = { module: 9, openssl: 8826, libsodium: 6619, forgeries: 12400, arguments: 656, memory: 190 };
+Object.assign(wanted, { generator: 843, files: 460, keys: 4117, damage: 144 });
 assert.deepEqual(Object.keys(wanted), Object.keys(parts));
 let sum = 0;
 for (const [name, run] of Object.entries(parts)) {
