@@ -77,5 +77,5 @@ export function openBlob(key: Uint8Array, blob: Blob): ReadableStream<Uint8Array
  */
 export function readRange(key: Uint8Array, blob: Blob, start: number, end: number): ReadableStream<Uint8Array>;
 
-/** The key in a key file of `seal`: the line `seal-key-v1:` and base64, as text or as bytes, or 32 bytes, as they are. */
+/** The key of a key file of `seal`: of the line `seal-key-v1:` and base64, as text or bytes, or 32 bytes themselves. */
 export function readKey(file: string | Uint8Array): Uint8Array;

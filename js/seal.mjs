@@ -7,6 +7,9 @@ const PREFIX = "seal-key-v1:";
 let file, chacha20;
 let isWorking = true;
 let isCancelled = false;
+// The key that was made here and not saved, and the one that a file was last sealed under.
+let unsaved, sealedUnder;
+const isUnsaved = () => !!unsaved && at("key").value === unsaved;
 
 function say(words, isWrong = false) {
   at("said").textContent = words;
@@ -25,8 +28,7 @@ function offer(link, blob, name, words) {
 const lineOf = (key) => PREFIX + btoa(String.fromCharCode(...key));
 function keyOf(line) {
   try {
-    const key = Uint8Array.from(atob(line.slice(PREFIX.length)), (it) => it.charCodeAt(0));
-    return key.length === 32 && lineOf(key) === line ? key : undefined;
+    return chacha20.readKey(line);
   } catch {
     return undefined;
   }
@@ -36,19 +38,44 @@ function show() {
   for (const id of ["key", "make", "keyfile", "file"]) at(id).disabled = isWorking;
   for (const id of ["seal", "open", "part"]) at(id).disabled = isWorking || !file || !at("key").value;
   at("running").hidden = !isWorking;
+  at("keep").classList.toggle("main", isUnsaved());
+  const isNeeded = isUnsaved() && sealedUnder === unsaved;
+  at("unsaved").textContent = isNeeded ? "Save the key too: without it nobody can open what you sealed." : "";
+}
+
+// Takes back what was said and offered, which was of another key or file.
+function forget() {
+  offer(at("save"));
+  say("");
+  show();
 }
 
 function setKey(line) {
   at("key").value = line;
-  offer(at("keep"), line && new Blob([`${line}\n`]), "my.key", "Save the key");
-  show();
+  offer(at("keep"), keyOf(line) && new Blob([`${line}\n`]), "my.key", "Save the key");
+  forget();
+}
+
+// Asks before a key goes that isn't saved.
+const WARNING = "This key isn't saved. Without it nobody can open what was sealed under it. Replace it?";
+const mayReplace = () => !isUnsaved() || confirm(WARNING);
+
+// An error in the words of this page. `from` is the byte that a part begins at.
+function wordsOf(error, from) {
+  const words = (number) => number.toLocaleString("en");
+  const length = Number(error.message.match(/^end must be from 0 to (\d+)$/)?.[1]);
+  const rest = Math.max(length - from, 0);
+  if (length >= 0) return `The text has ${words(length)} bytes; from ${words(from)} on there are ${words(rest)}`;
+  // What engines say of a file that was changed or removed, and chacha20.mjs of one that they don't notice.
+  if (/^Not(Readable|Found)Error$/.test(error.name)) return "It changed since you chose it; choose it again";
+  return error.message.replace("the end from byte 0 on", "the file");
 }
 
 // Makes a new file of the parts that `start` gives for the key, and offers it. `length` is about how long it will be.
-async function work(done, name, length, start) {
-  offer(at("save"));
+async function work(done, name, length, start, from = 0) {
+  forget();
   const key = keyOf(at("key").value);
-  if (!key) return say("The key is not seal-key-v1: and 44 characters of base64.", true);
+  if (!key) return say("The key is not seal-key-v1: and 44 characters of base64.");
   [isWorking, isCancelled] = [true, false];
   at("progress").value = 0;
   say(`Working on ${file.name}.`);
@@ -67,32 +94,43 @@ async function work(done, name, length, start) {
     // Without a type a browser may add one to the name.
     offer(at("save"), new Blob(parts, { type: "application/octet-stream" }), name, `Save ${name}`);
     say(`${done} ${file.name}: ${count.toLocaleString("en")} bytes.`);
+    if (done === "Sealed") sealedUnder = at("key").value;
   } catch (error) {
-    say(`${file.name}: ${error.message}.`, true);
+    say(`${file.name}: ${wordsOf(error, from)}.`, true);
   } finally {
     isWorking = false;
     show();
   }
 }
 
-at("make").onclick = () => setKey(lineOf(crypto.getRandomValues(new Uint8Array(32))));
+at("make").onclick = () => {
+  if (!mayReplace()) return;
+  unsaved = lineOf(crypto.getRandomValues(new Uint8Array(32)));
+  setKey(unsaved);
+};
+at("key").addEventListener("beforeinput", (event) => mayReplace() || event.preventDefault());
 at("key").oninput = () => setKey(at("key").value.trim());
 at("keyfile").onchange = async ({ target }) => {
   const chosen = target.files[0];
   target.value = "";
   // One that is longer than a line is no key.
-  const bytes = new Uint8Array(await chosen.slice(0, 59).arrayBuffer());
-  const line = bytes.length === 32 ? lineOf(bytes) : new TextDecoder().decode(bytes).replace(/\r?\n$/, "");
-  if (!keyOf(line)) return say(`${chosen.name} holds no key.`, true);
-  setKey(line);
+  const key = keyOf(new Uint8Array(await chosen.slice(0, 59).arrayBuffer()));
+  if (!key) return say(`${chosen.name} holds no key.`, true);
+  if (lineOf(key) === unsaved) unsaved = undefined;
+  if (isWorking || !mayReplace()) return;
+  setKey(lineOf(key));
   say(`The key is that of ${chosen.name}.`);
 };
+at("keep").onclick = () => {
+  if (isUnsaved()) unsaved = undefined;
+  show();
+};
+addEventListener("beforeunload", (event) => isUnsaved() && event.preventDefault());
 at("file").onchange = ({ target }) => {
   file = target.files[0] ?? file;
   target.value = "";
   at("chosen").value = file ? `${file.name}, ${file.size.toLocaleString("en")} bytes` : "No file is chosen.";
-  offer(at("save"));
-  show();
+  forget();
 };
 at("seal").onclick = () => work("Sealed", `${file.name}.sealed`, file.size, (key) => chacha20.sealBlob(key, file));
 at("open").onclick = () => {
@@ -101,8 +139,13 @@ at("open").onclick = () => {
 };
 at("part").onclick = () => {
   const [start, length] = [at("start").valueAsNumber, at("length").valueAsNumber];
+  const isRight = Number.isInteger(start) && start >= 0 && Number.isInteger(length) && length >= 1;
+  forget();
+  if (!isRight) return say("A part begins at byte 0 or later, and has 1 byte or more: type two whole numbers.", true);
   const name = `${file.name.replace(/\.sealed$/, "")}.part`;
-  work("Read a part of", name, length, (key) => chacha20.readRange(key, file, start, start + length));
+  // No text is longer than 2^48 bytes.
+  const [from, end] = [start, start + length].map((it) => Math.min(it, 2 ** 48));
+  work("Read a part of", name, length, (key) => chacha20.readRange(key, file, from, end), start);
 };
 at("cancel").onclick = () => (isCancelled = true);
 

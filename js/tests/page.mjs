@@ -9,7 +9,7 @@
 
 import assert from "node:assert/strict";
 import { spawn } from "node:child_process";
-import { mkdirSync, readdirSync, readFileSync, renameSync, statSync, writeFileSync } from "node:fs";
+import { mkdirSync, readdirSync, readFileSync, renameSync, rmSync, statSync, writeFileSync } from "node:fs";
 import { createServer } from "node:http";
 import { join, resolve } from "node:path";
 import { setTimeout as sleep } from "node:timers/promises";
@@ -55,6 +55,9 @@ process.on("exit", () => chromium.kill());
 
 const waiting = new Map();
 const faults = [];
+// What the page asks, and what it's told.
+const dialogs = [];
+let accept = true;
 let text = "";
 chromium.stdio[4].setEncoding("utf8").on("data", (more) => {
   const messages = (text + more).split("\0");
@@ -64,6 +67,10 @@ chromium.stdio[4].setEncoding("utf8").on("data", (more) => {
     waiting.delete(message.id);
     if (message.method === "Runtime.exceptionThrown") faults.push(message.params.exceptionDetails);
     if (message.method === "Log.entryAdded") faults.push(message.params.entry.text);
+    if (message.method === "Page.javascriptDialogOpening") {
+      dialogs.push(message.params.type);
+      send("Page.handleJavaScriptDialog", { accept }, message.sessionId);
+    }
   }
 });
 let id = 0;
@@ -106,6 +113,7 @@ const said = (start) => until(async () => {
   const found = await words();
   return found.startsWith(start) && found;
 }, start);
+const silence = () => until(async () => (await words()) === "", "silence");
 const click = (name) => evaluate(`document.getElementById("${name}").click()`);
 const shows = (name) => evaluate(`!document.getElementById("${name}").hidden`);
 const type = (name, words) => evaluate(`{
@@ -134,15 +142,59 @@ await until(() => asked.length >= LOADED.length, "requests");
 is(asked.sort(), LOADED, "requests");
 for (const it of ["seal", "open", "part"]) is(await evaluate(`document.getElementById("${it}").disabled`), true, it);
 
-// A new key, as text and as a file.
-await click("make");
-const key = await evaluate(`document.getElementById("key").value`);
+// A new key, as text and as a file. One that isn't saved goes only after a question.
+const keyNow = () => evaluate(`document.getElementById("key").value`);
+const isFilled = () => evaluate(`document.getElementById("keep").classList.contains("main")`);
+const urges = () => evaluate(`document.getElementById("unsaved").textContent`);
+const leaves = () => evaluate(`dispatchEvent(new Event("beforeunload", { cancelable: true }))`);
+const asks = async (isAccepted, act) => {
+  [accept, dialogs.length] = [isAccepted, 0];
+  await act();
+  return dialogs.join();
+};
+const press = async (letter) => {
+  await evaluate(`document.getElementById("key").focus()`);
+  await call("Input.dispatchKeyEvent", { type: "char", text: letter });
+};
+const make = () => click("make");
+is(await leaves(), true, "leaves without a key");
+is(await asks(false, make), "", "nothing is asked without a key");
+const key = await keyNow();
 is(/^seal-key-v1:[\w+/]{43}=$/.test(key), true, "a key");
-await click("make");
-const second = await evaluate(`document.getElementById("key").value`);
+is([await isFilled(), await leaves(), await urges()], [true, false, ""], "a key that isn't saved");
+is(await asks(false, make), "confirm", "asks for another key");
+is(await asks(false, () => press("x")), "confirm", "asks for a letter");
+is(await asks(false, () => choose("keyfile", "key").then(() => until(() => dialogs.length, "a question"))), "confirm");
+is(await keyNow(), key, "the key stays");
+const reload = () => call("Page.reload").then(() => until(() => dialogs.length, "a question"));
+is(await asks(false, reload), "beforeunload", "asks before it goes");
+is(await keyNow(), key, "the page stays");
+
+// What was sealed under a key goes with it.
+await choose("file", "65537.text");
+await click("seal");
+is(await said("Sealed"), "Sealed 65537.text: 65,601 bytes.", "what was sealed");
+is(await urges(), "Save the key too: without it nobody can open what you sealed.", "urges");
+is(await shows("save"), true, "a result");
+is(await asks(true, make), "confirm", "asks for another key");
+is([await shows("save"), await words(), await urges()], [false, "", ""], "nothing of the key before");
+const second = await keyNow();
 is(key === second, false, "another key");
+await click("seal");
+await said("Sealed");
+is((await urges()) !== "" && (await shows("save")), true, "urges, and a result");
 is(await save("keep", "page.key"), "my.key", "the name of a key");
 is(readFileSync(join(ROOM, "page.key"), "latin1"), `${second}\n`, "the key's file");
+is([await isFilled(), await leaves(), await urges()], [false, true, ""], "a key that is saved");
+is(await shows("save"), true, "the result stays");
+is(await asks(false, () => press("x")), "", "nothing is asked of a key that is saved");
+is([await keyNow(), await shows("keep"), await shows("save")], [`${second}x`, false, false], "no key, and no result");
+for (const it of ["hunter2", "", key.slice(0, -1), `${key.slice(0, -2)}B=`, key.slice(12)]) {
+  await type("key", it);
+  is(await shows("keep"), false, `saves the key ${it}`);
+}
+await type("key", second);
+is([await shows("keep"), await isFilled(), await leaves()], [true, false, true], "a key that was pasted");
 
 // Seals 20 MiB, with progress.
 await choose("file", "20971520.text");
@@ -170,6 +222,11 @@ await said("The key is that of key");
 await choose("file", "20971520.sealed");
 await click("open");
 is(await said("Opened"), "Opened 20971520.sealed: 20,971,520 bytes.", "what was opened");
+await choose("file", "20971520.sealed");
+await silence();
+is(await shows("save"), false, "a result of what was chosen before");
+await click("open");
+await said("Opened");
 is(await save("save", "libsodium.opened"), "20971520", "the name of an opened file");
 await type("start", "65530");
 await type("length", "200000");
@@ -187,11 +244,20 @@ const refuse = async (act, words) => {
   is(await said(words), words, words);
   is(await shows("save"), false, `${words}: a result`);
 };
-await type("start", "20971519");
-await type("length", "2");
-await refuse(() => click("part"), "20971520.sealed: end must be from 0 to 20971520.");
-await type("start", "0.5");
-await refuse(() => click("part"), "20971520.sealed: end must be a whole number.");
+const beyond = (from, rest) => `20971520.sealed: The text has 20,971,520 bytes; from ${from} on there are ${rest}.`;
+const numbers = "A part begins at byte 0 or later, and has 1 byte or more: type two whole numbers.";
+for (const [start, length, words] of [
+  ["20971510", "11", beyond("20,971,510", "10")], ["20971520", "1", beyond("20,971,520", "0")],
+  ["30000000", "5", beyond("30,000,000", "0")], ["0", "1e300", beyond("0", "20,971,520")],
+  ["1e20", "5", beyond("100,000,000,000,000,000,000", "0")], ["0.5", "2", numbers], ["", "2", numbers],
+  ["0", "", numbers], ["-1", "2", numbers], ["0", "-2", numbers], ["0", "0", numbers], ["0", "1.5", numbers],
+]) {
+  await choose("file", "20971520.sealed");
+  await silence();
+  await type("start", start);
+  await type("length", length);
+  await refuse(() => click("part"), words);
+}
 await choose("file", "damaged.sealed");
 await refuse(() => click("open"), "damaged.sealed: bytes 131072 to 196607 are damaged.");
 await choose("file", "20971520.text");
@@ -199,6 +265,18 @@ await refuse(() => click("open"), "20971520.text: not a sealed file.");
 await type("key", second);
 await choose("file", "damaged.sealed");
 await refuse(() => click("open"), "damaged.sealed: the key is wrong, or bytes 0 to 65535 are damaged.");
+await choose("file", "1.sealed");
+await refuse(() => click("open"), "1.sealed: the key is wrong, or the file is damaged or cut.");
+// A file that changes, or goes, after it was chosen.
+const changing = join(ROOM, "changing");
+for (const change of [() => writeFileSync(changing, "longer than before"), () => rmSync(changing)]) {
+  writeFileSync(changing, "before");
+  await choose("file", "changing");
+  await silence();
+  await sleep(10);
+  change();
+  await refuse(() => click("seal"), "changing: It changed since you chose it; choose it again.");
+}
 for (const it of ["x", second.slice(0, -1), `${second}=`, second.replace("v1", "v2"), second.replace(/.=$/, "B=")]) {
   await type("key", it);
   await refuse(() => click("open"), "The key is not seal-key-v1: and 44 characters of base64.");
@@ -270,6 +348,6 @@ const messages = await blank.evaluate(`(async () => {
 is(messages, 3 * 2206, "messages of libsodium");
 count += messages;
 await send("Browser.close").catch(() => {});
-assert(count >= 6668, "fewer than 6668 comparisons");
+assert(count >= 6720, "fewer than 6720 comparisons");
 console.log(`page: ${count} comparisons, 0 wrong`);
 process.exit(0);
