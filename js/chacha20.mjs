@@ -29,6 +29,7 @@ let bytes = new Uint8Array(wasm.memory.buffer);
 const ARRAY = Object.getOwnPropertyDescriptors(Object.getPrototypeOf(Uint8Array.prototype));
 const [kindOf, bufferOf, lengthOf] = [Symbol.toStringTag, "buffer", "length"].map((name) => ARRAY[name].get);
 const copyOf = (array) => new Uint8Array(array);
+const NONE = new Uint8Array();
 
 // Demands a Uint8Array, also of another window, of `length` bytes if that is given, which no thread or call changes.
 function demand(name, value, length) {
@@ -76,7 +77,7 @@ function grow(name, length) {
   bytes = new Uint8Array(wasm.memory.buffer);
 }
 
-const aead = (encrypt_in_place, decrypt_in_place, nonceLength) => (key, nonce, aad = new Uint8Array()) => {
+const aead = (encrypt_in_place, decrypt_in_place, nonceLength) => (key, nonce, aad = NONE) => {
   // Copied, since a caller may change them before the call.
   const own = [demand("key", key, 32), demand("nonce", nonce, nonceLength), demand("aad", aad)].map(copyOf);
   const aadLength = BigInt(own[2].length);
@@ -103,7 +104,6 @@ const aead = (encrypt_in_place, decrypt_in_place, nonceLength) => (key, nonce, a
   };
 };
 
-// A cipher without a tag, by an export.
 const cipher = (xor_in_place, nonceLength) => (key, nonce, data, position = 0, ...more) => {
   if (more.length > 0) throw new TypeError("noble's output and counter aren't taken: pass position, 64 * counter");
   const parts = [demand("data", data), demand("key", key, 32), demand("nonce", nonce, nonceLength)];
