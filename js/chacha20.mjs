@@ -10,7 +10,7 @@ const wasm = await load(new URL("chacha20.wasm", import.meta.url));
 async function load(url) {
   const least = new Uint8Array([0, 97, 115, 109, 1, 0, 0, 0, 5, 3, 1, 4, 1]); // Nothing but a 64-bit memory.
   const engines = "Chrome 133, Firefox 134, Node 24, or Node 20 to 23 with --experimental-wasm-memory64";
-  if (!WebAssembly.validate(least)) throw new Error(`no 64-bit memory here, which takes ${engines}`);
+  if (!WebAssembly.validate(least)) throw new Error(`chacha20.wasm needs 64-bit memory: ${engines}`);
   const readFile = async () => (await import("node:fs/promises")).readFile(url); // Node's fetch reads no files.
   const response = url.protocol === "file:" ? { ok: true, arrayBuffer: readFile } : await fetch(url);
   if (!response.ok) throw new Error(`${url}: ${response.status} ${response.statusText}`);

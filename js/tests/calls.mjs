@@ -99,7 +99,7 @@ const parts = {
     is([...types].map((it) => it[1]).sort().join(), Object.keys(chacha).sort().join(), "types");
     // An engine without 64-bit memory, and files that aren't the module.
     WebAssembly.validate = () => false;
-    await assert.rejects(load("?old"), /^Error: no 64-bit memory here, .* Node 20 to 23 with --experimental-wasm-mem/);
+    await assert.rejects(load("?old"), /^Error: chacha20.wasm needs 64-bit memory: .* Node 20 to 23 with --exp/);
     WebAssembly.validate = validate;
     count++;
     const wasm = readFileSync(join(PACKAGE, "chacha20.wasm"));
