@@ -193,6 +193,12 @@ for (const it of ["hunter2", "", key.slice(0, -1), `${key.slice(0, -2)}B=`, key.
   await type("key", it);
   is(await shows("keep"), false, `saves the key ${it}`);
 }
+// A file with the key that was made here: somebody saved it otherwise.
+await click("make");
+writeFileSync(join(ROOM, "copied.key"), await keyNow());
+const useCopy = () => choose("keyfile", "copied.key").then(() => said("The key is that of copied.key."));
+is(await asks(false, useCopy), "", "nothing is asked of the same key");
+is([await isFilled(), await leaves()], [false, true], "a key that was saved otherwise");
 await type("key", second);
 is([await shows("keep"), await isFilled(), await leaves()], [true, false, true], "a key that was pasted");
 
@@ -348,6 +354,6 @@ const messages = await blank.evaluate(`(async () => {
 is(messages, 3 * 2206, "messages of libsodium");
 count += messages;
 await send("Browser.close").catch(() => {});
-assert(count >= 6720, "fewer than 6720 comparisons");
+assert(count >= 6722, "fewer than 6722 comparisons");
 console.log(`page: ${count} comparisons, 0 wrong`);
 process.exit(0);
