@@ -31,6 +31,7 @@ pub fn encrypt<G: RandomSource, R: Read, W: Write>(
         × IfSome (R.remaining reader.old) (λ all. all ≡ text)
         × IsSealed key.now salt text file
         × Appends (W.contents writer.old) (W.contents writer.new) file) }
+    ensures drained { OnOk result (IsAtEnd (R.remaining reader.new)) }
     ensures only_sealed { OnErr result ((salt text : List ℕ) × (n : ℕ) × (length salt ≡ 19)
         × IfSome (R.remaining reader.old) (λ all. all ≡ text)
         × Appends (W.contents writer.old) (W.contents writer.new)
@@ -84,6 +85,7 @@ pub fn decrypt<R: Read, W: Write>(
         × IfSome (R.remaining reader.old) (λ all. all ≡ file)
         × IsSealed key.now salt text file
         × Appends (W.contents writer.old) (W.contents writer.new) text) }
+    ensures drained { OnOk result (IsAtEnd (R.remaining reader.new)) }
     ensures text { (salt text file : List ℕ) → R.remaining reader.old ≡ Some file
         → IsSealed key.now salt text file
         → OnOk result (Appends (W.contents writer.old) (W.contents writer.new) text) }
