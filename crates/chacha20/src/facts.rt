@@ -1,7 +1,7 @@
 //! Facts on the named ciphers and generators, which hold by computation. A named type with a wrong number of rounds,
 //! layout, size, text or cost would break one of them.
 
-ghost use Rattle.std.specs.Prelude.{◌≡◌, ◌*◌, ℕ, List, length, take, replicate, Some, codes};
+ghost use Rattle.std.specs.Prelude.{◌≡◌, ◌*◌, ◌^◌, ℕ, List, length, take, replicate, Some, codes};
 ghost use Rattle.rand_core.specs.Steps.{stream_of};
 ghost use Rattle.rand_core.specs.Pcg32Seed.{pcg32_seed};
 ghost use Rattle.chacha_base.specs.ChaCha.{keystream, chacha_stream, start, ietf, legacy};
@@ -50,14 +50,14 @@ fn ciphers()
 
 // The length of each keystream in bytes, where calls are refused, and the sizes of nonces.
 fn limits()
-    ensures chacha8 { limit_of ⟦<ChaCha8 as Keystream>⟧.modulus ≡ 274877906944 }
-    ensures chacha12 { limit_of ⟦<ChaCha12 as Keystream>⟧.modulus ≡ 274877906944 }
-    ensures chacha20 { limit_of ⟦<ChaCha20 as Keystream>⟧.modulus ≡ 274877906944 }
+    ensures chacha8 { limit_of ⟦<ChaCha8 as Keystream>⟧.modulus ≡ 2 ^ 38 }
+    ensures chacha12 { limit_of ⟦<ChaCha12 as Keystream>⟧.modulus ≡ 2 ^ 38 }
+    ensures chacha20 { limit_of ⟦<ChaCha20 as Keystream>⟧.modulus ≡ 2 ^ 38 }
     ensures chacha20_legacy { limit_of ⟦<ChaCha20Legacy as Keystream>⟧.modulus
         ≡ 1180591620717411303424 }
-    ensures xchacha8 { limit_of ⟦<XChaCha8 as Keystream>⟧.modulus ≡ 274877906944 }
-    ensures xchacha12 { limit_of ⟦<XChaCha12 as Keystream>⟧.modulus ≡ 274877906944 }
-    ensures xchacha20 { limit_of ⟦<XChaCha20 as Keystream>⟧.modulus ≡ 274877906944 }
+    ensures xchacha8 { limit_of ⟦<XChaCha8 as Keystream>⟧.modulus ≡ 2 ^ 38 }
+    ensures xchacha12 { limit_of ⟦<XChaCha12 as Keystream>⟧.modulus ≡ 2 ^ 38 }
+    ensures xchacha20 { limit_of ⟦<XChaCha20 as Keystream>⟧.modulus ≡ 2 ^ 38 }
     ensures chacha8_nonce { ⟦<ChaCha8 as IvSizeUser>⟧.IV_SIZE ≡ 12 }
     ensures chacha12_nonce { ⟦<ChaCha12 as IvSizeUser>⟧.IV_SIZE ≡ 12 }
     ensures chacha20_nonce { ⟦<ChaCha20 as IvSizeUser>⟧.IV_SIZE ≡ 12 }

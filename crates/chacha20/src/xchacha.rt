@@ -27,7 +27,7 @@ pub type XChaCha8 = StreamCipherCoreWrapper<XChaChaCore<R8, Lanes16>>;
 pub type XChaCha12 = StreamCipherCoreWrapper<XChaChaCore<R12, Lanes16>>;
 
 /// XChaCha20 (draft-irtf-cfrg-xchacha, section 2.3), from block 0 on: ChaCha20 under the key and the nonce that
-/// `XChaChaCore` derives. It takes 274877906944 bytes for one key and nonce: 64 from each of 2^32 blocks.
+/// `XChaChaCore` derives. It takes 2^38 bytes for one key and nonce: 64 from each of 2^32 blocks.
 pub type XChaCha20 = StreamCipherCoreWrapper<XChaChaCore<R20, Lanes16>>;
 
 /// The 32 bytes that HChaCha makes from a key and 16 more bytes: for `R20` HChaCha20 (draft-irtf-cfrg-xchacha, section

@@ -4,14 +4,14 @@
 //!
 //! The contract of `encrypt` says:
 //!
-//! - `accepted`: the call returns `Ok` exactly where the message has at most 274877906944 bytes (256 GiB).
+//! - `accepted`: the call returns `Ok` exactly where the message has at most 2^38 bytes (256 GiB).
 //! - `bytes`: on `Ok` the message is what it was, each byte XORed (exclusive or) with the byte at its place in the
 //!   keystream of the key and the nonce.
 //! - `refused`: on `Err` the message is as it was.
 //!
 //! Decryption is the same call. Never use a nonce twice under one key.
 
-ghost use Rattle.std.specs.Prelude.{◌≡◌, ◌≤◌, ◌+◌, ◌↔◌, length, IsOk, OnOk, OnErr};
+ghost use Rattle.std.specs.Prelude.{◌≡◌, ◌≤◌, ◌+◌, ◌↔◌, ◌^◌, length, IsOk, OnOk, OnErr};
 ghost use Rattle.chacha20.specs.ChaCha.{chacha_stream, keystream, xor_stream, ietf, legacy};
 ghost use Rattle.chacha20.specs.Cipher.{limit_of};
 ghost use Rattle.chacha20.specs.XChaCha.{xchacha_stream};
@@ -27,7 +27,7 @@ use chacha20::{
 /// Encrypts a message by ChaCha20, as RFC 8439, section 2.4, does from block 0 on. Ten is the number of double rounds.
 /// `Err` exactly where the message is longer than the keystream; then it is as it was.
 pub fn encrypt(key: &Key, nonce: &Nonce, message: &mut [u8]) -> Result<(), StreamCipherError>
-    ensures accepted { IsOk result ↔ (length message.old ≤ 274877906944) }
+    ensures accepted { IsOk result ↔ (length message.old ≤ 2 ^ 38) }
     ensures bytes { OnOk result (message.new
         ≡ xor_stream (chacha_stream 10 ietf key.now nonce.now) 0 message.old) }
     ensures refused { OnErr result (message.new ≡ message.old) }
@@ -36,14 +36,14 @@ pub fn encrypt(key: &Key, nonce: &Nonce, message: &mut [u8]) -> Result<(), Strea
 }
 
 /// Encrypts a message from block 1 on, so from byte 64 of the keystream (RFC 8439, section 2.4.2). Protocols do so that
-/// take block 0 for something else, as AEADs do. `Err` exactly where the message is longer than the 274877906880
+/// take block 0 for something else, as AEADs do. `Err` exactly where the message is longer than the 2^38 - 64
 /// bytes that are left there; then it is as it was.
 pub fn encrypt_from_block_1(
     key: &Key,
     nonce: &Nonce,
     message: &mut [u8],
 ) -> Result<(), StreamCipherError>
-    ensures accepted { IsOk result ↔ (64 + length message.old ≤ 274877906944) }
+    ensures accepted { IsOk result ↔ (64 + length message.old ≤ 2 ^ 38) }
     ensures bytes { OnOk result (message.new
         ≡ xor_stream (chacha_stream 10 ietf key.now nonce.now) 64 message.old) }
     ensures refused { OnErr result (message.new ≡ message.old) }
@@ -75,7 +75,7 @@ pub fn encrypt_xchacha(
     nonce: &XNonce,
     message: &mut [u8],
 ) -> Result<(), StreamCipherError>
-    ensures accepted { IsOk result ↔ (length message.old ≤ 274877906944) }
+    ensures accepted { IsOk result ↔ (length message.old ≤ 2 ^ 38) }
     ensures bytes { OnOk result (message.new
         ≡ xor_stream (xchacha_stream 10 key.now nonce.now) 0 message.old) }
     ensures refused { OnErr result (message.new ≡ message.old) }
@@ -113,7 +113,7 @@ pub type ChaCha6 = StreamCipherCoreWrapper<ChaChaCore<R6, Ietf, Lanes16>>;
 
 /// Encrypts a message by `ChaCha6`. `Err` as in `encrypt`.
 pub fn encrypt_6(key: &Key, nonce: &Nonce, message: &mut [u8]) -> Result<(), StreamCipherError>
-    ensures accepted { IsOk result ↔ (length message.old ≤ 274877906944) }
+    ensures accepted { IsOk result ↔ (length message.old ≤ 2 ^ 38) }
     ensures bytes { OnOk result (message.new
         ≡ xor_stream (chacha_stream 3 ietf key.now nonce.now) 0 message.old) }
     ensures refused { OnErr result (message.new ≡ message.old) }

@@ -1,6 +1,6 @@
 //! A message that is encrypted piece by piece: in pieces of one length, or in two buffers. Wherever the message is cut,
 //! its bytes become what one call for all of them would make. A bare cipher doesn't authenticate, and a nonce serves
-//! 274877906944 bytes (256 GiB): for long or authenticated messages take `sealed_file`, chunk by chunk.
+//! 2^38 bytes (256 GiB): for long or authenticated messages take `sealed_file`, chunk by chunk.
 //!
 //! `apply_keystream` returns no `Result`, so it requires that the bytes end within the limit, the end of the keystream.
 //! A function that calls it requires the same (`fits`), or asks the cipher first, as `try_apply_in_pieces` does.

@@ -1,7 +1,7 @@
 //! Seals a message under a random key and nonce, opens it, and refuses a forged one.
 #![tactic(auto)]
 
-ghost use Rattle.std.specs.Prelude.{◌≡◌, ◌+◌, ◌≤◌, ◌↔◌, ℕ, List, [], length, IsOk, OnOk, OnErr};
+ghost use Rattle.std.specs.Prelude.{◌≡◌, ◌+◌, ◌≤◌, ◌↔◌, ◌^◌, ℕ, List, [], length, IsOk, OnOk, OnErr};
 ghost use Rattle.chacha20poly1305.specs.XChaCha.{xchacha_stream};
 ghost use Rattle.chacha20poly1305.specs.Aead.{sealed_message};
 
@@ -33,7 +33,7 @@ fn seal(
     sealed: &mut [u8],
 ) -> Result<(), Error>
     requires { length sealed.old ≡ length text.now + 16 }
-    ensures accepted { IsOk result ↔ (64 + length text.now ≤ 274877906944) }
+    ensures accepted { IsOk result ↔ (64 + length text.now ≤ 2 ^ 38) }
     ensures sealed { OnOk result (sealed.new
         ≡ sealed_message (xchacha_stream 10 cipher.now nonce.now) [] text.now) }
     ensures refused { OnErr result (sealed.new ≡ sealed.old) }
@@ -51,7 +51,7 @@ fn open(
     requires { length sealed.now ≡ length text.old + 16 }
     ensures opens { (plaintext : List ℕ)
         → sealed.now ≡ sealed_message (xchacha_stream 10 cipher.now nonce.now) [] plaintext
-        → IsOk result ↔ (64 + length plaintext ≤ 274877906944) }
+        → IsOk result ↔ (64 + length plaintext ≤ 2 ^ 38) }
     ensures text { (plaintext : List ℕ)
         → sealed.now ≡ sealed_message (xchacha_stream 10 cipher.now nonce.now) [] plaintext
         → OnOk result (text.new ≡ plaintext) }

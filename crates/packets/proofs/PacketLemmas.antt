@@ -42,8 +42,8 @@ counter-bytes xs long are =
 
 -- which bytes are a sealed text
 opens : (stream : ℕ → ℕ) (bytes : List ℕ) (n : ℕ) → length bytes ≡ n + 16
-    → ((64 + n ≤ 274877906944) × (drop n bytes ≡ poly1305_tag stream [] (take n bytes)))
-    ↔ ((text : List ℕ) × (length text ≤ 274877906880) × (bytes ≡ sealed_message stream [] text))
+    → ((64 + n ≤ 2 ^ 38) × (drop n bytes ≡ poly1305_tag stream [] (take n bytes)))
+    ↔ ((text : List ℕ) × (64 + length text ≤ 2 ^ 38) × (bytes ≡ sealed_message stream [] text))
 opens stream bytes n long = (
   λ right.
       let text = encrypted stream (take n bytes) in
@@ -97,7 +97,7 @@ begins xs is are = record {
 
 module _ (key xs : List ℕ) (n : ℕ) (long : length xs ≡ n + 32) (is : IsTransportData xs) (are : AreBytes xs) where
   -- the right tag makes a packet
-  pub accepted : ((64 + n ≤ 274877906944)
+  pub accepted : ((64 + n ≤ 2 ^ 38)
       × (drop n (drop 16 xs) ≡ poly1305_tag (stream_of key (counter_of xs)) [] (take n (drop 16 xs))))
       ↔ IsPacket key xs
   unfolding IsPacket

@@ -32,7 +32,7 @@ IsTransportData bytes = (32 ≤ length bytes) × (take 4 bytes ≡ 4 ∷ 0 ∷ 0
 -- these bytes are the packet of some text under this key, with the index and the counter in them
 unfoldable pub IsPacket : List ℕ → List ℕ → Type 0
 IsPacket key bytes =
-    (text : List ℕ) × (length text ≤ 274877906880)
+    (text : List ℕ) × (64 + length text ≤ 2 ^ 38)
     × (bytes ≡ packet_of key (index_of bytes) (counter_of bytes) text)
 
 -- a sender: its key, the index of the receiver, and the counter of its next packet

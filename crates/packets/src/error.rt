@@ -8,7 +8,7 @@ use std::fmt::{self, Display, Formatter};
 pub enum SendError {
     /// All counters below 2^64 - 1 are used: take another key.
     CountersUsedUp,
-    /// The text has more than 274877906880 bytes, the most for one nonce.
+    /// The text has more than 2^38 - 64 bytes, the most for one nonce.
     TooLong,
 }
 

@@ -1,6 +1,6 @@
 //! The side that decrypts, in any order.
 
-ghost use Rattle.std.specs.Prelude.{◌≡◌, ◌≢◌, ◌<◌, ◌≤◌, ◌+◌, ◌↔◌, ℕ, List, length, take, drop, replicate, IsOk, IfOk, IsErrOf, OnOk, OnErr};
+ghost use Rattle.std.specs.Prelude.{◌≡◌, ◌≢◌, ◌<◌, ◌≤◌, ◌+◌, ◌↔◌, ◌^◌, ℕ, List, length, take, drop, replicate, IsOk, IfOk, IsErrOf, OnOk, OnErr};
 ghost use Rattle.packets.specs.Packets.{packet_of, counter_of, IsPacket, Fits, IsOpen, taken};
 
 use crate::error::ReceiveError;
@@ -45,7 +45,7 @@ impl Receiver {
             × IsOpen self.old (counter_of packet.now) × IsPacket self.old.key packet.now) }
         // The sender's packet is accepted.
         ensures opens { (index n : ℕ) (text : List ℕ)
-            → packet.now ≡ packet_of self.old.key index n text → length text ≤ 274877906880
+            → packet.now ≡ packet_of self.old.key index n text → 64 + length text ≤ 2 ^ 38
             → Fits packet.now output.old → IsOpen self.old (counter_of packet.now) → IsOk result }
         ensures too_short { IsErrOf result ReceiveError.TooShort ↔ (length packet.now < 32) }
         ensures output_too_short { IsErrOf result ReceiveError.OutputTooShort
@@ -97,7 +97,7 @@ impl Receiver {
         ensures accepted { IsOk result ↔ IsPacket self.now.key packet.now }
         ensures opens { (index n : ℕ) (text : List ℕ)
             → packet.now ≡ packet_of self.now.key index n text
-            → IsOk result ↔ (length text ≤ 274877906880) }
+            → IsOk result ↔ (64 + length text ≤ 2 ^ 38) }
         ensures text { (index n : ℕ) (text : List ℕ)
             → packet.now ≡ packet_of self.now.key index n text → OnOk result (output.new ≡ text) }
         ensures refused { OnErr result (output.new ≡ output.old) }

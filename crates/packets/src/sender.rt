@@ -45,14 +45,14 @@ impl Sender {
     }
 
     /// Encrypts a text: writes its packet, which has 32 bytes more. Fails where the counters are used up or the text
-    /// has more than 274877906880 bytes, and then leaves all as it was.
+    /// has more than 2^38 - 64 bytes, and then leaves all as it was.
     pub fn send(&mut self, text: &[u8], packet: &mut [u8]) -> Result<(), SendError>
         requires { length packet.old ≡ length text.now + 32 }
         ensures accepted { IsOk result
-            ↔ ((self.old.next + 1 < 2 ^ 64) × (length text.now ≤ 274877906880)) }
+            ↔ ((self.old.next + 1 < 2 ^ 64) × (64 + length text.now ≤ 2 ^ 38)) }
         ensures used_up { IsErrOf result SendError.CountersUsedUp ↔ (self.old.next + 1 ≡ 2 ^ 64) }
         ensures too_long { IsErrOf result SendError.TooLong
-            ↔ ((self.old.next + 1 < 2 ^ 64) × (274877906880 < length text.now)) }
+            ↔ ((self.old.next + 1 < 2 ^ 64) × (2 ^ 38 < 64 + length text.now)) }
         ensures packet { let s = self.old in
             OnOk result (packet.new ≡ packet_of s.key s.index s.next text.now) }
         ensures counter { OnOk result (counter_of packet.new ≡ self.old.next) }

@@ -1,6 +1,6 @@
 -- What a receiver takes of a list of messages. `pull` takes one by one: its clauses `accepted`, `message` and `next`
 -- are `Taken` of a list of one.
-use Rattle.std.proofs.Common.{◌≡◌, ◌≤◌, ◌∙◌, ◌∷◌, ◌++◌, ℕ, zero, suc, List, [], length, take, arith, refl, sym, ap, ap₂, subst}
+use Rattle.std.proofs.Common.{◌≡◌, ◌≤◌, ◌∙◌, ◌∷◌, ◌++◌, ◌^◌, ◌+◌, ℕ, zero, suc, List, [], length, take, arith, refl, sym, ap, ap₂, subst}
 use Rattle.std.specs.List.{All}
 use Rattle.secretstream.specs.Stream.{State, message_of, IsMessage}
 use Rattle.secretstream.specs.Lists.{Item, Coming, after_one, sent, after_all, Taken, IsComplete, EndsOnce}
@@ -21,11 +21,11 @@ first-same s m n data_same bytes =
     (ap (λ a. message_of s a m.tag m.text) (sym data_same) ∙ bytes))
 
 -- what was sent is taken, for what it was made from
-pub sent-taken : (s : State) (ms : List Item) → All (λ (m : Item). length m.text ≤ 274877906816) ms
+pub sent-taken : (s : State) (ms : List Item) → All (λ (m : Item). 128 + length m.text ≤ 2 ^ 38) ms
     → Taken s (sent s ms) ms
 sent-taken s [] all = tt
 sent-taken s (m ∷ ms) all =
-    let rest : All (λ (m : Item). length m.text ≤ 274877906816) ms = λ k d less. all (suc k) d (omega (arith, less)) in
+    let rest : All (λ (m : Item). 128 + length m.text ≤ 2 ^ 38) ms = λ k d less. all (suc k) d (omega (arith, less)) in
     (all 0 m (omega arith), refl, refl, sent-taken (after_one s m) ms rest)
 
 -- what is taken whole is what some sender in this state sends: any other list is refused somewhere

@@ -1,5 +1,5 @@
 -- Lists of messages, from any state on.
-use Rattle.std.specs.Prelude.{◌≡◌, ◌≢◌, ◌≤◌, ◌∷◌, ℕ, List, [], length}
+use Rattle.std.specs.Prelude.{◌≡◌, ◌≢◌, ◌≤◌, ◌∷◌, ◌^◌, ◌+◌, ℕ, List, [], length}
 use Rattle.secretstream.specs.Stream.{State, message_of, after}
 use Rattle.secretstream.specs.Tags.{byte_of}
 use Rattle.secretstream.specs.declared.tag.Tag.TheVariants.{Final}
@@ -36,7 +36,7 @@ after_all s (m ∷ ms) = after_all (after_one s m) ms
 abbrev pub Taken : State → List Coming → List Item → Type 0
 Taken s [] [] = Unit {0}
 Taken s (c ∷ cs) (m ∷ ms) =
-    (length m.text ≤ 274877906816) × (c.aad ≡ m.aad) × (c.bytes ≡ message_in s m)
+    (128 + length m.text ≤ 2 ^ 38) × (c.aad ≡ m.aad) × (c.bytes ≡ message_in s m)
     × Taken (after_one s m) cs ms
 Taken s _ _ = ⊥
 

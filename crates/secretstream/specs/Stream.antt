@@ -44,7 +44,7 @@ message_of s aad tag text =
 -- these bytes are the next message of some text
 abbrev pub IsMessage : State → List ℕ → List ℕ → Type 0
 IsMessage s aad bytes =
-    (tag : ℕ) × (text : List ℕ) × (length text ≤ 274877906816) × (bytes ≡ message_of s aad tag text)
+    (tag : ℕ) × (text : List ℕ) × (128 + length text ≤ 2 ^ 38) × (bytes ≡ message_of s aad tag text)
 
 -- with another key and inner nonce, which are combined with the first 40 bytes of keystream
 abbrev pub rekeyed : State → State

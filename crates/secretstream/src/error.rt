@@ -6,7 +6,7 @@ use std::fmt::{self, Display, Formatter};
 /// Why a text isn't pushed, or a message isn't pulled. Nothing has changed then.
 #[derive(Clone, Copy, Debug, Drop, PartialEq, Eq)]
 pub enum Error {
-    /// The text has more than 274877906816 bytes: the keystream has no more from block 2 on.
+    /// The text has more than 2^38 - 128 bytes: the keystream has no more from block 2 on.
     TooLong,
     /// The bytes are not the next message of any text.
     Forged,

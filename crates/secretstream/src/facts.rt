@@ -1,7 +1,7 @@
 //! Facts on lists of messages, from any state on: a sender and a receiver stay in step, and the first wrong message is
 //! refused.
 
-ghost use Rattle.std.specs.Prelude.{◌≡◌, ◌≤◌, ◌∷◌, ◌++◌, ℕ, List, All, length, take};
+ghost use Rattle.std.specs.Prelude.{◌≡◌, ◌≤◌, ◌∷◌, ◌++◌, ◌^◌, ◌+◌, ℕ, List, All, length, take};
 ghost use Rattle.secretstream.specs.Stream.{State, IsMessage};
 ghost use Rattle.secretstream.specs.Lists.{Item, Coming, sent, after_all, Taken, IsComplete, EndsOnce};
 
@@ -9,7 +9,7 @@ ghost use Rattle.secretstream.specs.Lists.{Item, Coming, sent, after_all, Taken,
 fn lists()
     // What was sent is taken, for what it was made from.
     ensures sent { (s : State) (ms : List Item)
-        → All (λ (m : Item). length m.text ≤ 274877906816) ms → Taken s (sent s ms) ms }
+        → All (λ (m : Item). 128 + length m.text ≤ 2 ^ 38) ms → Taken s (sent s ms) ms }
     // What is taken is what a sender in this state sends. It determines the list.
     ensures taken { (s : State) (cs : List Coming) (ms : List Item)
         → Taken s cs ms → cs ≡ sent s ms }

@@ -1,6 +1,6 @@
 //! The state of a stream, which both sides have.
 
-ghost use Rattle.std.specs.Prelude.{◌≡◌, ◌↔◌, ◌≤◌, ◌<◌, ◌+◌, ◌++◌, ◌∷◌, ℕ, List, length, replicate, slice_index, IsOk, IfOk, OnOk, OnErr, IsErrOf};
+ghost use Rattle.std.specs.Prelude.{◌≡◌, ◌↔◌, ◌≤◌, ◌<◌, ◌+◌, ◌++◌, ◌∷◌, ◌^◌, ℕ, List, length, replicate, slice_index, IsOk, IfOk, OnOk, OnErr, IsErrOf};
 ghost use Rattle.std.specs.Int.{w32, to_le_bytes};
 ghost use Rattle.chacha20.specs.ChaCha.{ietf, modulus, keystream, xor_stream};
 ghost use Rattle.chacha20.specs.State.{state_block};
@@ -84,8 +84,8 @@ impl State {
     /// Writes the next message of a text, and returns the MAC's tag.
     pub fn seal(&self, aad: &[u8], tag: u8, text: &[u8], output: &mut [u8]) -> Result<Tag, Error>
         requires { length output.old ≡ length text.now + 17 }
-        ensures accepted { IsOk result ↔ (length text.now ≤ 274877906816) }
-        ensures too_long { IsErrOf result Error.TooLong ↔ (274877906816 < length text.now) }
+        ensures accepted { IsOk result ↔ (128 + length text.now ≤ 2 ^ 38) }
+        ensures too_long { IsErrOf result Error.TooLong ↔ (2 ^ 38 < 128 + length text.now) }
         ensures message { OnOk result (output.new ≡ message_of self.now aad.now tag text.now) }
         ensures mac { IfOk result (λ mac. mac ≡ mac_of self.now aad.now tag text.now) }
         ensures refused { OnErr result (output.new ≡ output.old) }
@@ -107,9 +107,9 @@ impl State {
     pub fn open(&self, aad: &[u8], bytes: &[u8], output: &mut [u8]) -> Result<(u8, Tag), Error>
         requires { length bytes.now ≡ length output.old + 17 }
         ensures accepted { IsOk result ↔ IsMessage self.now aad.now bytes.now }
-        ensures too_long { IsErrOf result Error.TooLong ↔ (274877906816 < length output.old) }
+        ensures too_long { IsErrOf result Error.TooLong ↔ (2 ^ 38 < 128 + length output.old) }
         ensures forged { IsErrOf result Error.Forged
-            ↔ ((length output.old ≤ 274877906816) × ¬ IsMessage self.now aad.now bytes.now) }
+            ↔ ((128 + length output.old ≤ 2 ^ 38) × ¬ IsMessage self.now aad.now bytes.now) }
         ensures message { IfOk result (λ r. bytes.now
             ≡ message_of self.now aad.now r.0 output.new) }
         ensures mac { IfOk result (λ r. r.1 ≡ mac_of self.now aad.now r.0 output.new) }

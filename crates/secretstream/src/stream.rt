@@ -1,6 +1,6 @@
 //! The two sides of a stream.
 
-ghost use Rattle.std.specs.Prelude.{◌≡◌, ◌↔◌, ◌≤◌, ◌<◌, ◌+◌, ℕ, List, length, IsOk, IfOk, OnOk, OnErr, IsErrOf};
+ghost use Rattle.std.specs.Prelude.{◌≡◌, ◌↔◌, ◌≤◌, ◌<◌, ◌+◌, ◌^◌, ℕ, List, length, IsOk, IfOk, OnOk, OnErr, IsErrOf};
 ghost use Rattle.secretstream.specs.Stream.{start, message_of, IsMessage, after, rekeyed};
 ghost use Rattle.secretstream.specs.Tags.{byte_of, tag_of};
 
@@ -40,7 +40,7 @@ impl PushStream {
     }
 
     /// Writes the next message of a text into an output of 17 bytes more. The MAC also covers `aad`, which isn't
-    /// written and may be empty. Fails if the text has more than 274877906816 bytes, and then leaves all as it was.
+    /// written and may be empty. Fails if the text has more than 2^38 - 128 bytes, and then leaves all as it was.
     pub fn push(
         &mut self,
         aad: &[u8],
@@ -49,8 +49,8 @@ impl PushStream {
         output: &mut [u8],
     ) -> Result<(), Error>
         requires { length output.old ≡ length text.now + 17 }
-        ensures accepted { IsOk result ↔ (length text.now ≤ 274877906816) }
-        ensures too_long { IsErrOf result Error.TooLong ↔ (274877906816 < length text.now) }
+        ensures accepted { IsOk result ↔ (128 + length text.now ≤ 2 ^ 38) }
+        ensures too_long { IsErrOf result Error.TooLong ↔ (2 ^ 38 < 128 + length text.now) }
         ensures message { OnOk result
             (output.new ≡ message_of self.old aad.now (byte_of tag) text.now) }
         ensures next { OnOk result (self.new ≡ after self.old aad.now (byte_of tag) text.now) }
@@ -95,14 +95,14 @@ impl PullStream {
     }
 
     /// Writes the text of the next message into an output of 17 bytes less, and returns its tag. Fails if the bytes are
-    /// not the next message of any text, or the text would be longer than 274877906816 bytes, and then leaves all as it
+    /// not the next message of any text, or the text would be longer than 2^38 - 128 bytes, and then leaves all as it
     /// was.
     pub fn pull(&mut self, aad: &[u8], message: &[u8], output: &mut [u8]) -> Result<Tag, Error>
         requires { length message.now ≡ length output.old + 17 }
         ensures accepted { IsOk result ↔ IsMessage self.old aad.now message.now }
-        ensures too_long { IsErrOf result Error.TooLong ↔ (274877906816 < length output.old) }
+        ensures too_long { IsErrOf result Error.TooLong ↔ (2 ^ 38 < 128 + length output.old) }
         ensures forged { IsErrOf result Error.Forged
-            ↔ ((length output.old ≤ 274877906816) × ¬ IsMessage self.old aad.now message.now) }
+            ↔ ((128 + length output.old ≤ 2 ^ 38) × ¬ IsMessage self.old aad.now message.now) }
         // What the message is: a push of this tag and this text would make it.
         ensures message { IfOk result (λ tag. message.now
             ≡ message_of self.old aad.now (byte_of tag) output.new) }
@@ -113,7 +113,7 @@ impl PullStream {
         // What a sender in the same state pushed is accepted, and both sides stay in step.
         ensures opens { (byte : ℕ) (text : List ℕ)
             → message.now ≡ message_of self.old aad.now byte text
-            → IsOk result ↔ (length text ≤ 274877906816) }
+            → IsOk result ↔ (128 + length text ≤ 2 ^ 38) }
         ensures tag { (byte : ℕ) (text : List ℕ)
             → message.now ≡ message_of self.old aad.now byte text
             → IfOk result (λ tag. byte_of tag ≡ byte) }

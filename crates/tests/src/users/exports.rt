@@ -111,8 +111,8 @@ fn subkeys() -> bool {
 
 fn checks() -> bool {
     let answers = [
-        chacha20_check(274877906944, 1),
-        chacha20_check(274877906934, 10),
+        chacha20_check(1 << 38, 1),
+        chacha20_check((1 << 38) - 10, 10),
         chacha20_check(u64::MAX, usize::MAX),
         chacha20_legacy_check(u64::MAX, 63, 1),
         chacha20_legacy_check(u64::MAX, 63, 2),

@@ -1,6 +1,6 @@
 //! The code of README and of the guide that no example has; a type of the guide is in `pieces.rt`.
 
-ghost use Rattle.std.specs.Prelude.{◌≡◌, ◌≤◌, length};
+ghost use Rattle.std.specs.Prelude.{◌≡◌, ◌≤◌, ◌^◌, length};
 
 use chacha20::cipher::{KeyIvInit, StreamCipher, StreamCipherError};
 use chacha20::{ChaCha20, Key, Nonce};
@@ -16,7 +16,7 @@ fn encrypted(key: &Key, nonce: &Nonce) -> Result<[u8; 14], StreamCipherError> {
 
 // `encrypt` for callers who prove that the message is not too long.
 fn encrypt_short(key: &Key, nonce: &Nonce, message: &mut [u8])
-    requires { length message.old ≤ 274877906944 }
+    requires { length message.old ≤ 2 ^ 38 }
 {
     ChaCha20::new(key, nonce).apply_keystream(message);
 }

@@ -1,4 +1,4 @@
-use Rattle.std.proofs.Common.{◌≤◌, ◌+◌, ◌∙◌, ℕ, length, refl, sym, ap, ap₂, arith, slice_index}
+use Rattle.std.proofs.Common.{◌≤◌, ◌+◌, ◌∙◌, ◌^◌, ℕ, length, refl, sym, ap, ap₂, arith, slice_index}
 use Rattle.std.specs.Prelude.{is_err}
 use Rattle.std.proofs.lemmas.Bool.{false≢true}
 use Rattle.chacha20.specs.ChaCha.{xor_stream}
@@ -11,7 +11,7 @@ returns-then-is_err-clause-accepted c = (
   λ no. absurd (false≢true no),
   λ sent.
       let size = length-message_of c.args.self.now c.args.aad.now sent.0 sent.1 in
-      let fits : c.begin-cipher.result.0.position + length c.split_at-2.result.0.now ≤ 274877906944 =
+      let fits : c.begin-cipher.result.0.position + length c.split_at-2.result.0.now ≤ 2 ^ 38 =
       omega (
         arith,
         sent.2,
@@ -38,7 +38,7 @@ returns-then-not-is_equal-clause-accepted c =
 
 pub returns-then-not-is_equal-clause-forged : goal.returns-then-not-is_equal-clause-forged
 returns-then-not-is_equal-clause-forged c =
-    let fits : length c.args.output.now ≤ 274877906816 =
+    let fits : 128 + length c.args.output.now ≤ 2 ^ 38 =
     omega (
       arith,
       c.check_remaining.ensures.accepted.0 c.if-is_err.ensures.negation,

@@ -1,4 +1,4 @@
-use Rattle.std.proofs.Common.{◌≡◌, ◌≤◌, ◌∙◌, [], length, arith, sym, ap}
+use Rattle.std.proofs.Common.{◌≡◌, ◌≤◌, ◌∙◌, ◌^◌, ◌+◌, [], length, arith, sym, ap}
 use Rattle.chacha20.proofs.StdLemmas.{on_ok-holds}
 use Rattle.secretstream.specs.Stream.{State, message_of, after}
 use Rattle.secretstream.specs.Tags.{byte_of}
@@ -10,7 +10,7 @@ returns-clause-accepted c =
     let text = c.args.text.now in
     let byte = byte_of c.args.tag in
     let sent = c.in_ok-push.ensures.message ∙ ap (λ (s : State). message_of s [] byte text) c.requires in
-    let short : length text ≤ 274877906816 = omega (arith, c.told-text) in
+    let short : 128 + length text ≤ 2 ^ 38 = omega (arith, c.told-text) in
     (c.pull.ensures.opens byte text sent).1 short
 
 pub returns-clause-tag : goal.returns-clause-tag
