@@ -12,7 +12,7 @@ use chacha20::Key;
 use known_answers::published::COUNTING as KEY;
 use sealed_file::Damage::{NotSealed, TooLong, WrongChunk, WrongEnd};
 use sealed_file::{BUFFER, CHUNK, Damage, RangeError, ReadAt, SealedReader};
-use std::fs::{File, OpenOptions, remove_file};
+use std::fs::{self, File};
 use std::io::{self, ErrorKind, Read, Seek, SeekFrom, Write};
 use std::test::Fail;
 
@@ -97,15 +97,23 @@ fn is_read<S: ReadAt + Drop>(text: &[u8], source: S) -> Result<bool, Fail> {
     Ok(are_parts & moves(text, &mut reader)? & (reader.text_len() == TEXT as u64))
 }
 
-// A file that has these bytes, and whose name is removed.
-fn unnamed(rt: &HostRuntime, bytes: &[u8]) -> io::Result<File> {
+// A hundred bytes of the text of the sealed file at a path.
+fn from_disk(rt: &HostRuntime, key: &Key, path: &str) -> Result<[u8; 100], Fail> {
+    let mut window = [0; 100];
+    let mut buf = [0; BUFFER];
+    let mut reader = SealedReader::new(key, fs::open(rt, path)?, &mut buf)?;
+    reader.read_exact_at(65500, &mut window)?;
+    Ok(window)
+}
+
+// Whether all of this is so of a `File` that has these bytes.
+fn is_read_from_disk(rt: &HostRuntime, text: &[u8], file: &[u8]) -> Result<bool, Fail> {
     let path = "sealed_parts.tmp";
-    let mut options = OpenOptions::new();
-    options.read(true).write(true).create(true).truncate(true);
-    let mut file = options.open(rt, path)?;
-    remove_file(rt, path)?;
-    file.write_all(bytes)?;
-    Ok(file)
+    File::create(rt, path)?.write_all(file)?;
+    let window = from_disk(rt, &KEY, path)?;
+    let source = fs::open(rt, path)?;
+    fs::remove_file(rt, path)?;
+    Ok((text.get(65500..65600) == Some(&window[..])) & is_read(text, source)?)
 }
 
 #[test]
@@ -117,7 +125,7 @@ fn parts(rt: HostRuntime) -> Result<(), Fail> {
     assert!(rt; text.get(65500..65600) == Some(&window[..]));
     assert!(rt; is_read(text, file)?);
     assert!(rt; is_read(text, &Unsteady::new(file, 1000, 0))?);
-    assert!(rt; is_read(text, unnamed(&rt, file)?)?);
+    assert!(rt; is_read_from_disk(&rt, text, file)?);
     Ok(())
 }
 
