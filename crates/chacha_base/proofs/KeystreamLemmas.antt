@@ -154,7 +154,7 @@ in_chunk size xs i some =
 -- bytes whose chunks are combined with the stream, each from its place on, in any order or at the same time
 pub xor_stream-chunks : (stream : ℕ → ℕ) (p size : ℕ) (xs ys : List ℕ) → 0 < size → length ys ≡ length xs
     → ((n : ℕ) → n * size < length xs
-        → slice_chunk ys size n ≡ xor_stream stream (p + n * size) (slice_chunk xs size n))
+    → slice_chunk ys size n ≡ xor_stream stream (p + n * size) (slice_chunk xs size n))
     → ys ≡ xor_stream stream p xs
 xor_stream-chunks stream p size xs ys some long each =
     ext_get_or 0 ys (xor_stream stream p xs) (long ∙ sym (length-xor_stream stream p xs)) (λ i less.
@@ -162,7 +162,7 @@ xor_stream-chunks stream p size xs ys some long each =
     let begun : i / size * size < length xs = omega arith in
     sym (in_chunk size ys i some)
     ∙ ap (λ part. get_or part (i % size) 0)
-      (each (i / size) begun ∙ sym (window-xor_stream stream p (i / size * size) size xs))
+    (each (i / size) begun ∙ sym (window-xor_stream stream p (i / size * size) size xs))
     ∙ in_chunk size (xor_stream stream p xs) i some)
 
 -- the first n of a stream's bytes, or of a generator's words
