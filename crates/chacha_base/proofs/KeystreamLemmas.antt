@@ -1,11 +1,9 @@
 -- Bytes combined with a stream, and bytes of a stream. The proofs of cores, the byte stream, generators and callers
 -- cite these. Read `xor_stream` and `stream_part` of `ChaCha` first.
-use Rattle.std.proofs.Common.{◌≡◌, ℕ, zero, suc, ◌+◌, ◌*◌, ◌/◌, ◌%◌, ◌<◌, ◌≤◌, List, take, drop, [], ◌∷◌, ◌++◌, length, slice_index, slice_index_or, bit_xor, replicate, arith, refl, sym, ap, ap₂, ◌∙◌, append_assoc, append-nil, take-add, Some, get_or, get_or-take, get_or-drop, length-take-le, take_at, take_all, drop_at, drop-drop}
-use Rattle.std.proofs.Math.Nat.{mod-add-mod, mod-lt, div-mul-le_self}
+use Rattle.std.proofs.Common.{◌≡◌, ℕ, zero, suc, ◌+◌, ◌*◌, ◌/◌, ◌%◌, ◌<◌, ◌≤◌, List, take, drop, [], ◌∷◌, ◌++◌, length, slice_index, slice_index_or, bit_xor, replicate, arith, refl, sym, ap, ap₂, ◌∙◌, append_assoc, append-nil, take-add, Some, get_or-take, get_or-drop, length-take-le, take_at, take_all, drop_at, drop-drop}
+use Rattle.std.proofs.Math.Nat.{mod-add-mod}
 use Rattle.std.specs.Int.Bits.{xor_assoc, xor_self, xor_zero_l, xor_zero_r}
-use Rattle.std.specs.Fork.{slice_chunk}
-use Rattle.std.proofs.lemmas.List.{get_or-replicate, length-replicate, take-replicate, drop_all, ext_get_or}
-use Rattle.std.proofs.lemmas.Nat.{div-add-mod'}
+use Rattle.std.proofs.lemmas.List.{get_or-replicate, length-replicate, take-replicate, drop_all}
 use Rattle.std.proofs.lemmas.Slice.{drop-put_mid}
 use borrow.Rule.Slice.PartMut.{put_mid}
 use Rattle.chacha_base.specs.ChaCha.{block, keystream, xor_stream, stream_part}
@@ -143,27 +141,6 @@ drop-xor_stream stream p (suc n) (x ∷ xs) =
 pub window-xor_stream : (stream : ℕ → ℕ) (p m n : ℕ) (xs : List ℕ)
     → take n (drop m (xor_stream stream p xs)) ≡ xor_stream stream (p + m) (take n (drop m xs))
 window-xor_stream stream p m n xs = rw (drop-xor_stream, take-xor_stream)
-
--- element i is in chunk i / size
-in_chunk : (size : ℕ) (xs : List ℕ) (i : ℕ) → 0 < size
-    → get_or (slice_chunk xs size (i / size)) (i % size) 0 ≡ get_or xs i 0
-in_chunk size xs i some =
-    get_or-take size _ (i % size) 0 (mod-lt i some) ∙ get_or-drop (i / size * size) xs (i % size) 0
-    ∙ ap (λ k. get_or xs k 0) (div-add-mod' i size)
-
--- bytes whose chunks are combined with the stream, each from its place on, in any order or at the same time
-pub xor_stream-chunks : (stream : ℕ → ℕ) (p size : ℕ) (xs ys : List ℕ) → 0 < size → length ys ≡ length xs
-    → ((n : ℕ) → n * size < length xs
-    → slice_chunk ys size n ≡ xor_stream stream (p + n * size) (slice_chunk xs size n))
-    → ys ≡ xor_stream stream p xs
-xor_stream-chunks stream p size xs ys some long each =
-    ext_get_or 0 ys (xor_stream stream p xs) (long ∙ sym (length-xor_stream stream p xs)) (λ i less.
-    let front : i / size * size ≤ i = div-mul-le_self i size in
-    let begun : i / size * size < length xs = omega arith in
-    sym (in_chunk size ys i some)
-    ∙ ap (λ part. get_or part (i % size) 0)
-    (each (i / size) begun ∙ sym (window-xor_stream stream p (i / size * size) size xs))
-    ∙ in_chunk size (xor_stream stream p xs) i some)
 
 -- the first n of a stream's bytes, or of a generator's words
 pub take-stream_part : (stream : ℕ → ℕ) (p n k : ℕ) → n ≤ k → take n (stream_part stream p k) ≡ stream_part stream p n
