@@ -3,6 +3,8 @@
 
 mod authenticated;
 mod contracts;
+mod dice;
+mod draws;
 mod exports;
 mod first_calls;
 mod names;

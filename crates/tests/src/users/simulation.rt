@@ -3,12 +3,10 @@
 
 use chacha20::cipher::RngBackend;
 use chacha20::{ChaChaRng, Rounds};
-use examples::simulation::{
-    below, die_at, fill_below, resume, rolls, rolls_in_two, shuffle, total, worker,
-};
+use examples::simulation::{below, fill_below, fill_in_two, number_at, resume, worker};
 
-// Eight dice of the published words.
-static DICE: [u8; 8] = [4, 1, 1, 5, 4, 2, 1, 4];
+// Eight numbers below 6, of the published words.
+static NUMBERS: [u64; 8] = [3, 0, 0, 4, 3, 1, 0, 3];
 
 // Each of these begins with a generator at its first word.
 
@@ -18,59 +16,49 @@ fn draws<R: Rounds, B: RngBackend<R>>(rng: &mut ChaChaRng<R, B>) -> bool {
     (numbers == [563, 159, 105]) & (below(rng, u64::MAX) == 0xc70d_778b_ccef_36a7)
 }
 
-fn sums<R: Rounds, B: RngBackend<R>>(rng: &mut ChaChaRng<R, B>) -> bool {
-    (total(rng, 8) == 22) & (rng.get_word_pos() == 16)
+fn draws_these<R: Rounds, B: RngBackend<R>>(
+    rng: &mut ChaChaRng<R, B>,
+    expected: &[u64; 8],
+) -> bool {
+    let mut numbers = [0; 8];
+    fill_below(rng, 6, &mut numbers);
+    numbers == *expected
 }
 
-fn shuffles<R: Rounds, B: RngBackend<R>>(rng: &mut ChaChaRng<R, B>) -> bool {
-    let mut items = *b"abcdefghi";
-    shuffle(rng, &mut items);
-    (items == *b"hgafiebdc") & (rng.get_word_pos() == 16)
-}
-
-fn rolls_these<R: Rounds, B: RngBackend<R>>(rng: &mut ChaChaRng<R, B>, expected: &[u8; 8]) -> bool {
-    let mut dice = [0; 8];
-    rolls(rng, &mut dice);
-    dice == *expected
-}
-
-fn rolls_on<R: Rounds, B: RngBackend<R>>(rng: &mut ChaChaRng<R, B>) -> bool {
+fn draws_on<R: Rounds, B: RngBackend<R>>(rng: &mut ChaChaRng<R, B>) -> bool {
     let (mut first, mut rest) = ([0; 3], [0; 5]);
-    rolls_in_two(rng, &mut first, &mut rest);
-    DICE.starts_with(&first) & DICE.ends_with(&rest)
+    fill_in_two(rng, 6, &mut first, &mut rest);
+    NUMBERS.starts_with(&first) & NUMBERS.ends_with(&rest)
 }
 
 fn each<R: Rounds, B: RngBackend<R>>(
     stream_0: &mut ChaChaRng<R, B>,
     stream_2_57: &mut ChaChaRng<R, B>,
-) -> [bool; 6] {
+) -> [bool; 4] {
     let drawn = draws(stream_0);
     stream_0.set_word_pos(0);
-    let summed = sums(stream_0);
+    let these = draws_these(stream_0, &NUMBERS);
     stream_0.set_word_pos(0);
-    let shuffled = shuffles(stream_0);
-    stream_0.set_word_pos(0);
-    let rolled = rolls_these(stream_0, &DICE);
-    stream_0.set_word_pos(0);
-    let rolled_on = rolls_on(stream_0);
-    let other = rolls_these(stream_2_57, &[2, 5, 4, 5, 6, 6, 3, 3]);
-    [drawn, summed, shuffled, rolled, rolled_on, other]
+    let drawn_on = draws_on(stream_0);
+    let other = draws_these(stream_2_57, &[1, 4, 3, 4, 5, 5, 2, 2]);
+    [drawn, these, drawn_on, other]
 }
 
 #[test]
 fn drawn(rt: HostRuntime) {
-    let drawn = each(&mut worker([0; 32], 0), &mut worker([0; 32], 1 << 57)) == [true; 6];
-    assert!(rt; drawn & ([die_at([0; 32], 0), die_at([0; 32], 7)] == [DICE[0], DICE[7]]));
+    let drawn = each(&mut worker([0; 32], 0), &mut worker([0; 32], 1 << 57)) == [true; 4];
+    let alone = [number_at([0; 32], 6, 0), number_at([0; 32], 6, 7)];
+    assert!(rt; drawn & (alone == [NUMBERS[0], NUMBERS[7]]));
 }
 
 // From the state of the seed 0 to that at word 16.
 #[test]
 fn resumed(rt: HostRuntime) {
     let mut stored = [0; 49];
-    let mut dice = [0; 8];
-    resume(&mut stored, &mut dice[..3]);
-    resume(&mut stored, &mut dice[3..]);
+    let mut numbers = [0; 8];
+    resume(&mut stored, 6, &mut numbers[..3]);
+    resume(&mut stored, 6, &mut numbers[3..]);
     let mut expected = [0; 49];
     expected[40] = 16;
-    assert!(rt; (dice == DICE) & (stored == expected));
+    assert!(rt; (numbers == NUMBERS) & (stored == expected));
 }

@@ -1,0 +1,75 @@
+//! Other draws by the toolchain's `rand`, and that the generators of its `rand_chacha` are ours.
+
+ghost use Rattle.std.specs.Prelude.{◌≡◌, IfOk, IsPermutation};
+ghost use Rattle.rand.specs.Sample.{IsSampleOf};
+
+use chacha20::cipher::RngBackend;
+use chacha20::{ChaCha12Rng, ChaCha20Rng, ChaChaRng, Rounds, Seed};
+use rand::seq::index::IndexVec;
+use rand::seq::{SliceRandom, index};
+use rand_chacha::ChaChaXRng;
+use rand_core::{Rng, SeedableRng};
+use std::alloc::{AllocError, Allocator};
+use std::test::Fail;
+
+fn shuffle<T>(rng: &mut ChaCha20Rng, items: &mut [T])
+    ensures { IsPermutation items.old items.new }
+{
+    items.shuffle(rng);
+}
+
+// Six different numbers below 49.
+fn lottery<A: Allocator + Clone>(alloc: A, rng: &mut ChaCha20Rng) -> Result<IndexVec<A>, AllocError>
+    ensures { IfOk result (IsSampleOf 49 6) }
+{
+    index::sample(alloc, rng, 49, 6)
+}
+
+// Generators of both libraries answer alike, for each number of rounds, backend, seed, stream and position.
+fn same_stream<R: Rounds, B: RngBackend<R>, const DOUBLE_ROUNDS: u32>(
+    seed: Seed,
+    stream: u64,
+    word_pos: u128,
+) -> (ChaChaRng<R, B>, ChaChaXRng<DOUBLE_ROUNDS>)
+    requires { R.COUNT ≡ DOUBLE_ROUNDS }
+    ensures { ⟦<ChaChaRng<R, B> as Rng>⟧.stream result.0
+        ≡ ⟦<ChaChaXRng<DOUBLE_ROUNDS> as Rng>⟧.stream result.1 }
+{
+    let mut ours = ChaChaRng::from_seed(seed);
+    ours.set_stream(stream);
+    ours.set_word_pos(word_pos);
+    let mut theirs = ChaChaXRng::from_seed(seed);
+    theirs.set_stream(stream);
+    theirs.set_word_pos(word_pos);
+    (ours, theirs)
+}
+
+// From the tests of the Rust crate `rand` 0.10 (`test_stdrng_construction`).
+#[test]
+fn published(rt: HostRuntime) {
+    let mut seed = [0; 32];
+    [seed[0], seed[4], seed[8], seed[9], seed[12], seed[13]] = [1, 23, 200, 1, 210, 30];
+    let mut rng = ChaCha12Rng::from_seed(seed);
+    assert_eq!(rt; rng.next_u64(), 10719222850664546238);
+    assert_eq!(rt;
+        ChaCha12Rng::from_rng(&mut rng).next_u64(),
+        14064965282130556830
+    );
+}
+
+// No clause says which sample comes of a stream.
+#[test]
+fn equal_samples(rt: HostRuntime) -> Result<(), Fail> {
+    let mut equal = 0u32;
+    for number in 0..100 {
+        let mut ours = ChaCha20Rng::seed_from_u64(number);
+        let mut theirs = rand_chacha::ChaCha20Rng::seed_from_u64(number);
+        let sample = lottery(rt.alloc(), &mut ours)?;
+        let other = index::sample(rt.alloc(), &mut theirs, 49, 6)?;
+        if sample.as_slice() == other.as_slice() {
+            equal = equal.saturating_add(6);
+        }
+    }
+    assert_eq!(rt; equal, 600);
+    Ok(())
+}
