@@ -2,7 +2,9 @@
 use Rattle.std.proofs.Common.{◌≡◌, ℕ, zero, suc, ◌+◌, ◌*◌, ◌/◌, ◌-◌, ◌%◌, ◌<◌, List, [], ◌∷◌, ◌++◌, length, take, map, slice_index, arith, refl, sym, ap, ap₂, ◌∙◌, take_all}
 use Rattle.std.proofs.Math.Seq.{get_or-append_seam, take-append-add}
 use Rattle.std.proofs.lemmas.List.{map-append, take_more_set}
+use Rattle.std.proofs.lemmas.List.Sums.{fold_push}
 use Rattle.std.specs.Prelude.{slice_set}
+use Rattle.std.specs.List.{fold}
 use Rattle.std.specs.Int.{w64, to_le_bytes}
 use Rattle.chacha_base.specs.ChaCha.{start, bytes, stream_part, legacy, mix}
 use Rattle.chacha_base.proofs.BytesLemmas.{bytes-append, length-bytes}
@@ -79,6 +81,22 @@ reads-mapped {A} {y = y} f read k g xs inside moved written answer after =
       take_more_set xs k y inside
           ∙ ap₂ (λ front z. front ++ z ∷ []) written (answer ∙ ap (λ s. f (read s).0) moved)
           ∙ sym (map-append f before.0 (next.0 ∷ [])) ∙ ap (λ (a : List A × GeneratorState). map f a.0) all,
+      after ∙ ap (λ s. (read s).1) moved ∙ ap (λ (a : List A × GeneratorState). a.1) all,
+    )
+
+-- one read more, as a loop makes it that folds its reads, such as a count or a sum: what it has folded, and the
+-- generator
+pub reads-folded : {A S : Type 0} {h i : GeneratorState} {x : A} {now : S} (step : S → A → S) (none : S)
+    (read : GeneratorState → A × GeneratorState) (k : ℕ) (g : GeneratorState) → h ≡ (repeated read k g).1
+    → now ≡ fold step none (repeated read k g).0 → x ≡ (read h).0 → i ≡ (read h).1
+    → (step now x ≡ fold step none (repeated read (k + 1) g).0) × (i ≡ (repeated read (k + 1) g).1)
+reads-folded {A} {x = x} step none read k g moved folded answer after =
+    let before = repeated read k g in
+    let next = read before.1 in
+    let all : (before.0 ++ next.0 ∷ [], next.1) ≡ repeated read (k + 1) g = reads-more read k g refl refl in (
+      ap₂ step folded (answer ∙ ap (λ s. (read s).0) moved)
+          ∙ sym (fold_push step none before.0 next.0)
+          ∙ ap (λ (a : List A × GeneratorState). fold step none a.0) all,
       after ∙ ap (λ s. (read s).1) moved ∙ ap (λ (a : List A × GeneratorState). a.1) all,
     )
 

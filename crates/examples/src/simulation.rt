@@ -1,14 +1,15 @@
-//! Draws that can be repeated, of exactly one word each: numbers below a bound, and one without those before it; a
-//! generator for each worker; and a run that is stored in 49 bytes and resumed later (this crate). Dice, shuffles and
-//! samples are in the toolchain's `rand`, which takes some of its numbers from two words.
+//! Draws that can be repeated, of exactly one word each: numbers below a bound, one without those before it, and the
+//! sum of dice; a generator for each worker; and a run that is stored in 49 bytes and resumed later (this crate). Dice,
+//! shuffles and samples are in the toolchain's `rand`, which takes some of its numbers from two words.
 //!
 //! `rng.old` and `rng.new` are the generator before and after the call. `next_u64 n g` is a pair: the next word of 64
 //! bits of the generator g, which makes n double rounds, and the generator after it. `repeated (next_u64 n) k g` is the
 //! pair of the list of the next k words and the generator after them. `.0` and `.1` are the two parts of a pair. So
 //! each contract says which words a function reads and what it makes of them: the same seed gives the same run.
 
-ghost use Rattle.std.specs.Prelude.{◌≡◌, ℕ, ◌<◌, ◌+◌, ◌*◌, ◌/◌, ◌^◌, ◌++◌, length, slice_index, map, All};
+ghost use Rattle.std.specs.Prelude.{◌≡◌, ℕ, ◌<◌, ◌≤◌, ◌+◌, ◌*◌, ◌/◌, ◌^◌, ◌++◌, length, slice_index, map, All};
 ghost use Rattle.std.specs.Int.{w64, to_le_bytes};
+ghost use Rattle.std.specs.List.{sum_by};
 ghost use Rattle.chacha20.specs.Generator.{next_u64, repeated, of_seed, of_state_bytes};
 
 use chacha20::cipher::RngBackend;
@@ -42,6 +43,20 @@ pub fn fill_below<R: Rounds, B: RngBackend<R>>(
     'each: for i in 0..numbers.len() {
         numbers[i] = below(rng, bound);
     }
+}
+
+/// Rolls so many dice by `below`, and returns their sum.
+pub fn total<R: Rounds, B: RngBackend<R>>(rng: &mut ChaChaRng<R, B>, count: u32) -> u64
+    ensures most { result ≤ 6 * count }
+    ensures value { result ≡ sum_by (λ word. word * 6 / 2 ^ 64 + 1)
+        (repeated (next_u64 R.COUNT) count rng.old).0 }
+    ensures moved { rng.new ≡ (repeated (next_u64 R.COUNT) count rng.old).1 }
+{
+    let mut sum = 0;
+    'each: for i in 0..count {
+        sum += below(rng, 6) + 1;
+    }
+    sum
 }
 
 /// The number at this index, counted from 0, that a seed's generator draws below a bound, without those before it. `m`

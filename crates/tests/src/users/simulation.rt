@@ -3,7 +3,7 @@
 
 use chacha20::cipher::RngBackend;
 use chacha20::{ChaChaRng, Rounds};
-use examples::simulation::{below, fill_below, fill_in_two, number_at, resume, worker};
+use examples::simulation::{below, fill_below, fill_in_two, number_at, resume, total, worker};
 
 // Eight numbers below 6, of the published words.
 static NUMBERS: [u64; 8] = [3, 0, 0, 4, 3, 1, 0, 3];
@@ -48,7 +48,8 @@ fn each<R: Rounds, B: RngBackend<R>>(
 fn drawn(rt: HostRuntime) {
     let drawn = each(&mut worker([0; 32], 0), &mut worker([0; 32], 1 << 57)) == [true; 4];
     let alone = [number_at([0; 32], 6, 0), number_at([0; 32], 6, 7)];
-    assert!(rt; drawn & (alone == [NUMBERS[0], NUMBERS[7]]));
+    let sum = total(&mut worker([0; 32], 0), 8);
+    assert!(rt; drawn & (alone == [NUMBERS[0], NUMBERS[7]]) & (sum == 14 + 8));
 }
 
 // From the state of the seed 0 to that at word 16.
