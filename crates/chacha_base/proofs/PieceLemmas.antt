@@ -1,10 +1,14 @@
 -- Bytes that are written or combined piece by piece. The loops of the byte stream cite these, and so may loops of
 -- callers, as that of `apply_in_pieces`. Read `KeystreamLemmas` first.
-use Rattle.std.proofs.Common.{◌≡◌, ℕ, min, ◌+◌, ◌-◌, ◌≤◌, List, ◌++◌, length, take, drop, arith, sym, ap, ap₂, ◌∙◌, take-add, drop-drop, length-take-le}
+use Rattle.std.proofs.Common.{◌≡◌, ℕ, min, ◌+◌, ◌-◌, ◌*◌, ◌/◌, ◌%◌, ◌<◌, ◌≤◌, List, ◌++◌, length, get_or, take, drop, arith, sym, ap, ap₂, ◌∙◌, take-add, drop-drop, length-take-le, get_or-take, get_or-drop}
+use Rattle.std.proofs.Math.Nat.{mod-lt, div-mul-le_self}
+use Rattle.std.specs.Fork.{slice_chunk}
+use Rattle.std.proofs.lemmas.List.{ext_get_or}
+use Rattle.std.proofs.lemmas.Nat.{div-add-mod'}
 use Rattle.std.proofs.lemmas.Slice.{take-put_mid, drop-put_mid}
 use borrow.Rule.Slice.PartMut.{put_mid}
 use Rattle.chacha_base.proofs.ListLemmas.{part_long}
-use Rattle.chacha_base.proofs.KeystreamLemmas.{xor_stream-append, stream_part-add}
+use Rattle.chacha_base.proofs.KeystreamLemmas.{xor_stream-append, length-xor_stream, window-xor_stream, stream_part-add}
 use Rattle.chacha_base.specs.ChaCha.{xor_stream, stream_part}
 
 -- n bytes more of a stream, written behind those before them
@@ -42,3 +46,22 @@ pub piece-long : {X : Type 0} (done n : ℕ) (xs : List X) → done + n ≤ leng
     → length (take (done + n - done) (drop done xs)) ≡ n
 piece-long done n xs inside =
     let wide : done + n - done ≡ n = omega arith in part_long done (done + n - done) xs (omega arith) ∙ wide
+
+-- element i of a list is in chunk i / size
+in_chunk : (size : ℕ) (xs : List ℕ) (i : ℕ) → 0 < size
+    → get_or (slice_chunk xs size (i / size)) (i % size) 0 ≡ get_or xs i 0
+in_chunk size xs i some =
+    get_or-take size _ (i % size) 0 (mod-lt i some) ∙ get_or-drop (i / size * size) xs (i % size) 0
+    ∙ ap (λ k. get_or xs k 0) (div-add-mod' i size)
+
+-- chunks that are combined with a stream, each from its place on, in any order or by several threads
+pub xor_stream-chunks : (stream : ℕ → ℕ) (p size : ℕ) (xs ys : List ℕ) → 0 < size → length ys ≡ length xs
+    → ((n : ℕ) → n * size < length xs
+    → slice_chunk ys size n ≡ xor_stream stream (p + n * size) (slice_chunk xs size n))
+    → ys ≡ xor_stream stream p xs
+xor_stream-chunks stream p size xs ys some long each =
+    let whole = xor_stream stream p xs in
+    ext_get_or 0 ys whole (long ∙ sym (length-xor_stream stream p xs)) (λ i inside.
+    let front : i / size * size ≤ i = div-mul-le_self i size in
+    let same = each (i / size) (omega arith) ∙ sym (window-xor_stream stream p (i / size * size) size xs) in
+    sym (in_chunk size ys i some) ∙ ap (λ part. get_or part (i % size) 0) same ∙ in_chunk size whole i some)

@@ -69,6 +69,7 @@ pub fn rolls<R: Rounds, B: RngBackend<R>>(rng: &mut ChaChaRng<R, B>, dice: &mut 
 
 /// Rolls so many dice, and returns their sum.
 pub fn total<R: Rounds, B: RngBackend<R>>(rng: &mut ChaChaRng<R, B>, count: u32) -> u64
+    ensures most { result ≤ 6 * count }
     ensures value { result ≡ sum_by (λ word. word * 6 / 2 ^ 64 + 1)
         (repeated (next_u64 R.COUNT) count rng.old).0 }
     ensures moved { rng.new ≡ (repeated (next_u64 R.COUNT) count rng.old).1 }

@@ -6,6 +6,7 @@ mod contracts;
 mod exports;
 mod first_calls;
 mod names;
+mod parallel;
 mod readme;
 mod sealed_files;
 mod sealed_parts;
