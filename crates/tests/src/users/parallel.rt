@@ -1,7 +1,7 @@
 //! `par_apply` of GUIDE, "Use every processor", over whatever has the contract of rayon's `par_chunks_mut_for_each`: no
 //! program of this repository starts threads.
 
-ghost use Rattle.std.specs.Prelude.{◌≡◌, ◌+◌, ◌≤◌, ◌<◌, ◌↔◌, length, IsOk, OnOk, OnErr};
+ghost use Rattle.std.specs.Prelude.{◌≡◌, ◌+◌, ◌≤◌, ◌<◌, ◌↔◌, ◌^◌, length, IsOk, OnOk, OnErr};
 ghost use Rattle.std.specs.Fork.{AcceptsChunksMut, ChangesChunks};
 ghost use Rattle.chacha20.specs.ChaCha.{chacha_stream, xor_stream, ietf};
 
@@ -21,7 +21,7 @@ fn par_apply<R: Chunks>(
     nonce: &Nonce,
     message: &mut [u8],
 ) -> Result<(), StreamCipherError>
-    ensures accepted { IsOk result ↔ (length message.old ≤ 274877906944) }
+    ensures accepted { IsOk result ↔ (length message.old ≤ 2 ^ 38) }
     ensures bytes { OnOk result (message.new
         ≡ xor_stream (chacha_stream 10 ietf key.now nonce.now) 0 message.old) }
     ensures refused { OnErr result (message.new ≡ message.old) }
@@ -31,7 +31,7 @@ fn par_apply<R: Chunks>(
         message,
         0x100000,
         |start: usize, part: &mut [u8]|
-            requires { start + length part.old ≤ 274877906944 }
+            requires { start + length part.old ≤ 2 ^ 38 }
             ensures { part.new
                 ≡ xor_stream (chacha_stream 10 ietf key.entry.now nonce.entry.now) start part.old }
         {
