@@ -81,8 +81,8 @@ impl Poly1305 {
         self.filled = tail.len();
     }
 
-    /// Takes the next piece of a text that so far has whole blocks of 16 bytes, and then zeros up to a multiple of 16, as
-    /// an AEAD pads each of its two parts (RFC 8439, section 2.8).
+    /// Takes the next piece of a text that so far has whole blocks of 16 bytes, and then zeros up to a multiple of 16,
+    /// as an AEAD pads each of its two parts (RFC 8439, section 2.8).
     #[inline(always)]
     pub fn update_padded(&mut self, piece: &[u8])
         requires { self.old.rest ≡ [] }
