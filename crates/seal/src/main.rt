@@ -18,20 +18,34 @@ use std::io::{IsTerminal, Read, Write};
 use std::process::ExitCode;
 use std::{env, fs, io};
 
+// What a sentence calls the words of the call.
+const CALL: &str = "the call";
+
 fn main(rt: HostRuntime) -> io::Result<ExitCode> {
-    let words: Vec<String> = env::args(&rt)?.collect(rt.alloc())?;
-    let command = calls::command(rt.alloc())?;
-    let (done, status) = match command.try_get_matches_from(words.as_slice()) {
-        Ok(matches) => (run(&rt, &matches), 0),
-        Err(answer) => {
-            let printed = written(&rt, OUTPUT, answer.print(&rt));
-            (printed, answer.exit_code() as u8)
-        }
-    };
-    match done {
-        Ok(()) => Ok(ExitCode::from(status)),
+    match answer(&rt) {
+        Ok(status) => Ok(ExitCode::from(status)),
         Err(Failed) => Ok(ExitCode::FAILURE),
     }
+}
+
+// Does what the words of the call ask for, and returns the status.
+fn answer(rt: &HostRuntime) -> Result<u8, Failed> {
+    let words = read(rt, CALL, words_of(rt))?;
+    let command = read(rt, CALL, calls::command(rt.alloc()))?;
+    match command.try_get_matches_from(words.as_slice()) {
+        Ok(matches) => {
+            run(rt, &matches)?;
+            Ok(0)
+        }
+        Err(told) => {
+            written(rt, OUTPUT, told.print(rt))?;
+            Ok(told.exit_code() as u8)
+        }
+    }
+}
+
+fn words_of(rt: &HostRuntime) -> io::Result<Vec<String>> {
+    Ok(env::args(rt)?.collect(rt.alloc())?)
 }
 
 fn run(rt: &HostRuntime, matches: &ArgMatches<'_>) -> Result<(), Failed> {

@@ -9,34 +9,36 @@ use Rattle.base64.proofs.EngineFacts.{decode_of-encode_of}
 use Rattle.base64.proofs.RoundTrip.{length-encode_symbols}
 use Rattle.sealed_file.specs.KeyFile.{key_text}
 
-pub decodes : (key text : List ℕ) → IsBytes key → text ≡ encode_of standard key → decode_of standard text ≡ Ok key
+pub decodes : (key text : List ℕ) → IsBytes key → text ≡ encode_of standard key
+    → decode_of standard text ≡ Ok key
 decodes key text bytes e = rw e (decode_of-encode_of standard key refl bytes)
-
-pub length-encoded : (key : List ℕ) → length key ≡ 32 → length (encode_of standard key) ≡ 44
-length-encoded key size =
-    let symbols = length-encode_symbols standard.encode_table key in
-    rw (length-append (encode_symbols standard.encode_table key), symbols, size) refl
 
 -- A file of a key's text has 44 characters after the prefix, and then the end of its line.
 pub parts : (key end file : List ℕ) → length key ≡ 32 → file ≡ key_text key ++ end
-    → (length file ≡ 56 + length end) × (take 44 (drop 12 file) ≡ encode_of standard key) × (drop 44 (drop 12 file) ≡ end)
+    → (length file ≡ 56 + length end) × (take 44 (drop 12 file) ≡ encode_of standard key)
+    × (drop 44 (drop 12 file) ≡ end)
 parts key end file size e =
-    let after : drop 12 file ≡ encode_of standard key ++ end = rw (e, append_assoc (codes "seal-key-v1:") (encode_of standard key) end) refl in
-    let long = length-encoded key size in (
-      omega (arith, ap length e, length-append (key_text key) end, length-append (codes "seal-key-v1:") (encode_of standard key), long),
-      rw after (take_at (encode_of standard key) end 44 long),
-      rw after (drop_at (encode_of standard key) end 44 long),
+    let text = encode_of standard key in
+    let after : drop 12 file ≡ text ++ end = rw (e, append_assoc (codes "seal-key-v1:") text end) refl in
+    let symbols = length-encode_symbols standard.encode_table key in
+    let long : length text ≡ 44 =
+    rw (length-append (encode_symbols standard.encode_table key), symbols, size) refl in (
+      omega (arith, ap length e, length-append (key_text key) end, length-append (codes "seal-key-v1:") text, long),
+      rw after (take_at text end 44 long),
+      rw after (drop_at text end 44 long),
     )
 
-pub if_some-map : {T : Type 0} (o : Option T) (P Q : T → Type 0) → ((x : T) → P x → Q x) → IfSome o P → IfSome o Q
-if_some-map None P Q step all = tt
-if_some-map (Some x) P Q step all = step x all
-
 -- A prefix, a key's characters and the rest make a file of the key's text.
-pub joined : (file key : List ℕ) → take 12 file ≡ codes "seal-key-v1:" → take 44 (drop 12 file) ≡ encode_of standard key
+pub joined : (file key : List ℕ) → take 12 file ≡ codes "seal-key-v1:"
+    → take 44 (drop 12 file) ≡ encode_of standard key
     → file ≡ key_text key ++ drop 44 (drop 12 file)
 joined file key prefix text =
-    let end = drop 44 (drop 12 file) in
-    let rest = sym (take-append-drop 44 (drop 12 file)) ∙ ap (λ (t : List ℕ). t ++ end) text in
-    sym (take-append-drop 12 file) ∙ ap (λ (p : List ℕ). p ++ drop 12 file) prefix
-    ∙ ap (λ (r : List ℕ). codes "seal-key-v1:" ++ r) rest ∙ sym (append_assoc (codes "seal-key-v1:") (encode_of standard key) end)
+    let rest = drop 12 file in
+    let front : take 12 file ++ take 44 rest ≡ key_text key = rw (prefix, text) refl in
+    sym (take-append-drop 12 file) ∙ ap (λ (r : List ℕ). take 12 file ++ r) (sym (take-append-drop 44 rest))
+    ∙ sym (append_assoc (take 12 file) (take 44 rest) (drop 44 rest)) ∙ ap (λ (f : List ℕ). f ++ drop 44 rest) front
+
+pub if_some-map : {T : Type 0} (o : Option T) (P Q : T → Type 0) → ((x : T) → P x → Q x)
+    → IfSome o P → IfSome o Q
+if_some-map None P Q step all = tt
+if_some-map (Some x) P Q step all = step x all

@@ -25,8 +25,9 @@ pub fn line_of(key: &Key) -> [u8; LINE]
 
 /// The key in a file: its 32 bytes, or those of its line, which may end with `\n`, `\r\n` or neither.
 pub fn key_of(file: &[u8]) -> Option<Key>
-    ensures reads { (key : List ℕ) → IsBytes key → length key ≡ 32
-        → IsKeyFile key file.now → result ≡ Some key }
+    ensures bytes { length file.now ≡ 32 → result ≡ Some file.now }
+    ensures line { (key end : List ℕ) → IsBytes key → length key ≡ 32 → IsLineEnd end
+        → file.now ≡ key_text key ++ end → result ≡ Some key }
     ensures only { IfSome result (λ key. IsKeyFile key file.now) }
 {
     if file.len() == 32 {

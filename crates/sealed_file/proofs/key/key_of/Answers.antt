@@ -1,32 +1,28 @@
-use Rattle.std.proofs.Common.{length, take, drop, arith, inl, inr, refl, ap, ◌∙◌, sym, subst, codes}
+use Rattle.std.proofs.Common.{take, arith, inr, refl, codes}
 use Rattle.std.proofs.lemmas.Slice.Eq.{bytes_eq-Decides}
-use Rattle.sealed_file.specs.KeyFile.{IsLineEnd}
 use Rattle.sealed_file.proofs.KeyLemmas.{parts, joined, if_some-map}
 use Rattle.sealed_file.proofs.key.key_of.Goals as goal
 
-pub returns-then-file-eq32-clause-reads : goal.returns-then-file-eq32-clause-reads
-returns-then-file-eq32-clause-reads c key bytes size is = elim is [
-  | inl same ↦ rw (c.copy_from_slice.ensures.after, same) refl
-  | inr text ↦
-      let long = (parts key text.0 c.args.file.now size text.2).0 in
-      absurd (omega (arith, long))
-]
+pub returns-then-file-eq32-clause-line : goal.returns-then-file-eq32-clause-line
+returns-then-file-eq32-clause-line c key end bytes size ends e =
+    let long = (parts key end c.args.file.now size e).0 in
+    absurd (omega (arith, long))
 
-pub returns-in_err-text-clause-reads : goal.returns-in_err-text-clause-reads
-returns-in_err-text-clause-reads c key bytes size is = elim is [
-  | inl same ↦ absurd (c.if-file-eq32.false (ap length same ∙ size))
-  | inr text ↦
-      let long = (parts key text.0 c.args.file.now size text.2).0 in
-      absurd (omega (arith, long, c.in_err-text.ensures.cases, c.in_ok-strip_prefix.ensures.cases.2))
-]
+pub returns-in_err-text-clause-line : goal.returns-in_err-text-clause-line
+returns-in_err-text-clause-line c key end bytes size ends e =
+    let long = (parts key end c.args.file.now size e).0 in
+    absurd (omega (arith, long, c.in_err-text.ensures.cases, c.in_ok-strip_prefix.ensures.cases.2))
 
-pub returns-then-is_line_end-clause-reads : goal.returns-then-is_line_end-clause-reads
-returns-then-is_line_end-clause-reads c key bytes size is = elim is [
-  | inl same ↦ absurd (c.if-file-eq32.false (ap length same ∙ size))
-  | inr text ↦
-      let p = parts key text.0 c.args.file.now size text.2 in
-      c.decoded.ensures.reads key bytes size (c.in_ok-text.ensures.cases.1 ∙ ap (take 44) c.in_ok-strip_prefix.ensures.cases.1 ∙ p.1)
-]
+pub returns-then-is_line_end-clause-line : goal.returns-then-is_line_end-clause-line
+returns-then-is_line_end-clause-line c key end bytes size ends e =
+    let split = rw c.in_ok-strip_prefix.ensures.cases.1 at c.in_ok-text.ensures.cases in
+    c.decoded.ensures.reads key bytes size (rw split.1 (parts key end c.args.file.now size e).1)
+
+pub returns-else-is_line_end-clause-line : goal.returns-else-is_line_end-clause-line
+returns-else-is_line_end-clause-line c key end bytes size ends e =
+    let split = rw c.in_ok-strip_prefix.ensures.cases.1 at c.in_ok-text.ensures.cases in
+    let bad = c.if-is_line_end.ensures.1 (rw (split.2, (parts key end c.args.file.now size e).2) ends) in
+    cc bad
 
 pub returns-then-is_line_end-clause-only : goal.returns-then-is_line_end-clause-only
 returns-then-is_line_end-clause-only c =
@@ -38,13 +34,3 @@ returns-then-is_line_end-clause-only c =
       c.if-is_line_end.ensures.0 refl,
       rw split.2 (joined c.args.file.now key prefix (rw split.1 at text)),
     )) c.decoded.ensures.only
-
-pub returns-else-is_line_end-clause-reads : goal.returns-else-is_line_end-clause-reads
-returns-else-is_line_end-clause-reads c key bytes size is = elim is [
-  | inl same ↦ absurd (c.if-file-eq32.false (ap length same ∙ size))
-  | inr text ↦
-      let p = parts key text.0 c.args.file.now size text.2 in
-      let end = c.in_ok-text.ensures.cases.2 ∙ ap (drop 44) c.in_ok-strip_prefix.ensures.cases.1 ∙ p.2 in
-      let bad = c.if-is_line_end.ensures.1 (subst IsLineEnd (sym end) text.1) in
-      cc bad
-]
