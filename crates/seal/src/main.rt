@@ -84,8 +84,7 @@ fn transform(
     to: &str,
 ) -> Result<(), Failed> {
     if encrypts && to == STANDARD && rt.stdout().is_terminal() {
-        let after =
-            " is a terminal, which can't show what is encrypted; name a file, or give it a pipe";
+        let after = " is a terminal, which can't show a sealed file: name a file, or use a pipe";
         return Err(fail(rt, "", OUTPUT, after));
     }
     // Before a file is made, which would take the place of a standard error that is closed.
