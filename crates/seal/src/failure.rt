@@ -20,23 +20,6 @@ pub fn fail_at<E: Display>(rt: &HostRuntime, what: &str, path: &str, cause: &E) 
     Failed
 }
 
-/// The words aren't those of a call: says so of one word, and where to read more.
-pub fn usage(rt: &HostRuntime, before: &str, word: &str, after: &str) -> Failed {
-    let _ = eprintln!(rt; "seal: {before}{word}{after}; see seal --help");
-    Failed
-}
-
-/// A call has too few words, or too many. `names` are those that it needs.
-pub fn miscounted(rt: &HostRuntime, call: &str, names: &[&str], words: &[String]) -> Failed {
-    if let Some(name) = names.get(words.len()) {
-        return usage(rt, call, " lacks ", name);
-    }
-    match words {
-        [.., word] => usage(rt, call, " has a word too many: ", word.as_str()),
-        [] => Failed,
-    }
-}
-
 /// What a read of a file gave.
 pub fn read<T, E: Display + Drop>(
     rt: &HostRuntime,

@@ -1,127 +1,116 @@
 //! Encrypts files so that a change within one is noticed. README.md has the calls and the format.
 #![tactic(auto)]
 
+mod calls;
 mod failure;
 mod files;
-mod key;
-mod pages;
 mod progress;
 
+use calls::text;
 use chacha20::Key;
-use failure::{Failed, decrypted, encrypted, miscounted, part, read, usage, written};
+use clap::ArgMatches;
+use failure::{Failed, decrypted, encrypted, fail, part, read, written};
 use files::{INPUT, OUTPUT, STANDARD, name_of};
 use progress::Progress;
-use sealed_file::{BUFFER, RangeError, ReadError, SealedReader, stream};
+use sealed_file::{BUFFER, RangeError, ReadError, SealedReader, stream, text_len};
 use std::fs::File;
-use std::io::{Read, Write};
+use std::io::{IsTerminal, Read, Write};
 use std::process::ExitCode;
 use std::{env, fs, io};
 
-// The words of the calls.
-const KEY: [&str; 1] = ["KEYFILE"];
-
-const TRANSFORM: [&str; 3] = ["KEYFILE", "IN", "OUT"];
-
-const CAT: [&str; 4] = ["KEYFILE", "IN", "START", "LEN"];
+// What a sentence calls the words of the call.
+const CALL: &str = "the call";
 
 fn main(rt: HostRuntime) -> io::Result<ExitCode> {
-    let words: Vec<String> = env::args(&rt)?.collect(rt.alloc())?;
-    match run(&rt, words.as_slice()) {
-        Ok(()) => Ok(ExitCode::SUCCESS),
+    match answer(&rt) {
+        Ok(status) => Ok(ExitCode::from(status)),
         Err(Failed) => Ok(ExitCode::FAILURE),
     }
 }
 
-fn run(rt: &HostRuntime, words: &[String]) -> Result<(), Failed> {
-    let [_, call, words @ ..] = words else {
-        return Err(usage(rt, "", "no call", " is given"));
-    };
-    match words {
-        [word] if word.as_str() == "--help" => return about(rt, call.as_str(), &[]),
-        _ => check_options(rt, words)?,
-    }
-    match call.as_str() {
-        "key" => new_key(rt, words),
-        "encrypt" => transform(rt, true, words),
-        "decrypt" => transform(rt, false, words),
-        "cat" => cat(rt, words),
-        call => about(rt, call, words),
-    }
-}
-
-// Fails at a word that looks like an option, `-` and a letter or another `-`. A file's name may begin with `./-`.
-fn check_options(rt: &HostRuntime, words: &[String]) -> Result<(), Failed> {
-    for word in words {
-        if let [b'-', b'-' | b'A'..=b'Z' | b'a'..=b'z', ..] = word.as_bytes() {
-            return Err(usage(rt, "", word.as_str(), " is not an option here"));
+// Does what the words of the call ask for, and returns the status.
+fn answer(rt: &HostRuntime) -> Result<u8, Failed> {
+    let words = read(rt, CALL, words_of(rt))?;
+    let command = read(rt, CALL, calls::command(rt.alloc()))?;
+    match command.try_get_matches_from(words.as_slice()) {
+        Ok(matches) => {
+            run(rt, &matches)?;
+            Ok(0)
+        }
+        Err(told) => {
+            written(rt, OUTPUT, told.print(rt))?;
+            Ok(told.exit_code() as u8)
         }
     }
-    Ok(())
 }
 
-// Prints what the program is, or what a call does.
-fn about(rt: &HostRuntime, call: &str, words: &[String]) -> Result<(), Failed> {
-    let topic = match words {
-        [topic] if call == "help" => topic.as_str(),
-        _ => call,
+fn words_of(rt: &HostRuntime) -> io::Result<Vec<String>> {
+    Ok(env::args(rt)?.collect(rt.alloc())?)
+}
+
+fn run(rt: &HostRuntime, matches: &ArgMatches<'_>) -> Result<(), Failed> {
+    // There is one: the command demands it.
+    let Some((name, call)) = matches.subcommand() else {
+        return Ok(());
     };
-    let Some(text) = pages::page(topic) else {
-        return Err(usage(rt, "", topic, " is not a call"));
-    };
-    match words {
-        [.., word] if call != "help" || words.len() > 1 => {
-            Err(usage(rt, call, " has a word too many: ", word.as_str()))
+    let (key, from, to) = (text(call, "KEYFILE"), text(call, "IN"), text(call, "OUT"));
+    match name {
+        "key" => files::new_key(rt, key),
+        "encrypt" => transform(rt, true, key, from, to),
+        "decrypt" => transform(rt, false, key, from, to),
+        "verify" => verify(rt, key, from),
+        _ => {
+            let start = call.get_one::<u64>("START").unwrap_or(0);
+            cat(rt, key, from, start, call.get_one::<u64>("LEN"))
         }
-        _ => written(rt, OUTPUT, rt.stdout().write_all(text.as_bytes())),
     }
 }
 
-fn new_key(rt: &HostRuntime, words: &[String]) -> Result<(), Failed> {
-    match words {
-        [key] => files::new_key(rt, key.as_str()),
-        _ => Err(miscounted(rt, "key", &KEY, words)),
+// Reads the key of a call, and fails before if IN is standard input and that is closed: the file that is opened next
+// would take its place.
+fn secret_of(rt: &HostRuntime, key: &str, from: &str) -> Result<Key, Failed> {
+    if from == STANDARD {
+        read(rt, INPUT, rt.stdin().read(&mut []))?;
     }
-}
-
-fn number(rt: &HostRuntime, name: &str, word: &str) -> Result<u64, Failed> {
-    match word.parse() {
-        Ok(number) => Ok(number),
-        Err(_) => Err(usage(rt, name, " is not a number of bytes below 2^64: ", word)),
-    }
+    files::read_key(rt, key)
 }
 
 // Encrypts or decrypts IN to standard output, or into a new file beside OUT that it then renames to OUT.
-fn transform(rt: &HostRuntime, encrypts: bool, words: &[String]) -> Result<(), Failed> {
-    let [key, from, to] = words else {
-        let call = if encrypts { "encrypt" } else { "decrypt" };
-        return Err(miscounted(rt, call, &TRANSFORM, words));
-    };
-    let (key, from, to) = (key.as_str(), from.as_str(), to.as_str());
-    if from == STANDARD {
-        // The file that is opened next takes the place of an input that is closed.
-        read(rt, INPUT, rt.stdin().read(&mut []))?;
+fn transform(
+    rt: &HostRuntime,
+    encrypts: bool,
+    key: &str,
+    from: &str,
+    to: &str,
+) -> Result<(), Failed> {
+    if encrypts && to == STANDARD && rt.stdout().is_terminal() {
+        let after = " is a terminal, which can't show a sealed file: name a file, or use a pipe";
+        return Err(fail(rt, "", OUTPUT, after));
     }
+    // Before a file is made, which would take the place of a standard error that is closed.
+    let secret = secret_of(rt, key, from)?;
     if to == STANDARD {
-        return write(rt, encrypts, key, from, to, &mut rt.stdout());
+        return write(rt, encrypts, &secret, from, to, &mut rt.stdout());
     }
-    files::check_target(rt, key, from, to)?;
-    let path = files::beside(rt, to)?;
-    replace(rt, encrypts, key, from, to, path.as_str())
+    let mode = files::check_target(rt, key, from, to)?;
+    replace(rt, encrypts, &secret, from, to, mode)
 }
 
 // Writes the new file and renames it to OUT. After a failure, removes it.
 fn replace(
     rt: &HostRuntime,
     encrypts: bool,
-    key: &str,
+    secret: &Key,
     from: &str,
     to: &str,
-    path: &str,
+    mode: Option<u32>,
 ) -> Result<(), Failed> {
-    let mut file = written(rt, to, File::create_new(rt, path))?;
-    let mut done = write(rt, encrypts, key, from, to, &mut file);
+    let path = files::beside(rt, to)?;
+    let path = path.as_str();
+    let mut file = written(rt, to, files::create(rt, path, mode))?;
+    let mut done = write(rt, encrypts, secret, from, to, &mut file);
     if done.is_ok() {
-        done = files::rename(rt, &file, path, to);
+        done = files::rename(rt, &file, path, to, mode);
     }
     if done.is_err() {
         let _ = fs::remove_file(rt, path);
@@ -132,40 +121,48 @@ fn replace(
 fn write<W: Write>(
     rt: &HostRuntime,
     encrypts: bool,
-    key: &str,
+    secret: &Key,
     from: &str,
     to: &str,
     writer: &mut W,
 ) -> Result<(), Failed> {
-    let secret = files::read_key(rt, key)?;
-    let mut reader = Progress::open(rt, from, to)?;
+    let mut reader = Progress::open(rt, from, to != STANDARD)?;
     let (from, to) = (name_of(from, INPUT), name_of(to, OUTPUT));
     let mut buf = [0; BUFFER];
     if encrypts {
-        let done = stream::encrypt(rt, &secret, &mut reader, writer, &mut buf);
+        let done = stream::encrypt(rt, secret, &mut reader, writer, &mut buf);
         encrypted(rt, from, to, done)
     } else {
-        let done = stream::decrypt(&secret, &mut reader, writer, &mut buf);
+        let done = stream::decrypt(secret, &mut reader, writer, &mut buf);
         decrypted(rt, from, to, done)
     }
 }
 
-// Prints a part of a file's text.
-fn cat(rt: &HostRuntime, words: &[String]) -> Result<(), Failed> {
-    let [key, from, start, len] = words else {
-        return Err(miscounted(rt, "cat", &CAT, words));
-    };
-    let start = number(rt, "START", start.as_str())?;
-    let len = number(rt, "LEN", len.as_str())?;
-    let secret = files::read_key(rt, key.as_str())?;
-    print(rt, &secret, from.as_str(), start, len)
+// Decrypts all of IN, keeps nothing of it, and prints the length of its text.
+fn verify(rt: &HostRuntime, key: &str, from: &str) -> Result<(), Failed> {
+    let secret = secret_of(rt, key, from)?;
+    let mut reader = Progress::open(rt, from, true)?;
+    let mut buf = [0; BUFFER];
+    let done = stream::decrypt(&secret, &mut reader, &mut io::sink(), &mut buf);
+    decrypted(rt, name_of(from, INPUT), "", done)?;
+    let len = text_len(reader.taken());
+    written(rt, OUTPUT, println!(rt; "{len}"))
 }
 
-fn print(rt: &HostRuntime, secret: &Key, from: &str, start: u64, len: u64) -> Result<(), Failed> {
+// Prints a part of a file's text, up to its end if there is no length.
+fn cat(
+    rt: &HostRuntime,
+    key: &str,
+    from: &str,
+    start: u64,
+    len: Option<u64>,
+) -> Result<(), Failed> {
+    let secret = files::read_key(rt, key)?;
     let mut buf = [0; BUFFER];
     let file = files::open(rt, from)?;
-    let mut reader = part(rt, from, SealedReader::new(secret, file, &mut buf))?;
-    print_part(rt, &mut reader, from, start, len)
+    let mut reader = part(rt, from, SealedReader::new(&secret, file, &mut buf))?;
+    let left = reader.text_len().saturating_sub(start);
+    print_part(rt, &mut reader, from, start, len.unwrap_or(left))
 }
 
 fn print_part(
@@ -204,7 +201,7 @@ fn check_end(
 }
 
 fn past_end(rt: &HostRuntime, from: &str, text_len: u64) -> Failed {
-    let what = "START + LEN is past the end: by its length, ";
+    let what = "the part ends past the end: by its length, ";
     let _ = eprintln!(rt; "seal: {what}{from} has {text_len} bytes of text");
     Failed
 }

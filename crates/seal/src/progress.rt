@@ -23,14 +23,14 @@ pub struct Progress<'a> {
 }
 
 impl<'a> Progress<'a> {
-    /// Opens IN. With OUT on standard output, shows nothing, since both may be the same terminal.
-    pub fn open(rt: &'a HostRuntime, from: &str, to: &str) -> Result<Progress<'a>, Failed> {
+    /// Opens IN. Where the text goes to standard output, `shows` is false, since both may be the same terminal.
+    pub fn open(rt: &'a HostRuntime, from: &str, shows: bool) -> Result<Progress<'a>, Failed> {
         if from == STANDARD {
             return Ok(Progress::new(rt, None, 0, false));
         }
         let len = read(rt, from, fs::metadata(rt, from))?.len();
         let file = files::open(rt, from)?;
-        let shows = len > 0 && to != STANDARD && rt.stderr().is_terminal();
+        let shows = shows && len > 0 && rt.stderr().is_terminal();
         Ok(Progress::new(rt, Some(file), len, shows))
     }
 
@@ -43,6 +43,11 @@ impl<'a> Progress<'a> {
             next: STEP,
             shows,
         }
+    }
+
+    /// How many bytes were read.
+    pub fn taken(&self) -> u64 {
+        self.read
     }
 
     fn count(&mut self, n: u64) {

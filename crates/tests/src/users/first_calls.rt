@@ -69,7 +69,10 @@ fn are_right(key: &Key, text: &[u8], file: &[u8], opened: &[u8]) -> bool {
     (opened == text) & (read.unwrap_or(0) == 4) & text.ends_with(&window)
 }
 
-fn in_memory(rt: &HostRuntime, key: &Key, text: &[u8]) -> Result<bool, Fail> {
+fn in_memory(rt: &HostRuntime, key_file: &[u8], text: &[u8]) -> Result<bool, Fail> {
+    let Some(key) = &sealed_file::key_of(key_file) else {
+        return Ok(false);
+    };
     let mut buf = [0; BUFFER];
     let mut file = Vec::new(rt.alloc());
     let mut reader = text;
@@ -82,7 +85,7 @@ fn in_memory(rt: &HostRuntime, key: &Key, text: &[u8]) -> Result<bool, Fail> {
 
 #[test]
 fn files(rt: HostRuntime) -> Result<(), Fail> {
-    assert!(rt; in_memory(&rt, &COUNTING, b"attack at dawn")?);
+    assert!(rt; in_memory(&rt, &sealed_file::line_of(&COUNTING), b"attack at dawn")?);
     Ok(())
 }
 
