@@ -73,11 +73,9 @@ int find_sodium(struct other *found) {
     }
     printf("found: libsodium %s\n", version());
     *found = (struct other){
-        .name = "libsodium",
+        .name = "libsodium", .hchacha = sodium_hchacha20, .poly1305 = sodium_poly1305,
         .xor_from_block = {[IETF] = sodium_ietf, [XCHACHA] = sodium_xchacha, [LEGACY] = sodium_legacy},
-        .hchacha = sodium_hchacha20,
-        .encrypt = {sodium_ietf_encrypt, sodium_xchacha_encrypt},
-        .poly1305 = sodium_poly1305};
+        .encrypt = {sodium_ietf_encrypt, sodium_xchacha_encrypt}};
     return 1;
 }
 
@@ -198,11 +196,9 @@ static void plain_xchacha_encrypt(AEAD_PARAMETERS, uint8_t *tag) {
 }
 
 const struct other plain_c = {
-    .name = "plain C",
+    .name = "plain C", .hchacha = plain_hchacha, .poly1305 = plain_poly1305,
     .xor_from_block = {[IETF] = plain_ietf, [XCHACHA] = plain_xchacha, [LEGACY] = plain_legacy},
-    .hchacha = plain_hchacha,
-    .encrypt = {plain_ietf_encrypt, plain_xchacha_encrypt},
-    .poly1305 = plain_poly1305};
+    .encrypt = {plain_ietf_encrypt, plain_xchacha_encrypt}};
 
 /* The library */
 
