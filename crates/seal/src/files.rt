@@ -2,7 +2,7 @@
 
 use crate::failure::{Failed, fail, not_random, read, written};
 use chacha20::Key;
-use sealed_file::key::{LINE, key_of, line_of};
+use key_file::{LINE, key_of, line_of};
 use sealed_file::stream;
 use std::fs::{File, Metadata, OpenOptions, Permissions};
 use std::io::{ErrorKind, Write};

@@ -5,7 +5,6 @@ pub mod EncryptLemmas
 pub mod FileLemmas
 pub mod FormatVectors
 pub mod HeaderLemmas
-pub mod KeyLemmas
 pub mod ListLemmas
 pub mod NonceLemmas
 pub mod RangeLemmas

@@ -18,7 +18,6 @@
 pub mod chunk;
 pub mod error;
 pub mod file;
-pub mod key;
 pub mod places;
 pub mod reader;
 pub mod stream;
@@ -26,7 +25,6 @@ pub mod stream;
 pub use chunk::{CHUNK, Salt, TAG};
 pub use error::{Damage, DecryptError, EncryptError, IoError, RangeError, ReadError};
 pub use file::ReadAt;
-pub use key::{key_of, line_of};
 pub use places::text_len;
 pub use reader::SealedReader;
 pub use stream::{BUFFER, decrypt, encrypt};

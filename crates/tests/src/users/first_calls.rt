@@ -3,6 +3,7 @@
 use chacha20::cipher::{KeyIvInit, StreamCipher, StreamCipherError, StreamCipherSeek};
 use chacha20::{ChaCha20, ChaCha20Rng, Key, Nonce, XNonce};
 use chacha20poly1305::{ChaCha20Poly1305, Error, XChaCha20Poly1305};
+use key_file::{key_of, line_of};
 use known_answers::published::{COUNTING, KEYSTREAM, NONCE, OF_ZEROS, X_NONCE};
 use sealed_file::{BUFFER, ReadError, SealedReader};
 use std::test::Fail;
@@ -69,10 +70,7 @@ fn are_right(key: &Key, text: &[u8], file: &[u8], opened: &[u8]) -> bool {
     (opened == text) & (read.unwrap_or(0) == 4) & text.ends_with(&window)
 }
 
-fn in_memory(rt: &HostRuntime, key_file: &[u8], text: &[u8]) -> Result<bool, Fail> {
-    let Some(key) = &sealed_file::key_of(key_file) else {
-        return Ok(false);
-    };
+fn in_memory(rt: &HostRuntime, key: &Key, text: &[u8]) -> Result<bool, Fail> {
     let mut buf = [0; BUFFER];
     let mut file = Vec::new(rt.alloc());
     let mut reader = text;
@@ -83,9 +81,20 @@ fn in_memory(rt: &HostRuntime, key_file: &[u8], text: &[u8]) -> Result<bool, Fai
     Ok(are_right(key, text, file.as_slice(), opened.as_slice()))
 }
 
+// The bytes from 0 to 31, as Python's `base64` writes them.
+#[test]
+fn keys(rt: HostRuntime) {
+    let file = b"seal-key-v1:AAECAwQFBgcICQoLDA0ODxAREhMUFRYXGBkaGxwdHh8=\r\n";
+    assert!(rt; line_of(&COUNTING).starts_with(&file[..56]));
+    assert!(rt;
+        [key_of(file), key_of(&COUNTING), key_of(&file[1..])]
+            == [Some(COUNTING), Some(COUNTING), None]
+    );
+}
+
 #[test]
 fn files(rt: HostRuntime) -> Result<(), Fail> {
-    assert!(rt; in_memory(&rt, &sealed_file::line_of(&COUNTING), b"attack at dawn")?);
+    assert!(rt; in_memory(&rt, &COUNTING, b"attack at dawn")?);
     Ok(())
 }
 

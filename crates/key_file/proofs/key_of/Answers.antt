@@ -1,7 +1,7 @@
 use Rattle.std.proofs.Common.{take, arith, inr, refl, codes}
 use Rattle.std.proofs.lemmas.Slice.Eq.{bytes_eq-Decides}
-use Rattle.sealed_file.proofs.KeyLemmas.{parts, joined, if_some-map}
-use Rattle.sealed_file.proofs.key.key_of.Goals as goal
+use Rattle.key_file.proofs.KeyLemmas.{parts, joined, if_some-map}
+use Rattle.key_file.proofs.key_of.Goals as goal
 
 pub returns-then-file-eq32-clause-line : goal.returns-then-file-eq32-clause-line
 returns-then-file-eq32-clause-line c key end bytes size ends e =

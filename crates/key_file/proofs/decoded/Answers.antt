@@ -2,8 +2,8 @@ use Rattle.std.proofs.Common.{◌≡◌, length, take, ap, sym, ◌∙◌, arith
 use Rattle.std.proofs.lemmas.List.{length-take}
 use Rattle.base64.specs.Engines.{standard}
 use Rattle.base64.proofs.EngineFacts.{decode_of_strict}
-use Rattle.sealed_file.proofs.KeyLemmas.{decodes}
-use Rattle.sealed_file.proofs.key.decoded.Goals as goal
+use Rattle.key_file.proofs.KeyLemmas.{decodes}
+use Rattle.key_file.proofs.decoded.Goals as goal
 
 pub returns-in_default-clause-reads : goal.returns-in_default-clause-reads
 returns-in_default-clause-reads c key bytes size e =

@@ -7,7 +7,7 @@ use Rattle.base64.specs.GeneralPurpose.{IsBytes, decode_of, encode_of}
 use Rattle.base64.specs.Rfc4648.{encode_symbols}
 use Rattle.base64.proofs.EngineFacts.{decode_of-encode_of}
 use Rattle.base64.proofs.RoundTrip.{length-encode_symbols}
-use Rattle.sealed_file.specs.KeyFile.{key_text}
+use Rattle.key_file.specs.KeyFile.{key_text}
 
 pub decodes : (key text : List ℕ) → IsBytes key → text ≡ encode_of standard key
     → decode_of standard text ≡ Ok key

@@ -1,12 +1,12 @@
-//! Keys as files: the 32 bytes themselves, or a line of text.
+//! Keys of 32 bytes as files: the bytes themselves, or a line of text, as the program `seal` writes it.
+#![tactic(auto)]
 
 ghost use Rattle.std.specs.Prelude.{◌≡◌, ◌↔◌, ◌++◌, ℕ, List, Some, [], ◌∷◌, length, IfSome, IsTrue};
 ghost use Rattle.base64.specs.Engines.{standard};
 ghost use Rattle.base64.specs.GeneralPurpose.{encode_of, IsBytes};
-ghost use Rattle.sealed_file.specs.KeyFile.{key_text, IsKeyFile, IsLineEnd};
+ghost use Rattle.key_file.specs.KeyFile.{key_text, IsKeyFile, IsLineEnd};
 
 use base64::engine::general_purpose::STANDARD;
-use chacha20::Key;
 
 /// The bytes of a line, with its newline.
 pub const LINE: usize = 57;
@@ -14,7 +14,7 @@ pub const LINE: usize = 57;
 const PREFIX: [u8; 12] = *b"seal-key-v1:";
 
 /// The line of a key: `seal-key-v1:`, 44 characters of base64, a newline.
-pub fn line_of(key: &Key) -> [u8; LINE]
+pub fn line_of(key: &[u8; 32]) -> [u8; LINE]
     ensures { result ≡ key_text key.now ++ 10 ∷ [] }
 {
     let mut line = [b'\n'; LINE];
@@ -24,7 +24,7 @@ pub fn line_of(key: &Key) -> [u8; LINE]
 }
 
 /// The key in a file: its 32 bytes, or those of its line, which may end with `\n`, `\r\n` or neither.
-pub fn key_of(file: &[u8]) -> Option<Key>
+pub fn key_of(file: &[u8]) -> Option<[u8; 32]>
     ensures bytes { length file.now ≡ 32 → result ≡ Some file.now }
     ensures line { (key end : List ℕ) → IsBytes key → length key ≡ 32 → IsLineEnd end
         → file.now ≡ key_text key ++ end → result ≡ Some key }
@@ -50,7 +50,7 @@ fn is_line_end(end: &[u8]) -> bool
 }
 
 // The bytes that 44 characters of base64 stand for.
-fn decoded(text: &[u8]) -> Option<Key>
+fn decoded(text: &[u8]) -> Option<[u8; 32]>
     requires { length text.now ≡ 44 }
     ensures reads { (key : List ℕ) → IsBytes key → length key ≡ 32
         → text.now ≡ encode_of standard key → result ≡ Some key }
