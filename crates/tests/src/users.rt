@@ -1,5 +1,5 @@
-//! What the named types are, published messages and tags, sealed files, the exports for C, what a caller proves from
-//! public contracts alone, and what users write, as `examples` does.
+//! What the named types are, published messages and tags, sealed files, the exports for C, draws by `rand`, what a
+//! caller proves from public contracts alone, and what users write, as `examples` does.
 
 mod authenticated;
 mod contracts;

@@ -3,8 +3,9 @@
 ghost use Rattle.std.specs.Prelude.{◌≡◌, IfOk, IsPermutation};
 ghost use Rattle.rand.specs.Sample.{IsSampleOf};
 
+use chacha20::backends::Lanes8;
 use chacha20::cipher::RngBackend;
-use chacha20::{ChaCha12Rng, ChaCha20Rng, ChaChaRng, Rounds, Seed};
+use chacha20::{ChaCha12Rng, ChaCha20Rng, ChaChaRng, R20, Rounds, Seed};
 use rand::seq::index::IndexVec;
 use rand::seq::{SliceRandom, index};
 use rand_chacha::ChaChaXRng;
@@ -62,8 +63,7 @@ fn published(rt: HostRuntime) {
 fn equal_samples(rt: HostRuntime) -> Result<(), Fail> {
     let mut equal = 0u32;
     for number in 0..100 {
-        let mut ours = ChaCha20Rng::seed_from_u64(number);
-        let mut theirs = rand_chacha::ChaCha20Rng::seed_from_u64(number);
+        let (mut ours, mut theirs) = same_stream::<R20, Lanes8, 10>([0; 32], number, 1);
         let sample = lottery(rt.alloc(), &mut ours)?;
         let other = index::sample(rt.alloc(), &mut theirs, 49, 6)?;
         if sample.as_slice() == other.as_slice() {
