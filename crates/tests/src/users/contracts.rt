@@ -1,6 +1,6 @@
 //! What callers learn from public contracts alone.
 
-ghost use Rattle.std.specs.Prelude.{◌≡◌, ◌+◌, ◌≤◌, ◌<◌, ℕ, ◌*◌, length, slice_get, IsOk, OnOk};
+ghost use Rattle.std.specs.Prelude.{◌≡◌, ◌+◌, ◌≤◌, ◌<◌, ℕ, ◌*◌, length, slice_get, Some, IsOk, OnOk};
 ghost use Rattle.chacha20.specs.State.{fixed_words, state_counter};
 ghost use Rattle.chacha20.specs.Cipher.{limit_of};
 ghost use Rattle.chacha20.specs.Counts.{Grows, for_bytes};
@@ -12,8 +12,10 @@ use chacha20::cipher::{
 };
 use chacha20::variants::{Ietf, Variant};
 use chacha20::{
-    ChaCha20, ChaCha20Legacy, ChaChaCore, R20, Rounds, Steps, StreamCipherCoreWrapper, XChaCha20,
+    ChaCha20, ChaCha20Legacy, ChaChaCore, Key, R20, Rounds, Steps, StreamCipherCoreWrapper,
+    XChaCha20,
 };
+use key_file::{key_of, line_of};
 
 type Ietf20<B> = StreamCipherCoreWrapper<ChaChaCore<R20, Ietf, B>>;
 
@@ -25,6 +27,13 @@ fn apply_and_seek_back<C: StreamCipherSeek>(cipher: &mut C, position: u128, byte
 {
     cipher.apply_keystream(bytes);
     cipher.seek(position);
+}
+
+// A key that was written as a line is read back.
+fn key_back(key: &Key) -> Option<Key>
+    ensures { result ≡ Some key.now }
+{
+    key_of(&line_of(key))
 }
 
 // Two backends: the same block, and the same state after it.
