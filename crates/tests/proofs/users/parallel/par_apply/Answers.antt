@@ -8,7 +8,5 @@ par_chunks_mut_for_each-requires-clause-accepts g c = λ start p chunk.
 
 pub returns-clause-bytes : goal.returns-clause-bytes
 returns-clause-bytes g c =
-    let calls = c.par_chunks_mut_for_each.ensures in
     xor_stream-chunks _ 0 1048576 _ _ (omega arith) c.par_chunks_mut_for_each.auto.bytes (λ n begun.
-    let part = calls n begun in
-    grind (arith, part.left, part.call, part.argument_is))
+    grind (arith, c.par_chunks_mut_for_each.ensures n begun))
