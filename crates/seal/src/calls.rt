@@ -6,8 +6,8 @@ use std::alloc::{AllocError, Global};
 // With what `clap` adds, at most 24 lines of 80 columns.
 const MORE: &str = "\
 IN and OUT may be -, standard input or output, but not the IN of cat. OUT is
-replaced at the end. After an error it is as it was; what was printed to OUT -
-is the start of the right text. Status 1 tells of an error, 2 of a wrong call.
+replaced at the end. After an error it is as it was, and standard output has
+the start of the right text. Status 1 tells of an error, 2 of a wrong call.
 
   seal key my.key
   seal encrypt my.key notes.txt notes.sealed

@@ -97,20 +97,19 @@ fn is_read<S: ReadAt + Drop>(text: &[u8], source: S) -> Result<bool, Fail> {
     Ok(are_parts & moves(text, &mut reader)? & (reader.text_len() == TEXT as u64))
 }
 
-// A hundred bytes of the text of the sealed file at a path.
-fn from_disk(rt: &HostRuntime, key: &Key, path: &str) -> Result<[u8; 100], Fail> {
-    let mut window = [0; 100];
+// The bytes of the text of a sealed file on disk from `start` on.
+fn from_disk(key: &Key, file: File, start: u64, window: &mut [u8]) -> Result<(), RangeError> {
     let mut buf = [0; BUFFER];
-    let mut reader = SealedReader::new(key, fs::open(rt, path)?, &mut buf)?;
-    reader.read_exact_at(65500, &mut window)?;
-    Ok(window)
+    let mut reader = SealedReader::new(key, file, &mut buf)?;
+    reader.read_exact_at(start, window)
 }
 
 // Whether all of this is so of a `File` that has these bytes.
 fn is_read_from_disk(rt: &HostRuntime, text: &[u8], file: &[u8]) -> Result<bool, Fail> {
     let path = "sealed_parts.tmp";
     File::create(rt, path)?.write_all(file)?;
-    let window = from_disk(rt, &KEY, path)?;
+    let mut window = [0; 100];
+    from_disk(&KEY, fs::open(rt, path)?, 65500, &mut window)?;
     let source = fs::open(rt, path)?;
     fs::remove_file(rt, path)?;
     Ok((text.get(65500..65600) == Some(&window[..])) & is_read(text, source)?)
