@@ -1,4 +1,4 @@
-use Rattle.std.proofs.Common.{◌≡◌, ℕ, ◌+◌, ◌*◌, ◌/◌, ◌^◌, arith, refl, ap, ◌∙◌}
+use Rattle.std.proofs.Common.{ℕ, ◌+◌, ◌*◌, ◌/◌, ◌^◌, arith, refl, ap, ◌∙◌}
 use Rattle.chacha20.specs.Generator.{next_u64}
 use Rattle.chacha20.proofs.RepeatedLemmas.{reads-folded}
 use Rattle.examples.proofs.simulation.total.Goals as goal

@@ -1,4 +1,4 @@
-use Rattle.std.proofs.Common.{◌≡◌, ◌≤◌, ◌∙◌, ◌^◌, ◌+◌, [], length, arith, sym, ap}
+use Rattle.std.proofs.Common.{◌≤◌, ◌∙◌, ◌^◌, ◌+◌, [], length, arith, sym, ap}
 use Rattle.chacha20.proofs.StdLemmas.{on_ok-holds}
 use Rattle.secretstream.specs.Stream.{State, message_of, after}
 use Rattle.secretstream.specs.Tags.{byte_of}
