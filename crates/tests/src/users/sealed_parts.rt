@@ -12,7 +12,7 @@ use chacha20::Key;
 use known_answers::published::COUNTING as KEY;
 use sealed_file::Damage::{NotSealed, TooLong, WrongChunk, WrongEnd};
 use sealed_file::{BUFFER, CHUNK, Damage, RangeError, ReadAt, SealedReader};
-use std::fs::{self, File};
+use std::fs::{File, OpenOptions, remove_file};
 use std::io::{self, ErrorKind, Read, Seek, SeekFrom, Write};
 use std::test::Fail;
 
@@ -104,15 +104,15 @@ fn from_disk(key: &Key, file: File, start: u64, window: &mut [u8]) -> Result<(),
     reader.read_exact_at(start, window)
 }
 
-// Whether all of this is so of a `File` that has these bytes.
-fn is_read_from_disk(rt: &HostRuntime, text: &[u8], file: &[u8]) -> Result<bool, Fail> {
+// A file that has these bytes, and whose name is removed.
+fn unnamed(rt: &HostRuntime, bytes: &[u8]) -> io::Result<File> {
     let path = "sealed_parts.tmp";
-    File::create(rt, path)?.write_all(file)?;
-    let mut window = [0; 100];
-    from_disk(&KEY, fs::open(rt, path)?, 65500, &mut window)?;
-    let source = fs::open(rt, path)?;
-    fs::remove_file(rt, path)?;
-    Ok((text.get(65500..65600) == Some(&window[..])) & is_read(text, source)?)
+    let mut options = OpenOptions::new();
+    options.read(true).write(true).create(true).truncate(true);
+    let mut file = options.open(rt, path)?;
+    remove_file(rt, path)?;
+    file.write_all(bytes)?;
+    Ok(file)
 }
 
 #[test]
@@ -124,7 +124,9 @@ fn parts(rt: HostRuntime) -> Result<(), Fail> {
     assert!(rt; text.get(65500..65600) == Some(&window[..]));
     assert!(rt; is_read(text, file)?);
     assert!(rt; is_read(text, &Unsteady::new(file, 1000, 0))?);
-    assert!(rt; is_read_from_disk(&rt, text, file)?);
+    from_disk(&KEY, unnamed(&rt, file)?, 70000, &mut window)?;
+    assert!(rt; text.get(70000..70100) == Some(&window[..]));
+    assert!(rt; is_read(text, unnamed(&rt, file)?)?);
     Ok(())
 }
 
