@@ -8,7 +8,6 @@ mod draws;
 mod exports;
 mod first_calls;
 mod names;
-mod parallel;
 mod readme;
 mod sealed_files;
 mod sealed_parts;
