@@ -232,9 +232,9 @@ function openChunk(key, salt, number, last, chunk) {
     if (number > 0 && chunk.length <= 16) throw new RangeError("no text");
     return chunkCipher(key, salt, number, last).decrypt(chunk);
   } catch (cause) {
-    const from = CHUNK * number;
-    const inside = `bytes ${from} to ${from + CHUNK - 1} are damaged`;
-    const what = number === last ? `the end from byte ${from} on is damaged or cut` : inside;
+    const [from, to] = [CHUNK * number, CHUNK * (number + 1) - 1];
+    const rest = number === 0 ? "the text" : `the text from byte ${from} on`;
+    const what = number === last ? `${rest} is damaged or cut` : `bytes ${from} to ${to} of the text are damaged`;
     throw new Error(number === 0 ? `the key is wrong, or ${what}` : what, { cause });
   }
 }

@@ -68,7 +68,7 @@ function wordsOf(error, from) {
   if (length >= 0) return `The text has ${words(length)} bytes; from ${words(from)} on there are ${words(rest)}`;
   // What engines say of a file that was changed or removed, and chacha20.mjs of one that they don't notice.
   if (/^Not(Readable|Found)Error$/.test(error.name)) return "It changed since you chose it; choose it again";
-  return error.message.replace("the end from byte 0 on", "the file");
+  return error.message;
 }
 
 // Makes a new file of the parts that `start` gives for the key, and offers it. `length` is about how long it will be.

@@ -482,20 +482,20 @@ const parts = {
       bytes[at] ^= by;
       return bytes;
     };
-    const first = "the key is wrong, or bytes 0 to 65535 are damaged";
+    const first = "the key is wrong, or bytes 0 to 65535 of the text are damaged";
     for (let at = 0; at < 12; at++) await refuse(changed(at), 0, "not a sealed file");
     await refuse(changed(12), 0, "sealed in another version of the format");
     for (let at = 13; at < 32; at++) await refuse(changed(at), 0, first);
     for (const at of [32, 100, 32 + 65551]) await refuse(changed(at), 0, first);
-    const second = "bytes 65536 to 131071 are damaged";
+    const second = "bytes 65536 to 131071 of the text are damaged";
     for (const at of [32 + 65552, 32 + 2 * 65552 - 1]) await refuse(changed(at), 65536, second);
-    const end = "the end from byte 196608 on is damaged or cut";
+    const end = "the text from byte 196608 on is damaged or cut";
     for (const at of [32 + 3 * 65552, file.length - 1]) await refuse(changed(at), 196608, end);
     for (const cut of [1, 15, 16, 17, 1000, 3391, 3392, 3393, 3407]) await refuse(file.slice(0, -cut), 196608, end);
-    await refuse(file.slice(0, 32 + 3 * 65552), 131072, "the end from byte 131072 on is damaged or cut");
-    await refuse(file.slice(0, 32 + 65552), 0, "the key is wrong, or the end from byte 0 on is damaged or cut");
-    await refuse(file.slice(0, 40), 0, "the key is wrong, or the end from byte 0 on is damaged or cut");
-    await refuse(file.slice(0, 32), 0, "the key is wrong, or the end from byte 0 on is damaged or cut");
+    await refuse(file.slice(0, 32 + 3 * 65552), 131072, "the text from byte 131072 on is damaged or cut");
+    await refuse(file.slice(0, 32 + 65552), 0, "the key is wrong, or the text is damaged or cut");
+    await refuse(file.slice(0, 40), 0, "the key is wrong, or the text is damaged or cut");
+    await refuse(file.slice(0, 32), 0, "the key is wrong, or the text is damaged or cut");
     for (const length of [12, 13, 31]) await refuse(file.slice(0, length), 0, "the file ends in its header");
     for (const length of [0, 1, 11]) await refuse(file.slice(0, length), 0, "not a sealed file");
     await refuse(new Uint8Array([...file, 0]), 196608, end);
@@ -503,13 +503,13 @@ const parts = {
     const chunks = [0, 1, 2, 3].map((i) => file.slice(32 + 65552 * i, 32 + 65552 * (i + 1)));
     const joined = (...order) => Buffer.concat([header, ...order.map((i) => chunks[i])]);
     await refuse(joined(0, 2, 1, 3), 65536, second);
-    await refuse(joined(0, 1, 1, 2, 3), 131072, "bytes 131072 to 196607 are damaged");
+    await refuse(joined(0, 1, 1, 2, 3), 131072, "bytes 131072 to 196607 of the text are damaged");
     await refuse(joined(0, 2, 3), 65536, second);
     // A last chunk without text, whose tag is right.
     const salt = header.slice(13);
     const whole = xchacha20poly1305(KEY, new Uint8Array([...salt, 0, 0, 0, 0, 0])).encrypt(text.slice(0, 65536));
     const none = xchacha20poly1305(KEY, new Uint8Array([...salt, 0, 0, 0, 1, 1])).encrypt(part(0, 0));
-    await refuse(Buffer.concat([header, whole, none]), 65536, "the end from byte 65536 on is damaged or cut");
+    await refuse(Buffer.concat([header, whole, none]), 65536, "the text from byte 65536 on is damaged or cut");
     await refuse(file, 0, first, part(1, 32));
     // What a range doesn't touch may be damaged.
     const damaged = new Blob([changed(40)]);

@@ -265,14 +265,14 @@ for (const [start, length, words] of [
   await refuse(() => click("part"), words);
 }
 await choose("file", "damaged.sealed");
-await refuse(() => click("open"), "damaged.sealed: bytes 131072 to 196607 are damaged.");
+await refuse(() => click("open"), "damaged.sealed: bytes 131072 to 196607 of the text are damaged.");
 await choose("file", "20971520.text");
 await refuse(() => click("open"), "20971520.text: not a sealed file.");
 await type("key", second);
 await choose("file", "damaged.sealed");
-await refuse(() => click("open"), "damaged.sealed: the key is wrong, or bytes 0 to 65535 are damaged.");
+await refuse(() => click("open"), "damaged.sealed: the key is wrong, or bytes 0 to 65535 of the text are damaged.");
 await choose("file", "1.sealed");
-await refuse(() => click("open"), "1.sealed: the key is wrong, or the file is damaged or cut.");
+await refuse(() => click("open"), "1.sealed: the key is wrong, or the text is damaged or cut.");
 // A file that changes, or goes, after it was chosen.
 const changing = join(ROOM, "changing");
 for (const change of [() => writeFileSync(changing, "longer than before"), () => rmSync(changing)]) {

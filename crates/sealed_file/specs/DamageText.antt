@@ -6,16 +6,16 @@ use Rattle.sealed_file.specs.declared.error.Damage.TheVariants.{NotSealed, Other
 
 -- of a chunk that others follow, by the bytes of its text
 abbrev pub chunk_text : ℕ → List ℕ
-chunk_text zero = codes "the key is wrong, or bytes 0 to 65535 are damaged"
+chunk_text zero = codes "the key is wrong, or bytes 0 to 65535 of the text are damaged"
 chunk_text (suc i) =
     codes "bytes " ++ (decimal (suc i * 65536) ++ (codes " to " ++ (decimal (suc i * 65536 + 65535)
-    ++ codes " are damaged")))
+    ++ codes " of the text are damaged")))
 
 -- of the last chunk
 abbrev pub end_text : ℕ → List ℕ
-end_text zero = codes "the key is wrong, or the end from byte 0 on is damaged or cut"
+end_text zero = codes "the key is wrong, or the text is damaged or cut"
 end_text (suc i) =
-    codes "the end from byte " ++ (decimal (suc i * 65536) ++ codes " on is damaged or cut")
+    codes "the text from byte " ++ (decimal (suc i * 65536) ++ codes " on is damaged or cut")
 
 abbrev pub damage_text : Damage → List ℕ
 damage_text NotSealed = codes "not a sealed file"

@@ -117,19 +117,19 @@ impl Display for Damage {
             Damage::CutHeader => f.write_str("the file ends in its header"),
             Damage::TooLong => f.write_str("longer than a sealed file can be"),
             Damage::WrongChunk(0) => {
-                f.write_str("the key is wrong, or bytes 0 to 65535 are damaged")
+                f.write_str("the key is wrong, or bytes 0 to 65535 of the text are damaged")
             }
             Damage::WrongChunk(number) => {
                 let start = u128::from(*number) * 65536;
                 let end = start + 65535;
-                write!(f, "bytes {start} to {end} are damaged")
+                write!(f, "bytes {start} to {end} of the text are damaged")
             }
             Damage::WrongEnd(0) => {
-                f.write_str("the key is wrong, or the end from byte 0 on is damaged or cut")
+                f.write_str("the key is wrong, or the text is damaged or cut")
             }
             Damage::WrongEnd(number) => {
                 let start = u128::from(*number) * 65536;
-                write!(f, "the end from byte {start} on is damaged or cut")
+                write!(f, "the text from byte {start} on is damaged or cut")
             }
         }
     }
