@@ -1,5 +1,5 @@
 -- Keys as text.
-use Rattle.std.proofs.Common.{Option, Some, None, IfSome, ◌≡◌, ◌+◌, ◌++◌, ℕ, List, length, take, drop, codes, ◌∙◌, refl, sym, arith, ap}
+use Rattle.std.proofs.Common.{◌≡◌, ◌+◌, ◌++◌, ℕ, List, length, take, drop, codes, ◌∙◌, refl, sym, arith, ap}
 use Rattle.std.proofs.lemmas.List.{append_assoc, length-append, take-append-drop, take_at, drop_at}
 use Rattle.std.specs.declared.result.Result.TheVariants.{Ok}
 use Rattle.base64.specs.Engines.{standard}
@@ -37,8 +37,3 @@ joined file key prefix text =
     let front : take 12 file ++ take 44 rest ≡ key_text key = rw (prefix, text) refl in
     sym (take-append-drop 12 file) ∙ ap (λ (r : List ℕ). take 12 file ++ r) (sym (take-append-drop 44 rest))
     ∙ sym (append_assoc (take 12 file) (take 44 rest) (drop 44 rest)) ∙ ap (λ (f : List ℕ). f ++ drop 44 rest) front
-
-pub if_some-map : {T : Type 0} (o : Option T) (P Q : T → Type 0) → ((x : T) → P x → Q x)
-    → IfSome o P → IfSome o Q
-if_some-map None P Q step all = tt
-if_some-map (Some x) P Q step all = step x all

@@ -1,6 +1,7 @@
 use Rattle.std.proofs.Common.{take, arith, inr, refl, codes}
 use Rattle.std.proofs.lemmas.Slice.Eq.{bytes_eq-Decides}
-use Rattle.key_file.proofs.KeyLemmas.{parts, joined, if_some-map}
+use Rattle.std.proofs.lemmas.Option.{IfSome_then}
+use Rattle.key_file.proofs.KeyLemmas.{parts, joined}
 use Rattle.key_file.proofs.key_of.Goals as goal
 
 pub returns-then-file-eq32-clause-line : goal.returns-then-file-eq32-clause-line
@@ -29,8 +30,8 @@ returns-then-is_line_end-clause-only c =
     let rest = c.in_ok-strip_prefix.ensures.cases in
     let prefix = (bytes_eq-Decides (take 12 c.args.file.now) (codes "seal-key-v1:")).0 rest.0 in
     let split = rw rest.1 at c.in_ok-text.ensures.cases in
-    if_some-map c.decoded.result _ _ (λ key text. inr (
+    IfSome_then c.decoded.result c.decoded.ensures.only (λ key text. inr (
       c.in_ok-text.end.now,
       c.if-is_line_end.ensures.0 refl,
       rw split.2 (joined c.args.file.now key prefix (rw split.1 at text)),
-    )) c.decoded.ensures.only
+    ))
