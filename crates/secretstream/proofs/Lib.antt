@@ -1,3 +1,4 @@
 pub mod MessageLemmas
+pub mod StateBytesLemmas
 pub mod StreamLaws
 pub mod StreamVectors

@@ -23,6 +23,7 @@
 //! All proofs use only the public contracts, definitions and lemmas of `chacha20poly1305`, `chacha20` and `poly1305`.
 #![tactic(auto)]
 
+mod bytes;
 mod error;
 mod facts;
 mod mac;
@@ -30,6 +31,7 @@ mod state;
 mod stream;
 mod tag;
 
+pub use bytes::{StateBytes, pull_bytes, push_bytes, rekey_bytes, start_bytes};
 pub use chacha20poly1305::Key;
 pub use error::Error;
 pub use state::Header;

@@ -7,6 +7,7 @@ ghost use Rattle.secretstream.specs.Tags.{byte_of, tag_of};
 use crate::error::Error;
 use crate::state::{Header, State};
 use crate::tag::Tag;
+use chacha20::backends::Lanes16;
 use chacha20poly1305::Key;
 use std::io;
 use std::marker::Model;
@@ -27,16 +28,25 @@ impl Model for PushStream {
 }
 
 impl PushStream {
+    /// The stream with this header. Only who can prove or count that no other stream under the key has the header may
+    /// call it: two such streams have the same keystreams. All others call `init`.
+    pub fn with_header(header: &Header, key: &Key) -> Self
+        ensures { result ≡ start key.now header.now }
+    {
+        PushStream {
+            state: State::start(key, header),
+        }
+    }
+
     /// A stream with a header from a source of random bytes, such as a program's `HostRuntime`. Fails where the source
-    /// does, with its error. No clause says that the header is random: the trait promises nothing of what its call
-    /// writes.
+    /// does, with its error. No clause says that the header is random, since the trait promises nothing of what its call
+    /// writes; read the three lines of its body instead.
     pub fn init<R: RandomSource>(rng: &R, key: &Key) -> io::Result<(Header, Self)>
         ensures { IfOk result (λ r. r.1 ≡ start key.now r.0) }
     {
         let mut header = [0; 24];
         rng.fill_bytes(&mut header)?;
-        let state = State::start(key, &header);
-        Ok((header, PushStream { state }))
+        Ok((header, PushStream::with_header(&header, key)))
     }
 
     /// Writes the next message of a text into an output of 17 bytes more. The MAC also covers `aad`, which isn't
@@ -56,17 +66,14 @@ impl PushStream {
         ensures next { OnOk result (self.new ≡ after self.old aad.now (byte_of tag) text.now) }
         ensures refused { OnErr result ((self.new ≡ self.old) × (output.new ≡ output.old)) }
     {
-        let byte = tag.byte();
-        let mac = self.state.seal(aad, byte, text, output)?;
-        self.state.advance(&mac, byte);
-        Ok(())
+        self.state.push::<Lanes16>(aad, tag.byte(), text, output)
     }
 
     /// Takes another key, as after a message with `Tag::Rekey`. The receiver has to call it at the same place.
     pub fn rekey(&mut self)
         ensures { self.new ≡ rekeyed self.old }
     {
-        self.state.rekey();
+        self.state.rekey::<Lanes16>();
     }
 }
 
@@ -125,20 +132,14 @@ impl PullStream {
             → OnOk result (self.new ≡ after self.old aad.now byte text) }
         ensures refused { OnErr result ((self.new ≡ self.old) × (output.new ≡ output.old)) }
     {
-        match self.state.open(aad, message, output) {
-            Ok(opened) => {
-                let (byte, mac) = opened;
-                self.state.advance(&mac, byte);
-                Ok(Tag::from_byte(byte))
-            }
-            Err(refusal) => Err(refusal),
-        }
+        let byte = self.state.pull::<Lanes16>(aad, message, output)?;
+        Ok(Tag::from_byte(byte))
     }
 
     /// Takes another key, as after a message with `Tag::Rekey`. The sender has to call it at the same place.
     pub fn rekey(&mut self)
         ensures { self.new ≡ rekeyed self.old }
     {
-        self.state.rekey();
+        self.state.rekey::<Lanes16>();
     }
 }

@@ -7,7 +7,7 @@ use Rattle.secretstream.proofs.MessageLemmas.{read, read-right, read-message, ta
 use Rattle.secretstream.proofs.state.State.open.Goals as goal
 
 pub returns-then-is_err-clause-accepted : goal.returns-then-is_err-clause-accepted
-returns-then-is_err-clause-accepted c = (
+returns-then-is_err-clause-accepted g c = (
   λ no. absurd (false≢true no),
   λ sent.
       let size = length-message_of c.args.self.now c.args.aad.now sent.0 sent.1 in
@@ -26,7 +26,7 @@ returns-then-is_err-clause-accepted c = (
 )
 
 pub returns-then-not-is_equal-clause-accepted : goal.returns-then-not-is_equal-clause-accepted
-returns-then-not-is_equal-clause-accepted c =
+returns-then-not-is_equal-clause-accepted g c =
     let begun = c.begin-cipher.ensures in
     let r = read c.args.self.now c.args.aad.now c.args.bytes.now (length c.args.output.now) c.requires
     c.split_at.ensures.front c.split_at.ensures.back c.split_at-2.ensures.front c.split_at-2.ensures.back begun.key
@@ -37,7 +37,7 @@ returns-then-not-is_equal-clause-accepted c =
     )
 
 pub returns-then-not-is_equal-clause-forged : goal.returns-then-not-is_equal-clause-forged
-returns-then-not-is_equal-clause-forged c =
+returns-then-not-is_equal-clause-forged g c =
     let fits : 128 + length c.args.output.now ≤ 2 ^ 38 =
     omega (
       arith,
@@ -46,10 +46,10 @@ returns-then-not-is_equal-clause-forged c =
       c.requires,
       c.split_at-2.ensures.front_len,
     ) in
-    (λ _. (fits, λ sent. false≢true ((returns-then-not-is_equal-clause-accepted c).1 sent)), λ _. refl)
+    (λ _. (fits, λ sent. false≢true ((returns-then-not-is_equal-clause-accepted g c).1 sent)), λ _. refl)
 
 pub returns-clause-message : goal.returns-clause-message
-returns-clause-message c =
+returns-clause-message g c =
     let s = c.args.self.now in
     let begun = c.begin-cipher.ensures in
     let r = read s c.args.aad.now c.args.bytes.now (length c.args.output.now) c.requires
@@ -62,7 +62,7 @@ returns-clause-message c =
     ∙ sym (ap₂ (message_of s c.args.aad.now) tag text)
 
 pub returns-clause-mac : goal.returns-clause-mac
-returns-clause-mac c =
+returns-clause-mac g c =
     let s = c.args.self.now in
     let begun = c.begin-cipher.ensures in
     let r = read s c.args.aad.now c.args.bytes.now (length c.args.output.now) c.requires
@@ -75,7 +75,7 @@ returns-clause-mac c =
     ∙ sym (ap₂ (mac_of s c.args.aad.now) tag text)
 
 pub returns-clause-accepted : goal.returns-clause-accepted
-returns-clause-accepted c = (
+returns-clause-accepted g c = (
   λ ok. (
     slice_index c.begin-cipher.result.2 0,
     c.apply_keystream_b2b.new.output,
@@ -87,13 +87,13 @@ returns-clause-accepted c = (
       c.requires,
       c.split_at-2.ensures.front_len,
     ),
-    returns-clause-message c,
+    returns-clause-message g c,
   ),
   λ sent. refl,
 )
 
 pub returns-clause-forged : goal.returns-clause-forged
-returns-clause-forged c = (
+returns-clause-forged g c = (
   λ no. absurd (false≢true (ap is_err no)),
-  λ forged. absurd (forged.1 ((returns-clause-accepted c).0 refl)),
+  λ forged. absurd (forged.1 ((returns-clause-accepted g c).0 refl)),
 )

@@ -4,15 +4,15 @@ use Rattle.secretstream.specs.Stream.{State, stream_of}
 use Rattle.secretstream.proofs.state.State.rekey.Goals as goal
 
 pub slice_bounds-copy_from_slice-end-2 : goal.slice_bounds-copy_from_slice-end-2
-slice_bounds-copy_from_slice-end-2 c =
+slice_bounds-copy_from_slice-end-2 g c =
     sym (length-take-le 32 c.apply_keystream.new.buf
     (omega (arith, c.apply_keystream.auto.buf, c.joined-bytes.ensures.long)))
 
 pub copy_from_slice-requires : goal.copy_from_slice-requires
-copy_from_slice-requires c = slice_bounds-copy_from_slice-end-2 c
+copy_from_slice-requires g c = slice_bounds-copy_from_slice-end-2 g c
 
 pub returns : goal.returns
-returns c =
+returns g c =
     let now = c.apply_keystream.new.buf in
     let rest = take_all 8 (drop 32 now)
     (omega (arith, length-drop 32 now, c.apply_keystream.auto.buf, c.joined-bytes.ensures.long)) in
