@@ -197,4 +197,97 @@ uint64_t chacha20_rng_get_stream(const uint8_t state[49]) { return PROVED(chacha
 
 void chacha20_rng_set_stream(uint8_t state[49], uint64_t stream) { PROVED(chacha20_rng_set_stream, state, stream); }
 
+void chacha12_rng_fill(uint8_t state[49], uint8_t *output, size_t len) {
+    if (len > 0) PROVED(chacha12_rng_fill, state, output, len);
+}
+
+void chacha8_rng_fill(uint8_t state[49], uint8_t *output, size_t len) {
+    if (len > 0) PROVED(chacha8_rng_fill, state, output, len);
+}
+
+/* Streams. Empty data are as above. */
+
+/* Whether state and output lie apart from all else. No object has more than PTRDIFF_MAX bytes; a message has 17 bytes
+   more than its text. */
+CHECK stream_fits(const uint8_t *state, const uint8_t *aad, size_t aad_len, const uint8_t *output, size_t output_len,
+                  const uint8_t *input, size_t input_len) {
+    return aad_len <= PTRDIFF_MAX && apart(state, 44, aad, aad_len) && apart(state, 44, output, output_len) &&
+           apart(state, 44, input, input_len) && apart(output, output_len, aad, aad_len) &&
+           apart(output, output_len, input, input_len);
+}
+
+void chacha20_secretstream_start(const uint8_t key[32], const uint8_t header[24], uint8_t state[44]) {
+    uint8_t made[44];
+    PROVED(chacha20_secretstream_start, key, header, made);
+    memcpy(state, made, sizeof made);
+}
+
+int chacha20_secretstream_push(uint8_t state[44], const uint8_t *aad, size_t aad_len, uint8_t *output,
+                               const uint8_t *input, size_t len, uint8_t tag) {
+    uint8_t none = 0;
+    if (aad_len == 0) aad = &none;
+    if (len == 0) input = &none;
+    if (len > PTRDIFF_MAX - 17 || !stream_fits(state, aad, aad_len, output, len + 17, input, len))
+        return CHACHA20_REFUSED;
+    return PROVED(chacha20_secretstream_push, state, aad, aad_len, output, len + 17, input, len, tag);
+}
+
+int chacha20_secretstream_pull(uint8_t state[44], const uint8_t *aad, size_t aad_len, uint8_t *output,
+                               const uint8_t *input, size_t len, uint8_t *tag) {
+    uint8_t none = 0;
+    if (aad_len == 0) aad = &none;
+    if (len == 17) output = &none;
+    if (len < 17 || len > PTRDIFF_MAX || !stream_fits(state, aad, aad_len, output, len - 17, input, len) ||
+        !apart(tag, 1, state, 44) || !apart(tag, 1, aad, aad_len) || !apart(tag, 1, output, len - 17) ||
+        !apart(tag, 1, input, len)) return CHACHA20_REFUSED;
+    return PROVED(chacha20_secretstream_pull, state, aad, aad_len, output, len - 17, input, len, tag);
+}
+
+void chacha20_secretstream_rekey(uint8_t state[44]) { PROVED(chacha20_secretstream_rekey, state); }
+
+/* Sealed files. Empty texts are as above. */
+
+/* Whether the output of a chunk lies on its input or apart from it, and apart from key and salt. */
+CHECK chunk_fits(const uint8_t *output, size_t output_len, const uint8_t *input, size_t input_len, const uint8_t *key,
+                 const uint8_t *salt) {
+    return (output == input || apart(output, output_len, input, input_len)) && apart(output, output_len, key, 32) &&
+           apart(output, output_len, salt, 19);
+}
+
+void chacha20_file_header(const uint8_t salt[19], uint8_t header[32]) {
+    uint8_t made[32];
+    PROVED(chacha20_file_header, salt, made);
+    memcpy(header, made, sizeof made);
+}
+
+int chacha20_file_salt(const uint8_t *input, size_t len, uint8_t salt[19]) {
+    uint8_t none = 0, made[19];
+    int status = PROVED(chacha20_file_salt, len == 0 ? &none : input, len < 32 ? len : 32, made);
+    if (status == CHACHA20_OK) memcpy(salt, made, sizeof made);
+    return status;
+}
+
+uint64_t chacha20_file_text_len(uint64_t file_len) { return PROVED(chacha20_file_text_len, file_len); }
+
+int chacha20_file_seal_chunk(const uint8_t key[32], const uint8_t salt[19], uint32_t number, int last, uint8_t *output,
+                             const uint8_t *input, size_t len) {
+    if (len == 0) input = output;
+    if (len > CHACHA20_FILE_TEXT_BYTES || !chunk_fits(output, len + 16, input, len, key, salt))
+        return CHACHA20_REFUSED;
+    if (output == input)
+        return PROVED(chacha20_file_seal_chunk_in_place, key, salt, number, last != 0, output, len + 16);
+    return PROVED(chacha20_file_seal_chunk_between, key, salt, number, last != 0, output, len + 16, input, len);
+}
+
+int chacha20_file_open_chunk(const uint8_t key[32], const uint8_t salt[19], uint32_t number, int last, uint8_t *output,
+                             const uint8_t *input, size_t len) {
+    uint8_t none = 0;
+    if (len == 16) output = &none;
+    if (len < 16 || len > CHACHA20_FILE_CHUNK_BYTES || !chunk_fits(output, len - 16, input, len, key, salt))
+        return CHACHA20_REFUSED;
+    if (output == input)
+        return PROVED(chacha20_file_open_chunk_in_place, key, salt, number, last != 0, output, len);
+    return PROVED(chacha20_file_open_chunk_between, key, salt, number, last != 0, output, len - 16, input, len);
+}
+
 const char *chacha20_version(void) { return CHACHA20_VERSION; }

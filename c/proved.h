@@ -46,10 +46,12 @@ static inline int this_level(void) { return __atomic_load_n(&level, __ATOMIC_REL
 #endif
 
 /* A slice is a pointer and a length, an array a pointer. No pointer may be null. What is written overlaps no other
-   argument, and may be uninitialised before. A result of 32 bits is CHACHA20_OK or CHACHA20_REFUSED; a refused call has
-   written nothing. */
+   argument, and may be uninitialised before. A result of 32 bits is a status of chacha20.h; a call with another than CHACHA20_OK
+   has written nothing. */
 #define KEY_NONCE const uint8_t *key, const uint8_t *nonce
 #define MESSAGE KEY_NONCE, const uint8_t *aad, size_t aad_len
+#define STREAM uint8_t *state, const uint8_t *aad, size_t aad_len
+#define CHUNK const uint8_t *key, const uint8_t *salt, uint32_t number, _Bool last
 #define OUTPUT uint8_t *output, size_t len
 #define INPUT const uint8_t *input, size_t input_len
 
@@ -85,9 +87,26 @@ DECLARE(uint64_t, chacha20_rng_get_block_pos, const uint8_t *state)
 DECLARE(void, chacha20_rng_set_block_pos, uint8_t *state, uint64_t block_pos)
 DECLARE(uint64_t, chacha20_rng_get_stream, const uint8_t *state)
 DECLARE(void, chacha20_rng_set_stream, uint8_t *state, uint64_t stream)
+DECLARE(void, chacha12_rng_fill, uint8_t *state, OUTPUT)
+DECLARE(void, chacha8_rng_fill, uint8_t *state, OUTPUT)
+
+DECLARE(void, chacha20_secretstream_start, const uint8_t *key, const uint8_t *header, uint8_t *state)
+DECLARE(uint32_t, chacha20_secretstream_push, STREAM, OUTPUT, INPUT, uint8_t tag)
+DECLARE(uint32_t, chacha20_secretstream_pull, STREAM, OUTPUT, INPUT, uint8_t *tag)
+DECLARE(void, chacha20_secretstream_rekey, uint8_t *state)
+
+DECLARE(void, chacha20_file_header, const uint8_t *salt, uint8_t *header)
+DECLARE(uint32_t, chacha20_file_salt, INPUT, uint8_t *salt)
+DECLARE(uint64_t, chacha20_file_text_len, uint64_t file_len)
+DECLARE(uint32_t, chacha20_file_seal_chunk_in_place, CHUNK, OUTPUT)
+DECLARE(uint32_t, chacha20_file_seal_chunk_between, CHUNK, OUTPUT, INPUT)
+DECLARE(uint32_t, chacha20_file_open_chunk_in_place, CHUNK, OUTPUT)
+DECLARE(uint32_t, chacha20_file_open_chunk_between, CHUNK, OUTPUT, INPUT)
 
 #undef KEY_NONCE
 #undef MESSAGE
+#undef STREAM
+#undef CHUNK
 #undef OUTPUT
 #undef INPUT
 

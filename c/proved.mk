@@ -7,7 +7,7 @@
 # of 256 bits, and for WebAssembly (lime1), which has none here. Left out are must-fail, and work on libraries that are whole.
 
 WIDE = x86-64-v3
-LIBRARIES = poly1305 chacha_base chacha20 chacha20poly1305
+LIBRARIES = poly1305 chacha_base chacha20 chacha20poly1305 secretstream sealed_file
 CRATES = $(LIBRARIES) chacha20_c
 SOURCES := $(sort $(shell find $(CRATES:%=../crates/%) \( -name out -o -name must-fail \) -prune -o -type f -print))
 BUILT = $(LEVELS:%=$(OUT)/built-%.a)
@@ -26,7 +26,7 @@ $(OUT)/proved-with: $(call if_differs,$(PROVED_WITH),proved-with) | $(OUT)
 # The libraries are proved in the tree, where their proofs stay. Levels after the first have little left to prove, for which more
 # jobs would only load more. dash runs no EXIT trap on a signal, so signals have one of their own.
 $(BUILT) &: $(SOURCES) $(OUT)/proved-with proved.mk
-	@echo 'proving the libraries, in ../crates'; cd ../crates/chacha20poly1305 && $(RT) lib
+	@echo 'proving the libraries, in ../crates'; cd ../crates && for name in $(LIBRARIES); do (cd $$name && $(RT) lib) || exit; done
 	@set -e; copy=$$(mktemp -d); crate=$$copy/crates/chacha20_c; trap 'rm -rf "$$copy"' EXIT; trap 'exit 1' HUP INT TERM; \
 	tar -C .. --exclude=must-fail $(LIBRARIES:%=--exclude=crates/%/out/incremental) -cf - $(CRATES:%=crates/%) | tar -C "$$copy" -xf -; \
 	for name in $(CRATES); do grep "^$$name:" ../crates.txt; done | sed 's/^chacha20_c:/chacha20_c staticlib:/' > "$$copy/crates.txt"; \

@@ -65,6 +65,13 @@ extern "C" {
 #define CHACHA20_RNG_SEED_BYTES 32
 #define CHACHA20_RNG_STATE_BYTES 49
 #define CHACHA20_TAG_BYTES 16
+#define CHACHA20_SECRETSTREAM_HEADER_BYTES 24
+#define CHACHA20_SECRETSTREAM_STATE_BYTES 44
+#define CHACHA20_SECRETSTREAM_OVERHEAD_BYTES 17
+#define CHACHA20_FILE_SALT_BYTES 19
+#define CHACHA20_FILE_HEADER_BYTES 32
+#define CHACHA20_FILE_CHUNK_BYTES 65552
+#define CHACHA20_FILE_TEXT_BYTES 65536
 
 /* The length of the keystream of a key and a nonce of 12 or 24 bytes: 2^32 blocks. A legacy
    keystream has 2^64 blocks. */
@@ -77,10 +84,26 @@ extern "C" {
    for the dynamic linker, which may bind memcpy, memmove and memset in a program's first calls. */
 #define CHACHA20_STACK_BYTES 5888
 
-/* What a function that can refuse returns. After CHACHA20_REFUSED nothing was written: the data are NOT
-   encrypted, or NOT decrypted. Don't send or use |output|. */
+/* What a function that can refuse returns. After all but CHACHA20_OK nothing was written: the data are
+   NOT encrypted, or NOT decrypted. Don't send or use |output|.
+
+   CHACHA20_REFUSED    an argument breaks a rule of the function: a length, a position or an overlap.
+                       The caller can check it before the call.
+   CHACHA20_WRONG_TAG  the tag is wrong: something was changed, or the key, the nonce, the state or the
+                       associated data aren't those of the sender.
+
+   The last two are answers of chacha20_file_salt alone. */
 #define CHACHA20_OK 0
 #define CHACHA20_REFUSED 1
+#define CHACHA20_WRONG_TAG 2
+#define CHACHA20_OTHER_VERSION 3
+#define CHACHA20_CUT_HEADER 4
+
+/* The tag bytes of a stream's messages. Other bytes are allowed. */
+#define CHACHA20_SECRETSTREAM_MESSAGE 0
+#define CHACHA20_SECRETSTREAM_PUSH 1
+#define CHACHA20_SECRETSTREAM_REKEY 2
+#define CHACHA20_SECRETSTREAM_FINAL 3
 
 /* A length has 64 bits in the library. */
 typedef char chacha20_size_t_has_64_bits[sizeof(size_t) == 8 ? 1 : -1];
@@ -94,6 +117,10 @@ typedef char chacha20_size_t_has_64_bits[sizeof(size_t) == 8 ? 1 : -1];
 #define CHACHA20_ATTR_CIPHER __attribute__((__warn_unused_result__, __nonnull__(1, 2)))
 #define CHACHA20_ATTR_AEAD __attribute__((__warn_unused_result__, __nonnull__(1, 2, 8)))
 #define CHACHA20_ATTR_MAC __attribute__((__nonnull__(1, 4)))
+#define CHACHA20_ATTR_CHUNK __attribute__((__warn_unused_result__, __nonnull__(1, 2)))
+#define CHACHA20_ATTR_PUSH __attribute__((__warn_unused_result__, __nonnull__(1, 4)))
+#define CHACHA20_ATTR_PULL __attribute__((__warn_unused_result__, __nonnull__(1, 5, 7)))
+#define CHACHA20_ATTR_SALT __attribute__((__warn_unused_result__, __nonnull__(3)))
 #else
 #define CHACHA20_ATTR_MUST_USE
 #define CHACHA20_ATTR_NONNULL
@@ -101,6 +128,10 @@ typedef char chacha20_size_t_has_64_bits[sizeof(size_t) == 8 ? 1 : -1];
 #define CHACHA20_ATTR_CIPHER
 #define CHACHA20_ATTR_AEAD
 #define CHACHA20_ATTR_MAC
+#define CHACHA20_ATTR_CHUNK
+#define CHACHA20_ATTR_PUSH
+#define CHACHA20_ATTR_PULL
+#define CHACHA20_ATTR_SALT
 #endif
 /* The parameter at TO is an output and that at FROM an input, both of the length at LEN. */
 #if defined(__GNUC__) && !defined(__clang__) && __GNUC__ >= 10
@@ -148,9 +179,9 @@ int chacha20_aead_encrypt(const uint8_t key[CHACHA20_AT_LEAST 32],
 /* chacha20_aead_decrypt checks that |tag| is that of |aad| and of the ciphertext |input|, and only
    then decrypts |len| bytes to |output|.
 
-   It returns CHACHA20_OK, or CHACHA20_REFUSED if the tag is wrong, and where chacha20_aead_encrypt
-   does, except that |tag| is an input, which may overlap all but |output|. Check that a
-   total has at least 16 bytes before you subtract those of the tag; a |len| that wrapped is refused. */
+   It returns CHACHA20_OK, CHACHA20_WRONG_TAG, or CHACHA20_REFUSED where chacha20_aead_encrypt does,
+   except that |tag| is an input, which may overlap all but |output|. Check that a total has at least
+   16 bytes before you subtract those of the tag; a |len| that wrapped is refused. */
 int chacha20_aead_decrypt(const uint8_t key[CHACHA20_AT_LEAST 32],
                           const uint8_t nonce[CHACHA20_AT_LEAST 12], const uint8_t *aad,
                           size_t aad_len, uint8_t *output, const uint8_t *input, size_t len,
@@ -173,8 +204,8 @@ int xchacha20_aead_decrypt(const uint8_t key[CHACHA20_AT_LEAST 32],
 void chacha20_onetime_poly1305(const uint8_t key[CHACHA20_AT_LEAST 32], const uint8_t *input,
                                size_t len, uint8_t tag[CHACHA20_AT_LEAST 16]) CHACHA20_ATTR_TAG;
 
-/* chacha20_verify returns CHACHA20_OK if |len| bytes are equal, and else CHACHA20_REFUSED. It reads every
-   byte, even after a difference: compare tags with it, not with memcmp. */
+/* chacha20_verify returns CHACHA20_OK if |len| bytes are equal, and else CHACHA20_WRONG_TAG. It reads
+   every byte, even after a difference: compare tags with it, not with memcmp. */
 int chacha20_verify(const uint8_t *one, const uint8_t *other, size_t len) CHACHA20_ATTR_VERIFY;
 
 /* chacha20_wipe_stack overwrites what the caller's earlier calls of this library left on the stack. Call it
@@ -289,6 +320,120 @@ uint64_t chacha20_rng_get_stream(const uint8_t state[CHACHA20_AT_LEAST 49]) CHAC
 void chacha20_rng_set_stream(uint8_t state[CHACHA20_AT_LEAST 49], uint64_t stream)
                              CHACHA20_ATTR_NONNULL;
 
+/* chacha12_rng_fill and chacha8_rng_fill are chacha20_rng_fill of generators with fewer rounds, which take
+   less time: simulations don't need 20. All other calls serve their states too. */
+void chacha12_rng_fill(uint8_t state[CHACHA20_AT_LEAST 49], uint8_t *output, size_t len)
+                       CHACHA20_ATTR_FILL;
+void chacha8_rng_fill(uint8_t state[CHACHA20_AT_LEAST 49], uint8_t *output, size_t len)
+                      CHACHA20_ATTR_FILL;
+
+/* Streams
+
+   Messages that are read in the order in which they were written, and an end that can't be cut off
+   unnoticed: libsodium's crypto_secretstream_xchacha20poly1305. The state is 44 bytes, which the caller
+   owns. It is what a crypto_secretstream_xchacha20poly1305_state begins with, so either library can go on
+   with the other's stream. It is secret. A copy that is pushed to twice uses a nonce twice.
+
+   The sender sends the header and then the messages, the receiver reads them:
+
+       chacha20_secretstream_start(key, header, state);                  // 24 random bytes as header
+       while (next text)                                                 // FINAL for the last one
+           if (chacha20_secretstream_push(state, NULL, 0, message, text, len, tag)) fail;
+
+       chacha20_secretstream_start(key, header, state);
+       do if (chacha20_secretstream_pull(state, NULL, 0, text, message, len, &tag)) fail;
+       while (tag != CHACHA20_SECRETSTREAM_FINAL);                       // not before: the stream was cut
+
+   Neither call stops at FINAL by itself. */
+
+/* chacha20_secretstream_start writes the first state of the stream with |header|, for either side. Never
+   use a header twice under one key; draw it at random. |state| may overlap both. */
+void chacha20_secretstream_start(const uint8_t key[CHACHA20_AT_LEAST 32],
+                                 const uint8_t header[CHACHA20_AT_LEAST 24],
+                                 uint8_t state[CHACHA20_AT_LEAST 44]) CHACHA20_ATTR_NONNULL;
+
+/* chacha20_secretstream_push writes the message of |len| bytes of |input|, which has 17 bytes more, to
+   |output|, and moves |state| behind it. The associated data |aad| aren't sent; the receiver has to pass
+   the same. After a |tag| with bit 1 set, as REKEY and FINAL, both sides have another key.
+
+   It returns CHACHA20_OK, or CHACHA20_REFUSED if |len| is greater than CHACHA20_AEAD_LONGEST - 64, if
+   |aad_len| is greater than PTRDIFF_MAX, or if |state| or |output| overlaps another argument. */
+int chacha20_secretstream_push(uint8_t state[CHACHA20_AT_LEAST 44], const uint8_t *aad, size_t aad_len,
+                               uint8_t *output, const uint8_t *input, size_t len, uint8_t tag)
+                               CHACHA20_ATTR_PUSH CHACHA20_ATTR_READS(2, 3) CHACHA20_ATTR_READS(5, 6);
+
+/* chacha20_secretstream_pull checks that the |len| bytes of |input| are the next message. Then it writes
+   its text, of |len| - 17 bytes, to |output|, and its tag byte to |tag|, and moves |state| behind it.
+
+   It returns CHACHA20_OK, CHACHA20_WRONG_TAG for other bytes, or CHACHA20_REFUSED if |len| is less than
+   17 or greater than CHACHA20_AEAD_LONGEST - 47, if |aad_len| is greater than PTRDIFF_MAX, or if |state|,
+   |output| or |tag| overlaps another argument. */
+int chacha20_secretstream_pull(uint8_t state[CHACHA20_AT_LEAST 44], const uint8_t *aad, size_t aad_len,
+                               uint8_t *output, const uint8_t *input, size_t len, uint8_t *tag)
+                               CHACHA20_ATTR_PULL CHACHA20_ATTR_READS(2, 3) CHACHA20_ATTR_READS(5, 6);
+
+/* chacha20_secretstream_rekey takes another key. Both sides have to call it at the same place. */
+void chacha20_secretstream_rekey(uint8_t state[CHACHA20_AT_LEAST 44]) CHACHA20_ATTR_NONNULL;
+
+/* Sealed files
+
+   The files of the program seal: a header of 32 bytes, and chunks. Each chunk but the last has 65536 bytes
+   of text, and in the file 16 more; chunk i begins at byte 32 + 65552 * i. Here every chunk is a call, and
+   the caller reads and writes. |buffer| has 65552 bytes, and |len| is what a read returned:
+
+       chacha20_file_header(salt, header);                               // 19 random bytes as salt
+       write(header, 32);
+       for (i = 0, last = 0; !last; i++) {
+           len = read(buffer, 65536), last = no byte follows;
+           if (chacha20_file_seal_chunk(key, salt, i, last, buffer, buffer, len)) fail;
+           write(buffer, len + 16);
+       }
+
+       if (chacha20_file_salt(header, read(header, 32), salt)) fail;
+       for (i = 0, last = 0; !last; i++) {
+           len = read(buffer, 65552), last = no byte follows;
+           if (chacha20_file_open_chunk(key, salt, i, last, buffer, buffer, len)) fail;
+           write(buffer, len - 16);
+       }
+
+   Seal each number once under a salt: a second chunk of that number uses the nonce again. To read a part,
+   open the last chunk first: until then the file's length is only a claim, and may have been cut. */
+
+/* chacha20_file_header writes the header of a file with |salt|. Never use a salt twice under one key; draw
+   it at random. |header| may overlap |salt|. */
+void chacha20_file_header(const uint8_t salt[CHACHA20_AT_LEAST 19],
+                          uint8_t header[CHACHA20_AT_LEAST 32]) CHACHA20_ATTR_NONNULL;
+
+/* chacha20_file_salt writes the salt of a file that begins with |input|, of which it reads at most 32 bytes.
+   It returns CHACHA20_OK, CHACHA20_CUT_HEADER if the file ends in its header, CHACHA20_OTHER_VERSION for one
+   of another version of the format, or CHACHA20_REFUSED for one that isn't sealed. |salt| may overlap
+   |input|. */
+int chacha20_file_salt(const uint8_t *input, size_t len, uint8_t salt[CHACHA20_AT_LEAST 19])
+                       CHACHA20_ATTR_SALT CHACHA20_ATTR_READS(1, 2);
+
+/* chacha20_file_text_len returns how many bytes of text a sealed file of |file_len| bytes has. */
+uint64_t chacha20_file_text_len(uint64_t file_len);
+
+/* chacha20_file_seal_chunk writes chunk |number| of the text |input| to |output|, with |len| + 16 bytes.
+   |last| is 0 or not: whether the file ends with it. |output| may be |input|.
+
+   It returns CHACHA20_OK, or CHACHA20_REFUSED if |output| overlaps what it may not, or if |len| isn't 65536,
+   nor, for a last chunk, less: 0 only for chunk 0. */
+int chacha20_file_seal_chunk(const uint8_t key[CHACHA20_AT_LEAST 32],
+                             const uint8_t salt[CHACHA20_AT_LEAST 19], uint32_t number, int last,
+                             uint8_t *output, const uint8_t *input, size_t len)
+                             CHACHA20_ATTR_CHUNK CHACHA20_ATTR_READS(6, 7);
+
+/* chacha20_file_open_chunk checks the |len| bytes of chunk |input|, and then writes its text, of |len| - 16
+   bytes, to |output|, which may be |input|.
+
+   It returns CHACHA20_OK, CHACHA20_WRONG_TAG if the bytes aren't this chunk, or CHACHA20_REFUSED where
+   chacha20_file_seal_chunk does for a text of |len| - 16 bytes. */
+int chacha20_file_open_chunk(const uint8_t key[CHACHA20_AT_LEAST 32],
+                             const uint8_t salt[CHACHA20_AT_LEAST 19], uint32_t number, int last,
+                             uint8_t *output, const uint8_t *input, size_t len)
+                             CHACHA20_ATTR_CHUNK CHACHA20_ATTR_READS(6, 7);
+
 /* chacha20_version returns the version of the library that runs. */
 const char *chacha20_version(void);
 
@@ -308,6 +453,10 @@ const char *chacha20_version(void);
 #undef CHACHA20_ATTR_SEAL
 #undef CHACHA20_ATTR_TAG
 #undef CHACHA20_ATTR_VERIFY
+#undef CHACHA20_ATTR_CHUNK
+#undef CHACHA20_ATTR_PUSH
+#undef CHACHA20_ATTR_PULL
+#undef CHACHA20_ATTR_SALT
 #undef CHACHA20_AT_LEAST
 
 #ifdef __cplusplus

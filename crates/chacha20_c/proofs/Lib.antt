@@ -1,1 +1,2 @@
+pub mod ChunkLemmas
 pub mod FillLemmas

@@ -1,6 +1,6 @@
 //! ChaCha20-Poly1305 (RFC 8439, section 2.8), XChaCha20-Poly1305 (draft-irtf-cfrg-xchacha, section 2), and the MAC.
 
-ghost use Rattle.std.specs.Prelude.{◌≡◌, ◌≢◌, ◌↔◌, ◌⊎◌, ◌≤◌, ◌+◌, ◌++◌, length};
+ghost use Rattle.std.specs.Prelude.{◌≡◌, ◌≢◌, ◌↔◌, ◌⊎◌, ◌≤◌, ◌<◌, ◌+◌, ◌++◌, length};
 ghost use Rattle.chacha20.specs.ChaCha.{chacha_stream, ietf, modulus};
 ghost use Rattle.chacha20.specs.Cipher.{limit_of};
 ghost use Rattle.chacha20.specs.XChaCha.{xchacha_stream};
@@ -11,7 +11,7 @@ use crate::backend::Backend;
 use chacha20::{
     ChaChaCore, Ietf, Key, Nonce, R20, StreamCipherCoreWrapper, XNonce, subkey, subnonce,
 };
-use chacha20poly1305::ChaChaPoly1305;
+use chacha20poly1305::{ChaChaPoly1305, Error};
 use poly1305::{Tag, authenticate, is_equal};
 
 // The AEAD for nonces of 12 bytes.
@@ -74,8 +74,8 @@ pub extern "C" fn chacha20_aead_encrypt_between(
 }
 
 /// ChaCha20-Poly1305: decrypts `data` in place, after it has checked that `tag` is that of `aad` and `data`.
-/// Returns 0. Where the tag is wrong, or the message has more bytes than the stream from block 1 on, it returns 1 and
-/// writes nothing. `data` overlaps no other argument.
+/// Returns 0. Where the message has more bytes than the stream from block 1 on, it returns 1, and where the tag is
+/// wrong, 2; then it writes nothing. `data` overlaps no other argument.
 #[unsafe(no_mangle)]
 pub extern "C" fn chacha20_aead_decrypt_in_place(
     key: &Key,
@@ -87,13 +87,18 @@ pub extern "C" fn chacha20_aead_decrypt_in_place(
     ensures accepted { let stream = chacha_stream 10 ietf key.now nonce.now in
         result ≡ 0 ↔ ((64 + length «data».old ≤ limit_of (modulus ietf))
         × (tag.now ≡ poly1305_tag stream aad.now «data».old)) }
+    ensures refused { result ≡ 1 ↔ (limit_of (modulus ietf) < 64 + length «data».old) }
+    ensures wrong { let stream = chacha_stream 10 ietf key.now nonce.now in
+        result ≡ 2 ↔ ((64 + length «data».old ≤ limit_of (modulus ietf))
+        × (tag.now ≢ poly1305_tag stream aad.now «data».old)) }
     ensures opened { result ≡ 0 → «data».old ++ tag.now
         ≡ sealed_message (chacha_stream 10 ietf key.now nonce.now) aad.now «data».new }
-    ensures refused { result ≢ 0 → (result ≡ 1) × («data».new ≡ «data».old) }
+    ensures kept { result ≢ 0 → «data».new ≡ «data».old }
 {
     match Aead::new(key).decrypt_in_place_detached(nonce, aad, data, tag) {
         Ok(()) => 0,
-        Err(_) => 1,
+        Err(Error::TooLong) => 1,
+        Err(Error::WrongTag) => 2,
     }
 }
 
@@ -112,16 +117,23 @@ pub extern "C" fn chacha20_aead_decrypt_between(
         result ≡ 0 ↔ ((length input.now ≡ length output.old)
         × (64 + length input.now ≤ limit_of (modulus ietf))
         × (tag.now ≡ poly1305_tag stream aad.now input.now)) }
+    ensures refused { result ≡ 1 ↔ ((length input.now ≢ length output.old)
+        ⊎ (limit_of (modulus ietf) < 64 + length input.now)) }
+    ensures wrong { let stream = chacha_stream 10 ietf key.now nonce.now in
+        result ≡ 2 ↔ ((length input.now ≡ length output.old)
+        × (64 + length input.now ≤ limit_of (modulus ietf))
+        × (tag.now ≢ poly1305_tag stream aad.now input.now)) }
     ensures opened { result ≡ 0 → input.now ++ tag.now
         ≡ sealed_message (chacha_stream 10 ietf key.now nonce.now) aad.now output.new }
-    ensures refused { result ≢ 0 → (result ≡ 1) × (output.new ≡ output.old) }
+    ensures kept { result ≢ 0 → output.new ≡ output.old }
 {
     if output.len() != input.len() {
         return 1;
     }
     match Aead::new(key).decrypt_detached(nonce, aad, input, output, tag) {
         Ok(()) => 0,
-        Err(_) => 1,
+        Err(Error::TooLong) => 1,
+        Err(Error::WrongTag) => 2,
     }
 }
 
@@ -182,9 +194,13 @@ pub extern "C" fn xchacha20_aead_decrypt_in_place(
     ensures accepted { let stream = xchacha_stream 10 key.now nonce.now in
         result ≡ 0 ↔ ((64 + length «data».old ≤ limit_of (modulus ietf))
         × (tag.now ≡ poly1305_tag stream aad.now «data».old)) }
+    ensures refused { result ≡ 1 ↔ (limit_of (modulus ietf) < 64 + length «data».old) }
+    ensures wrong { let stream = xchacha_stream 10 key.now nonce.now in
+        result ≡ 2 ↔ ((64 + length «data».old ≤ limit_of (modulus ietf))
+        × (tag.now ≢ poly1305_tag stream aad.now «data».old)) }
     ensures opened { result ≡ 0 → «data».old ++ tag.now
         ≡ sealed_message (xchacha_stream 10 key.now nonce.now) aad.now «data».new }
-    ensures refused { result ≢ 0 → (result ≡ 1) × («data».new ≡ «data».old) }
+    ensures kept { result ≢ 0 → «data».new ≡ «data».old }
 {
     chacha20_aead_decrypt_in_place(&subkey::<R20>(key, nonce), &subnonce(nonce), aad, data, tag)
 }
@@ -203,9 +219,15 @@ pub extern "C" fn xchacha20_aead_decrypt_between(
         result ≡ 0 ↔ ((length input.now ≡ length output.old)
         × (64 + length input.now ≤ limit_of (modulus ietf))
         × (tag.now ≡ poly1305_tag stream aad.now input.now)) }
+    ensures refused { result ≡ 1 ↔ ((length input.now ≢ length output.old)
+        ⊎ (limit_of (modulus ietf) < 64 + length input.now)) }
+    ensures wrong { let stream = xchacha_stream 10 key.now nonce.now in
+        result ≡ 2 ↔ ((length input.now ≡ length output.old)
+        × (64 + length input.now ≤ limit_of (modulus ietf))
+        × (tag.now ≢ poly1305_tag stream aad.now input.now)) }
     ensures opened { result ≡ 0 → input.now ++ tag.now
         ≡ sealed_message (xchacha_stream 10 key.now nonce.now) aad.now output.new }
-    ensures refused { result ≢ 0 → (result ≡ 1) × (output.new ≡ output.old) }
+    ensures kept { result ≢ 0 → output.new ≡ output.old }
 {
     chacha20_aead_decrypt_between(
         &subkey::<R20>(key, nonce),
@@ -226,12 +248,12 @@ pub extern "C" fn chacha20_onetime_poly1305(key: &Key, input: &[u8], tag: &mut T
     *tag = authenticate(key, input);
 }
 
-/// Compares bytes: returns 0 where they are the same, and else 1. It reads all of them, wherever they differ, unless
+/// Compares bytes: returns 0 where they are the same, and else 2. It reads all of them, wherever they differ, unless
 /// the lengths do.
 #[unsafe(no_mangle)]
 pub extern "C" fn chacha20_verify(one: &[u8], other: &[u8]) -> u32
     ensures accepted { result ≡ 0 ↔ (one.now ≡ other.now) }
-    ensures refused { (result ≡ 0) ⊎ (result ≡ 1) }
+    ensures wrong { result ≡ 2 ↔ (one.now ≢ other.now) }
 {
-    if is_equal(one, other) { 0 } else { 1 }
+    if is_equal(one, other) { 0 } else { 2 }
 }

@@ -12,10 +12,7 @@ use crate::legacy::Core;
 use crate::stateless;
 use chacha20::backends::Lanes8;
 use chacha20::state_bytes::{seed_in, stored, stream_in, word_pos_in};
-use chacha20::{ChaChaRng, R20, Seed, SerializedRngState};
-
-// `ChaCha20Rng`.
-type Generator = ChaChaRng<R20, Lanes8>;
+use chacha20::{ChaChaRng, R8, R12, R20, Rounds, Seed, SerializedRngState};
 
 /// Writes the state of a seed: the start of stream 0. `state` and `seed` do not overlap.
 #[unsafe(no_mangle)]
@@ -107,18 +104,41 @@ pub extern "C" fn chacha20_rng_fill(state: &mut SerializedRngState, output: &mut
     if stateless::write_keystream::<Core>(&seed, &nonce, 4 * position, output) == 0 {
         *state = stored(&seed, stream, position + output.len().div_ceil(4) as u128);
     } else {
-        fill_bytes(state, output);
+        fill_bytes::<R20>(state, output);
     }
 }
 
-// A fill by the generator itself, which is then stored.
-fn fill_bytes(state: &mut SerializedRngState, output: &mut [u8])
-    ensures bytes { output.new ≡ (fill 10 (of_state_bytes state.old) (length output.old)).0 }
+/// `chacha20_rng_fill` of `ChaCha12Rng`, which has six double rounds. All other calls take its states too.
+#[unsafe(no_mangle)]
+pub extern "C" fn chacha12_rng_fill(state: &mut SerializedRngState, output: &mut [u8])
+    ensures bytes { output.new ≡ (fill 6 (of_state_bytes state.old) (length output.old)).0 }
     ensures moved { of_state_bytes state.new
-        ≡ (fill 10 (of_state_bytes state.old) (length output.old)).1 }
+        ≡ (fill 6 (of_state_bytes state.old) (length output.old)).1 }
     ensures stored { state.new ≡ state_bytes (of_state_bytes state.new) }
 {
-    let mut rng = Generator::deserialize_state(state);
+    fill_bytes::<R12>(state, output);
+}
+
+/// `chacha20_rng_fill` of `ChaCha8Rng`, which has four double rounds. All other calls take its states too.
+#[unsafe(no_mangle)]
+pub extern "C" fn chacha8_rng_fill(state: &mut SerializedRngState, output: &mut [u8])
+    ensures bytes { output.new ≡ (fill 4 (of_state_bytes state.old) (length output.old)).0 }
+    ensures moved { of_state_bytes state.new
+        ≡ (fill 4 (of_state_bytes state.old) (length output.old)).1 }
+    ensures stored { state.new ≡ state_bytes (of_state_bytes state.new) }
+{
+    fill_bytes::<R8>(state, output);
+}
+
+// A fill by the generator itself, which is then stored.
+fn fill_bytes<R: Rounds>(state: &mut SerializedRngState, output: &mut [u8])
+    ensures bytes { output.new
+        ≡ (fill R.COUNT (of_state_bytes state.old) (length output.old)).0 }
+    ensures moved { of_state_bytes state.new
+        ≡ (fill R.COUNT (of_state_bytes state.old) (length output.old)).1 }
+    ensures stored { state.new ≡ state_bytes (of_state_bytes state.new) }
+{
+    let mut rng = ChaChaRng::<R, Lanes8>::deserialize_state(state);
     rng.fill_bytes(output);
     *state = rng.serialize_state();
 }

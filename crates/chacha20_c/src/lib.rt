@@ -8,14 +8,19 @@
 //!
 //! A cipher has no state here: each call names its key, its nonce and a position, which is a number of bytes from the
 //! first of the keystream. The legacy cipher's is the number of a block of 64 bytes, and a number of bytes from there
-//! on. The state of a generator is 49 bytes of the caller's.
+//! on. The state of a generator is 49 bytes of the caller's, that of a stream 44.
+//!
+//! A call that may refuse returns 0 where it did all, 1 where an argument breaks a rule that the caller can check, and 2
+//! where a tag is wrong; only `chacha20_file_salt` has more answers.
 #![tactic(auto)]
 
 pub mod authenticated;
 mod backend;
 pub mod chacha;
+pub mod files;
 pub mod generators;
 pub mod legacy;
 mod level;
 mod stateless;
+pub mod streams;
 pub mod xchacha;

@@ -1,0 +1,11 @@
+-- Chunks of sealed files, one by one.
+use Rattle.std.specs.Prelude.{◌≡◌, ◌⊎◌, ◌<◌, ℕ, Bool, List, IsTrue}
+use Rattle.sealed_file.specs.Sealed.{chunk}
+
+-- how many bytes of text chunk i may have: 65536, or fewer if it is the last; only chunk 0 may have none
+abbrev pub IsTextLength : ℕ → Bool → ℕ → Type 0
+IsTextLength i last len = (len ≡ 65536) ⊎ (IsTrue last × (len < 65536) × (0 < i → 0 < len))
+
+-- bytes that are chunk i of some text
+abbrev pub IsChunk : List ℕ → List ℕ → ℕ → Bool → List ℕ → Type 0
+IsChunk key salt i last bytes = (text : List ℕ) × (bytes ≡ chunk key salt i last text)
