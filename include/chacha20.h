@@ -46,12 +46,12 @@
 extern "C" {
 #endif
 
-/* The version of this header. While the major version is 0, the minor version changes whenever a
-   function, its parameters or its meaning changes, and with it the soname of the shared library,
-   libchacha20.so.0.10, and the version node of its symbols, CHACHA20_0.10. */
-#define CHACHA20_VERSION "0.10.0"
-#define CHACHA20_VERSION_MAJOR 0
-#define CHACHA20_VERSION_MINOR 10
+/* The version of this header. Within a major version functions are added, and none is changed, nor a
+   constant, nor the bytes of a format. The shared library's soname, libchacha20.so.1, and the version
+   node of its symbols, CHACHA20_1, have the major version alone. */
+#define CHACHA20_VERSION "1.0.0"
+#define CHACHA20_VERSION_MAJOR 1
+#define CHACHA20_VERSION_MINOR 0
 #define CHACHA20_VERSION_PATCH 0
 
 /* Sizes. */

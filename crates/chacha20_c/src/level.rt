@@ -1,4 +1,5 @@
-//! How the backend makes blocks with vectors of 128 bits. `c/proved.mk` changes this file for those of 256.
+//! How the backend makes blocks with vectors of 128 bits. For a level that has a file of its own here, `c/proved.mk` lays
+//! that in the place of this one.
 
 pub(crate) type Group = chacha20::backends::Lanes4;
 

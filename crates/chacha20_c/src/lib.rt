@@ -17,5 +17,7 @@ pub mod chacha;
 pub mod generators;
 pub mod legacy;
 mod level;
+mod level_lime1;
+mod level_x86_64_v3;
 mod stateless;
 pub mod xchacha;
