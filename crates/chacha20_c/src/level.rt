@@ -1,5 +1,5 @@
-//! How the backend makes blocks with vectors of 128 bits. For a level that has a file of its own here, `c/proved.mk` lays
-//! that in the place of this one.
+//! How the backend makes blocks with vectors of 128 bits. Where a level has a file of its own beside this one,
+//! `c/proved.mk` builds with that in its place.
 
 pub(crate) type Group = chacha20::backends::Lanes4;
 
