@@ -73,9 +73,9 @@ extern "C" {
 /* The longest message that can be authenticated: block 0 makes the MAC's key. */
 #define CHACHA20_AEAD_LONGEST (CHACHA20_STREAM_BYTES - 64)
 
-/* An upper bound on the bytes of the stack that a call takes, measured by a test. Half of them are
-   for the dynamic linker, which may bind memcpy, memmove and memset in a program's first calls. */
-#define CHACHA20_STACK_BYTES 5888
+/* An upper bound on the bytes of the stack that a call takes, measured by a test, with a margin. Half of
+   them are for the dynamic linker, which may bind memcpy, memmove and memset in a program's first calls. */
+#define CHACHA20_STACK_BYTES 8192
 
 /* What a function that can refuse returns. After CHACHA20_REFUSED nothing was written: the data are NOT
    encrypted, or NOT decrypted. Don't send or use |output|. */
