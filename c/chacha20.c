@@ -1,15 +1,14 @@
 /* SPDX-License-Identifier: Apache-2.0 OR MIT
 
    The functions of chacha20.h, each written out, so that a search finds it. Each does what no contract can express: it
-   replaces the pointers of empty data, refuses overlaps, and calls a proved function, by PROVED (proved.h), or by LONG
-   (stack.h), which first moves the stack where the call is long. This file is trusted: it is tested, not proved. */
+   replaces the pointers of empty data, refuses overlaps, and calls a proved function by PROVED (proved.h). This file is
+   trusted: tested, not proved. */
 
 #include "../include/chacha20.h"
 
 #include <string.h>
 
 #include "proved.h"
-#include "stack.h"
 
 /* Always inlined: a call would cost noticeable time on messages of a few bytes. */
 #define CHECK __attribute__((always_inline)) static inline int
@@ -51,8 +50,8 @@ int chacha20_aead_encrypt(const uint8_t key[32], const uint8_t nonce[12], const 
     if (len == 0) input = output = &none;
     if (!output_fits(output, input, len, key, nonce, 12) || !message_fits(output, len, aad, aad_len, tag) ||
         !tag_fits(tag, key, nonce, 12, aad, aad_len, input, len)) return CHACHA20_REFUSED;
-    if (output == input) return LONG(len, chacha20_aead_encrypt_in_place, key, nonce, aad, aad_len, output, len, tag);
-    return LONG(len, chacha20_aead_encrypt_between, key, nonce, aad, aad_len, output, len, input, len, tag);
+    if (output == input) return PROVED(chacha20_aead_encrypt_in_place, key, nonce, aad, aad_len, output, len, tag);
+    return PROVED(chacha20_aead_encrypt_between, key, nonce, aad, aad_len, output, len, input, len, tag);
 }
 
 int chacha20_aead_decrypt(const uint8_t key[32], const uint8_t nonce[12], const uint8_t *aad, size_t aad_len,
@@ -62,8 +61,8 @@ int chacha20_aead_decrypt(const uint8_t key[32], const uint8_t nonce[12], const 
     if (len == 0) input = output = &none;
     if (!output_fits(output, input, len, key, nonce, 12) || !message_fits(output, len, aad, aad_len, tag))
         return CHACHA20_REFUSED;
-    if (output == input) return LONG(len, chacha20_aead_decrypt_in_place, key, nonce, aad, aad_len, output, len, tag);
-    return LONG(len, chacha20_aead_decrypt_between, key, nonce, aad, aad_len, output, len, input, len, tag);
+    if (output == input) return PROVED(chacha20_aead_decrypt_in_place, key, nonce, aad, aad_len, output, len, tag);
+    return PROVED(chacha20_aead_decrypt_between, key, nonce, aad, aad_len, output, len, input, len, tag);
 }
 
 int xchacha20_aead_encrypt(const uint8_t key[32], const uint8_t nonce[24], const uint8_t *aad, size_t aad_len,
@@ -73,8 +72,8 @@ int xchacha20_aead_encrypt(const uint8_t key[32], const uint8_t nonce[24], const
     if (len == 0) input = output = &none;
     if (!output_fits(output, input, len, key, nonce, 24) || !message_fits(output, len, aad, aad_len, tag) ||
         !tag_fits(tag, key, nonce, 24, aad, aad_len, input, len)) return CHACHA20_REFUSED;
-    if (output == input) return LONG(len, xchacha20_aead_encrypt_in_place, key, nonce, aad, aad_len, output, len, tag);
-    return LONG(len, xchacha20_aead_encrypt_between, key, nonce, aad, aad_len, output, len, input, len, tag);
+    if (output == input) return PROVED(xchacha20_aead_encrypt_in_place, key, nonce, aad, aad_len, output, len, tag);
+    return PROVED(xchacha20_aead_encrypt_between, key, nonce, aad, aad_len, output, len, input, len, tag);
 }
 
 int xchacha20_aead_decrypt(const uint8_t key[32], const uint8_t nonce[24], const uint8_t *aad, size_t aad_len,
@@ -84,8 +83,8 @@ int xchacha20_aead_decrypt(const uint8_t key[32], const uint8_t nonce[24], const
     if (len == 0) input = output = &none;
     if (!output_fits(output, input, len, key, nonce, 24) || !message_fits(output, len, aad, aad_len, tag))
         return CHACHA20_REFUSED;
-    if (output == input) return LONG(len, xchacha20_aead_decrypt_in_place, key, nonce, aad, aad_len, output, len, tag);
-    return LONG(len, xchacha20_aead_decrypt_between, key, nonce, aad, aad_len, output, len, input, len, tag);
+    if (output == input) return PROVED(xchacha20_aead_decrypt_in_place, key, nonce, aad, aad_len, output, len, tag);
+    return PROVED(xchacha20_aead_decrypt_between, key, nonce, aad, aad_len, output, len, input, len, tag);
 }
 
 /* An output of a fixed size is made in a local object and then copied, so it may overlap the arguments. For
@@ -123,44 +122,44 @@ int chacha20_xor(const uint8_t key[32], const uint8_t nonce[12], uint64_t positi
                  const uint8_t *input, size_t len) {
     if (len == 0) return PROVED(chacha20_check, position, 0);
     if (!output_fits(output, input, len, key, nonce, 12)) return CHACHA20_REFUSED;
-    if (output == input) return LONG(len, chacha20_xor_in_place, key, nonce, position, output, len);
-    return LONG(len, chacha20_xor_between, key, nonce, position, output, len, input, len);
+    if (output == input) return PROVED(chacha20_xor_in_place, key, nonce, position, output, len);
+    return PROVED(chacha20_xor_between, key, nonce, position, output, len, input, len);
 }
 
 int chacha20_keystream(const uint8_t key[32], const uint8_t nonce[12], uint64_t position, uint8_t *output, size_t len) {
     if (len == 0) return PROVED(chacha20_check, position, 0);
     if (!output_fits(output, output, len, key, nonce, 12)) return CHACHA20_REFUSED;
-    return LONG(len, chacha20_keystream, key, nonce, position, output, len);
+    return PROVED(chacha20_keystream, key, nonce, position, output, len);
 }
 
 int xchacha20_xor(const uint8_t key[32], const uint8_t nonce[24], uint64_t position, uint8_t *output,
                   const uint8_t *input, size_t len) {
     if (len == 0) return PROVED(chacha20_check, position, 0);
     if (!output_fits(output, input, len, key, nonce, 24)) return CHACHA20_REFUSED;
-    if (output == input) return LONG(len, xchacha20_xor_in_place, key, nonce, position, output, len);
-    return LONG(len, xchacha20_xor_between, key, nonce, position, output, len, input, len);
+    if (output == input) return PROVED(xchacha20_xor_in_place, key, nonce, position, output, len);
+    return PROVED(xchacha20_xor_between, key, nonce, position, output, len, input, len);
 }
 
 int xchacha20_keystream(const uint8_t key[32], const uint8_t nonce[24], uint64_t position, uint8_t *output,
                         size_t len) {
     if (len == 0) return PROVED(chacha20_check, position, 0);
     if (!output_fits(output, output, len, key, nonce, 24)) return CHACHA20_REFUSED;
-    return LONG(len, xchacha20_keystream, key, nonce, position, output, len);
+    return PROVED(xchacha20_keystream, key, nonce, position, output, len);
 }
 
 int chacha20_legacy_xor(const uint8_t key[32], const uint8_t nonce[8], uint64_t block, uint64_t offset, uint8_t *output,
                         const uint8_t *input, size_t len) {
     if (len == 0) return PROVED(chacha20_legacy_check, block, offset, 0);
     if (!output_fits(output, input, len, key, nonce, 8)) return CHACHA20_REFUSED;
-    if (output == input) return LONG(len, chacha20_legacy_xor_in_place, key, nonce, block, offset, output, len);
-    return LONG(len, chacha20_legacy_xor_between, key, nonce, block, offset, output, len, input, len);
+    if (output == input) return PROVED(chacha20_legacy_xor_in_place, key, nonce, block, offset, output, len);
+    return PROVED(chacha20_legacy_xor_between, key, nonce, block, offset, output, len, input, len);
 }
 
 int chacha20_legacy_keystream(const uint8_t key[32], const uint8_t nonce[8], uint64_t block, uint64_t offset,
                               uint8_t *output, size_t len) {
     if (len == 0) return PROVED(chacha20_legacy_check, block, offset, 0);
     if (!output_fits(output, output, len, key, nonce, 8)) return CHACHA20_REFUSED;
-    return LONG(len, chacha20_legacy_keystream, key, nonce, block, offset, output, len);
+    return PROVED(chacha20_legacy_keystream, key, nonce, block, offset, output, len);
 }
 
 void hchacha20(const uint8_t key[32], const uint8_t input[16], uint8_t subkey[32]) {
@@ -178,7 +177,7 @@ void chacha20_rng_from_seed(const uint8_t seed[32], uint8_t state[49]) {
 }
 
 void chacha20_rng_fill(uint8_t state[49], uint8_t *output, size_t len) {
-    if (len > 0) LONG(len, chacha20_rng_fill, state, output, len);
+    if (len > 0) PROVED(chacha20_rng_fill, state, output, len);
 }
 
 void chacha20_rng_get_word_pos(const uint8_t state[49], uint64_t *low, uint64_t *high) {

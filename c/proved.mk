@@ -3,10 +3,9 @@
 # What rt proves and builds: out/TARGET/built-LEVEL.a, for each level. A change of this file proves anew, one of Makefile doesn't.
 #
 # chacha20_c is a static library only in a copy of the crates, which lies outside the tree, where the gate would refuse it. The copy
-# has their text and what rt has proved of it; `make -C tests copy` compares them. Only level.rt differs, for the levels with vectors
-# of 256 bits, and for WebAssembly (lime1), which has none here. Left out are must-fail, and work on libraries that are whole.
+# has their text and what rt has proved of it, and as level.rt the level's own file of chacha20_c, where it has one. Left out are
+# must-fail, and work on libraries that are whole.
 
-WIDE = x86-64-v3
 LIBRARIES = poly1305 chacha_base chacha20 chacha20poly1305 secretstream sealed_file
 CRATES = $(LIBRARIES) chacha20_c
 SOURCES := $(sort $(shell find $(CRATES:%=../crates/%) \( -name out -o -name must-fail \) -prune -o -type f -print))
@@ -19,7 +18,7 @@ comma := ,
 if_differs = $(shell printf '%s\n' $(1) | cmp -s - $(OUT)/$(2) || echo FORCE)
 
 PROVED_WITH := $(call line_of,RT,$(RT),$(shell $(RT) version 2> /dev/null | head -n 1),proved-with) \
-	$(call quoted,WIDE: $(WIDE)) $(call quoted,sources: $(SOURCES))
+	$(call quoted,sources: $(SOURCES))
 $(OUT)/proved-with: $(call if_differs,$(PROVED_WITH),proved-with) | $(OUT)
 	@printf '%s\n' $(PROVED_WITH) > $@
 
@@ -31,9 +30,8 @@ $(BUILT) &: $(SOURCES) $(OUT)/proved-with proved.mk
 	tar -C .. --exclude=must-fail $(LIBRARIES:%=--exclude=crates/%/out/incremental) -cf - $(CRATES:%=crates/%) | tar -C "$$copy" -xf -; \
 	for name in $(CRATES); do grep "^$$name:" ../crates.txt; done | sed 's/^chacha20_c:/chacha20_c staticlib:/' > "$$copy/crates.txt"; \
 	jobs=; for level in $(LEVELS); do \
-		case ' $(WIDE) ' in *" $$level "*) change='s/Lanes4;/Lanes16;/; s/= true;/= false;/' ;; *) change= ;; esac; \
-		case $$level in lime1) change='s/Lanes4;/Soft;/' ;; esac; \
-		echo "proving and building for $$level"; sed "$$change" ../crates/chacha20_c/src/level.rt > "$$crate/src/level.rt"; \
+		from=../crates/chacha20_c/src/level; own=$${from}_$$(echo $$level | tr - _).rt; [ -f $$own ] || own=$$from.rt; \
+		echo "proving and building for $$level"; cp $$own "$$crate/src/level.rt"; \
 		(cd "$$crate" && $(RT) lib $$jobs --target $(TARGET) --cpu $$level); jobs='--jobs 1'; \
 		cp "$$crate/out/libchacha20_c.a" $(OUT)/built-$$level.a; \
 	done

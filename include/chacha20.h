@@ -46,12 +46,12 @@
 extern "C" {
 #endif
 
-/* The version of this header. While the major version is 0, the minor version changes whenever a
-   function, its parameters or its meaning changes, and with it the soname of the shared library,
-   libchacha20.so.0.10, and the version node of its symbols, CHACHA20_0.10. */
-#define CHACHA20_VERSION "0.10.0"
-#define CHACHA20_VERSION_MAJOR 0
-#define CHACHA20_VERSION_MINOR 10
+/* The version of this header. Within a major version functions are added, and none is changed, nor a
+   constant, nor the bytes of a format. The shared library's soname, libchacha20.so.1, and the version
+   node of its symbols, CHACHA20_1, have the major version alone. */
+#define CHACHA20_VERSION "1.0.0"
+#define CHACHA20_VERSION_MAJOR 1
+#define CHACHA20_VERSION_MINOR 0
 #define CHACHA20_VERSION_PATCH 0
 
 /* Sizes. */
@@ -80,9 +80,9 @@ extern "C" {
 /* The longest message that can be authenticated: block 0 makes the MAC's key. */
 #define CHACHA20_AEAD_LONGEST (CHACHA20_STREAM_BYTES - 64)
 
-/* An upper bound on the bytes of the stack that a call takes, measured by a test. Half of them are
-   for the dynamic linker, which may bind memcpy, memmove and memset in a program's first calls. */
-#define CHACHA20_STACK_BYTES 5888
+/* An upper bound on the bytes of the stack that a call takes, measured by a test, with a margin. Half of
+   them are for the dynamic linker, which may bind memcpy, memmove and memset in a program's first calls. */
+#define CHACHA20_STACK_BYTES 8192
 
 /* What a function that can refuse returns. After all but CHACHA20_OK nothing was written: the data are
    NOT encrypted, or NOT decrypted. Don't send or use |output|.

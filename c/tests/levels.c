@@ -14,15 +14,16 @@
 #if defined(__x86_64__)
 #include <cpuid.h>
 
-/* What the instructions say of a described processor; of another subleaf come other bits. */
+/* What the instructions say of a described processor: of another subleaf come other bits, of a leaf that it lacks all. */
 static int cpuid_here(unsigned leaf, unsigned subleaf, unsigned *a, unsigned *b, unsigned *c, unsigned *d);
+static int has_leaf(unsigned leaf);
 static uint32_t xcr0_here(void);
 #undef __cpuid
 #undef __cpuid_count
 #define __cpuid(LEAF, A, B, C, D) cpuid_here(LEAF, 99, &(A), &(B), &(C), &(D))
 #define __cpuid_count(LEAF, SUBLEAF, A, B, C, D) cpuid_here(LEAF, SUBLEAF, &(A), &(B), &(C), &(D))
-#define __get_cpuid(LEAF, A, B, C, D) cpuid_here(LEAF, 99, A, B, C, D)
-#define __get_cpuid_count(LEAF, SUBLEAF, A, B, C, D) cpuid_here(LEAF, SUBLEAF, A, B, C, D)
+#define __get_cpuid(LEAF, A, B, C, D) (has_leaf(LEAF) && cpuid_here(LEAF, 99, A, B, C, D))
+#define __get_cpuid_count(LEAF, SUBLEAF, A, B, C, D) (has_leaf(LEAF) && cpuid_here(LEAF, SUBLEAF, A, B, C, D))
 #define READ_XCR0 xcr0_here
 #else
 enum { level = 1 };
@@ -117,12 +118,14 @@ static int must_run(int call, uint8_t *const *at, const size_t *len) {
 /* Whether a call runs where it must, and hands on what it was given. */
 static void try_call(int call, uint8_t *const *at, const size_t *len) {
     static const enum part order[] = {KEY, NONCE, AAD, OUTPUT, INPUT, TAG};
-    int must = must_run(call, at, len), is_between = call < HAVE_INPUT && at[OUTPUT] != at[INPUT], p = 0, n = 0;
+    int must = must_run(call, at, len), is_empty = len[OUTPUT] == 0, p = 0, n = 0;
+    int is_between = call < HAVE_INPUT && at[OUTPUT] != at[INPUT] && !is_empty;
     ran = 0;
     int answer = run_call(call, at, len);
     is(answer == (must ? CHACHA20_OK : CHACHA20_REFUSED) && ran == (must ? level : 0), must ? "a right call" : "a wrong call");
     if (!must || ran == 0) return;
-    for (int i = 0; i < PARTS; i++) {
+    /* Of an empty part of a keystream, the position alone is checked. */
+    for (int i = 0; i < PARTS && !(call >= HAVE_TAG && is_empty); i++) {
         enum part part = order[i];
         if (part == INPUT ? !is_between : (part == AAD || part == TAG) && call >= HAVE_TAG) continue;
         is(got.pointers[p++] == at[part] || len[part] == 0, "another pointer is handed on");
@@ -149,13 +152,13 @@ static void overlaps(int call, const size_t *len) {
             if (i % 4 > 1) at[one] = at_address(0 - first);
             at[other] = at_address((uintptr_t)at[one] + all[j]);
             /* No object passes the greatest address. */
-            if (at[other] && (uintptr_t)at[other] <= 0 - second) try_call(call, at, len);
+            if (at[other] && (second == 0 || (uintptr_t)at[other] <= 0 - second)) try_call(call, at, len);
         }
     }
 }
 
 static void all_overlaps_and_lengths(void) {
-    static const size_t lengths[] = {1, 16, 100, OVER_4_GIB}, aad_lengths[] = {0, 13, 5000, OVER_4_GIB + 1};
+    static const size_t lengths[] = {0, 1, 100, OVER_4_GIB}, aad_lengths[] = {0, 13, 5000, OVER_4_GIB + 1};
     static const size_t longest[] = {PTRDIFF_MAX, (size_t)PTRDIFF_MAX + 1, SIZE_MAX - 15, SIZE_MAX};
     for (int i = 0; i < 16 * CALLS; i++) {
         int call = i / 16;
@@ -177,10 +180,13 @@ static void all_overlaps_and_lengths(void) {
 static struct processor described;
 static const char *vendor;
 static int is_xgetbv_run, wanted, steps;
+static unsigned highest = 7; /* leaf, but for those from 80000000 on */
+
+static int has_leaf(unsigned leaf) { return leaf <= highest || leaf >= 0x80000000; }
 
 static int cpuid_here(unsigned leaf, unsigned subleaf, unsigned *a, unsigned *b, unsigned *c, unsigned *d) {
-    *a = leaf == 0 ? 7 : 0, *d = 0;
-    *b = leaf != 7 ? 0 : subleaf == 0 ? described.leaf_7_ebx : ~described.leaf_7_ebx;
+    *a = leaf == 0 ? highest : 0, *d = 0;
+    *b = leaf != 7 ? 0 : !has_leaf(leaf) ? ~0u : subleaf == 0 ? described.leaf_7_ebx : ~described.leaf_7_ebx;
     *c = leaf == 1 ? described.leaf_1_ecx : leaf == 0x80000001 ? described.leaf_80000001_ecx : 0;
     if (leaf == 0) memcpy(b, vendor, 4), memcpy(d, vendor + 4, 4), memcpy(c, vendor + 8, 4);
     return 1;
@@ -234,6 +240,7 @@ static void all_processors(void) {
         struct processor it = {haswell.leaf_1_ecx, haswell.leaf_7_ebx, haswell.leaf_80000001_ecx, saved};
         try(it, saved == 6 ? 3 : 2);
     }
+    highest = 6, try(haswell, 2), highest = 7;
     try((struct processor){0, 0, 0, 0}, 1);                           /* nothing but x86-64 */
     try((struct processor){0x80002001, 0, LAHF_ALONE, 0}, 1);         /* qemu64 */
     try((struct processor){0x0098e3bd, 0, LAHF_ALONE, 0}, 2);         /* Nehalem */

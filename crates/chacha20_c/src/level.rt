@@ -1,4 +1,5 @@
-//! How the backend makes blocks with vectors of 128 bits. `c/proved.mk` changes this file for those of 256.
+//! How the backend makes blocks with vectors of 128 bits. Where a level has a file of its own beside this one,
+//! `c/proved.mk` builds with that in its place.
 
 pub(crate) type Group = chacha20::backends::Lanes4;
 

@@ -21,6 +21,8 @@ pub mod files;
 pub mod generators;
 pub mod legacy;
 mod level;
+mod level_lime1;
+mod level_x86_64_v3;
 mod stateless;
 pub mod streams;
 pub mod xchacha;

@@ -1,8 +1,8 @@
 //! Calls that each make a cipher of their own, over any core. They return what C gets: 0 where a call is accepted, and
 //! 1 where it is refused. A position has 128 bits, so that it reaches the end of each stream.
 
-ghost use Rattle.std.specs.Prelude.{◌≡◌, cond, is_ok};
-ghost use Rattle.chacha20.specs.ChaCha.{keystream};
+ghost use Rattle.std.specs.Prelude.{◌≡◌, ◌↔◌, ◌≤◌, ◌+◌, cond, is_ok, length, IsOk, OnErr, OnOk};
+ghost use Rattle.chacha20.specs.ChaCha.{keystream, stream_part};
 ghost use Rattle.chacha20.specs.Cipher.{limit_of};
 ghost use Rattle.chacha20_c.specs.Results.{Checked, Written, Xored, XoredInto};
 
@@ -60,10 +60,47 @@ pub(crate) fn write_keystream<K: KeyIvInit + StreamCipherSeekCore + Drop>(
 {
     let mut cipher = StreamCipherCoreWrapper::<K>::new(key, nonce);
     let outcome = match cipher.try_seek(position) {
-        Ok(()) => cipher.try_write_keystream(output),
+        Ok(()) => write_pieces(&mut cipher, output),
         Err(error) => Err(error),
     };
     answer(outcome)
+}
+
+// How many bytes are zeroed, and then XORed while the L1 cache has them.
+const PIECE: usize = 0x1000;
+
+// Writes the keystream over the bytes, as `try_write_keystream` does.
+fn write_pieces<C: StreamCipher>(cipher: &mut C, output: &mut [u8]) -> Result<(), StreamCipherError>
+    ensures accepted { IsOk result
+        ↔ (C.position cipher.old + length output.old ≤ limit_of C.modulus) }
+    ensures bytes { OnOk result (output.new
+        ≡ stream_part (keystream C.modulus (C.block_at (C.fixed cipher.old)))
+        (C.position cipher.old) (length output.old)) }
+    ensures refused { OnErr result (output.new ≡ output.old) }
+{
+    if let Err(refusal) = cipher.check_remaining(output.len()) {
+        return Err(refusal);
+    }
+    let mut done = 0;
+    'pieces: while done < output.len() {
+        let end = done + PIECE.min(output.len() - done);
+        write_piece(cipher, &mut output[done..end]);
+        done = end;
+    }
+    Ok(())
+}
+
+// Writes the keystream over a piece, which stays within the limit.
+fn write_piece<C: StreamCipher>(cipher: &mut C, piece: &mut [u8])
+    requires { C.position cipher.old + length piece.old ≤ limit_of C.modulus }
+    ensures bytes { piece.new
+        ≡ stream_part (keystream C.modulus (C.block_at (C.fixed cipher.old)))
+        (C.position cipher.old) (length piece.old) }
+    ensures fixed { C.fixed cipher.new ≡ C.fixed cipher.old }
+    ensures position { C.position cipher.new ≡ C.position cipher.old + length piece.old }
+{
+    piece.fill(0);
+    cipher.apply_keystream(piece);
 }
 
 // 0 for a call that was accepted, and 1 for one that was refused.

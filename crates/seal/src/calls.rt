@@ -52,7 +52,7 @@ const INPUT: &str = "The file to read, or - for standard input";
 /// The command line.
 pub fn command<'a>(alloc: Global) -> Result<Command<'a>, AllocError> {
     let seal = Command::new(alloc, "seal")
-        .version("0.10.0")
+        .version("1.0.0")
         .about("Encrypts files, and notices each change when it decrypts them.")
         .after_help(MORE)
         .subcommand_required(true)
