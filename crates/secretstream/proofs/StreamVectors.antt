@@ -6,8 +6,9 @@ use Rattle.chacha20poly1305.specs.ChaCha.{quarter, columns, diagonals, rounds, a
 use Rattle.chacha20poly1305.specs.Poly1305.{number, accumulator, tag_from}
 use Rattle.chacha20poly1305.specs.Aead.{mac_key}
 use Rattle.secretstream.specs.Stream.{State, start, message_of, after, moved, counted, rekeyed}
-use Rattle.secretstream.specs.Tags.{byte_of}
-use Rattle.secretstream.specs.declared.tag.Tag.TheVariants.{Message, Push, Rekey, Final}
+use Rattle.secretstream.specs.declared.tag.Tag.{Tag}
+use Rattle.secretstream.specs.Tags.{byte_of, tag_of}
+use Rattle.secretstream.specs.declared.tag.Tag.TheVariants.{Message, Push, Rekey, Final, Other}
 
 -- the first state of the key 0x80, 0x81 .. and the header 0x40, 0x41 ..
 abbrev one : State
@@ -167,3 +168,24 @@ asked s mac = refl
 
 pub not_asked : (mac : List ℕ) → moved two mac 253 ≡ counted two mac
 not_asked mac = refl
+
+-- and their names
+pub names : tag_of 0 ∷ tag_of 1 ∷ tag_of 2 ∷ tag_of 3 ∷ tag_of 4 ∷ []
+    ≡ Message ∷ Push ∷ Rekey ∷ Final ∷ Other 4 ∷ []
+names = refl
+
+-- Push takes no other key, nor does any counter but the last
+pub push_counts : (mac : List ℕ) → moved two mac 1 ≡ counted two mac
+push_counts mac = refl
+
+pub keeps : (mac : List ℕ) → let s = record two { counter = 0xfffeffff } in moved s mac 0 ≡ counted s mac
+keeps mac = refl
+
+-- the first message under another header, of the bytes 0 to 23
+pub other_header : message_of (start (range_with_len 0x80 32) (range_with_len 0 24)) [] 0
+    (codes "attack at dawn") ≡
+    0x30 ∷ 0x87 ∷ 0x51 ∷ 0x57 ∷ 0xa9 ∷ 0xe1 ∷ 0x5b ∷ 0xee ∷ 0xda ∷ 0x69 ∷ 0x19 ∷ 0xfc ∷ 0x0a ∷ 0xf4 ∷ 0x51
+    ∷ 0xb0 ∷ 0x65 ∷ 0xc1 ∷ 0x8e ∷ 0x3a ∷ 0xac ∷ 0x21 ∷ 0x0d ∷ 0x46 ∷ 0xe5 ∷ 0x6d ∷ 0xf7 ∷ 0x5b ∷ 0x19 ∷ 0x5c
+    ∷ 0xab ∷ []
+unfolding quarter columns diagonals rounds add_states mac_key number accumulator tag_from message_of
+other_header = refl

@@ -13,12 +13,14 @@
 //! ```
 //!
 //! Send the header first, 24 random bytes, and then the messages. A message has 17 bytes more than its text: the
-//! encrypted tag byte, and 16 bytes of MAC. The receiver accepts only the next message: it refuses one that was
-//! changed, comes again or comes too early, and then has moved nowhere. A stream is complete exactly if the last
-//! message that it accepted had `Tag::Final`. As in libsodium, neither side stops there by itself.
+//! encrypted tag byte, and 16 bytes of MAC. The receiver accepts only what is the next message of some text, and else
+//! moves nowhere. That no one else can make one, by a change, a repetition or a message from further on, is what the
+//! MAC is for: contracts don't say how hard that is. A sender ends its stream by `Tag::Final`, once; then the stream is
+//! complete exactly if the last message that the receiver accepted had that tag. As in libsodium, neither side stops
+//! there by itself.
 //!
 //! Contracts say which bytes a message is, that a receiver accepts exactly the next message, and which state each
-//! call leaves. They don't say how hard messages are to forge.
+//! call leaves.
 //!
 //! All proofs use only the public contracts, definitions and lemmas of `chacha20poly1305`, `chacha20` and `poly1305`.
 #![tactic(auto)]

@@ -39,8 +39,8 @@ impl PushStream {
     }
 
     /// A stream with a header from a source of random bytes, such as a program's `HostRuntime`. Fails where the source
-    /// does, with its error. No clause says that the header is random, since the trait promises nothing of what its call
-    /// writes; read the three lines of its body instead.
+    /// does, with its error. No clause says that the header is random: the trait promises nothing of what its call
+    /// writes. Read the three lines of the body for that.
     pub fn init<R: RandomSource>(rng: &R, key: &Key) -> io::Result<(Header, Self)>
         ensures { IfOk result (λ r. r.1 ≡ start key.now r.0) }
     {

@@ -13,7 +13,7 @@ pub enum Tag {
     Message,
     /// 1: the last one of a set of messages, and not of the stream.
     Push,
-    /// 2: both sides take another key after it, and forget the one before.
+    /// 2: both sides take another key after it.
     Rekey,
     /// 3: the last one of the stream. Both sides take another key after it.
     Final,
