@@ -206,13 +206,13 @@ void chacha8_rng_fill(uint8_t state[49], uint8_t *output, size_t len) {
 
 /* Streams. Empty data are as above. */
 
-/* Whether state and output lie apart from all else. No object has more than PTRDIFF_MAX bytes; a message has 17 bytes
-   more than its text. */
+/* Whether state and output lie apart from all else, and neither |aad| nor a message of 17 bytes more than the input
+   passes PTRDIFF_MAX. */
 CHECK stream_fits(const uint8_t *state, const uint8_t *aad, size_t aad_len, const uint8_t *output, size_t output_len,
                   const uint8_t *input, size_t input_len) {
-    return aad_len <= PTRDIFF_MAX && apart(state, 44, aad, aad_len) && apart(state, 44, output, output_len) &&
-           apart(state, 44, input, input_len) && apart(output, output_len, aad, aad_len) &&
-           apart(output, output_len, input, input_len);
+    return aad_len <= PTRDIFF_MAX && input_len <= PTRDIFF_MAX - 17 && apart(state, 44, aad, aad_len) &&
+           apart(state, 44, output, output_len) && apart(state, 44, input, input_len) &&
+           apart(output, output_len, aad, aad_len) && apart(output, output_len, input, input_len);
 }
 
 void chacha20_secretstream_start(const uint8_t key[32], const uint8_t header[24], uint8_t state[44]) {
@@ -226,8 +226,7 @@ int chacha20_secretstream_push(uint8_t state[44], const uint8_t *aad, size_t aad
     uint8_t none = 0;
     if (aad_len == 0) aad = &none;
     if (len == 0) input = &none;
-    if (len > PTRDIFF_MAX - 17 || !stream_fits(state, aad, aad_len, output, len + 17, input, len))
-        return CHACHA20_REFUSED;
+    if (!stream_fits(state, aad, aad_len, output, len + 17, input, len)) return CHACHA20_REFUSED;
     return PROVED(chacha20_secretstream_push, state, aad, aad_len, output, len + 17, input, len, tag);
 }
 
@@ -236,9 +235,9 @@ int chacha20_secretstream_pull(uint8_t state[44], const uint8_t *aad, size_t aad
     uint8_t none = 0;
     if (aad_len == 0) aad = &none;
     if (len == 17) output = &none;
-    if (len < 17 || len > PTRDIFF_MAX || !stream_fits(state, aad, aad_len, output, len - 17, input, len) ||
-        !apart(tag, 1, state, 44) || !apart(tag, 1, aad, aad_len) || !apart(tag, 1, output, len - 17) ||
-        !apart(tag, 1, input, len)) return CHACHA20_REFUSED;
+    if (len < 17 || !stream_fits(state, aad, aad_len, output, len - 17, input, len) || !apart(tag, 1, state, 44) ||
+        !apart(tag, 1, aad, aad_len) || !apart(tag, 1, output, len - 17) || !apart(tag, 1, input, len))
+        return CHACHA20_REFUSED;
     return PROVED(chacha20_secretstream_pull, state, aad, aad_len, output, len - 17, input, len, tag);
 }
 

@@ -49,13 +49,14 @@ enum { STACK = 1 << 15, MARGIN = 1024, PLACES = 64, LONGEST = (1 << 14) + 1000, 
 
 static volatile uint8_t stack[STACK] __attribute__((aligned(4096)));
 static uint8_t one_key[32], one_nonce[24], one_aad[30], one_tag[16], one_state[CHACHA20_RNG_STATE_BYTES];
-static uint8_t input[LONGEST], output[LONGEST];
+static uint8_t input[LONGEST + 17], output[LONGEST + 17];
 static size_t call_len;
 static int call_kind;
 static const volatile uint8_t *call_begin;
 static ucontext_t home, away;
 
 #define MESSAGE one_key, one_nonce, one_aad, sizeof one_aad
+#define STREAM one_state, one_aad, sizeof one_aad
 
 static void on_stack(void) {
     int answer = CHACHA20_OK;
@@ -87,14 +88,30 @@ static void on_stack(void) {
         case 22: chacha20_rng_set_word_pos(one_state, 5, 6), chacha20_rng_get_word_pos(one_state, &low, &high); break;
         case 23: chacha20_rng_set_block_pos(one_state, chacha20_rng_get_block_pos(one_state)); break;
         case 24: answer = chacha20_rng_get_stream(one_state) > 5 || !chacha20_version() || chacha20_block_position(0); break;
-        default: answer = chacha20_check(5, call_len) | chacha20_legacy_check(5, 5, call_len);
+        case 25: answer = chacha20_check(5, call_len) | chacha20_legacy_check(5, 5, call_len); break;
+        case 26: chacha12_rng_fill(one_state, output, call_len); break;
+        case 27: chacha8_rng_fill(one_state, output, call_len); break;
+        case 28: answer = chacha20_secretstream_push(STREAM, output, input, call_len, CHACHA20_SECRETSTREAM_FINAL); break;
+        case 29: answer = chacha20_secretstream_pull(STREAM, input, output, call_len + 17, one_tag); break;
+        case 30: chacha20_secretstream_start(one_key, one_nonce, one_state), chacha20_secretstream_rekey(one_state); break;
+        case 31: answer = chacha20_file_seal_chunk(one_key, one_nonce, 5, 1, output, input, call_len); break;
+        case 32: answer = chacha20_file_seal_chunk(one_key, one_nonce, 5, 1, output, output, call_len); break;
+        case 33: answer = chacha20_file_open_chunk(one_key, one_nonce, 5, 1, input, output, call_len + 16); break;
+        case 34: answer = chacha20_file_open_chunk(one_key, one_nonce, 5, 1, output, output, call_len + 16); break;
+        default: chacha20_file_header(one_nonce, output), answer = chacha20_file_salt(output, 32, input) + (int)chacha20_file_text_len(48);
     }
     is("an answer", answer == CHACHA20_OK);
 }
-enum { CALL_KINDS = 26 };
+enum { CALL_KINDS = 36 };
 
 /* What is decrypted has its right tag. */
 static void before_call(void) {
+    uint8_t kept[sizeof one_state];
+    memcpy(kept, one_state, sizeof kept);
+    if (call_kind == 29) is("an answer", chacha20_secretstream_push(STREAM, output, input, call_len, 3) == CHACHA20_OK);
+    if (call_kind == 33 || call_kind == 34)
+        is("an answer", chacha20_file_seal_chunk(one_key, one_nonce, 5, 1, output, input, call_len) == CHACHA20_OK);
+    memcpy(one_state, kept, sizeof kept);
     if (call_kind == 13 || call_kind == 15) memcpy(input, output, call_len);
     if (call_kind < 13 || call_kind > 16) return;
     int answer = call_kind < 15 ? chacha20_aead_encrypt(MESSAGE, output, input, call_len, one_tag)

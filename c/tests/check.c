@@ -2,8 +2,9 @@
 
    The library beside other implementations: random messages, cut at random places, whose parts are combined in random
    order, in place or between buffers, by different levels; words of generators; authenticated messages, forgeries of them, and
-   MACs of sums around 2^130 - 5. Buffers often lie at the ends of mapped pages. Then ends of streams, and lengths that need
-   more than 32 bits. The random numbers of a turn are those of its seed, so that each turn can be repeated.
+   MACs of sums around 2^130 - 5; streams, chunks of sealed files, and a file of `seal`. Buffers often lie at the ends of mapped
+   pages. Then ends of streams, and lengths that need more than 32 bits. The random numbers of a turn are those of its seed, so
+   that each turn can be repeated.
 
    compare check [BYTES [SEED]]   compares the library with libsodium and plain C; the last line says how many bytes, and how
                                   many of them differ. The first turn is that of SEED
@@ -25,7 +26,7 @@ enum { PAGE = 4096, LONGEST = 1 << 22, ROOM = LONGEST + PAGE };
 enum { OFTEN_LONGEST = 1 << 18, MOST_CUTS = 40, TAG = CHACHA20_TAG_BYTES, MOST_AAD = 20000 };
 
 /* The cases of a kind that a run makes at least, and of calls by each level. */
-enum { KINDS = 5, LEAST_CASES = 10, LEAST_CALLS = 100 };
+enum { KINDS = 6, LEAST_CASES = 10, LEAST_CALLS = 100 };
 
 struct run {
     int level_count;
@@ -200,18 +201,21 @@ static void one_message(struct run *run) {
 }
 
 /* Words of the legacy layout from a block on, by another implementation; after the last block comes the first. */
-static void wrapping_blocks(const struct other *other, const uint8_t *key, const uint8_t *nonce, uint64_t block, uint8_t *room,
-                            size_t len) {
+static void wrapping_blocks(const struct other *other, enum layout layout, const uint8_t *key, const uint8_t *nonce, uint64_t block,
+                            uint8_t *room, size_t len) {
     size_t to_end = block > UINT64_MAX - LONGEST ? 64 * (size_t)(UINT64_MAX - block) + 64 : len;
     if (to_end > len) to_end = len;
     memset(room, 0, len);
-    other->xor_from_block[LEGACY](key, nonce, block, room, room, to_end);
-    if (to_end < len) other->xor_from_block[LEGACY](key, nonce, 0, room + to_end, room + to_end, len - to_end);
+    other->xor_from_block[layout](key, nonce, block, room, room, to_end);
+    if (to_end < len) other->xor_from_block[layout](key, nonce, 0, room + to_end, room + to_end, len - to_end);
 }
 
 /* Reads of a generator: its stream is that of the legacy cipher under the seed, from the word's place on, and begins
-   again after 2^68 words. */
+   again after 2^68 words. Only plain C has fewer rounds. */
 static void one_generator(struct run *run) {
+    static void (*const fills[])(uint8_t *state, uint8_t *output, size_t len) = {chacha20_rng_fill, chacha12_rng_fill, chacha8_rng_fill};
+    enum layout layout = (enum layout)(LEGACY + below(run, 3));
+    const struct other *other = layout == LEGACY ? any_other(run) : &plain_c;
     uint8_t seed[32], nonce[24], room[64], kept[CHACHA20_RNG_STATE_BYTES];
     uint8_t *state = room + below(run, 16), *own = room + below(run, 33);
     random_bytes(run, seed, sizeof seed), random_bytes(run, nonce, sizeof nonce);
@@ -221,7 +225,7 @@ static void one_generator(struct run *run) {
     unsigned in_block = (unsigned)below(run, 16);
     for (int i = 7; i >= 0; i--) stream = stream << 8 | nonce[i];
     if (below(run, 4) == 0) block = UINT64_MAX - below(run, below(run, 2) ? 8 : LONGEST / 64);
-    wrapping_blocks(any_other(run), seed, nonce, block, expected, 4 * (words + in_block));
+    wrapping_blocks(other, layout, seed, nonce, block, expected, 4 * (words + in_block));
     const uint8_t *right = expected + 4 * in_block;
     /* At any address; the state may lie on the seed. */
     memcpy(own, seed, sizeof seed), any_level(run), chacha20_rng_from_seed(own, state);
@@ -231,9 +235,9 @@ static void one_generator(struct run *run) {
     else chacha20_rng_set_word_pos(state, block << 4 | in_block, block >> 60 | next(run) << 4);
     while (done < words) {
         size_t left = 4 * (words - done), len = below(run, (left < 70 || below(run, 2) ? left : 70) + 1);
-        struct call call = {LEGACY, FILL, block + (in_block + done) / 16, (in_block + done) % 16 * 4, len, output + 4 * done, NULL};
+        struct call call = {layout, FILL, block + (in_block + done) / 16, (in_block + done) % 16 * 4, len, output + 4 * done, NULL};
         any_level(run), state[48] |= (uint8_t)(below(run, 16) << 4);
-        chacha20_rng_fill(state, call.len ? call.output : NULL, call.len);
+        fills[layout - LEGACY](state, call.len ? call.output : NULL, call.len);
         if (call.len == 0) state[48] &= 15;
         right_call(run, &call, call.output, right + 4 * done);
         /* What is left of the last word is lost. */
@@ -253,6 +257,17 @@ static void one_generator(struct run *run) {
     any_level(run), chacha20_rng_set_stream(state, stream + 1), chacha20_rng_get_word_pos(state, &low, &high);
     holds(run, low == 0 && high == 0 && state[48] == 0 && chacha20_rng_get_stream(state) == stream + 1, "another stream begins");
     holds(run, memcmp(state, seed, 32) == 0, "a seed after another stream");
+}
+
+/* Key and stream of zeros with 12 and 8 rounds (draft-strombergson-chacha-test-vectors, TC1, 256 bits). */
+static void published_words(struct run *run) {
+    static const char *const known[] = {"\x9b\xf4\x9a\x6a\x07\x55\xf9\x53\x81\x1f\xce\x12\x5f\x26\x83\xd5",
+                                        "\x3e\x00\xef\x2f\x89\x5f\x40\xd6\x7f\x5b\xb8\xe8\x1f\x09\xa5\xa1"};
+    for (int i = 0; i < 2; i++) {
+        uint8_t state[CHACHA20_RNG_STATE_BYTES] = {0}, words[16];
+        (i ? chacha8_rng_fill : chacha12_rng_fill)(state, words, sizeof words);
+        same_bytes(run, words, (const uint8_t *)known[i], sizeof words, "published words");
+    }
 }
 
 /* At any address; the subkey may lie on what it is made of. */
@@ -302,7 +317,7 @@ static void is_right(struct run *run, struct sealed *it, int is_in_place) {
 /* A refused message leaves what was there. */
 static void is_refused(struct run *run, struct sealed *it, int is_in_place) {
     size_t changed = 0;
-    holds(run, apply(it, 0, is_in_place, expected, it->tag) == CHACHA20_REFUSED, "a forgery was taken");
+    holds(run, apply(it, 0, is_in_place, expected, it->tag) == CHACHA20_WRONG_TAG, "a forgery was taken");
     for (size_t i = 0; i < it->len; i++) changed += made[i] != (is_in_place ? expected[i] : 0x55);
     holds(run, changed == 0, "a forgery was written");
 }
@@ -351,7 +366,7 @@ static void one_tag(struct run *run) {
     memcpy(made, input, compared);
     holds(run, chacha20_verify(input, made, compared) == CHACHA20_OK, "equal bytes were refused");
     made[at] ^= (uint8_t)(1 << below(run, 8));
-    holds(run, chacha20_verify(made, input, compared) == (at == compared ? CHACHA20_OK : CHACHA20_REFUSED), "unequal bytes");
+    holds(run, chacha20_verify(made, input, compared) == (at == compared ? CHACHA20_OK : CHACHA20_WRONG_TAG), "unequal bytes");
     holds(run, chacha20_verify(NULL, NULL, 0) == CHACHA20_OK, "no bytes were refused");
 }
 
@@ -366,6 +381,182 @@ static void sealed_by_each_length(struct run *run) {
             is_right(run, &it, it.aad_len % 2), is_right(run, &it, !(it.aad_len % 2));
         }
     }
+}
+
+/* Streams, whose states are bytes, so that the library and another implementation can go on with each other's. */
+
+enum { STATE = CHACHA20_SECRETSTREAM_STATE_BYTES, MORE = CHACHA20_SECRETSTREAM_OVERHEAD_BYTES, MESSAGES = 10 };
+
+/* A message that is in |expected|: pulled by the library, after a forgery of it, and by the other. */
+static void pull_message(struct run *run, const struct other *other, const uint8_t *state, uint8_t *aad, size_t aad_len, size_t len,
+                         uint8_t tag, const uint8_t *after) {
+    uint8_t own[STATE], kept[STATE], found = tag ^ 0x80, *output = len ? made : NULL, *part;
+    memcpy(own, state, STATE);
+    part = (uint8_t *[]){expected, expected + len + MORE - 1, expected + below(run, len + MORE), own + below(run, 32), own + 36}[below(run, 5)];
+    if (aad_len && below(run, 8) == 0) part = aad + below(run, aad_len);
+    *part ^= 0x10, memcpy(kept, own, STATE), memset(made, 0x55, len);
+    any_level(run);
+    holds(run, chacha20_secretstream_pull(own, aad_len ? aad : NULL, aad_len, output, expected, len + MORE, &found) == CHACHA20_WRONG_TAG,
+          "a forged message of a stream");
+    for (size_t i = 0; i < len; i++) holds(run, made[i] == 0x55, "a forged message was written");
+    holds(run, found == (tag ^ 0x80), "a forged tag byte was written");
+    same_bytes(run, own, kept, STATE, "a state moved by a forgery");
+    *part ^= 0x10, memcpy(own, state, STATE), memcpy(kept, state, STATE);
+    holds(run, chacha20_secretstream_pull(own, aad_len ? aad : NULL, aad_len, output, expected, len + MORE, &found) == CHACHA20_OK &&
+                   found == tag, "a message of a stream was refused");
+    same_bytes(run, made, input, len, "a pulled text");
+    same_bytes(run, own, after, STATE, "a receiver's state");
+    holds(run, other->pull(kept, aad, aad_len, made, expected, len + MORE, &found) == CHACHA20_OK && found == tag, "another's pull");
+    same_bytes(run, kept, after, STATE, "another's state");
+}
+
+static void one_message_of_stream(struct run *run, const struct other *other, uint8_t *state) {
+    static uint8_t aad[MOST_AAD];
+    uint8_t own[STATE], after[STATE], tag = (uint8_t)below(run, below(run, 2) ? 4 : 256);
+    size_t len = below(run, 20) ? below(run, 400) : below(run, 140000), aad_len = below(run, 2) * below(run, below(run, 9) ? 50 : MOST_AAD);
+    random_bytes(run, aad, aad_len);
+    memcpy(own, state, STATE), memcpy(after, state, STATE);
+    other->push(after, aad, aad_len, expected, input, len, tag);
+    memset(made, 0x55, len + MORE), any_level(run);
+    holds(run, chacha20_secretstream_push(own, aad_len ? aad : NULL, aad_len, made, len ? input : NULL, len, tag) == CHACHA20_OK,
+          "a message wasn't pushed");
+    same_bytes(run, made, expected, len + MORE, "a message of a stream");
+    same_bytes(run, own, after, STATE, "a sender's state");
+    pull_message(run, other, state, aad, aad_len, len, tag, after);
+    memcpy(state, after, STATE);
+    if (below(run, 8)) return;
+    any_level(run), chacha20_secretstream_rekey(state), other->rekey(after);
+    same_bytes(run, state, after, STATE, "another key");
+}
+
+/* The counter of some is close to its end. */
+static void one_stream(struct run *run) {
+    uint8_t room[100], right[STATE], *key = room + below(run, 9), *header = room + 41, *state = room + below(run, sizeof room - STATE);
+    const struct other *other = any_other(run);
+    random_bytes(run, room, sizeof room);
+    other->start(key, header, right);
+    any_level(run), chacha20_secretstream_start(key, header, state);
+    same_bytes(run, state, right, STATE, "a stream's first state");
+    if (below(run, 4) == 0) memset(state + 32, 255, 4), state[32] -= (uint8_t)below(run, MESSAGES);
+    for (int i = 0; i < MESSAGES; i++) one_message_of_stream(run, other, state);
+}
+
+/* More messages than a counter of 16 bits has. */
+static void long_stream(struct run *run) {
+    uint8_t state[STATE] = {5}, right[STATE] = {5};
+    for (size_t i = 0; i < 70000; i++) {
+        size_t len = i % 5;
+        run->others[0]->push(right, NULL, 0, expected, input, len, 0);
+        holds(run, chacha20_secretstream_push(state, NULL, 0, made, input, len, 0) == CHACHA20_OK, "a message of a long stream");
+        same_bytes(run, made, expected, len + MORE, "a message of a long stream");
+    }
+    same_bytes(run, state, right, STATE, "a long stream's state");
+}
+
+/* Sealed files */
+
+enum { TEXT = CHACHA20_FILE_TEXT_BYTES, SALT = CHACHA20_FILE_SALT_BYTES };
+
+/* A chunk, whose nonce is the salt, the number and whether it is the last. */
+struct chunk {
+    uint8_t key[32], nonce[24];
+    uint32_t number;
+    int last;
+    size_t len; /* of the text */
+};
+
+/* The answer to a chunk of this length, if all else is right. */
+static int of_length(const struct chunk *it) {
+    return it->len == TEXT || (it->last && it->len < TEXT && (it->len || !it->number)) ? CHACHA20_OK : CHACHA20_REFUSED;
+}
+
+/* In place, or between buffers of which the output is first filled. */
+static int apply_chunk(const struct chunk *it, int seals, int is_in_place, const uint8_t *from) {
+    size_t len = seals ? it->len : it->len + TAG, written = seals ? it->len + TAG : it->len;
+    if (is_in_place) memcpy(made, from, len), from = made;
+    else memset(made, 0x55, written);
+    return (seals ? chacha20_file_seal_chunk : chacha20_file_open_chunk)(it->key, it->nonce, it->number, it->last, written ? made : NULL,
+                                                                         len ? from : NULL, len);
+}
+
+static void forged_chunk(struct run *run, struct chunk it, int is_in_place) {
+    uint8_t *parts[] = {it.key + below(run, 32), it.nonce + below(run, SALT), (uint8_t *)&it.number, expected + below(run, it.len + TAG)};
+    uint8_t *part = parts[below(run, 4)];
+    int turns = below(run, 5) == 0;
+    if (turns) it.last = !it.last;
+    else *part ^= 0x20;
+    int wanted = of_length(&it) == CHACHA20_OK ? CHACHA20_WRONG_TAG : CHACHA20_REFUSED;
+    holds(run, apply_chunk(&it, 0, is_in_place, expected) == wanted, "a forged chunk");
+    for (size_t i = 0; i < it.len; i++) holds(run, made[i] == (is_in_place ? expected[i] : 0x55), "a forged chunk was written");
+    if (!turns) *part ^= 0x20;
+}
+
+static void one_chunk(struct run *run) {
+    struct chunk it = {.number = (uint32_t)(next(run) >> (32 + below(run, 33))), .last = (int)below(run, 2)};
+    random_bytes(run, it.key, 32), random_bytes(run, it.nonce, SALT);
+    it.len = it.last ? below(run, (below(run, 2) ? 300 : TEXT) + 1) : TEXT;
+    if (it.number) it.len += !it.len;
+    for (int i = 0; i < 4; i++) it.nonce[SALT + i] = (uint8_t)(it.number >> (24 - 8 * i));
+    it.nonce[23] = (uint8_t)it.last, it.last *= 1 + (int)below(run, 300);
+    any_other(run)->encrypt[XCHACHA](it.key, it.nonce, NULL, 0, expected, input, it.len, expected + it.len);
+    int is_in_place = (int)below(run, 2);
+    any_level(run);
+    holds(run, apply_chunk(&it, 1, is_in_place, input) == CHACHA20_OK, "a chunk wasn't sealed");
+    same_bytes(run, made, expected, it.len + TAG, "a chunk");
+    forged_chunk(run, it, !is_in_place);
+    holds(run, apply_chunk(&it, 0, is_in_place, expected) == CHACHA20_OK, "a chunk wasn't opened");
+    same_bytes(run, made, input, it.len, "a chunk's text");
+}
+
+/* Lengths of chunks, of files and of headers. */
+static void files_of_each_length(struct run *run) {
+    static const size_t lengths[] = {0, 1, 63, TEXT - 1, TEXT, TEXT + 1};
+    uint8_t header[32], salt[SALT] = "0123456789abcdefgh", found[SALT];
+    for (uint32_t i = 0; i < 3 * 2 * sizeof lengths / sizeof lengths[0]; i++) {
+        struct chunk it = {.number = i % 3, .last = (int)(i / 3 % 2), .len = lengths[i / 6]};
+        int answer = of_length(&it), wanted = answer == CHACHA20_OK ? CHACHA20_WRONG_TAG : CHACHA20_REFUSED;
+        holds(run, apply_chunk(&it, 1, 0, input) == answer && apply_chunk(&it, 1, 1, input) == answer, "a length to seal");
+        holds(run, apply_chunk(&it, 0, 0, input) == wanted && apply_chunk(&it, 0, 1, input) == wanted, "a length to open");
+    }
+    for (uint64_t i = 0; i < 2000; i++) {
+        wide len = i < 1000 ? i * 131 : next(run) >> i % 60, body = len < 32 ? 0 : len - 32, tags = 16 * ((body + 65551) / 65552);
+        holds(run, chacha20_file_text_len((uint64_t)len) == (uint64_t)(body < tags ? 0 : body - tags), "a text's length");
+    }
+    chacha20_file_header(salt, header);
+    holds(run, memcmp(header, "chacha20seal10123456789abcdefgh", 32) == 0, "a header");
+    for (size_t len = 0; len < 40; len++) {
+        uint8_t file[40] = {0};
+        memcpy(file, header, 32), memset(found, 0x55, SALT);
+        int wanted = len < 12 ? CHACHA20_REFUSED : len < 32 ? CHACHA20_CUT_HEADER : CHACHA20_OK;
+        holds(run, chacha20_file_salt(len ? file : NULL, len, found) == wanted, "a header's length");
+        for (int i = 0; i < SALT; i++) holds(run, found[i] == (wanted ? 0x55 : salt[i]), "a header's salt");
+        file[len % 13] ^= 1, memset(found, 0x55, SALT);
+        if (len >= 12) wanted = len % 13 < 12 ? CHACHA20_REFUSED : wanted ? wanted : CHACHA20_OTHER_VERSION;
+        holds(run, chacha20_file_salt(file, len, found) == wanted && found[0] == 0x55, "another header");
+    }
+}
+
+/* The file that `seal` is tested with, whose key is 0, 1, 2 ..: its salt, and its chunks. */
+static void file_of_seal(struct run *run) {
+    static uint8_t bytes[1 << 17], text[1 << 17], salt[SALT], again[32];
+    struct chunk it = {.number = 0};
+    FILE *file = fopen("../../crates/seal/data/numbers.sealed", "rb");
+    size_t len = file ? fread(bytes, 1, sizeof bytes, file) : 0, at = 32, done = 0, lines = 0;
+    if (file) fclose(file);
+    for (int i = 0; i < 32; i++) it.key[i] = (uint8_t)i;
+    holds(run, chacha20_file_salt(bytes, len, salt) == CHACHA20_OK, "the header of seal's file");
+    chacha20_file_header(salt, again), memcpy(it.nonce, salt, SALT);
+    holds(run, memcmp(again, bytes, 32) == 0, "the header of seal's file");
+    for (; !it.last; it.number++) {
+        it.last = len - at <= CHACHA20_FILE_CHUNK_BYTES, it.len = (it.last ? len - at : CHACHA20_FILE_CHUNK_BYTES) - TAG;
+        holds(run, apply_chunk(&it, 0, (int)(it.number % 2), bytes + at) == CHACHA20_OK, "a chunk of seal's file");
+        memcpy(text + done, made, it.len), done += it.len, at += it.len + TAG;
+    }
+    for (char line[12]; 10 * lines < done; lines++) {
+        snprintf(line, sizeof line, "%09zu\n", lines);
+        same_bytes(run, text + 10 * lines, (const uint8_t *)line, 10, "a line of seal's file");
+    }
+    holds(run, lines == 7000 && it.number == 2 && chacha20_file_text_len(len) == done, "the length of seal's file");
 }
 
 /* Limits. A refused call touches no byte, so its buffers can lie on pages that can't be touched. */
@@ -411,6 +602,12 @@ static void too_long(struct run *run) {
                        it->encrypt(far_key, far_nonce, aad, none, tag, tag, 0, tag) == CHACHA20_REFUSED &&
                        it->decrypt(far_key, far_nonce, aad, none, tag, tag, 0, tag) == CHACHA20_REFUSED,
               "what is too long was taken");
+    }
+    for (size_t over = 1; over < 100; over += 33) {
+        uint8_t state[STATE] = {0}, found = 0;
+        holds(run, chacha20_secretstream_push(state, NULL, 0, room, other, CHACHA20_AEAD_LONGEST - 64 + over, 0) == CHACHA20_REFUSED &&
+                       chacha20_secretstream_pull(state, NULL, 0, room, other, CHACHA20_AEAD_LONGEST - 47 + over, &found) == CHACHA20_REFUSED,
+              "a message of a stream that is too long was taken");
     }
     munmap(room, 3 * far * GIB);
 }
@@ -482,7 +679,7 @@ static void over_4_gib(struct run *run, int is_whole) {
     message_over_4_gib(run, IETF, room, from, len, is_whole);
     if (is_whole) message_over_4_gib(run, XCHACHA, room, from, len, is_whole);
     memcpy(room, from, WINDOW), room[2 * OVER] ^= 1;
-    holds(run, chacha20_verify(room, from, len) == CHACHA20_REFUSED, "unequal bytes over 4 GiB");
+    holds(run, chacha20_verify(room, from, len) == CHACHA20_WRONG_TAG, "unequal bytes over 4 GiB");
     for (int i = 0; i < LAYOUTS && is_whole; i++) {
         const struct cipher *it = &ciphers[i];
         is_behind(room);
@@ -494,7 +691,7 @@ static void over_4_gib(struct run *run, int is_whole) {
 }
 
 static void one_turn(struct run *run) {
-    static void (*const kinds[KINDS])(struct run *) = {one_message, one_sealed, one_generator, one_tag, one_subkey};
+    static void (*const kinds[KINDS])(struct run *) = {one_message, one_sealed, one_generator, one_tag, one_chunk, one_subkey};
     run->seed = run->random;
     for (int i = 0; i < KINDS; i++) {
         if (i > 0 && below(run, UINT64_C(2) << (i + 1) / 2) > 0) continue;
@@ -509,9 +706,11 @@ static int check(struct run *run, uint64_t seed, uint64_t bytes) {
     random_bytes(run, input, ROOM);
     for (int i = 0; i < run->level_count; i++) {
         run->level = set_level(i);
-        sealed_by_each_length(run), ends(run);
+        sealed_by_each_length(run), ends(run), published_words(run), files_of_each_length(run), file_of_seal(run);
     }
-    printf("messages by each length, ends of streams: %" PRIu64 " differences\n", run->differences);
+    for (int i = 0; i < 400; i++) one_stream(run);
+    long_stream(run);
+    printf("messages by each length, ends, 400 streams, files: %" PRIu64 " differences\n", run->differences);
     if (bytes >= 300000000) too_long(run), over_4_gib(run, bytes >= 1000000000);
     run->random = seed;
     for (int i = 0; run->bytes < bytes || i < 64 * LEAST_CASES; i++) one_turn(run);

@@ -9,8 +9,8 @@
 
 enum { LAYOUTS = 3, AEADS = 2, MOST_LEVELS = 3 };
 
-/* Nonces of 12, of 24 and of 8 bytes. */
-enum layout { IETF, XCHACHA, LEGACY };
+/* Nonces of 12, of 24 and of 8 bytes; and the last with 12 and with 8 rounds, which generators alone have. */
+enum layout { IETF, XCHACHA, LEGACY, LEGACY_12, LEGACY_8, ALL_LAYOUTS };
 
 /* The library's ciphers. The position is byte 64 * block + offset in all layouts. */
 extern const struct cipher {
@@ -29,6 +29,8 @@ extern const struct aead {
     int (*decrypt)(AEAD_PARAMETERS, const uint8_t *tag);
 } aeads[AEADS];
 
+#define STREAM_PARAMETERS uint8_t *state, const uint8_t *aad, size_t aad_len, uint8_t *output, const uint8_t *input, size_t len
+
 /* The level of x86-64 that this processor has by the compiler's own means; 0 on another machine. */
 int level_here(void);
 
@@ -43,11 +45,16 @@ const char *set_level(int at);
 struct other {
     const char *name;
     /* From a block on, in place or to an output that doesn't overlap the input. */
-    void (*xor_from_block[LAYOUTS])(const uint8_t *key, const uint8_t *nonce, uint64_t block, uint8_t *output,
+    void (*xor_from_block[ALL_LAYOUTS])(const uint8_t *key, const uint8_t *nonce, uint64_t block, uint8_t *output,
                                     const uint8_t *input, size_t len);
     void (*hchacha)(const uint8_t *key, const uint8_t *input, uint8_t *subkey);
     void (*encrypt[AEADS])(AEAD_PARAMETERS, uint8_t *tag);
     void (*poly1305)(const uint8_t *key, const uint8_t *input, size_t len, uint8_t *tag);
+    /* Streams, as the library's own, over the 44 bytes of a state. */
+    void (*start)(const uint8_t *key, const uint8_t *header, uint8_t *state);
+    void (*push)(STREAM_PARAMETERS, uint8_t tag);
+    int (*pull)(STREAM_PARAMETERS, uint8_t *tag);
+    void (*rekey)(uint8_t *state);
 };
 
 /* Writes the address of a library's function to a pointer; 0 if there is none. */

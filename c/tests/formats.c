@@ -1,6 +1,7 @@
 /* SPDX-License-Identifier: Apache-2.0 OR MIT
 
-   Prints the bytes of formats, for ../interface-MAJOR: messages, keystreams, and the state of a generator. */
+   Prints the bytes of formats, for ../interface-MAJOR: messages, keystreams, the state of a generator, a stream and its state, and a
+   sealed file. */
 
 #include <stdio.h>
 
@@ -39,5 +40,18 @@ int main(void) {
     line("state of a generator", state, sizeof state);
     chacha20_rng_fill(state, made, 8);
     line("its next words", made, 8);
+    chacha12_rng_fill(state, made, 8);
+    line("its next words of 12 rounds", made, 8);
+    chacha8_rng_fill(state, made, 8);
+    line("its next words of 8 rounds", made, 8);
+    chacha20_secretstream_start(key, nonce, state);
+    line("state of a stream", state, CHACHA20_SECRETSTREAM_STATE_BYTES);
+    refused |= chacha20_secretstream_push(state, aad, AAD, made, text, TEXT, CHACHA20_SECRETSTREAM_FINAL);
+    line("its final message", made, TEXT + CHACHA20_SECRETSTREAM_OVERHEAD_BYTES);
+    line("its next state", state, CHACHA20_SECRETSTREAM_STATE_BYTES);
+    chacha20_file_header(nonce, made);
+    line("header of a file", made, CHACHA20_FILE_HEADER_BYTES);
+    refused |= chacha20_file_seal_chunk(key, nonce, 0x01020304, 1, made, text, TEXT);
+    line("its last chunk", made, TEXT + 16);
     return refused;
 }

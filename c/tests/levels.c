@@ -49,10 +49,15 @@ uint32_t proved(int build, int pointer_count, const void *const *pointers, int n
 #define OVER_4_GIB (((size_t)4 << 30) + 600)
 static uint8_t *at_address(uintptr_t address) { return (uint8_t *)address; }
 
-/* What a call is given. The calls by number: first those that write a tag, then the others with one, with an input, without. */
+/* What a call is given; a stream's state is at the key, a file's salt at the nonce. The calls by number: first those that write a
+   tag, then the others with one, with an input, without, and those whose output is longer or shorter than the input. */
 enum part { KEY, NONCE, AAD, INPUT, OUTPUT, TAG, PARTS };
-enum { WRITE_TAG = 2, HAVE_TAG = 4, HAVE_INPUT = 7, CALLS = 10 };
-static const size_t nonce_len[CALLS] = {12, 24, 12, 24, 12, 24, 8, 12, 24, 8};
+enum { WRITE_TAG = 2, HAVE_TAG = 4, LEGACY_XOR = 6, HAVE_INPUT = 7, LEGACY_KEYSTREAM = 9, PUSH, PULL, SEAL, OPEN, CALLS };
+static const size_t nonce_len[CALLS] = {12, 24, 12, 24, 12, 24, 8, 12, 24, 8, 0, 0, 19, 19}, more[CALLS] = {[PUSH] = 17, [SEAL] = 16},
+                    less[CALLS] = {[PULL] = 17, [OPEN] = 16};
+static int is_stream(int call) { return call == PUSH || call == PULL; }
+static int has_aad(int call) { return call < HAVE_TAG || is_stream(call); }
+static int has_tag(int call) { return call < HAVE_TAG || call == PULL; }
 static const uint64_t block = 0x123456789abcdef0, offset = 0xfedcba9876543210;
 
 static int run_call(int call, uint8_t *const *at, const size_t *len) {
@@ -67,7 +72,11 @@ static int run_call(int call, uint8_t *const *at, const size_t *len) {
         case 6: return chacha20_legacy_xor(at[KEY], at[NONCE], block, offset, at[OUTPUT], at[INPUT], len[OUTPUT]);
         case 7: return chacha20_keystream(at[KEY], at[NONCE], block, at[OUTPUT], len[OUTPUT]);
         case 8: return xchacha20_keystream(at[KEY], at[NONCE], block, at[OUTPUT], len[OUTPUT]);
-        default: return chacha20_legacy_keystream(at[KEY], at[NONCE], block, offset, at[OUTPUT], len[OUTPUT]);
+        case 9: return chacha20_legacy_keystream(at[KEY], at[NONCE], block, offset, at[OUTPUT], len[OUTPUT]);
+        case PUSH: return chacha20_secretstream_push(at[KEY], at[AAD], len[AAD], at[OUTPUT], at[INPUT], len[INPUT], 250);
+        case PULL: return chacha20_secretstream_pull(at[KEY], at[AAD], len[AAD], at[OUTPUT], at[INPUT], len[INPUT], at[TAG]);
+        case SEAL: return chacha20_file_seal_chunk(at[KEY], at[NONCE], (uint32_t)block, 256, at[OUTPUT], at[INPUT], len[INPUT]);
+        default: return chacha20_file_open_chunk(at[KEY], at[NONCE], (uint32_t)block, 0, at[OUTPUT], at[INPUT], len[INPUT]);
     }
 }
 
@@ -83,7 +92,7 @@ static void all_calls(size_t len) {
 #define RUN(CALL) (ran = level, got.numbers[0] = len, (CALL), is(ran == level, #CALL))
 #define WHOLE(CALL) (RUN(CALL), is(got.numbers[0] == len, "a length of " #CALL))
 #define APART(CALL, MADE) (RUN(CALL), is((uintptr_t)got.pointers[MADE] - (uintptr_t)both >= sizeof both, "an overlap of " #CALL))
-    for (int i = 0; i < 2 * CALLS; i++) at[INPUT] = i % 2 ? to : from, RUN(answers |= run_call(i / 2, at, lengths));
+    for (int i = 0; i < 2 * PUSH; i++) at[INPUT] = i % 2 ? to : from, RUN(answers |= run_call(i / 2, at, lengths));
     WHOLE(answers |= chacha20_check(len, len));
     WHOLE(answers |= chacha20_legacy_check(len, len, len));
     WHOLE(answers |= chacha20_verify(to, from, len));
@@ -98,17 +107,35 @@ static void all_calls(size_t len) {
     RUN(chacha20_rng_set_block_pos(state, 0));
     RUN((void)chacha20_rng_get_stream(state));
     RUN(chacha20_rng_set_stream(state, 0));
+    WHOLE(chacha12_rng_fill(state, to, len));
+    WHOLE(chacha8_rng_fill(state, to, len));
+    for (int i = PUSH; i < CALLS; i++) {
+        size_t text = i >= SEAL && len ? 65536 : len;
+        const size_t all[PARTS] = {[INPUT] = text + less[i], [OUTPUT] = text + more[i]};
+        uint8_t *places[PARTS] = {state, both, NULL, all[INPUT] ? at_address((uintptr_t)1 << 41) : NULL,
+                                  all[OUTPUT] ? at_address((uintptr_t)1 << 40) : NULL, tag};
+        RUN(answers |= run_call(i, places, all));
+    }
+    APART(chacha20_secretstream_start(both, both + 32, both + 10), 2);
+    RUN(chacha20_secretstream_rekey(state));
+    APART(chacha20_file_header(both, both + 10), 1);
+    APART(answers |= chacha20_file_salt(len ? both : NULL, len, both + 10), 1);
+    is(got.numbers[0] == (len < 32 ? len : 32), "the length of a header");
+    WHOLE((void)chacha20_file_text_len(len));
     is(answers == 0, "an answer");
 }
 
 /* The rule of the header, by sums that don't wrap: what is written overlaps nothing, but for an output that is the input. */
 static int must_run(int call, uint8_t *const *at, const size_t *len) {
     __extension__ typedef unsigned __int128 wide;
-    if (len[OUTPUT] > PTRDIFF_MAX || len[AAD] > PTRDIFF_MAX) return 0;
-    for (int i = OUTPUT; i <= (call < WRITE_TAG ? TAG : OUTPUT); i++) {
-        for (int j = 0; j < PARTS; j++) {
+    if (len[INPUT] > PTRDIFF_MAX || len[OUTPUT] > PTRDIFF_MAX || len[AAD] > PTRDIFF_MAX || len[INPUT] < less[call]) return 0;
+    if (call >= SEAL && len[INPUT] - less[call] > 65536) return 0;
+    const int written[PARTS] = {[KEY] = is_stream(call), [OUTPUT] = 1, [TAG] = call < WRITE_TAG || call == PULL};
+    for (int i = 0; i < PARTS; i++) {
+        for (int j = 0; j < PARTS && written[i]; j++) {
             wide one = (uintptr_t)at[i], other = (uintptr_t)at[j];
-            if (j == i || len[i] == 0 || len[j] == 0 || (i == OUTPUT && j == INPUT && one == other)) continue;
+            if (j == i || len[i] == 0 || len[j] == 0) continue;
+            if (!is_stream(call) && i == OUTPUT && j == INPUT && one == other) continue;
             if (one < other + len[j] && other < one + len[i]) return 0;
         }
     }
@@ -119,20 +146,24 @@ static int must_run(int call, uint8_t *const *at, const size_t *len) {
 static void try_call(int call, uint8_t *const *at, const size_t *len) {
     static const enum part order[] = {KEY, NONCE, AAD, OUTPUT, INPUT, TAG};
     int must = must_run(call, at, len), is_empty = len[OUTPUT] == 0, p = 0, n = 0;
-    int is_between = call < HAVE_INPUT && at[OUTPUT] != at[INPUT] && !is_empty;
+    int is_between = call < HAVE_INPUT || call == SEAL ? at[OUTPUT] != at[INPUT] && len[INPUT] : call >= PUSH;
+    if (call == OPEN && at[OUTPUT] == at[INPUT] && !is_empty) is_between = 0;
     ran = 0;
     int answer = run_call(call, at, len);
     is(answer == (must ? CHACHA20_OK : CHACHA20_REFUSED) && ran == (must ? level : 0), must ? "a right call" : "a wrong call");
     if (!must || ran == 0) return;
     /* Of an empty part of a keystream, the position alone is checked. */
-    for (int i = 0; i < PARTS && !(call >= HAVE_TAG && is_empty); i++) {
+    for (int i = 0; i < PARTS && !(call >= HAVE_TAG && call < PUSH && is_empty); i++) {
         enum part part = order[i];
-        if (part == INPUT ? !is_between : (part == AAD || part == TAG) && call >= HAVE_TAG) continue;
+        if (part == INPUT ? !is_between : part == AAD ? !has_aad(call) : part == TAG ? !has_tag(call) : part == NONCE && is_stream(call)) continue;
         is(got.pointers[p++] == at[part] || len[part] == 0, "another pointer is handed on");
     }
-    is(got.numbers[n++] == (call < HAVE_TAG ? len[AAD] : block), "another number is handed on");
-    if (call == HAVE_INPUT - 1 || call == CALLS - 1) is(got.numbers[n++] == offset, "another offset is handed on");
-    for (int i = 0; i <= is_between; i++) is(got.numbers[n++] == len[OUTPUT], "another length is handed on");
+    is(got.numbers[n++] == (has_aad(call) ? len[AAD] : call >= SEAL ? (uint32_t)block : block), "another number is handed on");
+    if (call == LEGACY_XOR || call == LEGACY_KEYSTREAM) is(got.numbers[n++] == offset, "another offset is handed on");
+    if (call >= SEAL) is(got.numbers[n++] == (call == SEAL), "whether a chunk is the last");
+    is(got.numbers[n++] == (is_between || call != OPEN ? len[OUTPUT] : len[INPUT]), "another length is handed on");
+    if (is_between) is(got.numbers[n++] == len[INPUT], "another length is handed on");
+    if (call == PUSH) is(got.numbers[n++] == 250, "another tag byte is handed on");
 }
 
 /* Each part far from the others. */
@@ -141,15 +172,15 @@ static void lay_apart(uint8_t **at) { for (int i = 0; i < PARTS; i++) at[i] = at
 /* What is written at each distance of another part, also where it ends with the greatest address, and sums wrap. */
 static void overlaps(int call, const size_t *len) {
     const uintptr_t far = (uintptr_t)4 << 30;
-    for (int i = 0; i < 4 * PARTS; i++) {
-        int one = i % 2 ? OUTPUT : TAG, other = i / 4;
+    for (int i = 0; i < 6 * PARTS; i++) {
+        int one = (int[]){TAG, OUTPUT, KEY}[i % 3], other = i / 6;
         const uintptr_t first = len[one], second = len[other];
         const uintptr_t all[] = {0 - second, 1 - second, 0 - (uintptr_t)1, 0, 1, first - 1, first, 100, 4096, 1 << 16, 1 << 20,
                                  far / 4, far / 2, far - 1, far, far + 1, 0 - far, 1 - far, 0 - far - 1, far * 8};
         for (size_t j = 0; j < sizeof all / sizeof all[0] && one != other; j++) {
             uint8_t *at[PARTS];
             lay_apart(at);
-            if (i % 4 > 1) at[one] = at_address(0 - first);
+            if (i % 6 > 2) at[one] = at_address(0 - first);
             at[other] = at_address((uintptr_t)at[one] + all[j]);
             /* No object passes the greatest address. */
             if (at[other] && (second == 0 || (uintptr_t)at[other] <= 0 - second)) try_call(call, at, len);
@@ -162,17 +193,22 @@ static void all_overlaps_and_lengths(void) {
     static const size_t longest[] = {PTRDIFF_MAX, (size_t)PTRDIFF_MAX + 1, SIZE_MAX - 15, SIZE_MAX};
     for (int i = 0; i < 16 * CALLS; i++) {
         int call = i / 16;
-        size_t aad_len = aad_lengths[i / 4 % 4], len[PARTS] = {32, nonce_len[call], aad_len, lengths[i % 4], lengths[i % 4], 16};
+        size_t aad_len = has_aad(call) ? aad_lengths[i / 4 % 4] : 0, text = call >= SEAL && i % 4 == 3 ? 65536 : lengths[i % 4];
+        size_t len[PARTS] = {is_stream(call) ? 44 : 32, nonce_len[call], aad_len, text + less[call], text + more[call],
+                             call == PULL ? 1 : has_tag(call) ? 16 : 0};
         uint8_t *at[PARTS], *upper_half = at_address(UINTPTR_MAX / 2 + 1);
-        if (call >= HAVE_TAG) len[AAD] = len[TAG] = 0;
-        if (call >= HAVE_INPUT) len[INPUT] = 0;
+        int has_input = call < HAVE_INPUT || call >= PUSH;
+        if (!has_input) len[INPUT] = 0;
         overlaps(call, len);
         /* The longest object, and longer data, apart from all else; first the associated ones. */
         lay_apart(at), at[AAD] = upper_half;
-        if (call < HAVE_TAG) len[AAD] = longest[i % 4], try_call(call, at, len), len[AAD] = aad_len;
-        lay_apart(at), at[OUTPUT] = at[INPUT] = upper_half, len[OUTPUT] = longest[i % 4];
-        if (call < HAVE_INPUT) len[INPUT] = longest[i % 4];
+        if (has_aad(call)) len[AAD] = longest[i % 4], try_call(call, at, len), len[AAD] = aad_len;
+        lay_apart(at), at[INPUT] = upper_half, len[OUTPUT] = longest[i % 4] + more[call] - less[call];
+        if (!is_stream(call)) at[OUTPUT] = upper_half;
+        if (has_input) len[INPUT] = longest[i % 4];
         try_call(call, at, len);
+        /* And what is too short. */
+        if (less[call]) len[INPUT] = less[call] - 1, try_call(call, at, len);
     }
 }
 
@@ -255,5 +291,5 @@ static void all_processors(void) { all_calls(0), all_calls(600), all_calls(OVER_
 int main(void) {
     all_processors(), all_overlaps_and_lengths();
     printf("levels: %d calls of stubs, %d wrong\n", calls, wrong);
-    return wrong != 0 || calls < 9000;
+    return wrong != 0 || calls < 20000;
 }

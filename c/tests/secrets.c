@@ -3,7 +3,8 @@
    Run under valgrind's memcheck, with keys, nonces, seeds, stream numbers, data and tags marked as undefined: memcheck then
    reports each branch and each address that depends on one of them. A branch that is planted for each of them, and an address,
    show that it would. Lengths, positions, and so the places of words in a generator, aren't secret; nor is the verdict on a
-   tag: each decryption has one report, wherever the tag is wrong.
+   tag: each decryption has one report, wherever the tag is wrong. In a stream the tag byte isn't secret either: bit 1 of it asks
+   for another key, so `pull` has one report more.
 
    Without memcheck, for ./trace, the secrets are read from stdin. A branch is planted where the argument is `planted`; where
    it is a letter, one message is decrypted, whose tag is wrong in byte 0 (A) to 15 (P), or right (Q). */
@@ -18,7 +19,8 @@
 
 enum { LONGEST = (1 << 16) + 1000, TAG = CHACHA20_TAG_BYTES };
 
-static uint8_t key[32], nonce[24], state[CHACHA20_RNG_STATE_BYTES], aad[300], tag[TAG], input[LONGEST], output[LONGEST];
+static uint8_t key[32], nonce[24], state[CHACHA20_RNG_STATE_BYTES], aad[300], tag[TAG], input[LONGEST + 17], output[LONGEST + 17];
+static uint8_t tag_room[CHACHA20_FILE_HEADER_BYTES], stream[CHACHA20_SECRETSTREAM_STATE_BYTES];
 static unsigned calls, wrong_answers, verdicts, wrong_verdicts;
 
 /* A program that knows no secret may look at an answer. */
@@ -48,7 +50,7 @@ static void by_decryption(const struct aead *aead, size_t aad_len, size_t len, i
     (void)VALGRIND_MAKE_MEM_DEFINED(&answer, sizeof answer);
     unsigned reports = VALGRIND_COUNT_ERRORS - before;
     if (wrong_byte < TAG) tag[wrong_byte] ^= 0x10;
-    done(answer == (wrong_byte < TAG ? CHACHA20_REFUSED : CHACHA20_OK) ? CHACHA20_OK : CHACHA20_REFUSED);
+    done(answer == (wrong_byte < TAG ? CHACHA20_WRONG_TAG : CHACHA20_OK) ? CHACHA20_OK : CHACHA20_REFUSED);
     verdicts++, wrong_verdicts += reports != 1;
 }
 
@@ -65,6 +67,43 @@ static void by_aead(enum layout layout, size_t aad_len, size_t len) {
     calls += 2;
 }
 
+/* Pulled into the input, with a wrong byte or none; the counter isn't secret. */
+static void by_stream(size_t aad_len, size_t len) {
+    uint8_t begun[sizeof stream], byte;
+    chacha20_secretstream_start(key, nonce, stream), chacha20_secretstream_rekey(stream);
+    memcpy(begun, stream, sizeof begun);
+    done(chacha20_secretstream_push(stream, aad, aad_len, output, input, len, CHACHA20_SECRETSTREAM_REKEY));
+    for (int i = 0; i < 3; i++) {
+        size_t wrong_byte = (size_t[]){len + 1, len + 16, 0}[i];
+        unsigned before = VALGRIND_COUNT_ERRORS;
+        if (i < 2) output[wrong_byte] ^= 0x10;
+        int answer = chacha20_secretstream_pull(begun, aad, aad_len, input, output, len + 17, &byte);
+        (void)VALGRIND_MAKE_MEM_DEFINED(&answer, sizeof answer);
+        if (i < 2) output[wrong_byte] ^= 0x10;
+        done(answer == (i < 2 ? CHACHA20_WRONG_TAG : CHACHA20_OK) ? CHACHA20_OK : CHACHA20_REFUSED);
+        verdicts += 1 + (i == 2), wrong_verdicts += VALGRIND_COUNT_ERRORS - before != (unsigned)(i == 2) + 1;
+    }
+    calls += 2;
+}
+
+/* A last chunk, opened in place or into the input. */
+static void by_chunk(uint32_t number, size_t len) {
+    if (len > CHACHA20_FILE_TEXT_BYTES) len = CHACHA20_FILE_TEXT_BYTES;
+    chacha20_file_header(nonce, tag_room);
+    done(chacha20_file_seal_chunk(key, nonce, number, 1, input, input, len));
+    done(chacha20_file_seal_chunk(key, nonce, number, 1, output, input, len));
+    for (int i = 0; i < 4; i++) {
+        unsigned before = VALGRIND_COUNT_ERRORS;
+        if (i < 2) output[len + (size_t)(15 * i)] ^= 0x10;
+        int answer = chacha20_file_open_chunk(key, nonce, number, 1, i % 2 ? output : input, output, len + 16);
+        (void)VALGRIND_MAKE_MEM_DEFINED(&answer, sizeof answer);
+        if (i < 2) output[len + (size_t)(15 * i)] ^= 0x10;
+        done(answer == (i < 2 ? CHACHA20_WRONG_TAG : CHACHA20_OK) ? CHACHA20_OK : CHACHA20_REFUSED);
+        verdicts++, wrong_verdicts += VALGRIND_COUNT_ERRORS - before != 1;
+    }
+    calls++;
+}
+
 static void by_generator(uint64_t position, size_t len) {
     uint64_t low, high, stream = 5;
     (void)VALGRIND_MAKE_MEM_UNDEFINED(&stream, sizeof stream);
@@ -72,7 +111,7 @@ static void by_generator(uint64_t position, size_t len) {
     chacha20_rng_from_seed(key, state);
     chacha20_rng_set_stream(state, stream);
     chacha20_rng_set_word_pos(state, position, 1);
-    chacha20_rng_fill(state, output, len);
+    (void (*[])(uint8_t *, uint8_t *, size_t)){chacha20_rng_fill, chacha12_rng_fill, chacha8_rng_fill}[len % 3](state, output, len);
     (void)chacha20_rng_get_stream(state);
     chacha20_rng_get_word_pos(state, &low, &high);
     /* The word position isn't secret, and no secret has come into it. */
@@ -99,6 +138,8 @@ static void by_library(size_t longest) {
                 all_secret();
                 by_aead((enum layout)layout, positions[i] % 300, len);
             }
+            all_secret(), by_stream(positions[i] % 300, len);
+            all_secret(), by_chunk((uint32_t)positions[i] + 1, len);
             all_secret();
             hchacha20(key, nonce, output);
             by_generator(positions[i], len);

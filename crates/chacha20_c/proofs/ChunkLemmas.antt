@@ -1,10 +1,16 @@
 -- Chunks as messages of the AEAD, whose bytes come in two parts.
-use Rattle.std.proofs.Common.{◌≡◌, ◌-◌, ◌∙◌, ℕ, Bool, List, [], ◌++◌, length, take, drop, sym, ap, ap₂}
+use Rattle.std.proofs.Common.{◌≡◌, ◌≤◌, ◌-◌, ◌∙◌, ℕ, Bool, List, [], ◌++◌, inl, inr, length, take, drop, arith, sym, ap, ap₂}
 use Rattle.std.proofs.lemmas.List.{take-append-drop}
 use Rattle.chacha20.specs.XChaCha.{xchacha_stream}
 use Rattle.chacha20poly1305.specs.Aead.{poly1305_tag, sealed_message}
 use Rattle.sealed_file.specs.Sealed.{xchacha20_poly1305, chunk_nonce, chunk}
 use Rattle.sealed_file.proofs.ChunkLemmas.{chunk-tag}
+use Rattle.chacha20_c.specs.Files.{IsTextLength}
+
+-- no text of a chunk is longer
+pub text-fits : (i : ℕ) (last : Bool) (len : ℕ) → IsTextLength i last len → len ≤ 65536
+text-fits i last len (inl is) = omega (arith, is)
+text-fits i last len (inr (_, less, _)) = omega (arith, less)
 
 module _ (key salt : List ℕ) (last : Bool) {i number : ℕ} {nonce : List ℕ} (nonce_is : nonce ≡ chunk_nonce salt i last)
     (is : i ≡ number) where

@@ -1,6 +1,14 @@
--- Chunks of sealed files, one by one.
+-- Sealed files, without their bytes at hand.
 use Rattle.std.specs.Prelude.{◌≡◌, ◌⊎◌, ◌<◌, ℕ, Bool, List, IsTrue}
+use Rattle.sealed_file.specs.declared.error.Damage.{Damage}
+use Rattle.sealed_file.specs.declared.error.Damage.TheVariants.{OtherVersion, CutHeader}
 use Rattle.sealed_file.specs.Sealed.{chunk}
+
+-- the status of a file's damage: NotSealed has that of a refusal
+abbrev pub status_of : Damage → ℕ
+status_of OtherVersion = 3
+status_of CutHeader = 4
+status_of _ = 1
 
 -- how many bytes of text chunk i may have: 65536, or fewer if it is the last; only chunk 0 may have none
 abbrev pub IsTextLength : ℕ → Bool → ℕ → Type 0

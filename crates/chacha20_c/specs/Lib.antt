@@ -1,2 +1,2 @@
 pub mod Results
-pub mod Chunks
+pub mod Files

@@ -1,9 +1,9 @@
 //! Sealed files (`sealed_file`), without I/O: the header, and chunks of 64 KiB of text by their numbers.
 
-ghost use Rattle.std.specs.Prelude.{◌≡◌, ◌≢◌, ◌↔◌, ◌⊎◌, ◌≤◌, ◌+◌, ◌-◌, ℕ, List, length, take, drop, IsTrue};
-ghost use Rattle.sealed_file.specs.declared.error.Damage.TheVariants.{NotSealed, OtherVersion, CutHeader};
+ghost use Rattle.std.specs.Prelude.{◌≡◌, ◌≢◌, ◌↔◌, ◌≤◌, ◌+◌, ◌-◌, ℕ, List, length, take, drop, IsTrue};
+ghost use Rattle.sealed_file.specs.declared.error.Damage.{Damage};
 ghost use Rattle.sealed_file.specs.Sealed.{header, chunk, text_of, HasSalt, IsFileDamage};
-ghost use Rattle.chacha20_c.specs.Chunks.{IsTextLength, IsChunk};
+ghost use Rattle.chacha20_c.specs.Files.{status_of, IsTextLength, IsChunk};
 
 use crate::authenticated::{
     xchacha20_aead_decrypt_between, xchacha20_aead_decrypt_in_place,
@@ -23,26 +23,40 @@ pub extern "C" fn chacha20_file_header(salt: &Salt, output: &mut [u8; 32])
 }
 
 /// Writes the salt of a file, from its first 32 bytes; more may follow. Returns 0. Where they aren't a header, it
-/// returns 3 for one of another version, 4 for a front of one, and else 1, and writes nothing. `salt` overlaps no other
-/// argument.
+/// returns 3 for one of another version, 4 for a file that ends in its header, and else 1, and writes nothing. `salt`
+/// overlaps no other argument.
 #[unsafe(no_mangle)]
 pub extern "C" fn chacha20_file_salt(input: &[u8], salt: &mut Salt) -> u32
     ensures accepted { result ≡ 0 ↔ ((salt : List ℕ) × HasSalt (take 32 input.now) salt) }
     ensures salt { result ≡ 0 → HasSalt (take 32 input.now) salt.new }
-    ensures refused { result ≡ 1 → IsFileDamage (take 32 input.now) NotSealed }
-    ensures other_version { result ≡ 3 → IsFileDamage (take 32 input.now) OtherVersion }
-    ensures cut { result ≡ 4 → IsFileDamage (take 32 input.now) CutHeader }
-    ensures answers { (result ≡ 0) ⊎ (result ≡ 1) ⊎ (result ≡ 3) ⊎ (result ≡ 4) }
+    ensures damage { result ≢ 0 → (damage : Damage) × IsFileDamage (take 32 input.now) damage
+        × (result ≡ status_of damage) }
     ensures kept { result ≢ 0 → salt.new ≡ salt.old }
 {
-    match salt_of(&input[..input.len().min(32)]) {
+    match salt_of(front(input)) {
         Ok(read) => {
             *salt = read;
             0
         }
-        Err(Damage::OtherVersion) => 3,
-        Err(Damage::CutHeader) => 4,
-        Err(_) => 1,
+        Err(damage) => status_of(damage),
+    }
+}
+
+// The first 32 bytes.
+fn front(input: &[u8]) -> &[u8]
+    ensures { result.now ≡ take 32 input.now }
+{
+    &input[..32.min(input.len())]
+}
+
+fn status_of(damage: Damage) -> u32
+    ensures status { result ≡ status_of damage }
+    ensures some { result ≢ 0 }
+{
+    match damage {
+        Damage::OtherVersion => 3,
+        Damage::CutHeader => 4,
+        _ => 1,
     }
 }
 
@@ -81,8 +95,8 @@ pub extern "C" fn chacha20_file_seal_chunk_in_place(
     answer
 }
 
-/// `chacha20_file_seal_chunk_in_place` of the text `input`, into `output`, which has 16 bytes more and overlaps no other
-/// argument. Where it hasn't, it returns 1 and writes nothing.
+/// `chacha20_file_seal_chunk_in_place` of the text `input`, into `output`, which overlaps no other argument. Where that
+/// hasn't 16 bytes more, it returns 1 and writes nothing.
 #[unsafe(no_mangle)]
 pub extern "C" fn chacha20_file_seal_chunk_between(
     key: &Key,
@@ -109,9 +123,9 @@ pub extern "C" fn chacha20_file_seal_chunk_between(
     answer
 }
 
-/// Decrypts a chunk in place; its text is then all but the last 16 bytes, which stay the tag. Returns 0. Where the chunk
-/// may not have so many bytes of text, it returns 1, and where they aren't that chunk of any text, 2; then it writes
-/// nothing. `data` overlaps no other argument.
+/// Decrypts a chunk in place; its text is then all but the last 16 bytes, which stay the tag. Returns 0. Where the
+/// chunk may not have so many bytes of text, it returns 1, and where they aren't that chunk of any text, 2; then it
+/// writes nothing. `data` overlaps no other argument.
 #[unsafe(no_mangle)]
 pub extern "C" fn chacha20_file_open_chunk_in_place(
     key: &Key,
@@ -144,8 +158,8 @@ pub extern "C" fn chacha20_file_open_chunk_in_place(
     xchacha20_aead_decrypt_in_place(key, &nonce, &[], text, &tag)
 }
 
-/// `chacha20_file_open_chunk_in_place` of the chunk `input`, into `output`, which has 16 bytes less and overlaps no
-/// other argument. Where it hasn't, it returns 1 and writes nothing.
+/// `chacha20_file_open_chunk_in_place` of the chunk `input`, into `output`, which overlaps no other argument. Where that
+/// hasn't 16 bytes less, it returns 1 and writes nothing.
 #[unsafe(no_mangle)]
 pub extern "C" fn chacha20_file_open_chunk_between(
     key: &Key,

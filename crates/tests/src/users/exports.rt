@@ -13,14 +13,23 @@ use chacha20_c::authenticated::{
 use chacha20_c::chacha::{
     chacha20_check, chacha20_keystream, chacha20_xor_between, chacha20_xor_in_place,
 };
+use chacha20_c::files::{
+    chacha20_file_header, chacha20_file_open_chunk_between, chacha20_file_open_chunk_in_place,
+    chacha20_file_salt, chacha20_file_seal_chunk_between, chacha20_file_seal_chunk_in_place,
+    chacha20_file_text_len,
+};
 use chacha20_c::generators::{
-    chacha20_rng_fill, chacha20_rng_from_seed, chacha20_rng_get_block_pos, chacha20_rng_get_stream,
-    chacha20_rng_get_word_pos, chacha20_rng_set_block_pos, chacha20_rng_set_stream,
-    chacha20_rng_set_word_pos,
+    chacha8_rng_fill, chacha12_rng_fill, chacha20_rng_fill, chacha20_rng_from_seed,
+    chacha20_rng_get_block_pos, chacha20_rng_get_stream, chacha20_rng_get_word_pos,
+    chacha20_rng_set_block_pos, chacha20_rng_set_stream, chacha20_rng_set_word_pos,
 };
 use chacha20_c::legacy::{
     chacha20_legacy_check, chacha20_legacy_keystream, chacha20_legacy_xor_between,
     chacha20_legacy_xor_in_place,
+};
+use chacha20_c::streams::{
+    chacha20_secretstream_pull, chacha20_secretstream_push, chacha20_secretstream_rekey,
+    chacha20_secretstream_start,
 };
 use chacha20_c::xchacha::{
     hchacha20, xchacha20_keystream, xchacha20_xor_between, xchacha20_xor_in_place,
@@ -136,6 +145,20 @@ fn reads() -> bool {
     chacha20_rng_fill(&mut state, &mut last);
     after[40] = 3;
     OF_ZEROS.starts_with(&bytes) & OF_ZEROS[8..].starts_with(&last) & (state == after)
+}
+
+// With fewer rounds (draft-strombergson-chacha-test-vectors, TC1), and the words behind them by 20.
+fn reads_reduced() -> bool {
+    let (mut state, mut other) = (seeded(), seeded());
+    let (mut by_12, mut by_8) = ([0; 32], [0; 32]);
+    chacha12_rng_fill(&mut state, &mut by_12);
+    chacha8_rng_fill(&mut other, &mut by_8);
+    (by_12 == *b"\x9b\xf4\x9a\x6a\x07\x55\xf9\x53\x81\x1f\xce\x12\x5f\x26\x83\xd5\
+        \x04\x29\xc3\xbb\x49\xe0\x74\x14\x7e\x00\x89\xa5\x2e\xae\x15\x5f")
+        & (by_8 == *b"\x3e\x00\xef\x2f\x89\x5f\x40\xd6\x7f\x5b\xb8\xe8\x1f\x09\xa5\xa1\
+        \x2c\x84\x0e\xc3\xce\x9a\x7f\x3b\x18\x1b\xe1\x88\xef\x71\x1a\x1e")
+        & word_pos_is(&state, 8, 0)
+        & (state == other)
 }
 
 fn word_pos_is(state: &SerializedRngState, low: u64, high: u64) -> bool {
@@ -256,7 +279,101 @@ fn verifies() -> bool {
         chacha20_verify(b"ab", b"abc"),
         chacha20_verify(b"", b""),
     ];
-    answers == [0, 1, 1, 1, 0]
+    answers == [0, 2, 2, 2, 0]
+}
+
+// Streams and sealed files: statuses, and bytes that others made.
+
+// The state of the stream of libsodium 1.0.18 with the header 0 to 23.
+fn stream() -> [u8; 44] {
+    let (mut header, mut state) = ([0; 24], [0; 44]);
+    header.copy_from_slice(&COUNTING[..24]);
+    chacha20_secretstream_start(&FROM_80, &header, &mut state);
+    state
+}
+
+// Its first message.
+static SENT: [u8; 31] = *b"\x30\x87\x51\x57\xa9\xe1\x5b\xee\xda\x69\x19\xfc\x0a\xf4\x51\xb0\x65\
+    \xc1\x8e\x3a\xac\x21\x0d\x46\xe5\x6d\xf7\x5b\x19\x5c\xab";
+
+fn pushed() -> ([u8; 44], [u8; 31], u32) {
+    let (mut state, mut message) = (stream(), [0; 31]);
+    let answer = chacha20_secretstream_push(&mut state, b"", &mut message, b"attack at dawn", 0);
+    (state, message, answer)
+}
+
+fn pulls(message: &[u8]) -> ([u8; 44], [u8; 14], u8, u32) {
+    let (mut state, mut text, mut tag) = (stream(), [0; 14], 9);
+    let answer = chacha20_secretstream_pull(&mut state, b"", &mut text, message, &mut tag);
+    (state, text, tag, answer)
+}
+
+fn streamed() -> bool {
+    let (moved, message, answer) = pushed();
+    let mut other = moved;
+    chacha20_secretstream_rekey(&mut other);
+    (answer == 0)
+        & (message == SENT)
+        & (other != moved)
+        & (other[32..36] == [1, 0, 0, 0])
+        & (pulls(&SENT) == (moved, *b"attack at dawn", 0, 0))
+        & (pulls(&SENT[..30]) == (stream(), [0; 14], 9, 1))
+        & (pulls(&[7; 31]) == (stream(), [0; 14], 9, 2))
+}
+
+static SALT: [u8; 19] = *b"0123456789abcdefghi";
+
+fn headers() -> bool {
+    let (mut header, mut salt) = ([0; 32], [0; 19]);
+    chacha20_file_header(&SALT, &mut header);
+    let answer = chacha20_file_salt(&header, &mut salt);
+    header[12] = b'2';
+    let answers = [
+        answer,
+        chacha20_file_salt(b"chacha20", &mut salt),
+        chacha20_file_salt(&header, &mut salt),
+        chacha20_file_salt(&header[..31], &mut salt),
+    ];
+    (answers == [0, 1, 3, 4])
+        & (header == *b"chacha20seal20123456789abcdefghi")
+        & (salt == SALT)
+        & (chacha20_file_text_len(32 + 65552 + 17) == 65537)
+}
+
+// Chunk 0x01020304, the last one, as a message of XChaCha20-Poly1305.
+fn message_of_chunk() -> [u8; 30] {
+    let (mut message, mut text, mut tag) = ([0; 30], *b"attack at dawn", [0; 16]);
+    let nonce = *b"0123456789abcdefghi\x01\x02\x03\x04\x01";
+    xchacha20_aead_encrypt_in_place(&FROM_80, &nonce, b"", &mut text, &mut tag);
+    message[..14].copy_from_slice(&text);
+    message[14..].copy_from_slice(&tag);
+    message
+}
+
+const NUMBER: u32 = 0x0102_0304;
+
+fn seals() -> bool {
+    let (mut data, mut output) = ([0; 30], [0; 30]);
+    data[..14].copy_from_slice(b"attack at dawn");
+    let answers = [
+        chacha20_file_seal_chunk_in_place(&FROM_80, &SALT, NUMBER, true, &mut data),
+        chacha20_file_seal_chunk_between(&FROM_80, &SALT, NUMBER, true, &mut output, b"attack at dawn"),
+        chacha20_file_seal_chunk_between(&FROM_80, &SALT, NUMBER, false, &mut output, b"attack at dawn"),
+        chacha20_file_seal_chunk_between(&FROM_80, &SALT, NUMBER, true, &mut output[..16], b""),
+    ];
+    (answers == [0, 0, 1, 1]) & (data == message_of_chunk()) & (output == data)
+}
+
+fn opens() -> bool {
+    let (chunk, mut text) = (message_of_chunk(), [0; 14]);
+    let mut data = chunk;
+    let answers = [
+        chacha20_file_open_chunk_between(&FROM_80, &SALT, NUMBER + 1, true, &mut text, &chunk),
+        chacha20_file_open_chunk_in_place(&FROM_80, &SALT, NUMBER, false, &mut data),
+        chacha20_file_open_chunk_between(&FROM_80, &SALT, NUMBER, true, &mut text, &chunk),
+        chacha20_file_open_chunk_in_place(&FROM_80, &SALT, NUMBER, true, &mut data),
+    ];
+    (answers == [2, 1, 0, 0]) & (text == *b"attack at dawn") & data.starts_with(&text)
 }
 
 fn aeads() -> bool {
@@ -280,5 +397,10 @@ fn ciphers(rt: HostRuntime) {
 
 #[test]
 fn generators(rt: HostRuntime) {
-    assert!(rt; reads() & positions());
+    assert!(rt; reads() & reads_reduced() & positions());
+}
+
+#[test]
+fn formats(rt: HostRuntime) {
+    assert!(rt; streamed() & headers() & seals() & opens());
 }
