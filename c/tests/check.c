@@ -536,27 +536,57 @@ static void files_of_each_length(struct run *run) {
     }
 }
 
-/* The file that `seal` is tested with, whose key is 0, 1, 2 ..: its salt, and its chunks. */
+/* The functions of C_LIBRARY.md. */
+#include "page.h"
+
+/* The file that `seal` is tested with, whose key is 0, 1, 2 .., read at any place; its header; and one that was cut. */
 static void file_of_seal(struct run *run) {
-    static uint8_t bytes[1 << 17], text[1 << 17], salt[SALT], again[32];
-    struct chunk it = {.number = 0};
+    static uint8_t bytes[1 << 17], text[CHACHA20_FILE_CHUNK_BYTES];
+    uint8_t key[32], salt[SALT], again[32];
     FILE *file = fopen("../../crates/seal/data/numbers.sealed", "rb");
-    size_t len = file ? fread(bytes, 1, sizeof bytes, file) : 0, at = 32, done = 0, lines = 0;
-    if (file) fclose(file);
-    for (int i = 0; i < 32; i++) it.key[i] = (uint8_t)i;
+    size_t len = file ? fread(bytes, 1, sizeof bytes, file) : 0, lines = 0;
+    if (!file) puts("no file of seal"), exit(2);
+    for (int i = 0; i < 32; i++) key[i] = (uint8_t)i;
     holds(run, chacha20_file_salt(bytes, len, salt) == CHACHA20_OK, "the header of seal's file");
-    chacha20_file_header(salt, again), memcpy(it.nonce, salt, SALT);
+    chacha20_file_header(salt, again);
     holds(run, memcmp(again, bytes, 32) == 0, "the header of seal's file");
-    for (; !it.last; it.number++) {
-        it.last = len - at <= CHACHA20_FILE_CHUNK_BYTES, it.len = (it.last ? len - at : CHACHA20_FILE_CHUNK_BYTES) - TAG;
-        holds(run, apply_chunk(&it, 0, (int)(it.number % 2), bytes + at) == CHACHA20_OK, "a chunk of seal's file");
-        memcpy(text + done, made, it.len), done += it.len, at += it.len + TAG;
+    for (uint32_t i = 2; i-- > 0;) {
+        int size = open_chunk(file, len, i, key, text);
+        holds(run, size == (i ? 70000 - TEXT : TEXT), "a chunk of seal's file");
+        for (size_t at = 10 * ((TEXT * (size_t)i + 9) / 10); at + 10 <= TEXT * (size_t)i + (size_t)size; at += 10, lines++) {
+            char line[12];
+            snprintf(line, sizeof line, "%09zu\n", at / 10);
+            same_bytes(run, text + at - TEXT * (size_t)i, (const uint8_t *)line, 10, "a line of seal's file");
+        }
     }
-    for (char line[12]; 10 * lines < done; lines++) {
-        snprintf(line, sizeof line, "%09zu\n", lines);
-        same_bytes(run, text + 10 * lines, (const uint8_t *)line, 10, "a line of seal's file");
+    holds(run, lines == 6999 && chacha20_file_text_len(len) == 70000, "the length of seal's file");
+    holds(run, open_chunk(file, len - 1, 2, key, text) == -1, "a chunk that seal's file hasn't");
+    fclose(file);
+}
+
+/* A file as a stream, to libsodium or plain C, and back; and one that was cut. */
+static void file_as_stream(struct run *run, size_t len) {
+    uint8_t key[32], header[24], state[STATE], tag = 0;
+    FILE *file = tmpfile(), *sent = tmpfile(), *received = tmpfile();
+    if (!file || !sent || !received) puts("no temporary files"), exit(2);
+    random_bytes(run, key, sizeof key), random_bytes(run, header, sizeof header);
+    fwrite(input, 1, len, file), rewind(file);
+    holds(run, send_stream(file, sent, key, header) == 0, "a file wasn't sent");
+    rewind(sent);
+    holds(run, receive_stream(sent, received, key) == 0 && getc(sent) == EOF, "a file wasn't received");
+    rewind(sent), rewind(received);
+    holds(run, fread(made, 1, ROOM, received) == len, "another length was received");
+    same_bytes(run, made, input, len, "a received file");
+    size_t sent_len = fread(expected, 1, ROOM, sent), at = 24;
+    holds(run, memcmp(expected, header, 24) == 0, "a header wasn't sent");
+    run->others[0]->start(key, header, state);
+    for (size_t done = 0; at < sent_len && tag != 3; at += 4113, done += 4096) {
+        size_t part = sent_len - at < 4113 ? sent_len - at : 4113;
+        holds(run, run->others[0]->pull(state, NULL, 0, made, expected + at, part, &tag) == CHACHA20_OK, "a sent message");
+        same_bytes(run, made, input + done, part - 17, "a sent text");
     }
-    holds(run, lines == 7000 && it.number == 2 && chacha20_file_text_len(len) == done, "the length of seal's file");
+    rewind(sent), holds(run, ftruncate(fileno(sent), (off_t)sent_len - 1) == 0 && receive_stream(sent, received, key) == -1, "a cut");
+    fclose(file), fclose(sent), fclose(received);
 }
 
 /* Limits. A refused call touches no byte, so its buffers can lie on pages that can't be touched. */
@@ -709,7 +739,7 @@ static int check(struct run *run, uint64_t seed, uint64_t bytes) {
         sealed_by_each_length(run), ends(run), published_words(run), files_of_each_length(run), file_of_seal(run);
     }
     for (int i = 0; i < 400; i++) one_stream(run);
-    long_stream(run);
+    long_stream(run), file_as_stream(run, 0), file_as_stream(run, 4095), file_as_stream(run, 4096), file_as_stream(run, 10000);
     printf("messages by each length, ends, 400 streams, files: %" PRIu64 " differences\n", run->differences);
     if (bytes >= 300000000) too_long(run), over_4_gib(run, bytes >= 1000000000);
     run->random = seed;

@@ -46,7 +46,7 @@ pub extern "C" fn chacha20_file_salt(input: &[u8], salt: &mut Salt) -> u32
 fn front(input: &[u8]) -> &[u8]
     ensures { result.now ≡ take 32 input.now }
 {
-    &input[..32.min(input.len())]
+    &input[..input.len().min(32)]
 }
 
 fn status_of(damage: Damage) -> u32
