@@ -32,7 +32,7 @@ enum { level = 1 };
 #include "../chacha20.c"
 
 static int wrong, calls, ran; /* the last: the level of the stub that ran last */
-static struct { const void *pointers[6]; uint64_t numbers[4]; } got;
+static struct { const void *pointers[6]; uint64_t numbers[4]; int pointer_count, number_count; } got;
 
 static void is(int fact, const char *what) {
     if (!fact && wrong++ < 20) printf("wrong: %s, level %d\n", what, level);
@@ -40,7 +40,7 @@ static void is(int fact, const char *what) {
 
 /* What each stub does with its arguments, in their order: the Makefile writes the stubs by the declarations of proved.h. */
 uint32_t proved(int build, int pointer_count, const void *const *pointers, int number_count, const uint64_t *numbers) {
-    ran = build, calls++;
+    ran = build, calls++, got.pointer_count = pointer_count, got.number_count = number_count;
     for (int i = 0; i < pointer_count; i++) is((got.pointers[i] = pointers[i]) != NULL, "null reaches a proved function");
     for (int i = 0; i < number_count; i++) got.numbers[i] = numbers[i];
     return 0;
@@ -164,6 +164,8 @@ static void try_call(int call, uint8_t *const *at, const size_t *len) {
     is(got.numbers[n++] == (is_between || call != OPEN ? len[OUTPUT] : len[INPUT]), "another length is handed on");
     if (is_between) is(got.numbers[n++] == len[INPUT], "another length is handed on");
     if (call == PUSH) is(got.numbers[n++] == 250, "another tag byte is handed on");
+    int is_check = call >= HAVE_TAG && call < PUSH && is_empty;
+    is(is_check || (p == got.pointer_count && n == got.number_count), "another function is called");
 }
 
 /* Each part far from the others. */

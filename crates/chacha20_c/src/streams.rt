@@ -6,9 +6,7 @@ ghost use Rattle.secretstream.specs.StateBytes.{state_of};
 
 use crate::backend::Backend;
 use chacha20::Key;
-use secretstream::{
-    Error, Header, StateBytes, pull_bytes, push_bytes, rekey_bytes, start_bytes,
-};
+use secretstream::{Error, Header, StateBytes, pull_bytes, push_bytes, rekey_bytes, start_bytes};
 
 /// Writes the first state of the stream with this header, for either side. No other stream under the key has the
 /// header. `state` overlaps no other argument.

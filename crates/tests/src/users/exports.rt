@@ -153,9 +153,11 @@ fn reads_reduced() -> bool {
     let (mut by_12, mut by_8) = ([0; 32], [0; 32]);
     chacha12_rng_fill(&mut state, &mut by_12);
     chacha8_rng_fill(&mut other, &mut by_8);
-    (by_12 == *b"\x9b\xf4\x9a\x6a\x07\x55\xf9\x53\x81\x1f\xce\x12\x5f\x26\x83\xd5\
+    (by_12
+        == *b"\x9b\xf4\x9a\x6a\x07\x55\xf9\x53\x81\x1f\xce\x12\x5f\x26\x83\xd5\
         \x04\x29\xc3\xbb\x49\xe0\x74\x14\x7e\x00\x89\xa5\x2e\xae\x15\x5f")
-        & (by_8 == *b"\x3e\x00\xef\x2f\x89\x5f\x40\xd6\x7f\x5b\xb8\xe8\x1f\x09\xa5\xa1\
+        & (by_8
+            == *b"\x3e\x00\xef\x2f\x89\x5f\x40\xd6\x7f\x5b\xb8\xe8\x1f\x09\xa5\xa1\
         \x2c\x84\x0e\xc3\xce\x9a\x7f\x3b\x18\x1b\xe1\x88\xef\x71\x1a\x1e")
         & word_pos_is(&state, 8, 0)
         & (state == other)
@@ -357,8 +359,22 @@ fn seals() -> bool {
     data[..14].copy_from_slice(b"attack at dawn");
     let answers = [
         chacha20_file_seal_chunk_in_place(&FROM_80, &SALT, NUMBER, true, &mut data),
-        chacha20_file_seal_chunk_between(&FROM_80, &SALT, NUMBER, true, &mut output, b"attack at dawn"),
-        chacha20_file_seal_chunk_between(&FROM_80, &SALT, NUMBER, false, &mut output, b"attack at dawn"),
+        chacha20_file_seal_chunk_between(
+            &FROM_80,
+            &SALT,
+            NUMBER,
+            true,
+            &mut output,
+            b"attack at dawn",
+        ),
+        chacha20_file_seal_chunk_between(
+            &FROM_80,
+            &SALT,
+            NUMBER,
+            false,
+            &mut output,
+            b"attack at dawn",
+        ),
         chacha20_file_seal_chunk_between(&FROM_80, &SALT, NUMBER, true, &mut output[..16], b""),
     ];
     (answers == [0, 0, 1, 1]) & (data == message_of_chunk()) & (output == data)
