@@ -1,1 +1,2 @@
 pub mod FillLemmas
+pub mod GroupLemmas
