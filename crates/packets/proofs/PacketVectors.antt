@@ -1,20 +1,42 @@
 -- Facts on a packet and on the window, so that another header, nonce, cipher, order of bytes or limit doesn't check.
-use Rattle.std.proofs.Common.{◌≡◌, ◌∷◌, [], codes, replicate, arith, refl}
+use Rattle.std.proofs.Common.{◌≡◌, ◌∷◌, [], codes, replicate, slice_index, arith, refl, ap}
 use Rattle.std.specs.List.{range_with_len}
 use Rattle.chacha20poly1305.specs.ChaCha.{quarter, columns, diagonals, rounds, add_states}
 use Rattle.chacha20poly1305.specs.Poly1305.{number, accumulator, tag_from}
 use Rattle.chacha20poly1305.specs.Aead.{mac_key}
-use Rattle.packets.specs.Packets.{packet_of, Inbox, IsOpen, taken}
+use Rattle.packets.specs.Packets.{packet_of, IsTransportData, Fits, Inbox, IsOpen, IsLast, taken}
 
--- libsodium 1.0.18 sealed it, with a nonce of four zeros and the counter's bytes 0x40, 0x41 .. The index has
--- the bytes 0x10, 0x11 ..
-pub packet : packet_of (range_with_len 0x80 32) 0x13121110 0x4746454443424140 (codes "attack at dawn") ≡
-    0x04 ∷ 0x00 ∷ 0x00 ∷ 0x00 ∷ 0x10 ∷ 0x11 ∷ 0x12 ∷ 0x13 ∷ 0x40 ∷ 0x41 ∷ 0x42 ∷ 0x43 ∷ 0x44 ∷ 0x45 ∷ 0x46
-    ∷ 0x47 ∷ 0x89 ∷ 0x6c ∷ 0xdb ∷ 0x5c ∷ 0x64 ∷ 0x91 ∷ 0x46 ∷ 0xd6 ∷ 0xee ∷ 0x40 ∷ 0x6e ∷ 0xa8 ∷ 0x2a ∷ 0x4e
-    ∷ 0xcb ∷ 0x98 ∷ 0xf8 ∷ 0xed ∷ 0x8b ∷ 0xa2 ∷ 0xcd ∷ 0x50 ∷ 0x62 ∷ 0x95 ∷ 0x69 ∷ 0x92 ∷ 0x29 ∷ 0x04 ∷ 0xd0
-    ∷ 0x02 ∷ []
+-- libsodium 1.0.18 sealed it. The bytes of the index and of the counter all differ.
+pub packet : packet_of (range_with_len 0x80 32) 0x4d3c2b1b 0x1f2e3d4c5b6a7989 (codes "attack at dawn") ≡
+    0x04 ∷ 0x00 ∷ 0x00 ∷ 0x00 ∷ 0x1b ∷ 0x2b ∷ 0x3c ∷ 0x4d ∷ 0x89 ∷ 0x79 ∷ 0x6a ∷ 0x5b ∷ 0x4c ∷ 0x3d ∷ 0x2e
+    ∷ 0x1f ∷ 0x03 ∷ 0xdd ∷ 0x41 ∷ 0xb0 ∷ 0x47 ∷ 0xc8 ∷ 0xa5 ∷ 0xc1 ∷ 0xad ∷ 0x1b ∷ 0x81 ∷ 0xb0 ∷ 0x95 ∷ 0x20
+    ∷ 0x8f ∷ 0x61 ∷ 0x2c ∷ 0xef ∷ 0x46 ∷ 0xcd ∷ 0xd2 ∷ 0xc6 ∷ 0x0c ∷ 0xd1 ∷ 0x25 ∷ 0x99 ∷ 0xc5 ∷ 0x9e ∷ 0xc3
+    ∷ 0x15 ∷ []
 unfolding quarter columns diagonals rounds add_states mac_key number accumulator tag_from packet_of
 packet = refl
+
+-- it has at least a header and a tag, and begins with the type
+pub least : IsTransportData (4 ∷ replicate 31 0)
+least = (omega arith, refl)
+
+pub too_short : IsTransportData (4 ∷ replicate 30 0) → ⊥
+too_short is = omega (arith, is.0)
+
+pub other_type : IsTransportData (4 ∷ 0 ∷ 0 ∷ 1 ∷ replicate 28 0) → ⊥
+other_type is = omega (arith, ap (λ xs. slice_index xs 3) is.1)
+
+-- the output needs room for the text alone
+pub room : Fits (replicate 35 0) (replicate 3 0)
+room = (omega arith, omega arith)
+
+pub no_text : Fits (replicate 32 0) []
+no_text = (omega arith, omega arith)
+
+pub too_long : Fits (replicate 36 0) (replicate 3 0) → ⊥
+too_long fits = omega (arith, fits.1)
+
+pub no_tag : Fits (replicate 31 0) [] → ⊥
+no_tag fits = omega (arith, fits.0)
 
 abbrev fresh : Inbox
 fresh = record { key = []; slots = replicate 64 0 }
@@ -35,3 +57,10 @@ inside = (omega arith, omega arith)
 
 pub outside : IsOpen (taken fresh 164) 100 → ⊥
 outside is = omega (arith, is.1)
+
+-- 164 was its slot's last one, 100 was not
+pub again : IsLast (taken fresh 164) 164
+again = refl
+
+pub older : IsLast (taken fresh 164) 100 → ⊥
+older is = omega (arith, is)

@@ -9,9 +9,13 @@ abbrev pub header_of : ℕ → ℕ → List ℕ
 header_of index counter =
     4 ∷ 0 ∷ 0 ∷ 0 ∷ to_le_bytes w32 index ++ to_le_bytes w64 counter
 
--- the keystream of the packet with this counter: the nonce is four zeros and the counter
+-- the nonce of the packet with this counter: four zeros and the counter
+abbrev pub nonce_of : ℕ → List ℕ
+nonce_of counter = replicate 4 0 ++ to_le_bytes w64 counter
+
+-- its keystream
 abbrev pub stream_of : List ℕ → ℕ → ℕ → ℕ
-stream_of key counter = chacha_stream 10 ietf key (replicate 4 0 ++ to_le_bytes w64 counter)
+stream_of key counter = chacha_stream 10 ietf key (nonce_of counter)
 
 -- the packet of a text: the header, and the sealed text without associated data
 unfoldable pub packet_of : List ℕ → ℕ → ℕ → List ℕ → List ℕ
@@ -53,6 +57,10 @@ Fits packet output = (32 ≤ length packet) × (length packet ≤ length output 
 -- counter n is open: its slot has no counter from n on, and a sender uses n
 abbrev pub IsOpen : Inbox → ℕ → Type 0
 IsOpen r n = (n + 1 < 2 ^ 64) × (slice_index r.slots (n % 64) ≤ n)
+
+-- counter n is the last one that its slot took
+abbrev pub IsLast : Inbox → ℕ → Type 0
+IsLast r n = slice_index r.slots (n % 64) ≡ n + 1
 
 -- the receiver after the packet with counter n
 abbrev pub taken : Inbox → ℕ → Inbox

@@ -19,8 +19,11 @@ pub enum ReceiveError {
     TooShort,
     /// The output is shorter than the text.
     OutputTooShort,
-    /// Its counter was taken before, is too old to tell, or is 2^64 - 1, which no sender uses.
+    /// Its counter was taken before.
     Replayed,
+    /// Its counter is 64 or more behind one that was taken, too far to tell whether it was taken itself; or it is
+    /// 2^64 - 1, which no sender uses.
+    TooOld,
     /// It isn't the packet of any text under this key.
     Forged,
 }
@@ -51,7 +54,8 @@ impl Display for ReceiveError {
         match self {
             ReceiveError::TooShort => f.write_str("the packet is too short"),
             ReceiveError::OutputTooShort => f.write_str("the output is too short"),
-            ReceiveError::Replayed => f.write_str("the packet comes again, or is too old"),
+            ReceiveError::Replayed => f.write_str("the packet comes again"),
+            ReceiveError::TooOld => f.write_str("the packet is too old"),
             ReceiveError::Forged => f.write_str("not a packet under this key"),
         }
     }

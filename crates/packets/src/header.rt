@@ -1,8 +1,7 @@
 //! The header of a packet, and its nonce.
 
-ghost use Rattle.std.specs.Prelude.{◌≡◌, ◌<◌, ◌≤◌, ◌↔◌, ◌^◌, ◌++◌, ℕ, List, length, take, drop, replicate, IsSome, IfSome};
-ghost use Rattle.std.specs.Int.{w32, w64, to_le_bytes};
-ghost use Rattle.packets.specs.Packets.{header_of, packet_of, index_of, counter_of, IsTransportData};
+ghost use Rattle.std.specs.Prelude.{◌≡◌, ◌<◌, ◌≤◌, ◌↔◌, ◌^◌, ℕ, List, length, take, drop, IsSome, IfSome};
+ghost use Rattle.packets.specs.Packets.{header_of, nonce_of, packet_of, index_of, counter_of, IsTransportData};
 
 use chacha20poly1305::Nonce;
 
@@ -46,9 +45,10 @@ pub fn header_of(index: u32, counter: u64) -> [u8; 16]
     header
 }
 
-/// The nonce of the packet with this counter.
+/// The nonce of the packet with this counter. No other counter has it.
 pub fn nonce_of(counter: u64) -> Nonce
-    ensures { result ≡ replicate 4 0 ++ to_le_bytes w64 counter }
+    ensures value { result ≡ nonce_of counter }
+    ensures distinct { (n : ℕ) → n < 2 ^ 64 → nonce_of n ≡ result → n ≡ counter }
 {
     let mut nonce = [0; 12];
     nonce[4..].copy_from_slice(&counter.to_le_bytes());

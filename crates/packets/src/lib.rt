@@ -22,8 +22,9 @@
 //!
 //! A key serves one sender, and so one direction. Then no nonce comes twice, and there is nothing to store.
 //!
-//! Contracts say which bytes a packet is, that a receiver accepts exactly the packets of open counters, and gives the
-//! text that the sender took. They don't say how hard packets are to forge.
+//! Contracts say which bytes a packet is, that a receiver accepts bytes if and only if they are a packet with an open
+//! counter and the output has room, and that it gives the text that the sender took. They don't say how hard packets
+//! are to forge.
 //!
 //! All proofs use only the public contracts, definitions and lemmas of `chacha20poly1305`, and what it passes on.
 #![tactic(auto)]

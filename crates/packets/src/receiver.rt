@@ -1,7 +1,7 @@
 //! The side that decrypts, in any order.
 
 ghost use Rattle.std.specs.Prelude.{◌≡◌, ◌≢◌, ◌<◌, ◌≤◌, ◌+◌, ◌↔◌, ◌^◌, ℕ, List, length, take, drop, replicate, IsOk, IfOk, IsErrOf, OnOk, OnErr};
-ghost use Rattle.packets.specs.Packets.{packet_of, counter_of, IsPacket, Fits, IsOpen, taken};
+ghost use Rattle.packets.specs.Packets.{packet_of, counter_of, IsPacket, Fits, IsOpen, IsLast, taken};
 
 use crate::error::ReceiveError;
 use crate::header::{counter_of, index_of, nonce_of};
@@ -51,7 +51,9 @@ impl Receiver {
         ensures output_too_short { IsErrOf result ReceiveError.OutputTooShort
             ↔ (length output.old + 32 < length packet.now) }
         ensures replayed { IsErrOf result ReceiveError.Replayed
-            ↔ (Fits packet.now output.old × ¬ IsOpen self.old (counter_of packet.now)) }
+            ↔ (Fits packet.now output.old × IsLast self.old (counter_of packet.now)) }
+        ensures too_old { IsErrOf result ReceiveError.TooOld ↔ (Fits packet.now output.old
+            × ¬ IsOpen self.old (counter_of packet.now) × ¬ IsLast self.old (counter_of packet.now)) }
         ensures forged { IsErrOf result ReceiveError.Forged ↔ (Fits packet.now output.old
             × IsOpen self.old (counter_of packet.now) × ¬ IsPacket self.old.key packet.now) }
         ensures length { IfOk result (λ len. length packet.now ≡ len + 32) }
@@ -78,8 +80,15 @@ impl Receiver {
         }
         let counter = counter_of(packet);
         let slot = (counter % 64) as usize;
-        if counter == u64::MAX || counter < self.slots[slot] {
-            return Err(ReceiveError::Replayed);
+        let after_last = self.slots[slot];
+        if counter < after_last {
+            if counter + 1 == after_last {
+                return Err(ReceiveError::Replayed);
+            }
+            return Err(ReceiveError::TooOld);
+        }
+        if counter == u64::MAX {
+            return Err(ReceiveError::TooOld);
         }
         match self.open(packet, &mut output[..len]) {
             Ok(()) => {

@@ -1,1 +1,2 @@
 pub mod RandChachaLemmas
+pub mod FillVectors

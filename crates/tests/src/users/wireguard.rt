@@ -66,7 +66,7 @@ fn packet_of(key: &[u8; 32], counter: u64) -> [u8; 37] {
 }
 
 // What comes to a receiver, and its answer: the key, the counter, and a byte in which a bit is turned.
-static COMING: [(&[u8; 32], u64, usize, Result<usize, ReceiveError>); 14] = [
+static COMING: [(&[u8; 32], u64, usize, Result<usize, ReceiveError>); 16] = [
     (&KEY, 1, NONE, Ok(5)),
     (&KEY, 0, NONE, Ok(5)),
     (&KEY, 1, NONE, Err(ReceiveError::Replayed)),
@@ -79,7 +79,9 @@ static COMING: [(&[u8; 32], u64, usize, Result<usize, ReceiveError>); 14] = [
     // None of these has moved the window.
     (&KEY, 100, 4, Ok(5)), // another index
     (&KEY, 164, NONE, Ok(5)),
-    (&KEY, 36, NONE, Err(ReceiveError::Replayed)),
+    (&KEY, 164, NONE, Err(ReceiveError::Replayed)),
+    (&KEY, 100, NONE, Err(ReceiveError::TooOld)), // taken before
+    (&KEY, 36, NONE, Err(ReceiveError::TooOld)),
     (&KEY, 101, NONE, Ok(5)),
     (&KEY, 101, 36, Err(ReceiveError::Replayed)),
 ];
@@ -102,7 +104,7 @@ fn coming(rt: HostRuntime) {
         assert!(rt; (received == *answer) & (text == written));
     }
     let received = receiver.receive(&[0xff; 37], &mut [0; 5]);
-    assert!(rt; received == Err(ReceiveError::Replayed));
+    assert!(rt; received == Err(ReceiveError::TooOld));
 }
 
 // A packet of five bytes, cut, and an output of zeros and this length: the answer, and the output after it.

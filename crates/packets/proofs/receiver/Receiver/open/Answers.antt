@@ -26,7 +26,8 @@ returns-clause-accepted c =
     let key = c.new.ensures ∙ ap (λ (r : Inbox). r.key) c.self.view_is in
     let is = c.index_of.ensures.is_some.0 (c.is_none.ensures ∙ ap not c.if-is_none.false) in
     let tagged =
-    rw (key, c.nonce_of-nonce.ensures, c.counter_of.ensures, c.split_at.ensures.back) at c.decrypt.ensures.accepted in
+    rw (key, c.nonce_of-nonce.ensures.value, c.counter_of.ensures, c.split_at.ensures.back)
+    at c.decrypt.ensures.accepted in
     let packet = accepted _ c.args.packet.now (length c.args.output.now) c.requires is c.type_inv.packet in
     (λ ok. packet.0 (tagged.0 ok), λ sent. tagged.1 (packet.1 sent))
 
@@ -37,7 +38,7 @@ returns-clause-opens c index n text sent =
     let sealed = sealed-text c.args.self.now.key c.args.packet.now (length c.args.output.now) c.requires is
     c.type_inv.packet index n text sent in
     let opens =
-    (rw (key, c.nonce_of-nonce.ensures, c.counter_of.ensures, c.split_at.ensures.back)
+    (rw (key, c.nonce_of-nonce.ensures.value, c.counter_of.ensures, c.split_at.ensures.back)
     at c.decrypt.ensures.opens text) sealed in
     (λ ok. omega (arith, opens.0 ok), λ fits. opens.1 (omega (arith, fits)))
 
@@ -47,5 +48,5 @@ returns-clause-text c index n text sent =
     let is = c.index_of.ensures.is_some.0 (c.is_none.ensures ∙ ap not c.if-is_none.false) in
     let sealed = sealed-text c.args.self.now.key c.args.packet.now (length c.args.output.now) c.requires is
     c.type_inv.packet index n text sent in
-    (rw (key, c.nonce_of-nonce.ensures, c.counter_of.ensures, c.split_at.ensures.back)
+    (rw (key, c.nonce_of-nonce.ensures.value, c.counter_of.ensures, c.split_at.ensures.back)
     at c.decrypt.ensures.decrypted text) sealed

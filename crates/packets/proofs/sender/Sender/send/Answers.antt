@@ -6,7 +6,7 @@ use Rattle.packets.proofs.sender.Sender.send.Goals as goal
 pub returns-in-Ok-clause-packet : goal.returns-in-Ok-clause-packet
 unfolding packet_of
 returns-in-Ok-clause-packet c =
-    let sealed = rw (c.new.ensures, c.nonce_of.ensures) at c.in-Ok.ensures.sealed in
+    let sealed = rw (c.new.ensures, c.nonce_of.ensures.value) at c.in-Ok.ensures.sealed in
     ap₂ ◌++◌ (c.copy_from_slice.ensures.after ∙ c.header_of.ensures) sealed
     ∙ ap (λ (s : Outbox). packet_of s.key s.index s.next c.args.text.now) c.self.view_is
 
