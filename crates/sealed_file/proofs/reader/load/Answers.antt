@@ -28,3 +28,20 @@ returns-clause-right g c =
     c.last_chunk.ensures.value c.fill_at.auto.buf wide c.in_ok-n.ensures.bound _
     c.open_chunk.new.bytes _ c.requires.len c.in_ok-n.ensures.read
     c.open_chunk.auto.bytes (opened.right refl) (opened.long refl)
+
+pub returns-clause-size : goal.returns-clause-size
+returns-clause-size g c =
+    let size = c.min.result in
+    let wide : length (take size c.args.buf.now) ≡ size =
+    length-take-le size c.args.buf.now (omega (arith, c.min.ensures, c.told-buf)) in
+    let long = (c.if-not-open_chunk.ensures.long refl).0 in
+    omega (
+      arith,
+      c.min.ensures,
+      c.saturating_sub.ensures,
+      c.if-n-chunk.false,
+      c.in_ok-n.ensures.bound,
+      wide,
+      long,
+      c.fill_at.auto.buf,
+    )

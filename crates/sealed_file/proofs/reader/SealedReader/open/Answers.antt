@@ -1,5 +1,6 @@
 use Rattle.std.proofs.Common.{IfSome, take, subst}
 use Rattle.std.proofs.lemmas.Option.{IfSome_then}
+use Rattle.sealed_file.proofs.RangeLemmas.{number-within, opened-size}
 use Rattle.sealed_file.proofs.ListLemmas.{if_some, in-file, passed-on}
 use Rattle.sealed_file.specs.Ranges.{HasChunk}
 use Rattle.sealed_file.proofs.reader.SealedReader.open.Goals as goal
@@ -24,3 +25,10 @@ returns-in_err-len-clause-damaged g c damage is =
 
 pub returns-clause-right : goal.returns-clause-right
 returns-clause-right g c = in-file (g.R.ReadAt.bytes c.args.self.now.source) _ _ c.in_ok-len.ensures.right
+
+pub load-requires-clause-number : goal.load-requires-clause-number
+load-requires-clause-number g c = number-within c.args.number c.args.self.now.len c.requires
+
+pub returns-clause-size : goal.returns-clause-size
+returns-clause-size g c =
+    opened-size c.args.self.now.len c.args.number c.in_ok-len.len c.args.self.now.whole c.requires c.in_ok-len.ensures.size
