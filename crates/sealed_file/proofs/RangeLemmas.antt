@@ -3,9 +3,6 @@ use Rattle.std.proofs.Common.{◌≡◌, ◌<◌, ◌≤◌, ◌+◌, ◌-◌, �
 use Rattle.std.proofs.lemmas.Bool.{cases_lt, ne_eqb}
 use Rattle.std.proofs.lemmas.List.{ext_get_or, get_or_append_left, get_or-append_right, get_or-drop, get_or-take, take-append-le, take_min}
 use Rattle.std.specs.declared.option.Option.{Option}
-use Rattle.std.specs.Option.{ForSome, option_map}
-use Rattle.std.proofs.Math.Logic.{∥∥₁_elim}
-use Rattle.std.proofs.Props.{props}
 use Rattle.std.proofs.lemmas.Option.{IfSome_then, get_or_from_slice_get, slice_get-get_or, slice_get_within}
 use Rattle.std.specs.List.{slice_get, slice_range}
 use Rattle.sealed_file.specs.Sealed.{header, chunk, chunks, piece, last_of, last_number, sealed, text_of, damage_at, IsNoChunk, IsDamage, IsSealed}
@@ -30,18 +27,18 @@ opened-size len i n whole within size =
     omega (arith, t, whole, within, size)
 
 -- a last chunk that is right
-pub last-size : (len i n : ℕ) → i ≡ last_of len → n + 16 ≡ min 65552 (len - place i) → (0 < i → 0 < n)
-    → (text_of len ≡ 65536 * i + n) × (last_of len ≡ (text_of len - 1) / 65536)
-    × (n ≡ min 65536 (text_of len - 65536 * i))
-last-size len i n at size some =
+pub last-size : (len n : ℕ) → (let i = last_of len in n + 16 ≡ min 65552 (len - place i) → (0 < i → 0 < n)
+    → (text_of len ≡ 65536 * i + n) × (i ≡ (text_of len - 1) / 65536) × (n ≡ min 65536 (text_of len - 65536 * i)))
+last-size len n size some =
+    let i = last_of len in
     let t = text-of-is len (omega (arith, size)) in
-    let all : text_of len ≡ 65536 * i + n = omega (arith, t, at, size) in (
+    let all : text_of len ≡ 65536 * i + n = omega (arith, t, size) in (
       all,
       elim (cases_lt 0 i) [
-        | inl later ↦ omega (arith, all, at, size, some later)
-        | inr first ↦ omega (arith, all, at, size, first)
+        | inl later ↦ omega (arith, all, size, some later)
+        | inr first ↦ omega (arith, all, size, first)
       ],
-      omega (arith, all, at, size),
+      omega (arith, all, size),
     )
 
 -- the number of the chunk of a byte of the text
@@ -61,31 +58,17 @@ chunk-fits f i text (some, right) =
     )
 
 -- the end of a file
-pub known-last : (key salt buf : List ℕ) (a : Option (List ℕ)) (len i n : ℕ) → i ≡ last_of len
-    → n + 16 ≡ min 65552 (len - place i) → (0 < i → 0 < n) → n ≤ length buf → IfSome a (λ all. len ≡ length all)
-    → IfSome a (λ all. HasChunk (record { key = key; salt = salt; bytes = all }) i (take n buf))
+pub known-last : (key salt buf : List ℕ) (a : Option (List ℕ)) (len n : ℕ)
+    → n + 16 ≡ min 65552 (len - place (last_of len)) → (0 < last_of len → 0 < n) → n ≤ length buf
+    → IfSome a (λ all. len ≡ length all)
+    → IfSome a (λ all. HasChunk (record { key = key; salt = salt; bytes = all }) (last_of len) (take n buf))
     → IfSome a (λ all. EndsAt (record { key = key; salt = salt; bytes = all }) (text_of len))
-known-last key salt buf None len i n at size some fits long right = tt
-known-last key salt buf (Some all) len i n at size some fits long right = (
+known-last key salt buf None len n size some fits long right = tt
+known-last key salt buf (Some all) len n size some fits long right = (
   take n buf,
-  subst (λ j. HasChunk (record { key = key; salt = salt; bytes = all }) j (take n buf)) (at ∙ ap last_of long) right,
-  (last-size len i n at size some).0
-      ∙ ap₂ (λ j k. 65536 * j + k) (at ∙ ap last_of long) (sym (length-take-le n buf fits)),
+  subst (λ j. HasChunk (record { key = key; salt = salt; bytes = all }) j (take n buf)) (ap last_of long) right,
+  (last-size len n size some).0 ∙ ap₂ (λ j k. 65536 * j + k) (ap last_of long) (sym (length-take-le n buf fits)),
 )
-
-ends-prop : (f : File) (n : ℕ) → IsProp (EndsAt f n)
-ends-prop f n (t, right, size) (t', right', size') =
-    let i = last_of (length f.bytes) in
-    let P : List ℕ → Type 0 = λ t. HasChunk f i t × (n ≡ 65536 * i + length t) in
-    let is_prop : (t : List ℕ) → IsProp (P t) = hlevel props in
-    subst (λ u. (p : P u) → ◌≡◌ {A = EndsAt f n} (t, right, size) (u, p.0, p.1))
-    (chunk-same f.key f.salt i (nat_eq i i) t t' (sym right.1 ∙ right'.1))
-    (λ p. ap (λ q. (t, q.0, q.1)) (is_prop t (right, size) p)) (right', size')
-
-pub known-end : (a : Option (List ℕ)) (g : List ℕ → File) (n : ℕ) → ForSome a (λ b. ∥ EndsAt (g b) n ∥₁)
-    → IfSome (option_map g a) (λ f. EndsAt f n)
-known-end None g n ends = tt
-known-end (Some b) g n ends = ∥∥₁_elim (ends b refl) (ends-prop (g b) n) (λ e. e)
 
 pub range-more : (f : File) (start : ℕ) (xs ys : List ℕ) → HasRange f start xs → HasRange f (start + length xs) ys
     → HasRange f start (xs ++ ys)

@@ -14,7 +14,7 @@ use Rattle.sealed_file.specs.declared.error.ReadError.{ReadError}
 use Rattle.sealed_file.specs.declared.error.ReadError.TheVariants.{Read, Damaged}
 use borrow.Rule.Slice.PartMut.{put_mid, put_same}
 use Rattle.sealed_file.specs.Sealed.{header, last_of, piece, text_of, sealed, IsSealed}
-use Rattle.sealed_file.specs.Ranges.{File, HasRange, IsWrong, before, count, FillsTo, OnlyBefore}
+use Rattle.sealed_file.specs.Ranges.{File, HasRange, IsEndDamage, IsWrong, before, count, FillsTo, OnlyBefore}
 use Rattle.sealed_file.proofs.RangeLemmas.{has-chunk, range-is, range-more, text-in}
 use Rattle.sealed_file.proofs.FileLemmas.{own}
 
@@ -152,3 +152,13 @@ module _ (key salt : List ℕ) (a : Option (List ℕ)) (len : ℕ)
       (subst (λ o. IfSome (option_map of o) (λ f. IsWrong f i damage)) reads.2 wrong).1 (piece text i)
       (has-chunk (of reads.1) text own-sealed.0 own-sealed.1 i
       (omega (arith, within, ap last_of (begins reads.1 reads.2).0)))
+
+  pub none-refused : (damage : Damage) → IfSome (option_map of a) (λ f. IsEndDamage f damage) → ⊥
+  none-refused damage wrong =
+      let has = has-chunk (of reads.1) text own-sealed.0 own-sealed.1 in
+      elim (subst (λ o. IfSome (option_map of o) (λ f. IsEndDamage f damage)) reads.2 wrong) [
+        | inl (_, none) ↦ none (piece text 0) (has 0 (omega arith))
+        | inr (_, _, (_, none)) ↦
+            let i = last_of (length reads.1) in
+            none (piece text i) (has i (omega arith))
+      ]

@@ -1,5 +1,6 @@
 -- Places and ranges of a file.
-use Rattle.std.specs.Prelude.{◌≡◌, ◌<◌, ◌≤◌, ◌+◌, ◌-◌, ◌*◌, ◌/◌, ◌%◌, ◌⊎◌, ℕ, List, ◌++◌, length, take, drop, min, nat_eq}
+use Rattle.std.specs.Prelude.{◌≡◌, ◌<◌, ◌≤◌, ◌+◌, ◌-◌, ◌*◌, ◌/◌, ◌%◌, ◌⊎◌, ℕ, Some, None, List, ◌++◌, length, take, drop, replicate, min, nat_eq}
+use Rattle.std.specs.declared.option.Option.{Option}
 use Rattle.std.specs.List.{slice_get}
 use Rattle.sealed_file.specs.declared.error.Damage.{Damage}
 use Rattle.sealed_file.specs.declared.error.RangeError.{RangeError}
@@ -43,12 +44,18 @@ IsWrong f i damage =
     (damage ≡ damage_at i (nat_eq i (last_of (length f.bytes))))
     × ((text : List ℕ) → HasChunk f i text → ⊥)
 
--- what is wrong with a file that no reader takes: its header, its length or its last chunk
+-- chunk 0 of a file is wrong, or it is right and the last chunk is wrong
+abbrev pub IsEndDamage : File → Damage → Type 0
+IsEndDamage f damage =
+    IsWrong f 0 damage
+    ⊎ ((text : List ℕ) × HasChunk f 0 text × IsWrong f (last_of (length f.bytes)) damage)
+
+-- what is wrong with a file that no reader takes: its header, its length or its end
 abbrev pub IsRefused : List ℕ → List ℕ → Damage → Type 0
 IsRefused key bytes damage =
     IsFileDamage bytes damage
     ⊎ ((salt : List ℕ) × (take 32 bytes ≡ header salt)
-    × IsWrong (record { key = key; salt = salt; bytes = bytes }) (last_of (length bytes)) damage)
+    × IsEndDamage (record { key = key; salt = salt; bytes = bytes }) damage)
 
 -- how many bytes from byte `start` on stand before chunk i
 abbrev pub before : ℕ → ℕ → ℕ
@@ -63,6 +70,19 @@ abbrev pub OnlyBefore : ℕ → ℕ → List ℕ → List ℕ → Type 0
 OnlyBefore start i old new =
     (start / 65536 ≤ i) × (before start i < length old)
     × (drop (before start i) new ≡ drop (before start i) old)
+
+-- how many bytes chunk i has of a text of so many
+abbrev pub text_size : ℕ → ℕ → ℕ
+text_size text_len i = min 65536 (text_len - 65536 * i)
+
+-- how many bytes of it the buffer of a reader begins with
+abbrev pub held_size : Option ℕ → ℕ → ℕ
+held_size None text_len = 0
+held_size (Some i) text_len = text_size text_len i
+
+-- bytes that are zero from byte n on
+abbrev pub IsZeroFrom : ℕ → List ℕ → Type 0
+IsZeroFrom n bytes = drop n bytes ≡ replicate (length bytes - n) 0
 
 -- how many bytes one read gives, from byte `start` of a text of so many on: up to the end of the text, of the chunk or
 -- of a window of this length

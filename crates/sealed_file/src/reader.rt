@@ -12,7 +12,7 @@ ghost use Rattle.std.specs.IoError.{error_kind};
 ghost use Rattle.sealed_file.specs.declared.error.Damage.{Damage};
 ghost use Rattle.sealed_file.specs.declared.error.IoError.{IoError};
 ghost use Rattle.sealed_file.specs.Sealed.{header, last_of, text_of, sealed, IsSealed, IsFileDamage};
-ghost use Rattle.sealed_file.specs.Ranges.{File, place, count, HasChunk, HasRange, EndsAt, IsWrong, IsRefused, FillsTo, OnlyBefore, CopiesFrom};
+ghost use Rattle.sealed_file.specs.Ranges.{File, place, count, HasChunk, HasRange, EndsAt, IsWrong, IsEndDamage, IsRefused, FillsTo, OnlyBefore, CopiesFrom, IsZeroFrom, text_size, held_size};
 
 use crate::chunk::{CHUNKS, Salt, TAG, open_chunk, salt_of};
 use crate::error::{Damage, IoError, RangeError, ReadError};
@@ -32,25 +32,17 @@ pub struct SealedReader<'b, R: ReadAt> {
     // As the file told it to `new`.
     len: u64,
     position: u64,
-    held: Option<Held>,
+    // The chunk whose text the buffer begins with. Behind it the buffer is zero.
+    held: Option<u64>,
     buf: &'b mut [u8; BUFFER],
     ghost fits: { len ≤ 32 + 65552 * 2 ^ 32 },
     ghost begins: { ForSome (R.bytes source) (λ bytes.
         (len ≡ length bytes) × (take 32 bytes ≡ header salt)) },
-    ghost ends: { ForSome (R.bytes source) (λ bytes.
-        ∥ EndsAt (record { key = key; salt = salt; bytes = bytes }) (text_of len) ∥₁) },
     ghost whole: { last_of len ≡ (text_of len - 1) / 65536 },
-    ghost size: { ForSome held (λ h. h.len ≡ min 65536 (text_of len - 65536 * h.number)) },
-    ghost right: { ForSome held (λ h. ForSome (R.bytes source) (λ bytes.
-        HasChunk (record { key = key; salt = salt; bytes = bytes }) h.number
-        (take h.len buf.now))) },
-}
-
-// The chunk whose text stands at the start of the buffer.
-#[derive(Clone, Copy)]
-struct Held {
-    number: u64,
-    len: usize,
+    ghost right: { ForSome held (λ i. ForSome (R.bytes source) (λ bytes.
+        HasChunk (record { key = key; salt = salt; bytes = bytes }) i
+        (take (text_size (text_of len) i) buf.now))) },
+    ghost lent: { IsZeroFrom (held_size held (text_of len)) buf.now },
 }
 
 impl<'b, R: ReadAt> SealedReader<'b, R> {
@@ -87,15 +79,14 @@ impl<'b, R: ReadAt> SealedReader<'b, R> {
         if len > 32 + 65552 * CHUNKS {
             return Err(ReadError::Damaged(Damage::TooLong));
         }
-        let number = last_chunk(len);
-        let last = load(key, &salt, &source, len, number, buf)?;
+        load_last(key, &salt, &source, len, buf)?;
         Ok(SealedReader {
             key: *key,
             salt,
             source,
             len,
             position: 0,
-            held: Some(Held { number, len: last }),
+            held: Some(last_chunk(len)),
             buf,
         })
     }
@@ -104,7 +95,6 @@ impl<'b, R: ReadAt> SealedReader<'b, R> {
     pub fn text_len(&self) -> u64
         ensures value { result ≡ text_len self.now }
         ensures exact { (text : List ℕ) → Reads self.now text → result ≡ length text }
-        ensures end { IfSome (file self.now) (λ f. EndsAt f result) }
     {
         text_len(self.len)
     }
@@ -135,8 +125,7 @@ impl<'b, R: ReadAt> SealedReader<'b, R> {
         Ok(self.copy(len, start % 65536, window))
     }
 
-    /// Fills the window with text from byte `start` on, and opens each chunk of this range once, but for one that it
-    /// holds, and no other. Fails with `PastEnd` if and only if the range ends past the end of the text; then nothing
+    /// Fills the window with text from byte `start` on. Fails with `PastEnd` if and only if the range ends past the end of the text; then nothing
     /// is changed. After another error, the window begins with the text of the chunks before the one that failed.
     pub fn read_exact_at(&mut self, start: u64, window: &mut [u8]) -> Result<(), RangeError>
         ensures past_end { IsErrOf result RangeError.PastEnd
@@ -184,7 +173,7 @@ impl<'b, R: ReadAt> SealedReader<'b, R> {
     // Holds a chunk, and returns the length of its text.
     fn open(&mut self, number: u64) -> Result<usize, ReadError>
         requires { 65536 * number < text_len self.old }
-        ensures size { IfOk result (λ n. n ≡ min 65536 (text_len self.old - 65536 * number)) }
+        ensures size { IfOk result (λ n. n ≡ text_size (text_len self.old) number) }
         ensures right { IfOk result (λ n. IfSome (file self.old) (λ f.
             HasChunk f number (take n self.new.buf.now))) }
         ensures damaged { (damage : Damage) → IsErrOf result (ReadError.Damaged damage)
@@ -194,7 +183,9 @@ impl<'b, R: ReadAt> SealedReader<'b, R> {
         ensures same { IsSame self.old self.new × (position self.new ≡ position self.old) }
     {
         match self.held {
-            Some(held) if held.number == number => return Ok(held.len),
+            Some(held) if held == number => {
+                return Ok((self.text_len() - 65536 * number).min(65536) as usize);
+            }
             _ => {}
         }
         self.held = None;
@@ -206,12 +197,13 @@ impl<'b, R: ReadAt> SealedReader<'b, R> {
             number,
             self.buf,
         )?;
-        self.held = Some(Held { number, len });
+        self.held = Some(number);
         Ok(len)
     }
 }
 
-// Opens a chunk of a file of so many bytes in the buffer, and returns the length of its text.
+// Opens a chunk of a file of so many bytes in the buffer, and returns the length of its text. Behind that the buffer is
+// zero, and after an error all of it.
 fn load<R: ReadAt>(
     key: &Key,
     salt: &Salt,
@@ -233,15 +225,59 @@ fn load<R: ReadAt>(
         IsWrong (record { key = key.now; salt = salt.now; bytes = bytes }) number damage) }
     ensures fails { (e : IoError) → IsErrOf result (ReadError.Read e)
         → IsTrue (R.may_fail source.now) }
+    ensures rest { IfOk result (λ n. IsZeroFrom n buf.new) }
+    ensures cleared { OnErr result (IsZeroFrom 0 buf.new) }
 {
     let last = number == last_chunk(len);
     let place = 32 + 65552 * number;
     let chunk = &mut buf[..len.saturating_sub(place).min(65552) as usize];
-    let n = fill_at(source, chunk, place)?;
+    let n = match fill_at(source, chunk, place) {
+        Ok(n) => n,
+        Err(e) => {
+            buf.fill(0);
+            return Err(ReadError::Read(e));
+        }
+    };
     if n < chunk.len() || !open_chunk(key, salt, number, last, chunk) {
+        buf.fill(0);
         return Err(ReadError::Damaged(Damage::of_chunk(number, last)));
     }
+    buf[n - TAG..].fill(0);
     Ok(n - TAG)
+}
+
+// Opens the last chunk. If it is wrong, chunk 0 is opened too, and comes first: where the key is wrong, both are.
+fn load_last<R: ReadAt>(
+    key: &Key,
+    salt: &Salt,
+    source: &R,
+    len: u64,
+    buf: &mut [u8; BUFFER],
+) -> Result<usize, ReadError>
+    requires fits { len ≤ 32 + 65552 * 2 ^ 32 }
+    requires len { IfSome (R.bytes source.now) (λ bytes. len ≡ length bytes) }
+    ensures size { IfOk result (λ n. n + 16 ≡ min 65552 (len - place (last_of len))) }
+    ensures some { IfOk result (λ n. 0 < last_of len → 0 < n) }
+    ensures right { IfOk result (λ n. IfSome (R.bytes source.now) (λ bytes.
+        HasChunk (record { key = key.now; salt = salt.now; bytes = bytes }) (last_of len)
+        (take n buf.new))) }
+    ensures damaged { (damage : Damage) → IsErrOf result (ReadError.Damaged damage)
+        → IfSome (R.bytes source.now) (λ bytes.
+        IsEndDamage (record { key = key.now; salt = salt.now; bytes = bytes }) damage) }
+    ensures fails { (e : IoError) → IsErrOf result (ReadError.Read e)
+        → IsTrue (R.may_fail source.now) }
+    ensures rest { IfOk result (λ n. IsZeroFrom n buf.new) }
+    ensures cleared { OnErr result (IsZeroFrom 0 buf.new) }
+{
+    let number = last_chunk(len);
+    match load(key, salt, source, len, number, buf) {
+        Err(ReadError::Damaged(damage)) if number > 0 => {
+            load(key, salt, source, len, 0, buf)?;
+            buf.fill(0);
+            Err(ReadError::Damaged(damage))
+        }
+        opened => opened,
+    }
 }
 
 // The size of a file; a call that a signal interrupts is repeated.
@@ -314,8 +350,8 @@ impl<R: ReadAt> Read for SealedReader<'_, R> {
         }
     }
 
-    /// Fills the buffer with text. Fails with the kind `UnexpectedEof` where the text ends before; the position then
-    /// stays, as after any error.
+    /// Fills the buffer with text. Fails with the kind `UnexpectedEof` where the text ends before. After any error the
+    /// position stays, and of the buffer at most the start has changed, to right text.
     fn read_exact(&mut self, buf: &mut [u8]) -> io::Result<()>
         ensures bytes { OnOk result (Consumes None None buf.new) }
         ensures right { OnOk result ((position self.new ≡ position self.old + length buf.old)
@@ -323,6 +359,8 @@ impl<R: ReadAt> Read for SealedReader<'_, R> {
         ensures end { text_len self.old < position self.old + length buf.old
             → IfErr result (λ e. error_kind e ≡ ErrorKind.UnexpectedEof) }
         ensures unchanged { OnErr result (position self.new ≡ position self.old) }
+        ensures partly { OnErr result ((n : ℕ) × (drop n buf.new ≡ drop n buf.old)
+            × IfSome (file self.old) (λ f. HasRange f (position self.old) (take n buf.new))) }
         ensures damaged { IfErr result (λ e. error_kind e ≡ ErrorKind.InvalidData
             → IfSome (file self.old) (λ f. (i : ℕ) × (damage : Damage) × IsWrong f i damage)) }
         ensures fails { IfErr result (λ e. error_kind e ≢ ErrorKind.InvalidData

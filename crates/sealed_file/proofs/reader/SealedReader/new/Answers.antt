@@ -5,11 +5,11 @@ use Rattle.sealed_file.specs.Sealed.{IsFileDamage}
 use Rattle.sealed_file.proofs.FileLemmas.{length-sealed}
 use Rattle.std.specs.Option.{ForSome}
 use Rattle.sealed_file.proofs.RangeLemmas.{known-last, last-size}
-use Rattle.sealed_file.specs.Ranges.{HasChunk, IsWrong}
-use Rattle.sealed_file.specs.Sealed.{last_of}
+use Rattle.sealed_file.specs.Ranges.{HasChunk, IsZeroFrom, text_size}
+use Rattle.sealed_file.specs.Sealed.{last_of, text_of}
 use Rattle.sealed_file.proofs.HeaderLemmas.{begins-with, front-damage}
 use Rattle.sealed_file.proofs.ListLemmas.{for_some, if_some, in-file, passed-on}
-use Rattle.sealed_file.proofs.WindowLemmas.{both, neither, none-wrong}
+use Rattle.sealed_file.proofs.WindowLemmas.{both, neither, none-refused}
 use Rattle.std.proofs.lemmas.Option.{IfSome_then}
 use Rattle.sealed_file.proofs.reader.SealedReader.new.Goals as goal
 
@@ -34,51 +34,48 @@ returns-then-len-clause-damaged g c damage is =
     IfSome_then (g.R.ReadAt.bytes c.args.source) c.in_ok-len.ensures.value
     (λ all told. inl (subst (IsFileDamage all) same (omega (arith, told, c.if-len.true))))
 
-pub returns-in_err-last-clause-damaged : goal.returns-in_err-last-clause-damaged
-returns-in_err-last-clause-damaged g c damage is =
+pub returns-in_err-load_last-clause-damaged : goal.returns-in_err-load_last-clause-damaged
+returns-in_err-load_last-clause-damaged g c damage is =
     let bytes = g.R.ReadAt.bytes c.args.source in
     let begins = begins-with bytes c.in_ok-len.len _ c.in_ok-salt.salt c.in_ok-len.ensures.value
     c.in_ok-n.ensures.read c.in_ok-salt.ensures.salt in
-    IfSome_then bytes (both bytes _ _ (if_some bytes _ begins) (c.in_err-last.ensures.damaged damage
-    (passed-on c.from_residual-in_err-last.result _ _ c.from_residual-in_err-last.ensures.1 is)))
-    (λ all ((long, front), wrong). inr (
-      c.in_ok-salt.salt,
-      front,
-      subst (λ i. IsWrong
-          (record { key = c.args.key.now; salt = c.in_ok-salt.salt; bytes = all }) i damage)
-          (c.last_chunk-number.ensures.value ∙ ap last_of long) wrong,
-    ))
+    IfSome_then bytes (both bytes _ _ (if_some bytes _ begins) (c.in_err-load_last.ensures.damaged damage
+    (passed-on c.from_residual-in_err-load_last.result _ _ c.from_residual-in_err-load_last.ensures.1 is)))
+    (λ all ((_, front), wrong). inr (c.in_ok-salt.salt, front, wrong))
 
-pub returns-in_err-last-clause-opens : goal.returns-in_err-last-clause-opens
-returns-in_err-last-clause-opens g c salt text all known sealed sure =
+pub returns-in_err-load_last-clause-opens : goal.returns-in_err-load_last-clause-opens
+returns-in_err-load_last-clause-opens g c salt text all known sealed sure =
     let bytes = g.R.ReadAt.bytes c.args.source in
-    absurd (neither c.in_err-last.field-0.0
-    (λ e is. true≢false (sym (c.in_err-last.ensures.fails e is) ∙ sure))
-    (λ d wrong. none-wrong c.args.key.now c.in_ok-salt.salt bytes c.in_ok-len.len
+    absurd (neither c.in_err-load_last.field-0.0
+    (λ e is. true≢false (sym (c.in_err-load_last.ensures.fails e is) ∙ sure))
+    (λ d wrong. none-refused c.args.key.now c.in_ok-salt.salt bytes c.in_ok-len.len
     (begins-with bytes c.in_ok-len.len _ c.in_ok-salt.salt c.in_ok-len.ensures.value
-    c.in_ok-n.ensures.read c.in_ok-salt.ensures.salt) text (salt, all, known, sealed) _ d
-    (omega (arith, c.last_chunk-number.ensures.value))
-    (in-file bytes _ _ (c.in_err-last.ensures.damaged d wrong))))
+    c.in_ok-n.ensures.read c.in_ok-salt.ensures.salt) text (salt, all, known, sealed) d
+    (in-file bytes _ _ (c.in_err-load_last.ensures.damaged d wrong))))
 
 pub invariant_of-result : goal.invariant_of-result
 invariant_of-result g c =
     let bytes = g.R.ReadAt.bytes c.args.source in
-    let last = c.in_ok-last.ensures in
-    let sizes = last-size c.in_ok-len.len c.last_chunk-number.result c.in_ok-last.last c.last_chunk-number.ensures.value
-    last.size last.some in
+    let len = c.in_ok-len.len in
+    let buf = c.load_last.new.buf in
+    let last = c.in_ok-load_last.ensures in
+    let sizes = last-size len c.in_ok-load_last.field-0 last.size last.some in
+    let at = c.last_chunk.ensures.value in
+    let n : c.in_ok-load_last.field-0 ≡ text_size (text_of len) c.last_chunk.result =
+    sizes.2 ∙ ap (text_size (text_of len)) (sym at) in
     record {
       fits = c.if-len.false;
-      begins = begins-with bytes c.in_ok-len.len _ c.in_ok-salt.salt c.in_ok-len.ensures.value c.in_ok-n.ensures.read
+      begins = begins-with bytes len _ c.in_ok-salt.salt c.in_ok-len.ensures.value c.in_ok-n.ensures.read
           c.in_ok-salt.ensures.salt;
-      ends = λ all known. ∣ for_some bytes _ (known-last c.args.key.now c.in_ok-salt.salt c.load.new.buf bytes
-          c.in_ok-len.len c.last_chunk-number.result c.in_ok-last.last c.last_chunk-number.ensures.value
-          last.size last.some (omega (arith, last.size))
-          c.in_ok-len.ensures.value last.right) all known ∣₁;
       whole = sizes.1;
-      size = for_some (Some (record { number = c.last_chunk-number.result; len = c.in_ok-last.last })) _ sizes.2;
-      right = for_some (Some (record { number = c.last_chunk-number.result; len = c.in_ok-last.last }))
-          (λ h. ForSome bytes (λ b. HasChunk (record { key = c.args.key.now; salt = c.in_ok-salt.salt; bytes = b })
-          h.number (take h.len c.load.new.buf))) (for_some bytes _ last.right);
+      right = for_some (Some c.last_chunk.result)
+          (λ i. ForSome bytes (λ b. HasChunk (record { key = c.args.key.now; salt = c.in_ok-salt.salt; bytes = b }) i
+          (take (text_size (text_of len) i) buf))) (for_some bytes _ (IfSome_then bytes last.right (λ b has.
+          subst (λ i. HasChunk (record { key = c.args.key.now; salt = c.in_ok-salt.salt; bytes = b }) i
+          (take (text_size (text_of len) c.last_chunk.result) buf)) (sym at)
+          (subst (λ k. HasChunk (record { key = c.args.key.now; salt = c.in_ok-salt.salt; bytes = b }) (last_of len)
+          (take k buf)) n has))));
+      lent = subst (λ k. IsZeroFrom k buf) n last.rest;
     }
 
 pub returns-clause-header : goal.returns-clause-header
@@ -89,8 +86,7 @@ returns-clause-header g c =
 
 pub returns-clause-end : goal.returns-clause-end
 returns-clause-end g c =
-    let last = c.in_ok-last.ensures in
+    let last = c.in_ok-load_last.ensures in
     let bytes = g.R.ReadAt.bytes c.args.source in
-    in-file bytes _ _ (known-last c.args.key.now c.in_ok-salt.salt c.load.new.buf bytes
-    c.in_ok-len.len c.last_chunk-number.result c.in_ok-last.last c.last_chunk-number.ensures.value
-    last.size last.some (omega (arith, last.size)) c.in_ok-len.ensures.value last.right)
+    in-file bytes _ _ (known-last c.args.key.now c.in_ok-salt.salt c.load_last.new.buf bytes
+    c.in_ok-len.len c.in_ok-load_last.field-0 last.size last.some (omega (arith, last.size)) c.in_ok-len.ensures.value last.right)
