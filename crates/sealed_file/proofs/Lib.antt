@@ -7,6 +7,6 @@ pub mod FormatVectors
 pub mod HeaderLemmas
 pub mod ListLemmas
 pub mod NonceLemmas
-pub mod RangeFacts
 pub mod RangeLemmas
+pub mod RangeVectors
 pub mod WindowLemmas

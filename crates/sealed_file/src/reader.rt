@@ -48,8 +48,9 @@ pub struct SealedReader<'b, R: ReadAt> {
 impl<'b, R: ReadAt> SealedReader<'b, R> {
     ghost use Rattle.sealed_file.specs.SealedReader.{bytes, may_fail, key_of, text_len, position, file, Reads, IsSame};
 
-    /// Takes a file, reads its length and its header, and opens the last chunk. Fails if it doesn't begin with a header,
-    /// is longer than a sealed file can be, doesn't end with a right last chunk, or can't be read.
+    /// Takes a file, reads its length and its header, and opens the last chunk, so that a cut is noticed. Fails if the
+    /// file doesn't begin with a header, is longer than a sealed file can be, doesn't end with a right last chunk, or
+    /// can't be read. Then don't read `buf`: no clause says what it holds.
     pub fn new(
         key: &Key,
         source: R,
@@ -125,8 +126,9 @@ impl<'b, R: ReadAt> SealedReader<'b, R> {
         Ok(self.copy(len, start % 65536, window))
     }
 
-    /// Fills the window with text from byte `start` on. Fails with `PastEnd` if and only if the range ends past the end of the text; then nothing
-    /// is changed. After another error, the window begins with the text of the chunks before the one that failed.
+    /// Fills the window with text from byte `start` on. Fails with `PastEnd` if and only if the range ends past the end
+    /// of the text; then nothing is changed. After another error, the window begins with the text of the chunks before
+    /// the one that failed.
     pub fn read_exact_at(&mut self, start: u64, window: &mut [u8]) -> Result<(), RangeError>
         ensures past_end { IsErrOf result RangeError.PastEnd
             ↔ (text_len self.old < start + length window.old) }

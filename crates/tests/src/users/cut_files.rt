@@ -1,7 +1,8 @@
 //! Sealed files that were cut or lengthened.
 
-use super::sealed_files::{SALT, Said, counted, made, of_range, opened};
+use super::sealed_files::{SALT, Said, counted, made, of_range};
 use super::sealed_parts::{range, unnamed};
+use sealed_file::Damage::{CutHeader, NotSealed, WrongEnd};
 use std::test::Fail;
 
 // The lengths of texts, and of the bytes by which their files are lengthened.
@@ -16,20 +17,20 @@ fn is_near_edge(len: usize, file: usize) -> bool {
         .any(|edge| len.abs_diff(*edge) <= 20)
 }
 
-// Whether no text is there to be read, not even an empty one, in a slice or in a `File`. A cut is named as `decrypt`
-// names it.
-fn is_refused(rt: &HostRuntime, file: &[u8], is_cut: bool) -> Result<bool, Fail> {
-    let said = range(file, 0, &mut []);
-    let on_disk = range(unnamed(rt, file)?, 0, &mut []);
-    let mut text = Vec::new(rt.alloc());
-    let whole = opened(file, &mut text, 0, 0);
-    let said = of_range(said);
-    Ok(
-        (said == of_range(on_disk))
-            & matches!(said, Said::Damaged(_))
-            & matches!(whole, Said::Damaged(_))
-            & (!is_cut | (said == whole)),
-    )
+// What is wrong with a file that was cut to this length.
+fn damage_of(len: usize) -> Said {
+    Said::Damaged(match len {
+        0..12 => NotSealed,
+        12..32 => CutHeader,
+        _ => WrongEnd(len.saturating_sub(33) as u64 / 65552),
+    })
+}
+
+// What is said of a slice and of a `File`, if that is the same, where a read of no bytes would do.
+fn said(rt: &HostRuntime, file: &[u8]) -> Result<Option<Said>, Fail> {
+    let slice = of_range(range(file, 0, &mut []));
+    let on_disk = of_range(range(unnamed(rt, file)?, 0, &mut []));
+    Ok(if slice == on_disk { Some(slice) } else { None })
 }
 
 #[test]
@@ -42,12 +43,13 @@ fn cut_files_are_refused(rt: HostRuntime) -> Result<(), Fail> {
         let whole = file.len();
         for len in (0..whole).filter(|len| is_near_edge(*len, whole)) {
             let cut = file.get(..len).unwrap_or(&[]);
-            assert!(rt; is_refused(&rt, cut, true)?, "{size} {len}");
+            assert!(rt; said(&rt, cut)? == Some(damage_of(len)), "{size} {len}");
             tried = tried.saturating_add(1);
         }
         for more in &MORE {
             file.resize(whole.saturating_add(*more), 0)?;
-            assert!(rt; is_refused(&rt, file.as_slice(), false)?, "{size} {more}");
+            let said = said(&rt, file.as_slice())?;
+            assert!(rt; matches!(said, Some(Said::Damaged(_))), "{size} {more}");
             tried = tried.saturating_add(1);
         }
     }

@@ -67,7 +67,7 @@ impl RandomSource for Given<'_> {
 pub static SALT: Salt = *b"defghijklmnopqrstuv";
 
 // What is said of a file, whose text goes to `text`, where reader and writer fail in these calls, or never.
-pub fn opened(file: &[u8], text: &mut Vec<u8>, read: u32, write: u32) -> Said {
+fn opened(file: &[u8], text: &mut Vec<u8>, read: u32, write: u32) -> Said {
     let mut reader = Unsteady::new(file, 1000, read);
     let mut writer = Unsteady::new(text, 1000, write);
     of_decrypt(decrypt(&KEY, &mut reader, &mut writer, &mut [0; BUFFER]))

@@ -23,7 +23,8 @@ returns-in_ok-load-in-Err-Damaged-clause-damaged g c damage is =
       _,
       right,
       subst (IsWrong f (last_of (length b))) same
-          (subst (λ i. IsWrong f i c.in-Err-Damaged.damage) (c.last_chunk-number.ensures.value ∙ ap last_of long) wrong),
+          (subst (λ i. IsWrong f i c.in-Err-Damaged.damage)
+          (c.last_chunk-number.ensures.value ∙ ap last_of long) wrong),
     ))
 
 pub returns-in_default-clause-damaged : goal.returns-in_default-clause-damaged

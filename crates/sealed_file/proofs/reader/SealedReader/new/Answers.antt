@@ -89,4 +89,5 @@ returns-clause-end g c =
     let last = c.in_ok-load_last.ensures in
     let bytes = g.R.ReadAt.bytes c.args.source in
     in-file bytes _ _ (known-last c.args.key.now c.in_ok-salt.salt c.load_last.new.buf bytes
-    c.in_ok-len.len c.in_ok-load_last.field-0 last.size last.some (omega (arith, last.size)) c.in_ok-len.ensures.value last.right)
+    c.in_ok-len.len c.in_ok-load_last.field-0
+    last.size last.some (omega (arith, last.size)) c.in_ok-len.ensures.value last.right)

@@ -38,7 +38,8 @@ load-requires-clause-number g c = number-within c.args.number c.args.self.now.le
 
 pub returns-clause-size : goal.returns-clause-size
 returns-clause-size g c =
-    opened-size c.args.self.now.len c.args.number c.in_ok-len.len c.args.self.now.whole c.requires c.in_ok-len.ensures.size
+    let self = c.args.self.now in
+    opened-size self.len c.args.number c.in_ok-len.len self.whole c.requires c.in_ok-len.ensures.size
 
 pub invariant_of-self-2-clause-right : goal.invariant_of-self-2-clause-right
 invariant_of-self-2-clause-right g c =

@@ -23,8 +23,8 @@ chunks-preserved g c =
     let got = c.in-Ok.ensures in
     let room = take (length c.chunks.window - c.chunks.done) (drop c.chunks.done c.chunks.window) in
     let (next_file, next_bytes, next_fail, next_key, next_len) = got.same.0 in (
-      filled-more (file c.args.self.now) c.args.start c.chunks.done c.in-Ok.n (text_len c.args.self.now) c.args.window.now
-          c.chunks.window c.read_at.new.window filled c.read_at.auto.window
+      filled-more (file c.args.self.now) c.args.start c.chunks.done c.in-Ok.n (text_len c.args.self.now)
+          c.args.window.now c.chunks.window c.read_at.new.window filled c.read_at.auto.window
           got.rest
           (subst (λ o. IfSome o (λ f. HasRange f (c.args.start + c.chunks.done) (take c.in-Ok.n c.read_at.new.window)))
           same_file got.right)
@@ -58,8 +58,8 @@ pub returns-in-Err-Read-clause-read_error : goal.returns-in-Err-Read-clause-read
 returns-in-Err-Read-clause-read_error g c e is =
     let filled = c.chunks.invariant.0 in
     let (i, only, fills) =
-    stops-at (file c.args.self.now) c.args.start c.chunks.done (text_len c.args.self.now) c.args.window.now c.chunks.window
-    c.read_at.new.window (λ f i. HasRange f c.args.start (take c.chunks.done c.chunks.window)) filled
+    stops-at (file c.args.self.now) c.args.start c.chunks.done (text_len c.args.self.now) c.args.window.now
+    c.chunks.window c.read_at.new.window (λ f i. HasRange f c.args.start (take c.chunks.done c.chunks.window)) filled
     (omega (arith, c.chunks-test.true, filled.same)) c.in-Err-Read.ensures.unchanged filled.right in
     (i, only, IfSome_then (file c.args.self.now) fills (λ f (_, is). is))
 
@@ -84,8 +84,8 @@ pub returns-in-Err-Damaged-clause-damaged : goal.returns-in-Err-Damaged-clause-d
 returns-in-Err-Damaged-clause-damaged g c damage is =
     let filled = c.chunks.invariant.0 in
     let same : c.in-Err-Damaged.damage ≡ damage = (cc) in
-    stops-at (file c.args.self.now) c.args.start c.chunks.done (text_len c.args.self.now) c.args.window.now c.chunks.window
-    c.read_at.new.window
+    stops-at (file c.args.self.now) c.args.start c.chunks.done (text_len c.args.self.now) c.args.window.now
+    c.chunks.window c.read_at.new.window
     (λ f i. IsWrong f i damage) filled (omega (arith, c.chunks-test.true, filled.same))
     c.in-Err-Damaged.ensures.unchanged
     (subst (λ d. IfSome (file c.args.self.now) (λ f. IsWrong f ((c.args.start + c.chunks.done) / 65536) d)) same
