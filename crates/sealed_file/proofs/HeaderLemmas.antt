@@ -1,10 +1,12 @@
 -- What is wrong with a header.
-use Rattle.std.proofs.Common.{◌≡◌, ◌≢◌, ◌≤◌, ◌+◌, ◌*◌, ◌^◌, ◌∙◌, ℕ, List, ◌++◌, inl, inr, IfSome, length, take, drop, codes, arith, sym, ap, subst, length-append, length-drop, length-take, length-take-le, take_at, take_all}
+use Rattle.std.proofs.Common.{◌≡◌, ◌≢◌, ◌≤◌, ◌+◌, ◌*◌, ◌^◌, ◌∙◌, ℕ, List, ◌++◌, inl, inr, IfSome, length, take, drop, codes, arith, sym, ap, subst, length-append, length-drop, length-take, length-take-le, take_at, take_all, take-take, le_refl}
 use Rattle.std.proofs.lemmas.Bool.{cases_lt}
 use Rattle.std.proofs.lemmas.List.{take-append-le, take-append-drop}
 use Rattle.std.proofs.lemmas.Option.{IfSome_then}
 use Rattle.std.specs.declared.option.Option.{Option}
+use Rattle.std.specs.Option.{ForSome}
 use Rattle.std.specs.Io.KnownBytes.{Consumes}
+use Rattle.sealed_file.proofs.ListLemmas.{for_some}
 use Rattle.sealed_file.specs.declared.error.Damage.{Damage}
 use Rattle.sealed_file.specs.declared.error.Damage.TheVariants.{NotSealed, OtherVersion, CutHeader, TooLong, WrongChunk, WrongEnd}
 use Rattle.sealed_file.specs.Sealed.{header, HasSalt, IsFileDamage}
@@ -50,6 +52,15 @@ salt-behind file salt begins long is =
 -- a header stands in the first 32 bytes
 pub front-is : (file salt : List ℕ) → HasSalt file salt → take 32 file ≡ header salt
 front-is file salt (rest, size, is) = ap (take 32) is ∙ take_at (header salt) rest 32 (omega (arith, size))
+
+pub begins-with : (a : Option (List ℕ)) (len : ℕ) (front salt : List ℕ) → IfSome a (λ all. len ≡ length all)
+    → IfSome a (λ all. front ≡ take 32 all) → HasSalt front salt
+    → ForSome a (λ all. (len ≡ length all) × (take 32 all ≡ header salt))
+begins-with a len front salt long read has = λ all known. (
+  for_some a _ long all known,
+  sym (take-take 32 32 all (le_refl 32)) ∙ ap (take 32) (sym (for_some a (λ all. front ≡ take 32 all) read all known))
+      ∙ front-is front salt has,
+)
 
 -- a reader that gave a header
 pub header-read : (a b : Option (List ℕ)) (bytes salt : List ℕ) (n : ℕ) → Consumes a b (take n bytes)

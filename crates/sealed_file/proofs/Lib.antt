@@ -8,4 +8,5 @@ pub mod HeaderLemmas
 pub mod ListLemmas
 pub mod NonceLemmas
 pub mod RangeLemmas
+pub mod RangeVectors
 pub mod WindowLemmas

@@ -32,6 +32,9 @@ pub if_some : {T : Type 0} (o : Option T) (P : T → Type 0) → ForSome o P →
 if_some None P each = tt
 if_some (Some x) P each = each x refl
 
+pub for_some : {T : Type 0} (o : Option T) (P : T → Type 0) → IfSome o P → ForSome o P
+for_some o P holds = λ x known. subst (λ o. IfSome o P) known holds
+
 pub in-file : (a : Option (List ℕ)) (g : List ℕ → File) (P : File → Type 0) → IfSome a (λ b. P (g b))
     → IfSome (option_map g a) P
 in-file None g P holds = tt

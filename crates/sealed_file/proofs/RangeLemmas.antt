@@ -8,7 +8,7 @@ use Rattle.std.specs.List.{slice_get, slice_range}
 use Rattle.sealed_file.specs.Sealed.{header, chunk, chunks, piece, last_of, last_number, sealed, text_of, damage_at, IsNoChunk, IsDamage, IsSealed}
 use Rattle.sealed_file.specs.declared.error.Damage.{Damage}
 use Rattle.sealed_file.specs.declared.error.Damage.TheVariants.{NotSealed, OtherVersion, CutHeader, TooLong, WrongChunk, WrongEnd}
-use Rattle.sealed_file.specs.Ranges.{File, place, HasChunk, HasRange, IsWrong, CopiesFrom, StopsAtEnd}
+use Rattle.sealed_file.specs.Ranges.{File, place, EndsAt, HasChunk, HasRange, IsWrong, CopiesFrom}
 use Rattle.sealed_file.proofs.ChunkLemmas.{length-chunk, length-piece-at, chunk-same}
 use Rattle.sealed_file.proofs.FileLemmas.{chunk-here, has-salt, length-front, length-sealed, no-sealed, own}
 use Rattle.sealed_file.proofs.HeaderLemmas.{front-is}
@@ -19,25 +19,33 @@ use Rattle.sealed_file.proofs.ListLemmas.{get-piece, slice-same}
 pub text-of-is : (len : ℕ) → 32 < len → text_of len ≡ len - 32 - 16 * (last_of len + 1)
 text-of-is len some = omega (arith, some)
 
-stops-is : (w start len i text n t last : ℕ) → (32 < len → t ≡ len - 32 - 16 * (last + 1)) → last ≡ (len - 33) / 65552
-    → i ≡ min (start / 65536) last → text + 16 ≡ min 65552 (len - (32 + 65552 * i))
-    → n ≡ min w (text - (start - 65536 * i)) → n < w → start + n < t → start + n ≡ 65536 * (start / 65536 + 1)
-stops-is w start len i text n t last all end at size count less before =
-    let t_is = all (omega (arith, size)) in
-    omega (arith, t_is, end, at, size, count, less, before)
+-- what a chunk gives, in a file that ends in or behind the chunk of its text's last byte
+pub opened-size : (len i n : ℕ) → last_of len ≡ (text_of len - 1) / 65536 → 65536 * i < text_of len
+    → n + 16 ≡ min 65552 (len - place i) → n ≡ min 65536 (text_of len - 65536 * i)
+opened-size len i n whole within size =
+    let t = text-of-is len (omega (arith, within)) in
+    omega (arith, t, whole, within, size)
 
--- a read that gives less than there is room for, and where it ends
-pub read-ends : (w start len i text n : ℕ) → i ≡ min (start / 65536) (last_of len)
-    → text + 16 ≡ min 65552 (len - place i) → n ≡ min w (text - (start - 65536 * i))
-    → (n < w → StopsAtEnd start n len) × (0 < n → start + n ≤ len)
-read-ends w start len i text n at size count = (
-  λ less. elim (cases_lt (start + n) (text_of len)) [
-    | inl before ↦
-        inl (stops-is w start len i text n (text_of len) (last_of len) (text-of-is len) refl at size count less before)
-    | inr end ↦ inr end
-  ],
-  λ some. omega (arith, at, size, count, some),
-)
+-- a last chunk that is right
+pub last-size : (len n : ℕ) → (let i = last_of len in n + 16 ≡ min 65552 (len - place i) → (0 < i → 0 < n)
+    → (text_of len ≡ 65536 * i + n) × (i ≡ (text_of len - 1) / 65536) × (n ≡ min 65536 (text_of len - 65536 * i)))
+last-size len n size some =
+    let i = last_of len in
+    let t = text-of-is len (omega (arith, size)) in
+    let all : text_of len ≡ 65536 * i + n = omega (arith, t, size) in (
+      all,
+      elim (cases_lt 0 i) [
+        | inl later ↦ omega (arith, all, size, some later)
+        | inr first ↦ omega (arith, all, size, first)
+      ],
+      omega (arith, all, size),
+    )
+
+-- the number of the chunk of a byte of the text
+pub number-within : (i len : ℕ) → 65536 * i < text_of len → i ≤ last_of len
+number-within i len within =
+    let t = text-of-is len (omega (arith, within)) in
+    omega (arith, t, within)
 
 -- Of any file.
 
@@ -48,6 +56,19 @@ chunk-fits f i text (some, right) =
       sym (length-chunk f.key f.salt i (nat_eq i (last_of (length f.bytes))) text) ∙ sym (ap length right),
       length-take 65552 (drop (place i) f.bytes),
     )
+
+-- the end of a file
+pub known-last : (key salt buf : List ℕ) (a : Option (List ℕ)) (len n : ℕ)
+    → n + 16 ≡ min 65552 (len - place (last_of len)) → (0 < last_of len → 0 < n) → n ≤ length buf
+    → IfSome a (λ all. len ≡ length all)
+    → IfSome a (λ all. HasChunk (record { key = key; salt = salt; bytes = all }) (last_of len) (take n buf))
+    → IfSome a (λ all. EndsAt (record { key = key; salt = salt; bytes = all }) (text_of len))
+known-last key salt buf None len n size some fits long right = tt
+known-last key salt buf (Some all) len n size some fits long right = (
+  take n buf,
+  subst (λ j. HasChunk (record { key = key; salt = salt; bytes = all }) j (take n buf)) (ap last_of long) right,
+  (last-size len n size some).0 ∙ ap₂ (λ j k. 65536 * j + k) (ap last_of long) (sym (length-take-le n buf fits)),
+)
 
 pub range-more : (f : File) (start : ℕ) (xs ys : List ℕ) → HasRange f start xs → HasRange f (start + length xs) ys
     → HasRange f start (xs ++ ys)
@@ -68,10 +89,9 @@ range-more f start xs ys before more = λ k less. elim (cases_lt k (length xs)) 
 ]
 
 -- what is copied of a chunk's text
-pub copied-range : (f : File) (i start n : ℕ) (text old new : List ℕ) → HasChunk f i text → 65536 * i ≤ start
-    → CopiesFrom text (start - 65536 * i) old new n → HasRange f start (take n new)
-copied-range f i start n text old new right begins (count, is) =
-    let from = start - 65536 * i in
+pub copied-range : (f : File) (i start from n : ℕ) (text old new : List ℕ) → HasChunk f i text
+    → start ≡ 65536 * i + from → CopiesFrom text from old new n → HasRange f start (take n new)
+copied-range f i start from n text old new right begins (count, is) =
     let part = take n (drop from text) in
     let wide : length part ≡ n = length-take-le n (drop from text) (omega (arith, count, length-drop from text)) in
     subst (HasRange f start) (sym (ap (take n) is ∙ take_at part (drop n old) n wide)) (λ k less.

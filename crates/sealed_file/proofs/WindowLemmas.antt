@@ -1,5 +1,5 @@
 -- A window that is filled chunk by chunk.
-use Rattle.std.proofs.Common.{◌≡◌, ◌<◌, ◌≤◌, ◌+◌, ◌-◌, ◌*◌, ◌/◌, ◌%◌, ◌∙◌, ℕ, List, [], ◌++◌, Some, None, Err, IfSome, length, take, drop, min, arith, refl, sym, ap, subst, append-nil, inl, inr, length-take-le, take_all, ◌⊎◌, length-append, length-drop, drop_at, drop-drop}
+use Rattle.std.proofs.Common.{◌≡◌, ◌<◌, ◌≤◌, ◌+◌, ◌-◌, ◌/◌, ◌%◌, ◌∙◌, ℕ, List, [], ◌++◌, Some, None, Err, IfSome, length, take, drop, arith, refl, sym, ap, subst, append-nil, inl, inr, length-take-le, take_all, length-append, length-drop, drop_at, drop-drop}
 use Rattle.std.proofs.lemmas.Bool.{cases_lt}
 use Rattle.std.proofs.lemmas.List.{drop_all, take_rest}
 use Rattle.sealed_file.proofs.BufferLemmas.{take-put_mid}
@@ -14,8 +14,8 @@ use Rattle.sealed_file.specs.declared.error.ReadError.{ReadError}
 use Rattle.sealed_file.specs.declared.error.ReadError.TheVariants.{Read, Damaged}
 use borrow.Rule.Slice.PartMut.{put_mid, put_same}
 use Rattle.sealed_file.specs.Sealed.{header, last_of, piece, text_of, sealed, IsSealed}
-use Rattle.sealed_file.specs.Ranges.{File, HasRange, IsWrong, before, FillsTo, OnlyBefore, StopsAtEnd}
-use Rattle.sealed_file.proofs.RangeLemmas.{has-chunk, range-is, range-more, text-in, text-of-is}
+use Rattle.sealed_file.specs.Ranges.{File, HasRange, IsEndDamage, IsWrong, before, count, FillsTo, OnlyBefore}
+use Rattle.sealed_file.proofs.RangeLemmas.{has-chunk, range-is, range-more, text-in}
 use Rattle.sealed_file.proofs.FileLemmas.{own}
 
 put-rest : (k : ℕ) (xs ys : List ℕ) → put_mid k (length xs - k) xs ys ≡ take k xs ++ ys
@@ -23,47 +23,38 @@ put-rest k xs ys =
     ap (λ zs. take k xs ++ (ys ++ zs)) (drop_all (length xs - k) (drop k xs) (omega (arith, length-drop k xs)))
     ∙ ap (λ zs. take k xs ++ zs) (append-nil ys)
 
--- so far, k bytes of the text of a file of so many bytes, from byte `start` on, are in the window, which was `old`
-pub record Filled (a : Option File) (len start k : ℕ) (old new : List ℕ) : Type 0 where
-  pub fits : start + length old ≤ text_of len
+-- so far, k bytes of a text of t, from byte `start` on, are in the window, which was `old`
+pub record Filled (a : Option File) (t start k : ℕ) (old new : List ℕ) : Type 0 where
+  pub fits : start + length old ≤ t
   pub within : k ≤ length old
   pub same : length new ≡ length old
   pub right : IfSome a (λ f. HasRange f start (take k new))
   pub rest : drop k new ≡ drop k old
   pub border : 0 < k → k < length old → (start + k) % 65536 ≡ 0
 
--- where the next read ends
-border-is : (p n w t : ℕ) → (n < w → (p + n ≡ 65536 * (p / 65536 + 1)) ⊎ (t ≤ p + n)) → p + w ≤ t → n < w
-    → (p + n) % 65536 ≡ 0
-border-is p n w t stops within less = elim (stops less) [
-  | inl chunk ↦ omega (arith, chunk)
-  | inr end ↦ absurd (omega (arith, end, within, less))
-]
+-- where a read ends that doesn't fill the window
+border-is : (p n w t : ℕ) → n ≡ count t p w → p + w ≤ t → n < w → (p + n) % 65536 ≡ 0
+border-is p n w t is within less = omega (arith, is, within, less)
 
--- it isn't empty
-pub some-read : (p n w t : ℕ) → (n < w → (p + n ≡ 65536 * (p / 65536 + 1)) ⊎ (t ≤ p + n)) → p + w ≤ t → 0 < w → 0 < n
-some-read p n w t stops within room = elim (cases_lt 0 n) [
-  | inl some ↦ some
-  | inr none ↦ elim (stops (omega (arith, none, room))) [
-    | inl chunk ↦ absurd (omega (arith, chunk, none))
-    | inr end ↦ absurd (omega (arith, end, within, room, none))
-  ]
-]
+-- a read isn't empty
+pub some-read : (p n w t : ℕ) → n ≡ count t p w → p + w ≤ t → 0 < w → 0 < n
+some-read p n w t is within room = omega (arith, is, within, room)
 
-both : (a : Option File) (P Q : File → Type 0) → IfSome a P → IfSome a Q → IfSome a (λ f. P f × Q f)
+pub both : {T : Type 0} (a : Option T) (P Q : T → Type 0) → IfSome a P → IfSome a Q → IfSome a (λ f. P f × Q f)
 both None P Q x y = tt
 both (Some f) P Q x y = (x, y)
 
 -- one more read
-pub filled-more : (a : Option File) (start k n len : ℕ) (old mid tail : List ℕ) → Filled a len start k old mid
-    → length tail ≡ length (take (length mid - k) (drop k mid)) → n ≤ length tail
+pub filled-more : (a : Option File) (start k n t : ℕ) (old mid tail : List ℕ) → Filled a t start k old mid
+    → length tail ≡ length (take (length mid - k) (drop k mid))
     → drop n tail ≡ drop n (take (length mid - k) (drop k mid)) → IfSome a (λ f. HasRange f (start + k) (take n tail))
-    → (n < length (take (length mid - k) (drop k mid)) → StopsAtEnd (start + k) n len)
-    → Filled a len start (k + n) old (put_mid k (length mid - k) mid tail)
-filled-more a start k n len old mid tail before size most kept more stops =
+    → n ≡ count t (start + k) (length (take (length mid - k) (drop k mid)))
+    → Filled a t start (k + n) old (put_mid k (length mid - k) mid tail)
+filled-more a start k n t old mid tail before size kept more is =
     let room : take (length mid - k) (drop k mid) ≡ drop k mid = take_rest mid k in
     let left : length tail ≡ length old - k =
     size ∙ ap length room ∙ length-drop k mid ∙ ap (λ l. l - k) before.same in
+    let most : n ≤ length tail = omega (arith, is, size) in
     let front = take k mid in
     let wide : length front ≡ k = length-take-le k mid (omega (arith, before.within, before.same)) in
     let new : put_mid k (length mid - k) mid tail ≡ front ++ tail = put-rest k mid tail in
@@ -80,24 +71,18 @@ filled-more a start k n len old mid tail before size most kept more stops =
       border = λ some less.
           let here : n < length (take (length mid - k) (drop k mid)) =
           omega (arith, less, sym size ∙ left, before.within) in
-          let at = border-is (start + k) n (length (take (length mid - k) (drop k mid))) (text_of len) stops
+          let at = border-is (start + k) n (length (take (length mid - k) (drop k mid))) t is
           (omega (arith, before.fits, before.within, sym size ∙ left)) here in
           omega (arith, at);
     }
 
--- the number of the chunk of a byte of the text
-pub number-is : (p len : ℕ) → p < text_of len → min (p / 65536) (last_of len) ≡ p / 65536
-number-is p len within =
-    let all : text_of len ≡ len - 32 - 16 * (last_of len + 1) = text-of-is len (omega (arith, within)) in
-    omega (arith, all, within)
-
 -- a read that fails
-pub stops-at : (a : Option File) (start k len : ℕ) (old mid tail : List ℕ) (P : File → ℕ → Type 0)
-    → Filled a len start k old mid → k < length old → tail ≡ take (length mid - k) (drop k mid)
+pub stops-at : (a : Option File) (start k t : ℕ) (old mid tail : List ℕ) (P : File → ℕ → Type 0)
+    → Filled a t start k old mid → k < length old → tail ≡ take (length mid - k) (drop k mid)
     → IfSome a (λ f. P f ((start + k) / 65536))
     → (let new = put_mid k (length mid - k) mid tail in
     (i : ℕ) × OnlyBefore start i old new × IfSome a (λ f. P f i × FillsTo f start new i))
-stops-at a start k len old mid tail P filled room kept wrong =
+stops-at a start k t old mid tail P filled room kept wrong =
     let i = (start + k) / 65536 in
     let whole : mid ≡ put_mid k (length mid - k) mid tail =
     sym (ap (put_mid k (length mid - k) mid) kept ∙ put_same k (length mid - k) mid) in
@@ -113,9 +98,9 @@ stops-at a start k len old mid tail P filled room kept wrong =
           (subst (λ n. IfSome a (λ f. HasRange f start (take n mid))) end filled.right)),
     )
 
-pub filled-none : (a : Option File) (start len : ℕ) (old : List ℕ) → start + length old ≤ text_of len
-    → Filled a len start 0 old old
-filled-none a start len old fits = record {
+pub filled-none : (a : Option File) (start t : ℕ) (old : List ℕ) → start + length old ≤ t
+    → Filled a t start 0 old old
+filled-none a start t old fits = record {
   fits = fits;
   within = omega arith;
   same = refl;
@@ -128,9 +113,9 @@ filled-none a start len old fits = record {
     none None = tt
     none (Some f) = λ k less. absurd (omega (arith, less))
 
-pub filled-all : (a : Option File) (start k len : ℕ) (old new : List ℕ) → Filled a len start k old new
+pub filled-all : (a : Option File) (start k t : ℕ) (old new : List ℕ) → Filled a t start k old new
     → length old ≤ k → IfSome a (λ f. HasRange f start new)
-filled-all a start k len old new filled all =
+filled-all a start k t old new filled all =
     subst (λ xs. IfSome a (λ f. HasRange f start xs)) (take_all k new (omega (arith, filled.same, all))) filled.right
 
 -- an error is one of these
@@ -167,3 +152,13 @@ module _ (key salt : List ℕ) (a : Option (List ℕ)) (len : ℕ)
       (subst (λ o. IfSome (option_map of o) (λ f. IsWrong f i damage)) reads.2 wrong).1 (piece text i)
       (has-chunk (of reads.1) text own-sealed.0 own-sealed.1 i
       (omega (arith, within, ap last_of (begins reads.1 reads.2).0)))
+
+  pub none-refused : (damage : Damage) → IfSome (option_map of a) (λ f. IsEndDamage f damage) → ⊥
+  none-refused damage wrong =
+      let has = has-chunk (of reads.1) text own-sealed.0 own-sealed.1 in
+      elim (subst (λ o. IfSome (option_map of o) (λ f. IsEndDamage f damage)) reads.2 wrong) [
+        | inl (_, none) ↦ none (piece text 0) (has 0 (omega arith))
+        | inr (_, _, (_, none)) ↦
+            let i = last_of (length reads.1) in
+            none (piece text i) (has i (omega arith))
+      ]

@@ -3,7 +3,7 @@ use Rattle.std.specs.Prelude.{◌≡◌, Some, ℕ, Bool, List}
 use Rattle.std.specs.Option.{option_map}
 use Rattle.std.specs.declared.option.Option.{Option}
 use Rattle.sealed_file.specs.Ranges.{File}
-use Rattle.sealed_file.specs.Sealed.{IsSealed}
+use Rattle.sealed_file.specs.Sealed.{text_of, IsSealed}
 use Rattle.sealed_file.specs.declared.file.ReadAt.{Ghosts}
 use Rattle.sealed_file.specs.declared.reader.SealedReader.{SealedReader}
 
@@ -19,9 +19,9 @@ may_fail {R} {G} r = G.may_fail r.source
 abbrev pub key_of : {R : Type 0} {G : Ghosts R} → SealedReader R G → List ℕ
 key_of r = r.key
 
--- how many bytes the file has
-abbrev pub len : {R : Type 0} {G : Ghosts R} → SealedReader R G → ℕ
-len r = r.len
+-- how many bytes the text has
+abbrev pub text_len : {R : Type 0} {G : Ghosts R} → SealedReader R G → ℕ
+text_len r = text_of r.len
 
 -- the place of the next byte in the text
 abbrev pub position : {R : Type 0} {G : Ghosts R} → SealedReader R G → ℕ
@@ -39,4 +39,4 @@ Reads r text = (salt all : List ℕ) × (bytes r ≡ Some all) × IsSealed (key_
 abbrev pub IsSame : {R : Type 0} {G : Ghosts R} → SealedReader R G → SealedReader R G → Type 0
 IsSame r s =
     (file s ≡ file r) × (bytes s ≡ bytes r) × (may_fail s ≡ may_fail r) × (key_of s ≡ key_of r)
-    × (len s ≡ len r)
+    × (text_len s ≡ text_len r)

@@ -7,8 +7,8 @@
 //! `None`, and then clauses say nothing of them. `Consumes a b text`: a reader with `a` left gave the text and has `b`
 //! left. `Appends a b bytes`: a writer that held `a` took the bytes and holds `b`.
 //!
-//! The functions are generic, and what they do with a file depends only on what its calls give. So they do with a
-//! `File` what is proved of every file whose bytes are known; tests show it. A reader, a writer or a file may fail at
+//! The functions are generic, and what they do with a file depends only on what its calls give. Those of a `File` are
+//! under no clause; tests show them. A reader, a writer or a file may fail at
 //! any time, so no clause says when a call succeeds, but where `may_fail` is false. As for messages, no contract says
 //! how hard a tag is to forge.
 //!

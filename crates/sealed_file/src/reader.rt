@@ -12,7 +12,7 @@ ghost use Rattle.std.specs.IoError.{error_kind};
 ghost use Rattle.sealed_file.specs.declared.error.Damage.{Damage};
 ghost use Rattle.sealed_file.specs.declared.error.IoError.{IoError};
 ghost use Rattle.sealed_file.specs.Sealed.{header, last_of, text_of, sealed, IsSealed, IsFileDamage};
-ghost use Rattle.sealed_file.specs.Ranges.{File, place, chunk_size, HasChunk, HasRange, IsWrong, FillsTo, OnlyBefore, StopsAtEnd, CopiesFrom};
+ghost use Rattle.sealed_file.specs.Ranges.{File, place, count, HasChunk, HasRange, EndsAt, IsWrong, IsEndDamage, IsRefused, FillsTo, OnlyBefore, CopiesFrom, IsZeroFrom, text_size, held_size};
 
 use crate::chunk::{CHUNKS, Salt, TAG, open_chunk, salt_of};
 use crate::error::{Damage, IoError, RangeError, ReadError};
@@ -22,8 +22,8 @@ use crate::stream::BUFFER;
 use chacha20::Key;
 use std::io::{self, ErrorKind, Read, Seek, SeekFrom};
 
-/// Reads the text of a sealed file, and of the file only the chunks that hold what is read. The text of the chunk that
-/// it opened last stays in the buffer, which is lent.
+/// Reads the text of a sealed file, and of the file only the last chunk, by which a cut is noticed, and those that hold
+/// what is read. The text of the chunk that it opened last stays in the buffer, which is lent.
 #[derive(Drop)]
 pub struct SealedReader<'b, R: ReadAt> {
     key: Key,
@@ -32,29 +32,25 @@ pub struct SealedReader<'b, R: ReadAt> {
     // As the file told it to `new`.
     len: u64,
     position: u64,
-    held: Option<Held>,
+    // The chunk whose text the buffer begins with. Behind it the buffer is zero.
+    held: Option<u64>,
     buf: &'b mut [u8; BUFFER],
     ghost fits: { len ≤ 32 + 65552 * 2 ^ 32 },
     ghost begins: { ForSome (R.bytes source) (λ bytes.
         (len ≡ length bytes) × (take 32 bytes ≡ header salt)) },
-    ghost size: { ForSome held (λ h. h.len + 16 ≡ chunk_size len h.number) },
-    ghost right: { ForSome held (λ h. ForSome (R.bytes source) (λ bytes.
-        HasChunk (record { key = key; salt = salt; bytes = bytes }) h.number
-        (take h.len buf.now))) },
-}
-
-// The chunk whose text stands at the start of the buffer.
-#[derive(Clone, Copy)]
-struct Held {
-    number: u64,
-    len: usize,
+    ghost whole: { last_of len ≡ (text_of len - 1) / 65536 },
+    ghost right: { ForSome held (λ i. ForSome (R.bytes source) (λ bytes.
+        HasChunk (record { key = key; salt = salt; bytes = bytes }) i
+        (take (text_size (text_of len) i) buf.now))) },
+    ghost lent: { IsZeroFrom (held_size held (text_of len)) buf.now },
 }
 
 impl<'b, R: ReadAt> SealedReader<'b, R> {
-    ghost use Rattle.sealed_file.specs.SealedReader.{bytes, may_fail, key_of, len, position, file, Reads, IsSame};
+    ghost use Rattle.sealed_file.specs.SealedReader.{bytes, may_fail, key_of, text_len, position, file, Reads, IsSame};
 
-    /// Takes a file, and reads its length and its header. Fails if it doesn't begin with a header, is longer than a
-    /// sealed file can be, or can't be read.
+    /// Takes a file, reads its length and its header, and opens the last chunk, so that a cut is noticed. Fails if the
+    /// file doesn't begin with a header, is longer than a sealed file can be, doesn't end with a right last chunk, or
+    /// can't be read. Then don't read `buf`: no clause says what it holds.
     pub fn new(
         key: &Key,
         source: R,
@@ -66,13 +62,14 @@ impl<'b, R: ReadAt> SealedReader<'b, R> {
         ensures bytes { IfOk result (λ r. bytes r ≡ R.bytes source) }
         ensures may_fail { IfOk result (λ r. may_fail r ≡ R.may_fail source) }
         ensures front { IfOk result (λ r. position r ≡ 0) }
-        ensures len { IfOk result (λ r. IfSome (R.bytes source) (λ all. len r ≡ length all)) }
+        ensures header { IfOk result (λ r. IfSome (file r) (λ f. take 32 f.bytes ≡ header f.salt)) }
+        ensures end { IfOk result (λ r. IfSome (file r) (λ f. EndsAt f (text_len r))) }
         ensures reads { (salt text all : List ℕ) → R.bytes source ≡ Some all
             → IsSealed key.now salt text all → IfOk result (λ r. Reads r text) }
         ensures opens { (salt text all : List ℕ) → R.bytes source ≡ Some all
             → IsSealed key.now salt text all → IsFalse (R.may_fail source) → IsOk result }
         ensures damaged { (damage : Damage) → IsErrOf result (ReadError.Damaged damage)
-            → IfSome (R.bytes source) (λ bytes. IsFileDamage bytes damage) }
+            → IfSome (R.bytes source) (λ bytes. IsRefused key.now bytes damage) }
         ensures fails { (e : IoError) → IsErrOf result (ReadError.Read e)
             → IsTrue (R.may_fail source) }
     {
@@ -83,57 +80,58 @@ impl<'b, R: ReadAt> SealedReader<'b, R> {
         if len > 32 + 65552 * CHUNKS {
             return Err(ReadError::Damaged(Damage::TooLong));
         }
+        load_last(key, &salt, &source, len, buf)?;
         Ok(SealedReader {
             key: *key,
             salt,
             source,
             len,
             position: 0,
-            held: None,
+            held: Some(last_chunk(len)),
             buf,
         })
     }
 
-    /// How many bytes of text the file has, by its length. That the end was cut is noticed once the last chunk is read.
+    /// How many bytes of text the file has; its last chunk is right.
     pub fn text_len(&self) -> u64
+        ensures value { result ≡ text_len self.now }
         ensures exact { (text : List ℕ) → Reads self.now text → result ≡ length text }
-        ensures value { result ≡ text_of (len self.now) }
     {
         text_len(self.len)
     }
 
-    /// Reads text from byte `start` on into the window's start, up to the window's end or that of the chunk, and
-    /// returns how many bytes that are: 0 at the end of the text and past it, once the last chunk was right.
+    /// Reads text from byte `start` on into the window's start, up to the end of the window, of the chunk or of the
+    /// text, and returns how many bytes that are: 0 at the end of the text and past it, or for an empty window.
     pub fn read_at(&mut self, start: u64, window: &mut [u8]) -> Result<usize, ReadError>
         ensures right { IfOk result (λ n. IfSome (file self.old) (λ f.
             HasRange f start (take n window.new))) }
-        ensures rest { IfOk result (λ n.
-            (n ≤ length window.old) × (drop n window.new ≡ drop n window.old)) }
-        ensures end { IfOk result (λ n. n < length window.old → StopsAtEnd start n (len self.old)) }
-        ensures within { IfOk result (λ n. 0 < n → start + n ≤ len self.old) }
+        ensures count { IfOk result (λ n.
+            n ≡ count (text_len self.old) start (length window.old)) }
+        ensures rest { IfOk result (λ n. drop n window.new ≡ drop n window.old) }
         ensures text { (text : List ℕ) → Reads self.old text
             → IfOk result (λ n. take n window.new ≡ slice_range text start (start + n)) }
         ensures accepted { (text : List ℕ) → Reads self.old text
             → IsFalse (may_fail self.old) → IsOk result }
         ensures unchanged { OnErr result (window.new ≡ window.old) }
         ensures damaged { (damage : Damage) → IsErrOf result (ReadError.Damaged damage)
-            → IfSome (file self.old) (λ f.
-            IsWrong f (min (start / 65536) (last_of (len self.old))) damage) }
+            → IfSome (file self.old) (λ f. IsWrong f (start / 65536) damage) }
         ensures fails { (e : IoError) → IsErrOf result (ReadError.Read e)
             → IsTrue (may_fail self.old) }
         ensures same { IsSame self.old self.new × (position self.new ≡ position self.old) }
     {
-        let number = (start / 65536).min(last_chunk(self.len));
-        let len = self.open(number)?;
-        Ok(self.copy(len, start - 65536 * number, window))
+        if start >= self.text_len() {
+            return Ok(0);
+        }
+        let len = self.open(start / 65536)?;
+        Ok(self.copy(len, start % 65536, window))
     }
 
-    /// Fills the window with text from byte `start` on, and opens each chunk of this range once, but for one that it
-    /// holds, and no other. Fails with `PastEnd` if and only if the range ends past the end of the text; then nothing
-    /// is changed. After another error, the window begins with the text of the chunks before the one that failed.
+    /// Fills the window with text from byte `start` on. Fails with `PastEnd` if and only if the range ends past the end
+    /// of the text; then nothing is changed. After another error, the window begins with the text of the chunks before
+    /// the one that failed.
     pub fn read_exact_at(&mut self, start: u64, window: &mut [u8]) -> Result<(), RangeError>
         ensures past_end { IsErrOf result RangeError.PastEnd
-            ↔ (text_of (len self.old) < start + length window.old) }
+            ↔ (text_len self.old < start + length window.old) }
         ensures unchanged { IsErrOf result RangeError.PastEnd → window.new ≡ window.old }
         ensures right { OnOk result (IfSome (file self.old) (λ f.
             HasRange f start window.new)) }
@@ -176,8 +174,8 @@ impl<'b, R: ReadAt> SealedReader<'b, R> {
 
     // Holds a chunk, and returns the length of its text.
     fn open(&mut self, number: u64) -> Result<usize, ReadError>
-        requires { number ≤ last_of (len self.old) }
-        ensures size { IfOk result (λ n. n + 16 ≡ chunk_size (len self.old) number) }
+        requires { 65536 * number < text_len self.old }
+        ensures size { IfOk result (λ n. n ≡ text_size (text_len self.old) number) }
         ensures right { IfOk result (λ n. IfSome (file self.old) (λ f.
             HasChunk f number (take n self.new.buf.now))) }
         ensures damaged { (damage : Damage) → IsErrOf result (ReadError.Damaged damage)
@@ -187,7 +185,9 @@ impl<'b, R: ReadAt> SealedReader<'b, R> {
         ensures same { IsSame self.old self.new × (position self.new ≡ position self.old) }
     {
         match self.held {
-            Some(held) if held.number == number => return Ok(held.len),
+            Some(held) if held == number => {
+                return Ok((self.text_len() - 65536 * number).min(65536) as usize);
+            }
             _ => {}
         }
         self.held = None;
@@ -199,12 +199,13 @@ impl<'b, R: ReadAt> SealedReader<'b, R> {
             number,
             self.buf,
         )?;
-        self.held = Some(Held { number, len });
+        self.held = Some(number);
         Ok(len)
     }
 }
 
-// Opens a chunk of a file of so many bytes in the buffer, and returns the length of its text.
+// Opens a chunk of a file of so many bytes in the buffer, and returns the length of its text. Behind that the buffer is
+// zero, and after an error all of it.
 fn load<R: ReadAt>(
     key: &Key,
     salt: &Salt,
@@ -216,7 +217,8 @@ fn load<R: ReadAt>(
     requires number { number ≤ last_of len }
     requires fits { len ≤ 32 + 65552 * 2 ^ 32 }
     requires len { IfSome (R.bytes source.now) (λ bytes. len ≡ length bytes) }
-    ensures size { IfOk result (λ n. n + 16 ≡ chunk_size len number) }
+    ensures size { IfOk result (λ n. n + 16 ≡ min 65552 (len - place number)) }
+    ensures some { IfOk result (λ n. 0 < number → 0 < n) }
     ensures right { IfOk result (λ n. IfSome (R.bytes source.now) (λ bytes.
         HasChunk (record { key = key.now; salt = salt.now; bytes = bytes }) number
         (take n buf.new))) }
@@ -225,15 +227,59 @@ fn load<R: ReadAt>(
         IsWrong (record { key = key.now; salt = salt.now; bytes = bytes }) number damage) }
     ensures fails { (e : IoError) → IsErrOf result (ReadError.Read e)
         → IsTrue (R.may_fail source.now) }
+    ensures rest { IfOk result (λ n. IsZeroFrom n buf.new) }
+    ensures cleared { OnErr result (IsZeroFrom 0 buf.new) }
 {
     let last = number == last_chunk(len);
     let place = 32 + 65552 * number;
     let chunk = &mut buf[..len.saturating_sub(place).min(65552) as usize];
-    let n = fill_at(source, chunk, place)?;
+    let n = match fill_at(source, chunk, place) {
+        Ok(n) => n,
+        Err(e) => {
+            buf.fill(0);
+            return Err(ReadError::Read(e));
+        }
+    };
     if n < chunk.len() || !open_chunk(key, salt, number, last, chunk) {
+        buf.fill(0);
         return Err(ReadError::Damaged(Damage::of_chunk(number, last)));
     }
+    buf[n - TAG..].fill(0);
     Ok(n - TAG)
+}
+
+// Opens the last chunk. If it is wrong, chunk 0 is opened too, and comes first: where the key is wrong, both are.
+fn load_last<R: ReadAt>(
+    key: &Key,
+    salt: &Salt,
+    source: &R,
+    len: u64,
+    buf: &mut [u8; BUFFER],
+) -> Result<usize, ReadError>
+    requires fits { len ≤ 32 + 65552 * 2 ^ 32 }
+    requires len { IfSome (R.bytes source.now) (λ bytes. len ≡ length bytes) }
+    ensures size { IfOk result (λ n. n + 16 ≡ min 65552 (len - place (last_of len))) }
+    ensures some { IfOk result (λ n. 0 < last_of len → 0 < n) }
+    ensures right { IfOk result (λ n. IfSome (R.bytes source.now) (λ bytes.
+        HasChunk (record { key = key.now; salt = salt.now; bytes = bytes }) (last_of len)
+        (take n buf.new))) }
+    ensures damaged { (damage : Damage) → IsErrOf result (ReadError.Damaged damage)
+        → IfSome (R.bytes source.now) (λ bytes.
+        IsEndDamage (record { key = key.now; salt = salt.now; bytes = bytes }) damage) }
+    ensures fails { (e : IoError) → IsErrOf result (ReadError.Read e)
+        → IsTrue (R.may_fail source.now) }
+    ensures rest { IfOk result (λ n. IsZeroFrom n buf.new) }
+    ensures cleared { OnErr result (IsZeroFrom 0 buf.new) }
+{
+    let number = last_chunk(len);
+    match load(key, salt, source, len, number, buf) {
+        Err(ReadError::Damaged(damage)) if number > 0 => {
+            load(key, salt, source, len, 0, buf)?;
+            buf.fill(0);
+            Err(ReadError::Damaged(damage))
+        }
+        opened => opened,
+    }
 }
 
 // The size of a file; a call that a signal interrupts is repeated.
@@ -272,10 +318,10 @@ fn is_within(start: u64, len: usize, text_len: u64) -> bool
 }
 
 impl<R: ReadAt> Read for SealedReader<'_, R> {
-    ghost use Rattle.sealed_file.specs.SealedReader.{may_fail, len, position, file, IsSame};
+    ghost use Rattle.sealed_file.specs.SealedReader.{may_fail, text_len, position, file, IsSame};
 
-    /// Reads text up to the buffer's end or that of the chunk, and returns how many bytes that are: 0 at the end of the
-    /// text and past it, once the last chunk was right. A wrong chunk is an error of the kind `InvalidData`, and an
+    /// Reads text up to the end of the buffer, of the chunk or of the text, and returns how many bytes that are: 0 at
+    /// the end of the text and past it. A wrong chunk is an error of the kind `InvalidData`, and an
     /// error of the file that has this kind comes out as one of the kind `Other`. After an error the buffer and the
     /// position are as they were, and a read may be tried again.
     fn read(&mut self, buf: &mut [u8]) -> io::Result<usize>
@@ -284,13 +330,13 @@ impl<R: ReadAt> Read for SealedReader<'_, R> {
         ensures right { IfOk result (λ n. (position self.new ≡ position self.old + n)
             × (drop n buf.new ≡ drop n buf.old) × IfSome (file self.old) (λ f.
             HasRange f (position self.old) (take n buf.new))) }
-        ensures end { IfOk result (λ n. n < length buf.old
-            → StopsAtEnd (position self.old) n (len self.old)) }
+        ensures count { IfOk result (λ n.
+            n ≡ count (text_len self.old) (position self.old) (length buf.old)) }
         ensures unchanged { OnErr result
             ((buf.new ≡ buf.old) × (position self.new ≡ position self.old)) }
         ensures damaged { IfErr result (λ e. error_kind e ≡ ErrorKind.InvalidData
             → IfSome (file self.old) (λ f. (damage : Damage)
-            × IsWrong f (min (position self.old / 65536) (last_of (len self.old))) damage)) }
+            × IsWrong f (position self.old / 65536) damage)) }
         ensures fails { IfErr result (λ e. error_kind e ≢ ErrorKind.InvalidData
             → IsTrue (may_fail self.old)) }
         ensures retried { IfErr result (λ e. error_kind e ≢ ErrorKind.Interrupted) }
@@ -306,19 +352,21 @@ impl<R: ReadAt> Read for SealedReader<'_, R> {
         }
     }
 
-    /// Fills the buffer with text. Fails with the kind `UnexpectedEof` where the text ends before; the position then
-    /// stays, as after any error.
+    /// Fills the buffer with text. Fails with the kind `UnexpectedEof` where the text ends before. After any error the
+    /// position stays, and of the buffer at most the start has changed, to right text.
     fn read_exact(&mut self, buf: &mut [u8]) -> io::Result<()>
         ensures bytes { OnOk result (Consumes None None buf.new) }
         ensures right { OnOk result ((position self.new ≡ position self.old + length buf.old)
             × IfSome (file self.old) (λ f. HasRange f (position self.old) buf.new)) }
-        ensures end { text_of (len self.old) < position self.old + length buf.old
+        ensures end { text_len self.old < position self.old + length buf.old
             → IfErr result (λ e. error_kind e ≡ ErrorKind.UnexpectedEof) }
         ensures unchanged { OnErr result (position self.new ≡ position self.old) }
+        ensures partly { OnErr result ((n : ℕ) × (drop n buf.new ≡ drop n buf.old)
+            × IfSome (file self.old) (λ f. HasRange f (position self.old) (take n buf.new))) }
         ensures damaged { IfErr result (λ e. error_kind e ≡ ErrorKind.InvalidData
             → IfSome (file self.old) (λ f. (i : ℕ) × (damage : Damage) × IsWrong f i damage)) }
         ensures fails { IfErr result (λ e. error_kind e ≢ ErrorKind.InvalidData
-            → position self.old + length buf.old ≤ text_of (len self.old)
+            → position self.old + length buf.old ≤ text_len self.old
             → IsTrue (may_fail self.old)) }
         ensures retried { IfErr result (λ e. error_kind e ≢ ErrorKind.Interrupted) }
         ensures same { IsSame self.old self.new }
@@ -336,7 +384,7 @@ impl<R: ReadAt> Read for SealedReader<'_, R> {
 }
 
 impl<R: ReadAt> Seek for SealedReader<'_, R> {
-    ghost use Rattle.sealed_file.specs.SealedReader.{len, position, IsSame};
+    ghost use Rattle.sealed_file.specs.SealedReader.{text_len, position, IsSame};
 
     ghost stream_position = { λ r. Some (position r) };
 
@@ -347,7 +395,7 @@ impl<R: ReadAt> Seek for SealedReader<'_, R> {
             None to result }
         ensures bytes { Keeps None None }
         ensures target { IsSeekResult to (position self.old) result }
-        ensures from_end { IsSeekFromEnd to (text_of (len self.old)) result }
+        ensures from_end { IsSeekFromEnd to (text_len self.old) result }
         ensures negative { IfErr result (λ e. error_kind e ≡ ErrorKind.InvalidInput) }
         ensures same { IsSame self.old self.new }
     {

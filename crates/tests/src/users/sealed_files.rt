@@ -64,7 +64,7 @@ impl RandomSource for Given<'_> {
     }
 }
 
-static SALT: Salt = *b"defghijklmnopqrstuv";
+pub static SALT: Salt = *b"defghijklmnopqrstuv";
 
 // What is said of a file, whose text goes to `text`, where reader and writer fail in these calls, or never.
 fn opened(file: &[u8], text: &mut Vec<u8>, read: u32, write: u32) -> Said {
@@ -74,7 +74,7 @@ fn opened(file: &[u8], text: &mut Vec<u8>, read: u32, write: u32) -> Said {
 }
 
 // The same of a text, whose file goes to `file`.
-fn made(salt: &[u8], text: &[u8], file: &mut Vec<u8>, read: u32, write: u32) -> Said {
+pub fn made(salt: &[u8], text: &[u8], file: &mut Vec<u8>, read: u32, write: u32) -> Said {
     let mut reader = Unsteady::new(text, 1000, read);
     let mut writer = Unsteady::new(file, 1000, write);
     let mut buf = [0; BUFFER];
@@ -218,26 +218,26 @@ static DAMAGED: [(Change, Damage, usize); 27] = [
     (Has("h0123h0123"), WrongChunk(3), 196608),
 ];
 
-// Reads up to the end or the first damage, and then what is there. Past the end, too, it is said that an end is wrong.
-fn read_all(file: &[u8], text: &mut Vec<u8>, is_end: bool) -> Result<(), RangeError> {
+// Reads up to the end or the first damage, and then what is there.
+fn read_all(file: &[u8], text: &mut Vec<u8>) -> Result<(), RangeError> {
     let mut buf = [0; BUFFER];
     let mut reader = SealedReader::new(&KEY, file, &mut buf)?;
     let kind = reader.read_to_end(text).map_err(|e| e.kind());
     if kind == Err(ErrorKind::InvalidData) {
-        let place = if is_end { u64::MAX } else { text.len() as u64 };
-        reader.read_at(place, &mut [0])?;
+        reader.read_at(text.len() as u64, &mut [0])?;
     }
     Ok(())
 }
 
-// Whether `decrypt` and a reader find this damage, and before it this text.
+// Whether `decrypt` finds this damage behind this text, and a reader the same or, at once, a wrong end.
 fn is_found(alloc: Global, file: &[u8], damage: Damage, front: &[u8]) -> bool {
     let (mut written, mut read) = (Vec::new(alloc), Vec::new(alloc));
-    let is_end = matches!(damage, WrongEnd(_));
+    let end = WrongEnd(file.len().saturating_sub(33) as u64 / 65552);
+    let said = of_range(read_all(file, &mut read));
     (opened(file, &mut written, 0, 0) == Said::Damaged(damage))
-        & (of_range(read_all(file, &mut read, is_end)) == Said::Damaged(damage))
         & (written.as_slice() == front)
-        & (read.as_slice() == front)
+        & (((said == Said::Damaged(damage)) & (read.as_slice() == front))
+            | ((said == Said::Damaged(end)) & read.is_empty()))
 }
 
 #[test]

@@ -1,38 +1,25 @@
-use Rattle.std.proofs.Common.{◌+◌, ◌∙◌, ◌/◌, ◌≤◌, min, length, length-take-le, take, ap, arith, subst, sym, true≢false}
+use Rattle.std.proofs.Common.{◌+◌, ◌/◌, ◌%◌, ◌∙◌, length-take-le, take, ap, arith, sym, true≢false}
 use Rattle.std.specs.List.{slice_range}
-use Rattle.sealed_file.specs.Ranges.{IsWrong}
-use Rattle.sealed_file.specs.Sealed.{last_of}
-use Rattle.sealed_file.specs.SealedReader.{file, len}
+use Rattle.sealed_file.specs.SealedReader.{file}
 use Rattle.std.proofs.lemmas.Option.{IfSome_then}
-use Rattle.sealed_file.proofs.ListLemmas.{passed-on}
+use Rattle.sealed_file.proofs.ListLemmas.{if_some, passed-on}
 use Rattle.sealed_file.proofs.WindowLemmas.{neither, none-wrong, reads-text}
-use Rattle.sealed_file.proofs.RangeLemmas.{copied-range, read-ends}
+use Rattle.sealed_file.proofs.RangeLemmas.{copied-range, number-within}
 use Rattle.sealed_file.proofs.reader.SealedReader.read_at.Goals as goal
 
 pub returns-in_err-len-clause-damaged : goal.returns-in_err-len-clause-damaged
 returns-in_err-len-clause-damaged g c damage is =
-    let number = c.min-number.ensures ∙ ap (min (c.args.start / 65536)) c.last_chunk.ensures.value in
-    IfSome_then (file c.args.self.now)
-    (c.in_err-len.ensures.damaged damage (passed-on c.from_residual.result _ _ c.from_residual.ensures.1 is))
-    (λ f. subst (λ i. IsWrong f i damage) number)
+    c.in_err-len.ensures.damaged damage (passed-on c.from_residual.result _ _ c.from_residual.ensures.1 is)
 
 pub returns-clause-right : goal.returns-clause-right
 returns-clause-right g c =
     IfSome_then (file c.args.self.now) c.in_ok-len.ensures.right
-    (λ f right. copied-range f c.min-number.result c.args.start c.copy.result _ c.args.window.now c.copy.new.window
-    right (omega (arith, c.min-number.ensures)) c.copy.ensures.part)
+    (λ f right. copied-range f (c.args.start / 65536) c.args.start (c.args.start % 65536) c.copy.result _
+    c.args.window.now c.copy.new.window right (omega arith) c.copy.ensures.part)
 
-pub returns-clause-end : goal.returns-clause-end
-returns-clause-end g c =
-    let number = c.min-number.ensures ∙ ap (min (c.args.start / 65536)) c.last_chunk.ensures.value in
-    (read-ends (length c.args.window.now) c.args.start (len c.args.self.now) c.min-number.result c.in_ok-len.len
-    c.copy.result number c.in_ok-len.ensures.size c.copy.ensures.count).0
-
-pub returns-clause-within : goal.returns-clause-within
-returns-clause-within g c =
-    let number = c.min-number.ensures ∙ ap (min (c.args.start / 65536)) c.last_chunk.ensures.value in
-    (read-ends (length c.args.window.now) c.args.start (len c.args.self.now) c.min-number.result c.in_ok-len.len
-    c.copy.result number c.in_ok-len.ensures.size c.copy.ensures.count).1
+pub returns-then-start-text_len-clause-right : goal.returns-then-start-text_len-clause-right
+returns-then-start-text_len-clause-right g c =
+    if_some (file c.args.self.now) _ (λ f known k less. absurd (omega (arith, less)))
 
 pub returns-clause-text : goal.returns-clause-text
 returns-clause-text g c text reads =
@@ -45,9 +32,9 @@ returns-clause-text g c text reads =
 pub returns-in_err-len-clause-accepted : goal.returns-in_err-len-clause-accepted
 returns-in_err-len-clause-accepted g c text reads sure =
     let self = c.args.self.now in
-    let within : c.min-number.result ≤ last_of self.len =
-    omega (arith, c.min-number.ensures, c.last_chunk.ensures.value) in
+    let within = number-within (c.args.start / 65536) self.len
+    (omega (arith, c.if-start-text_len.false, c.text_len.ensures.value)) in
     absurd (neither c.in_err-len.field-0.0
     (λ e is. true≢false (sym (c.in_err-len.ensures.fails e is) ∙ sure))
-    (λ d wrong. none-wrong self.key self.salt _ self.len self.begins text reads c.min-number.result d within
+    (λ d wrong. none-wrong self.key self.salt _ self.len self.begins text reads _ d within
     (c.in_err-len.ensures.damaged d wrong)))

@@ -1,17 +1,17 @@
-use Rattle.std.proofs.Common.{◌≡◌, ◌∙◌, ◌+◌, ◌-◌, ◌/◌, Err, IfSome, IsTrue, min, length-drop, length, take, drop, arith, refl, sym, ap, subst, true≢false}
+use Rattle.std.proofs.Common.{◌≡◌, ◌∙◌, ◌+◌, ◌-◌, ◌/◌, Err, IfSome, IsTrue, length-drop, length, take, drop, arith, refl, sym, ap, subst, true≢false}
 use Rattle.std.proofs.lemmas.List.{take_rest}
 use Rattle.std.specs.List.{slice_range}
-use Rattle.sealed_file.specs.Ranges.{HasRange, IsWrong, StopsAtEnd}
-use Rattle.sealed_file.specs.Sealed.{last_of, text_of}
-use Rattle.sealed_file.specs.SealedReader.{file, len}
+use Rattle.sealed_file.specs.Ranges.{HasRange, IsWrong, count}
+use Rattle.sealed_file.proofs.RangeLemmas.{number-within}
+use Rattle.sealed_file.specs.SealedReader.{file, text_len}
 use Rattle.std.proofs.lemmas.Option.{IfSome_then}
-use Rattle.sealed_file.proofs.WindowLemmas.{filled-all, filled-more, filled-none, length-read, none-wrong, number-is, reads-text, some-read, stops-at}
+use Rattle.sealed_file.proofs.WindowLemmas.{filled-all, filled-more, filled-none, length-read, none-wrong, reads-text, some-read, stops-at}
 use Rattle.sealed_file.proofs.reader.SealedReader.read_exact_at.Given.{Over}
 use Rattle.sealed_file.proofs.reader.SealedReader.read_exact_at.Goals as goal
 
 pub chunks-init : goal.chunks-init
 chunks-init g c = (
-  filled-none (file c.args.self.now) c.args.start (len c.args.self.now) c.args.window.now
+  filled-none (file c.args.self.now) c.args.start (text_len c.args.self.now) c.args.window.now
       (omega (arith, c.is_within.ensures.0 c.if-not-is_within.false, c.text_len.ensures.value)),
   (refl, refl, refl, refl, refl),
   refl,
@@ -21,13 +21,14 @@ pub chunks-preserved : goal.chunks-preserved
 chunks-preserved g c =
     let (filled, (same_file, same_bytes, same_fail, same_key, same_len), same_pos) = c.chunks.invariant in
     let got = c.in-Ok.ensures in
+    let room = take (length c.chunks.window - c.chunks.done) (drop c.chunks.done c.chunks.window) in
     let (next_file, next_bytes, next_fail, next_key, next_len) = got.same.0 in (
-      filled-more (file c.args.self.now) c.args.start c.chunks.done c.in-Ok.n (len c.args.self.now) c.args.window.now
-          c.chunks.window c.read_at.new.window filled c.read_at.auto.window
-          (omega (arith, got.rest.0, c.read_at.auto.window)) got.rest.1
+      filled-more (file c.args.self.now) c.args.start c.chunks.done c.in-Ok.n (text_len c.args.self.now)
+          c.args.window.now c.chunks.window c.read_at.new.window filled c.read_at.auto.window
+          got.rest
           (subst (λ o. IfSome o (λ f. HasRange f (c.args.start + c.chunks.done) (take c.in-Ok.n c.read_at.new.window)))
           same_file got.right)
-          (λ less. subst (StopsAtEnd (c.args.start + c.chunks.done) c.in-Ok.n) same_len (got.end less)),
+          (got.count ∙ ap (λ t. count t (c.args.start + c.chunks.done) (length room)) same_len),
       (next_file ∙ same_file, next_bytes ∙ same_bytes, next_fail ∙ same_fail, next_key ∙ same_key, next_len ∙ same_len),
       got.same.1 ∙ same_pos,
     )
@@ -39,8 +40,8 @@ chunks-smaller g c =
     let left : length room ≡ length c.args.window.now - c.chunks.done =
     ap length (take_rest c.chunks.window c.chunks.done) ∙ length-drop c.chunks.done c.chunks.window
     ∙ ap (λ l. l - c.chunks.done) filled.same in
-    let some = some-read (c.args.start + c.chunks.done) c.in-Ok.n (length room) (text_of (len c.args.self.now))
-    (λ less. subst (StopsAtEnd (c.args.start + c.chunks.done) c.in-Ok.n) same_len (c.in-Ok.ensures.end less))
+    let some = some-read (c.args.start + c.chunks.done) c.in-Ok.n (length room) (text_len c.args.self.now)
+    (c.in-Ok.ensures.count ∙ ap (λ t. count t (c.args.start + c.chunks.done) (length room)) same_len)
     (omega (arith, filled.fits, left, filled.within)) (omega (arith, left, c.chunks-test.true, filled.same)) in
     omega (arith, some, c.chunks-test.true, filled.same)
 
@@ -57,8 +58,8 @@ pub returns-in-Err-Read-clause-read_error : goal.returns-in-Err-Read-clause-read
 returns-in-Err-Read-clause-read_error g c e is =
     let filled = c.chunks.invariant.0 in
     let (i, only, fills) =
-    stops-at (file c.args.self.now) c.args.start c.chunks.done (len c.args.self.now) c.args.window.now c.chunks.window
-    c.read_at.new.window (λ f i. HasRange f c.args.start (take c.chunks.done c.chunks.window)) filled
+    stops-at (file c.args.self.now) c.args.start c.chunks.done (text_len c.args.self.now) c.args.window.now
+    c.chunks.window c.read_at.new.window (λ f i. HasRange f c.args.start (take c.chunks.done c.chunks.window)) filled
     (omega (arith, c.chunks-test.true, filled.same)) c.in-Err-Read.ensures.unchanged filled.right in
     (i, only, IfSome_then (file c.args.self.now) fills (λ f (_, is). is))
 
@@ -67,25 +68,24 @@ returns-in-Err-Read-clause-fails g c e is =
     let (filled, (same_file, same_bytes, same_fail, same_key, same_len), same_pos) = c.chunks.invariant in
     subst IsTrue same_fail (c.in-Err-Read.ensures.fails c.in-Err-Read.e (ap Err c.in-Err-Read.field-0-is))
 
+pub returns-in-Err-Read-clause-accepted : goal.returns-in-Err-Read-clause-accepted
+returns-in-Err-Read-clause-accepted g c text reads sure =
+    absurd (true≢false (sym (returns-in-Err-Read-clause-fails g c c.in-Err-Read.e refl) ∙ sure))
+
 -- the chunk that was found wrong
 wrong : (g : Over) (c : goal.In-Err-Damaged g) → IfSome (file c.args.self.now)
     (λ f. IsWrong f ((c.args.start + c.chunks.done) / 65536) c.in-Err-Damaged.damage)
 wrong g c =
     let (filled, (same_file, same_bytes, same_fail, same_key, same_len), same_pos) = c.chunks.invariant in
-    let place = c.args.start + c.chunks.done in
-    let number : min (place / 65536) (last_of (len c.chunks.self)) ≡ place / 65536 =
-    ap (λ l. min (place / 65536) (last_of l)) same_len
-    ∙ number-is place (len c.args.self.now) (omega (arith, filled.fits, c.chunks-test.true, filled.same)) in
-    subst (λ i. IfSome (file c.args.self.now) (λ f. IsWrong f i c.in-Err-Damaged.damage)) number
-    (subst (λ o. IfSome o (λ f. IsWrong f (min (place / 65536) (last_of (len c.chunks.self))) c.in-Err-Damaged.damage))
-    same_file (c.in-Err-Damaged.ensures.damaged c.in-Err-Damaged.damage (ap Err c.in-Err-Damaged.field-0-is)))
+    subst (λ o. IfSome o (λ f. IsWrong f ((c.args.start + c.chunks.done) / 65536) c.in-Err-Damaged.damage)) same_file
+    (c.in-Err-Damaged.ensures.damaged c.in-Err-Damaged.damage (ap Err c.in-Err-Damaged.field-0-is))
 
 pub returns-in-Err-Damaged-clause-damaged : goal.returns-in-Err-Damaged-clause-damaged
 returns-in-Err-Damaged-clause-damaged g c damage is =
     let filled = c.chunks.invariant.0 in
     let same : c.in-Err-Damaged.damage ≡ damage = (cc) in
-    stops-at (file c.args.self.now) c.args.start c.chunks.done (len c.args.self.now) c.args.window.now c.chunks.window
-    c.read_at.new.window
+    stops-at (file c.args.self.now) c.args.start c.chunks.done (text_len c.args.self.now) c.args.window.now
+    c.chunks.window c.read_at.new.window
     (λ f i. IsWrong f i damage) filled (omega (arith, c.chunks-test.true, filled.same))
     c.in-Err-Damaged.ensures.unchanged
     (subst (λ d. IfSome (file c.args.self.now) (λ f. IsWrong f ((c.args.start + c.chunks.done) / 65536) d)) same
@@ -96,12 +96,12 @@ returns-in-Err-Damaged-clause-accepted g c text reads sure =
     let self = c.args.self.now in
     let filled = c.chunks.invariant.0 in
     absurd (none-wrong self.key self.salt _ self.len self.begins text reads _ c.in-Err-Damaged.damage
-    (omega (arith, filled.fits, c.chunks-test.true, filled.same)) (wrong g c))
+    (number-within _ self.len (omega (arith, filled.fits, c.chunks-test.true, filled.same))) (wrong g c))
 
 pub returns-clause-right : goal.returns-clause-right
 returns-clause-right g c =
     let filled = c.chunks.invariant.0 in
-    filled-all (file c.args.self.now) c.args.start c.chunks.done (len c.args.self.now) c.args.window.now
+    filled-all (file c.args.self.now) c.args.start c.chunks.done (text_len c.args.self.now) c.args.window.now
     c.chunks.window filled
     (omega (arith, c.chunks-test.false, filled.same))
 
