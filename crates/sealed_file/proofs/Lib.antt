@@ -7,5 +7,6 @@ pub mod FormatVectors
 pub mod HeaderLemmas
 pub mod ListLemmas
 pub mod NonceLemmas
+pub mod OpenedLemmas
 pub mod RangeLemmas
 pub mod WindowLemmas

@@ -1,4 +1,5 @@
 pub mod DamageText
+pub mod Opened
 pub mod Ranges
 pub mod Sealed
 pub mod SealedReader
