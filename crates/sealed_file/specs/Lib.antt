@@ -1,4 +1,5 @@
 pub mod DamageText
+pub mod ErrorText
 pub mod Opened
 pub mod Ranges
 pub mod Sealed

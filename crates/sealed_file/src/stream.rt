@@ -11,7 +11,7 @@ ghost use Rattle.sealed_file.specs.Sealed.{header, sealed, left, IsSealed};
 use crate::chunk::{CHUNK, CHUNKS, Salt, TAG, header, open_chunk, salt_of, seal_chunk};
 use crate::error::{Damage, DecryptError, EncryptError, IoError};
 use chacha20::Key;
-use std::io::{self, ErrorKind, Read, Write};
+use std::io::{Read, Write};
 use std::random::RandomSource;
 
 /// The bytes of the scratch space that calls are lent: a chunk, and one byte of the next.
@@ -249,7 +249,7 @@ pub fn fill<R: Read>(reader: &mut R, buf: &mut [u8]) -> Result<usize, IoError>
     if at >= buf.len() {
         return Ok(at);
     }
-    Err(IoError::of(ErrorKind::TimedOut))
+    Err(IoError::timed_out())
 }
 
 /// Writes all bytes, and repeats a write that a signal interrupts.
@@ -265,7 +265,7 @@ pub fn write_whole<W: Write>(writer: &mut W, bytes: &[u8]) -> Result<(), IoError
             return Ok(());
         }
         match writer.write(&bytes[done..]) {
-            Ok(0) => return Err(IoError::of(ErrorKind::WriteZero)),
+            Ok(0) => return Err(IoError::write_zero()),
             Ok(n) => done += n,
             Err(e) => {
                 if let Some(e) = IoError::new(e) {
@@ -277,5 +277,5 @@ pub fn write_whole<W: Write>(writer: &mut W, bytes: &[u8]) -> Result<(), IoError
     if done >= bytes.len() {
         return Ok(());
     }
-    Err(IoError::of(ErrorKind::TimedOut))
+    Err(IoError::timed_out())
 }
