@@ -74,7 +74,7 @@ at-end key salt text i bytes o is less =
     few i (List ℕ × Option Damage) _ _ less ∙ ap told is ∙ same o
   where
     told : Option (List ℕ) → List ℕ × Option Damage
-    told o = elim o [ | None ↦ (text, Some (WrongEnd i)) | Some end ↦ (text ++ end, None) ]
+    told o = elim o [ None ↦ (text, Some (WrongEnd i)) | Some end ↦ (text ++ end, None) ]
 
     same : (o : Option (List ℕ)) → told o ≡ opened_behind key salt i true text [] o
     same None = refl

@@ -281,31 +281,65 @@ impl From<EncryptError> for io::Error {
 }
 
 impl From<DecryptError> for io::Error {
-    /// The error that the reader or the writer gave, or that of the damage.
-    fn from(error: DecryptError) -> io::Error {
+    ghost use Rattle.sealed_file.specs.declared.error.Damage.{Damage};
+    ghost use Rattle.sealed_file.specs.declared.error.DecryptError.TheVariants.{Damaged};
+
+    ghost from_gives = { λ error result. (damage : Damage) → error ≡ Damaged damage
+        → error_kind result ≡ ErrorKind.InvalidData };
+
+    /// The error that the reader or the writer gave, or one of the kind `InvalidData` with the text of the damage. An
+    /// error of a reader or writer that has this kind comes as one of the kind `Other`.
+    fn from(error: DecryptError) -> io::Error
+        ensures damaged { (damage : Damage) → error ≡ Damaged damage
+            → error_kind result ≡ ErrorKind.InvalidData }
+        ensures only { error_kind result ≡ ErrorKind.InvalidData
+            → (damage : Damage) × (error ≡ Damaged damage) }
+    {
         match error {
-            DecryptError::Read(e) | DecryptError::Write(e) => e.into(),
+            DecryptError::Read(e) | DecryptError::Write(e) => e.apart_from_damage(),
             DecryptError::Damaged(damage) => damage.into(),
         }
     }
 }
 
 impl From<ReadError> for io::Error {
-    /// The error that the file gave, or that of the damage.
-    fn from(error: ReadError) -> io::Error {
+    ghost use Rattle.sealed_file.specs.declared.error.Damage.{Damage};
+    ghost use Rattle.sealed_file.specs.declared.error.ReadError.TheVariants.{Damaged};
+
+    ghost from_gives = { λ error result. (damage : Damage) → error ≡ Damaged damage
+        → error_kind result ≡ ErrorKind.InvalidData };
+
+    /// As that of a [`DecryptError`].
+    fn from(error: ReadError) -> io::Error
+        ensures damaged { (damage : Damage) → error ≡ Damaged damage
+            → error_kind result ≡ ErrorKind.InvalidData }
+        ensures only { error_kind result ≡ ErrorKind.InvalidData
+            → (damage : Damage) × (error ≡ Damaged damage) }
+    {
         match error {
-            ReadError::Read(e) => e.into(),
+            ReadError::Read(e) => e.apart_from_damage(),
             ReadError::Damaged(damage) => damage.into(),
         }
     }
 }
 
 impl From<RangeError> for io::Error {
-    /// The error that the file gave, or that of the damage; past the end, one of the kind `UnexpectedEof`.
-    fn from(error: RangeError) -> io::Error {
+    ghost use Rattle.sealed_file.specs.declared.error.Damage.{Damage};
+    ghost use Rattle.sealed_file.specs.declared.error.RangeError.TheVariants.{Damaged};
+
+    ghost from_gives = { λ error result. (damage : Damage) → error ≡ Damaged damage
+        → error_kind result ≡ ErrorKind.InvalidData };
+
+    /// As that of a [`DecryptError`]; past the end, one of the kind `UnexpectedEof`.
+    fn from(error: RangeError) -> io::Error
+        ensures damaged { (damage : Damage) → error ≡ Damaged damage
+            → error_kind result ≡ ErrorKind.InvalidData }
+        ensures only { error_kind result ≡ ErrorKind.InvalidData
+            → (damage : Damage) × (error ≡ Damaged damage) }
+    {
         match error {
             RangeError::PastEnd => io::Error::from(ErrorKind::UnexpectedEof),
-            RangeError::Read(e) => e.into(),
+            RangeError::Read(e) => e.apart_from_damage(),
             RangeError::Damaged(damage) => damage.into(),
         }
     }
