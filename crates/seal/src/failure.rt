@@ -1,6 +1,6 @@
 //! Says on standard error why the program stops, in a sentence.
 
-use sealed_file::{DecryptError, EncryptError, ReadError};
+use sealed_file::{DecryptError, EncryptError, RangeError};
 use std::fmt::Display;
 use std::io;
 
@@ -64,10 +64,7 @@ pub fn encrypted(
         Err(EncryptError::Random(e)) => not_random(rt, Err(e)),
         Err(EncryptError::Read(e)) => read(rt, from, Err(e)),
         Err(EncryptError::Write(e)) => written(rt, to, Err(e)),
-        Err(EncryptError::TooLong) => {
-            let after = " has more than 2^48 bytes, which no sealed file may have";
-            Err(fail(rt, "", from, after))
-        }
+        Err(e) => Err(fail_at(rt, "", from, &e)),
     }
 }
 
@@ -82,15 +79,15 @@ pub fn decrypted(
         Ok(()) => Ok(()),
         Err(DecryptError::Read(e)) => read(rt, from, Err(e)),
         Err(DecryptError::Write(e)) => written(rt, to, Err(e)),
-        Err(DecryptError::Damaged(damage)) => Err(fail_at(rt, "", from, &damage)),
+        Err(e) => Err(fail_at(rt, "", from, &e)),
     }
 }
 
 /// What a read of a part gave.
-pub fn part<T>(rt: &HostRuntime, from: &str, done: Result<T, ReadError>) -> Result<T, Failed> {
+pub fn part<T>(rt: &HostRuntime, from: &str, done: Result<T, RangeError>) -> Result<T, Failed> {
     match done {
         Ok(it) => Ok(it),
-        Err(ReadError::Read(e)) => read(rt, from, Err(e)),
-        Err(ReadError::Damaged(damage)) => Err(fail_at(rt, "", from, &damage)),
+        Err(RangeError::Read(e)) => read(rt, from, Err(e)),
+        Err(e) => Err(fail_at(rt, "", from, &e)),
     }
 }

@@ -12,7 +12,7 @@ use clap::ArgMatches;
 use failure::{Failed, decrypted, encrypted, fail, part, read, written};
 use files::{INPUT, OUTPUT, STANDARD, name_of};
 use progress::Progress;
-use sealed_file::{BUFFER, RangeError, ReadError, SealedReader, stream, text_len};
+use sealed_file::{BUFFER, RangeError, SealedReader, stream, text_len};
 use std::fs::File;
 use std::io::{IsTerminal, Read, Write};
 use std::process::ExitCode;
@@ -160,7 +160,10 @@ fn cat(
     let secret = files::read_key(rt, key)?;
     let mut buf = [0; BUFFER];
     let file = files::open(rt, from)?;
-    let mut reader = part(rt, from, SealedReader::new(&secret, file, &mut buf))?;
+    let mut reader = match SealedReader::new(&secret, file, &mut buf) {
+        Ok(reader) => reader,
+        Err(e) => return part(rt, from, Err(RangeError::from(e))),
+    };
     let left = reader.text_len().saturating_sub(start);
     print_part(rt, &mut reader, from, start, len.unwrap_or(left))
 }
@@ -197,13 +200,9 @@ fn check_end(
     if start <= text_len && len <= text_len - start {
         return Ok(());
     }
-    Err(past_end(rt, from, text_len))
-}
-
-fn past_end(rt: &HostRuntime, from: &str, text_len: u64) -> Failed {
     let what = "the part ends past the end: by its length, ";
     let _ = eprintln!(rt; "seal: {what}{from} has {text_len} bytes of text");
-    Failed
+    Err(Failed)
 }
 
 // Prints at most so many bytes of text from a place on, and returns how many.
@@ -217,13 +216,7 @@ fn print_piece<W: Write>(
 ) -> Result<u64, Failed> {
     let mut piece = [0; 8192];
     let window = &mut piece[..most.min(8192) as usize];
-    match reader.read_exact_at(at, window) {
-        Ok(()) => {
-            written(rt, OUTPUT, stream::write_whole(writer, window))?;
-            Ok(window.len() as u64)
-        }
-        Err(RangeError::PastEnd) => Err(past_end(rt, from, reader.text_len())),
-        Err(RangeError::Read(e)) => part(rt, from, Err(ReadError::Read(e))),
-        Err(RangeError::Damaged(damage)) => part(rt, from, Err(ReadError::Damaged(damage))),
-    }
+    part(rt, from, reader.read_exact_at(at, window))?;
+    written(rt, OUTPUT, stream::write_whole(writer, window))?;
+    Ok(window.len() as u64)
 }

@@ -35,6 +35,20 @@ chunk-same key salt i last xs ys same =
     sym (front xs) ∙ ap₂ take size same ∙ front ys in
     sym (xor_stream-xor_stream stream 64 xs) ∙ ap (xor_stream stream 64) ciphertext ∙ xor_stream-xor_stream stream 64 ys
 
+-- which decrypting gives
+pub chunk-opens : (key salt : List ℕ) (i : ℕ) (last : Bool) (text : List ℕ)
+    → let bytes = chunk key salt i last text in
+    encrypted (xchacha_stream 10 key (chunk_nonce salt i last)) (take (length bytes - 16) bytes) ≡ text
+unfolding chunk
+chunk-opens key salt i last text =
+    let stream = xchacha_stream 10 key (chunk_nonce salt i last) in
+    let ciphertext = encrypted stream text in
+    let size = length-xor_stream stream 64 text in
+    let end : length ciphertext ≡ length (chunk key salt i last text) - 16 =
+    omega (arith, size, length-chunk key salt i last text) in
+    ap (encrypted stream) (take_at ciphertext (poly1305_tag stream [] ciphertext) _ end)
+    ∙ xor_stream-xor_stream stream 64 text
+
 -- what the AEAD made or accepted is a chunk
 pub chunk-is : (key salt : List ℕ) (i : ℕ) (last : Bool) (text nonce ciphertext tag : List ℕ)
     → nonce ≡ chunk_nonce salt i last → ciphertext ≡ encrypted (xchacha_stream 10 key nonce) text

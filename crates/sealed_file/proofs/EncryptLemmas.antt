@@ -1,13 +1,14 @@
 -- What a reader gave, and what was written of its text's sealed file.
-use Rattle.std.proofs.Common.{◌≡◌, ◌<◌, ◌≤◌, ◌+◌, ◌-◌, ◌*◌, ◌^◌, ◌∙◌, ℕ, zero, suc, true, false, not, List, [], ◌∷◌, ◌++◌, Some, None, IfSome, IsSome, IsNone, IsTrue, IsFalse, is_some, length, take, take_at, set, get_or, arith, sym, ap, subst, append-nil, append_assoc, length-append, length-take-le, take-take, refl, Bool, true≢false}
+use Rattle.std.proofs.Common.{◌≡◌, ◌<◌, ◌≤◌, ◌+◌, ◌-◌, ◌*◌, ◌/◌, ◌^◌, ◌∙◌, ℕ, zero, suc, true, false, not, List, [], ◌∷◌, ◌++◌, Some, None, IfSome, IsSome, IsNone, IsTrue, IsFalse, is_some, length, take, take_at, set, get_or, arith, sym, ap, subst, append-nil, append_assoc, length-append, length-take-le, take-take, refl, Bool, true≢false}
 use Rattle.std.proofs.Math.Seq.{take-append-add}
 use Rattle.std.proofs.lemmas.List.{take-append-le, take_more, take_more_set}
 use Rattle.std.proofs.lemmas.Option.{IfSome_then}
 use Rattle.std.specs.declared.option.Option.{Option}
 use Rattle.std.specs.Io.KnownBytes.{Appends, Consumes, IsAtEnd}
 use Rattle.std.proofs.KnownBytes.{Appends-nil, Appends-trans, Consumes-nil, Consumes-trans}
-use Rattle.sealed_file.specs.Sealed.{header, chunk, chunks, sealed, left, IsSealed}
+use Rattle.sealed_file.specs.Sealed.{header, chunk, chunks, last_number, sealed, left, IsSealed}
 use Rattle.sealed_file.proofs.ChunkLemmas.{chunks-begin, chunks-front, chunks-more, sealed-end}
+use Rattle.sealed_file.proofs.FileLemmas.{length-front, length-sealed}
 
 -- a byte that was read ahead
 pub ahead : (a : Option (List ℕ)) (xs : List ℕ) (x : ℕ) → 0 < length xs
@@ -54,13 +55,13 @@ long-text a b next xs n read long more =
     let (rest, all, some, _) = rest-of a b next xs read in
     IfSome_then a all (λ ys is. omega (arith, ap length is, length-append xs rest, some more, long))
 
--- what was written is a front of the file of a text: of the reader's, where that is known
-abbrev pub SealedFront : Option (List ℕ) → List ℕ → Option (List ℕ) → Option (List ℕ) → Type 0
-SealedFront a key w v = (salt text : List ℕ) × (n : ℕ) × (length salt ≡ 19) × IfSome a (λ all. all ≡ text)
-    × Appends w v (take n (sealed key salt text))
+-- what was written is a front of the file of a text, and not all of it: of the reader's, where that is known
+abbrev pub SealedFront : Option (List ℕ) → List ℕ → List ℕ → Option (List ℕ) → Option (List ℕ) → Type 0
+SealedFront a key salt w v = (text : List ℕ) × (n : ℕ) × IfSome a (λ all. all ≡ text)
+    × (n < length (sealed key salt text)) × Appends w v (take n (sealed key salt text))
 
 -- a front of what follows
-front-more : (w v u : Option (List ℕ)) (xs ys rest all : List ℕ) (n : ℕ) → all ≡ (xs ++ ys) ++ rest → n ≤ length ys
+pub front-more : (w v u : Option (List ℕ)) (xs ys rest all : List ℕ) (n : ℕ) → all ≡ (xs ++ ys) ++ rest → n ≤ length ys
     → Appends w v xs → Appends v u (take n ys) → Appends w u (take (length xs + n) all)
 front-more w v u xs ys rest all n is less before more =
     subst (Appends w u)
@@ -68,18 +69,18 @@ front-more w v u xs ys rest all n is less before more =
     ∙ ap (λ zs. xs ++ zs) (take-append-le n ys rest less))) (Appends-trans w v u xs (take n ys) before more)
 
 -- a front of the header is written
-pub front-header : (a w v : Option (List ℕ)) (key salt : List ℕ) (n : ℕ) → length salt ≡ 19 → n ≤ 32
-    → Appends w v (take n (header salt)) → SealedFront a key w v
+pub front-header : (a w v : Option (List ℕ)) (key salt : List ℕ) (n : ℕ) → length salt ≡ 19 → n < 32
+    → Appends w v (take n (header salt)) → SealedFront a key salt w v
 front-header a w v key salt n size few written =
     let (text, all, _, _) = rest-of a a None [] (Consumes-nil a) in
-    let (tail, is) = chunks-begin key salt text 0 (omega arith) in (
-      salt,
+    let (tail, is) = chunks-begin key salt text 0 (omega arith) in
+    let begins = is ∙ ap (λ cs. cs ++ tail) (append-nil (header salt)) in (
       text,
       0 + n,
-      size,
       all,
-      front-more w w v [] (header salt) tail (sealed key salt text) n
-          (is ∙ ap (λ cs. cs ++ tail) (append-nil (header salt))) (omega (arith, few, size)) (Appends-nil w) written,
+      omega (arith, few, size, ap length begins, length-append (header salt) tail),
+      front-more w w v [] (header salt) tail (sealed key salt text) n begins (omega (arith, few, size)) (Appends-nil w)
+          written,
     )
 
 -- the chunks before chunk i are written
@@ -101,14 +102,34 @@ file-begins key salt text rest (suc i) long more =
       is ∙ ap (λ cs. (header salt ++ cs) ++ tail) (chunks-front key salt text rest (suc i) (omega (arith, long))),
     )
 
+-- and more than these
+not-all : (i text rest last : ℕ) → text ≡ 65536 * i → (0 < i → 0 < rest) → last ≡ (text + rest - 1) / 65536
+    → 32 + 65552 * i < 32 + (text + rest + 16 * (last + 1))
+not-all zero text rest last long more is = omega arith
+not-all (suc i) text rest last long more is = omega (arith, long, more (omega arith), is)
+
 pub front-before : {a b w v : Option (List ℕ)} {next : Option ℕ} {key salt : List ℕ} {i : ℕ} → length salt ≡ 19
-    → Written a b w v next key salt i → SealedFront a key w v
+    → Written a b w v next key salt i → SealedFront a key salt w v
 front-before {a} {b} {w} {v} {next} {key} {salt} {i} size before =
-    let front = header salt ++ chunks key salt before.text i in
-    let (rest, all, some, _) = rest-of a b next before.text before.read in
-    let (tail, is) = file-begins key salt before.text rest i before.long (λ later. some (before.some later)) in
-    let begins = ap (take (length front)) is ∙ take_at front tail (length front) refl in
-    (salt, before.text ++ rest, length front, size, all, subst (Appends w v) (sym begins) before.written)
+    let text = before.text in
+    let front = header salt ++ chunks key salt text i in
+    let (rest, all, some, _) = rest-of a b next text before.read in
+    let more : 0 < i → 0 < length rest = λ later. some (before.some later) in
+    let (tail, is) = file-begins key salt text rest i before.long more in
+    let begins = ap (take (length front)) is ∙ take_at front tail (length front) refl in (
+      text ++ rest,
+      length front,
+      all,
+      omega (
+        arith,
+        length-front key salt text size i (omega (arith, before.long)),
+        length-sealed key salt (text ++ rest) size,
+        not-all i (length text) (length rest) (last_number (text ++ rest)) before.long more
+            (ap (λ k. (k - 1) / 65536) (length-append text rest)),
+        length-append text rest,
+      ),
+      subst (Appends w v) (sym begins) before.written,
+    )
 
 -- and with the next one, a last one or another
 chunk-begins : (key salt text piece rest : List ℕ) (i : ℕ) (last : Bool) → length text ≡ 65536 * i
@@ -137,9 +158,10 @@ text-in buf n fits =
 -- what chunk i makes of the file
 pub record Sealing (a b w v : Option (List ℕ)) (after : Option ℕ) (key salt new : List ℕ) (i : ℕ) (last : Bool)
     : Type 0 where
-  pub partly : (u : Option (List ℕ)) (k : ℕ) → k ≤ length new → Appends v u (take k new) → SealedFront a key w u
+  pub partly : (u : Option (List ℕ)) (k : ℕ) → k < length new → Appends v u (take k new)
+      → SealedFront a key salt w u
   pub whole : IsTrue last → (u : Option (List ℕ)) → Appends v u new
-      → (salt' text file : List ℕ) × IfSome a (λ all. all ≡ text) × IsSealed key salt' text file × Appends w u file
+      → (text file : List ℕ) × IfSome a (λ all. all ≡ text) × IsSealed key salt text file × Appends w u file
   pub more : IsFalse last → (u : Option (List ℕ)) → Appends v u new → Written a b w u after key salt (i + 1)
 
 -- of n bytes of text that were read, and the byte behind them, if there is one
@@ -165,17 +187,16 @@ sealing {a} {b} {w} {v} {next} {key} {salt} {i} b' after buf new n last before s
     let (tail, file) =
     chunk-begins key salt text piece rest i last before.long (omega (arith, long, fits.0)) first ends tells in
     record {
-      partly = λ u k less done. (
-        salt,
-        (text ++ piece) ++ rest,
-        length front + k,
-        size,
-        all,
-        front-more w v u front new tail (sealed key salt ((text ++ piece) ++ rest)) k
-            (file ∙ ap (λ c. (front ++ c) ++ tail) (sym is')) less before.written done,
-      );
+      partly = λ u k less done.
+          let begins = file ∙ ap (λ c. (front ++ c) ++ tail) (sym is') in (
+            (text ++ piece) ++ rest,
+            length front + k,
+            all,
+            omega (arith, less, ap length begins, length-append (front ++ new) tail, length-append front new),
+            front-more w v u front new tail (sealed key salt ((text ++ piece) ++ rest)) k begins (omega (arith, less))
+                before.written done,
+          );
       whole = λ yes u done. (
-        salt,
         text ++ piece,
         sealed key salt (text ++ piece),
         IfSome_then a all (λ xs same. same ∙ ap (λ r. (text ++ piece) ++ r) (ends yes) ∙ append-nil (text ++ piece)),

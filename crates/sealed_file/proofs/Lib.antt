@@ -7,6 +7,7 @@ pub mod FormatVectors
 pub mod HeaderLemmas
 pub mod ListLemmas
 pub mod NonceLemmas
+pub mod OpenedLemmas
 pub mod RangeLemmas
 pub mod RangeVectors
 pub mod WindowLemmas

@@ -5,7 +5,7 @@ use Rattle.std.proofs.lemmas.List.{ext_get_or, get_or_append_left, get_or-append
 use Rattle.std.specs.declared.option.Option.{Option}
 use Rattle.std.proofs.lemmas.Option.{IfSome_then, get_or_from_slice_get, slice_get-get_or, slice_get_within}
 use Rattle.std.specs.List.{slice_get, slice_range}
-use Rattle.sealed_file.specs.Sealed.{header, chunk, chunks, piece, last_of, last_number, sealed, text_of, damage_at, IsNoChunk, IsDamage, IsSealed}
+use Rattle.sealed_file.specs.Sealed.{header, chunk, chunks, piece, last_of, last_number, sealed, text_of, damage_at, IsNoChunk, IsSealed}
 use Rattle.sealed_file.specs.declared.error.Damage.{Damage}
 use Rattle.sealed_file.specs.declared.error.Damage.TheVariants.{NotSealed, OtherVersion, CutHeader, TooLong, WrongChunk, WrongEnd}
 use Rattle.sealed_file.specs.Ranges.{File, place, EndsAt, HasChunk, HasRange, IsWrong, CopiesFrom}
@@ -170,65 +170,6 @@ module _ (f : File) (text : List ℕ) (size : length f.salt ≡ 19) (is : f.byte
       ])
       (λ k less. sym (get_or_from_slice_get text (start + k) (get_or range k 0) 0 (byte k less).1)
       ∙ sym (get_or-take w (drop start text) k 0 (omega (arith, less)) ∙ get_or-drop start text k 0))
-
--- a file has one text
-pub one-text : (key salt salt' xs ys : List ℕ) → length salt ≡ 19 → length salt' ≡ 19
-    → sealed key salt xs ≡ sealed key salt' ys → xs ≡ ys
-one-text key salt salt' xs ys size size' same =
-    let file = sealed key salt xs in
-    let f : File = record { key = key; salt = salt; bytes = file } in
-    let is = (own key salt salt' ys file size' (front-is file salt (has-salt key salt xs file size refl)) same).1 in
-    let has : HasRange f 0 xs = λ k less. (
-      piece xs ((0 + k) / 65536),
-      has-chunk f xs size refl ((0 + k) / 65536) (omega (arith, less, length-file f xs size refl)),
-      ap (slice_get xs) (let at : k ≡ 0 + k = omega arith in at) ∙ get-piece xs (0 + k) (omega (arith, less)),
-    ) in
-    range-is f ys size is 0 xs has
-    ∙ take_all (0 + length xs - 0) ys (omega (arith, text-in f xs size refl, text-in f ys size is))
-
--- what follows i chunks in a sealed file
-behind : (f : File) (salt m rest text : List ℕ) (i : ℕ) → length f.salt ≡ 19 → f.bytes ≡ sealed f.key f.salt text
-    → length salt ≡ 19 → length m ≡ 65536 * i → f.bytes ≡ (header salt ++ chunks f.key salt m i) ++ rest
-    → (f.salt ≡ salt) × (length f.bytes ≡ place i + length rest) × (drop (place i) f.bytes ≡ rest)
-behind f salt m rest text i size is size' long split =
-    let wide = length-front f.key salt m size' i (omega (arith, long)) in (
-      (own f.key salt f.salt text f.bytes size (front-is f.bytes salt
-          (chunks f.key salt m i ++ rest, size', split ∙ append_assoc (header salt) (chunks f.key salt m i) rest))
-          is).0,
-      ap length split ∙ length-append (header salt ++ chunks f.key salt m i) rest ∙ ap (λ k. k + length rest) wide,
-      ap (drop (place i)) split ∙ drop_at (header salt ++ chunks f.key salt m i) rest (place i) wide,
-    )
-
--- a damaged file is no sealed file
-pub damage-refuses : (key file : List ℕ) (damage : Damage) → IsDamage key file damage
-    → (salt text : List ℕ) → IsSealed key salt text file → ⊥
-damage-refuses key file damage (inl wrong) salt text is = no-sealed key file damage wrong salt text is
-damage-refuses key file (WrongChunk i) (inr (salt, m, rest, (size, long, _, split), wide, wrong)) salt' text
-    (size', _, is) =
-    let f : File = record { key = key; salt = salt'; bytes = file } in
-    let (salts, all, at) = behind f salt m rest text i size' is size long split in
-    let (some, right) = has-chunk f text size' is i (omega (arith, all, wide)) in
-    let mark : nat_eq i (last_of (length file)) ≡ false =
-    ne_eqb i (last_of (length file)) (λ end. omega (arith, end, all, wide)) in
-    wrong (piece text i) some (ap (take 65552) (sym at) ∙ right
-    ∙ ap₂ (λ s last. chunk key s i last (piece text i)) salts mark)
-damage-refuses key file (WrongEnd i) (inr (salt, m, rest, (size, long, more, split), fits, wrong)) salt' text
-    (size', _, is) =
-    let f : File = record { key = key; salt = salt'; bytes = file } in
-    let (salts, all, at) = behind f salt m rest text i size' is size long split in
-    let end : i ≡ last_of (length file) = last-is i (length rest) (length file) more fits all in
-    let (some, right) = has-chunk f text size' is i (omega (arith, end)) in
-    wrong (piece text i) some (sym (take_all 65552 rest fits) ∙ ap (take 65552) (sym at) ∙ right
-    ∙ ap₂ (λ s last. chunk key s i last (piece text i)) salts (eq-eqb i (last_of (length file)) end))
-  where
-    last-is : (i rest len : ℕ) → (0 < i → 0 < rest) → rest ≤ 65552 → len ≡ 32 + 65552 * i + rest
-        → i ≡ (len - 33) / 65552
-    last-is zero rest len some fits all = omega (arith, all, fits)
-    last-is (suc i) rest len some fits all = omega (arith, all, fits, some (omega arith))
-damage-refuses key file NotSealed (inr none) salt text is = none
-damage-refuses key file CutHeader (inr none) salt text is = none
-damage-refuses key file OtherVersion (inr none) salt text is = none
-damage-refuses key file TooLong (inr none) salt text is = none
 
 -- What was read where chunk i stands, in a space of its size: all of it, where the bytes are known.
 module _ (key salt new : List ℕ) (len i size n last w : ℕ) (part : size ≡ min 65552 (len - place i))

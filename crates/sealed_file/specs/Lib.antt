@@ -1,4 +1,6 @@
 pub mod DamageText
+pub mod ErrorText
+pub mod Opened
 pub mod Ranges
 pub mod Sealed
 pub mod SealedReader

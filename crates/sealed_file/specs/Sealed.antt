@@ -1,6 +1,6 @@
 -- The format of a sealed file: STREAM of 64 KiB chunks. A key, a text and a file are lists of bytes, and a salt is 19
 -- random bytes.
-use Rattle.std.specs.Prelude.{◌≡◌, ◌≢◌, ◌⊎◌, ℕ, zero, suc, ◌+◌, ◌<◌, ◌≤◌, ◌-◌, ◌*◌, ◌/◌, ◌^◌, Bool, true, false, if◌then◌else◌}
+use Rattle.std.specs.Prelude.{◌≡◌, ◌≢◌, ℕ, zero, suc, ◌+◌, ◌<◌, ◌≤◌, ◌-◌, ◌*◌, ◌/◌, ◌^◌, Bool, true, false, if◌then◌else◌}
 use Rattle.std.specs.Prelude.{List, [], ◌∷◌, ◌++◌, take, drop, length, codes}
 use Rattle.std.specs.Prelude.{Some, None}
 use Rattle.std.specs.declared.option.Option.{Option}
@@ -66,36 +66,10 @@ abbrev pub IsSealed : List ℕ → List ℕ → List ℕ → List ℕ → Type 0
 IsSealed key salt text file =
     (length salt ≡ 19) × (length text ≤ 2 ^ 48) × (file ≡ sealed key salt text)
 
--- a file: a header, the n whole chunks of a text, none of them the last, and the bytes that follow them
-abbrev pub Splits : List ℕ → List ℕ → List ℕ → List ℕ → ℕ → List ℕ → Type 0
-Splits key salt file text n rest =
-    (length salt ≡ 19) × (length text ≡ 65536 * n) × (0 < n → 0 < length rest)
-    × (file ≡ header salt ++ chunks key salt text n ++ rest)
-
--- a text whose tags are right: that of the file's first chunks, or of the whole file
-abbrev pub IsRight : List ℕ → List ℕ → List ℕ → Type 0
-IsRight key file text =
-    ((salt rest : List ℕ) × (n : ℕ) × Splits key salt file text n rest)
-    ⊎ ((salt : List ℕ) × (length salt ≡ 19) × (file ≡ sealed key salt text))
-
 -- bytes that are chunk i of no text; only chunk 0 may have an empty one
 abbrev pub IsNoChunk : List ℕ → List ℕ → ℕ → Bool → List ℕ → Type 0
 IsNoChunk key salt i last bytes =
     (text : List ℕ) → (0 < i → 0 < length text) → bytes ≢ chunk key salt i last text
-
--- the first chunk of a file that isn't right
-abbrev pub IsChunkDamage : List ℕ → List ℕ → Damage → Type 0
-IsChunkDamage key file (WrongChunk i) =
-    (salt text rest : List ℕ) × Splits key salt file text i rest
-    × (65552 < length rest) × IsNoChunk key salt i false (take 65552 rest)
-IsChunkDamage key file (WrongEnd i) =
-    (salt text rest : List ℕ) × Splits key salt file text i rest
-    × (length rest ≤ 65552) × IsNoChunk key salt i true rest
-IsChunkDamage key file _ = ⊥
-
--- what is wrong with a file that isn't sealed under the key
-abbrev pub IsDamage : List ℕ → List ℕ → Damage → Type 0
-IsDamage key file damage = IsFileDamage file damage ⊎ IsChunkDamage key file damage
 
 -- the number of the last chunk of a file of so many bytes: 32 of the header, and at least one more
 abbrev pub last_of : ℕ → ℕ

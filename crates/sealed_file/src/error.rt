@@ -6,7 +6,7 @@ ghost use Rattle.std.specs.declared.io.ErrorKind.{ErrorKind};
 
 use std::error::Error;
 use std::fmt::{Display, Formatter};
-use std::io::ErrorKind;
+use std::io::{ErrorKind, Write};
 use std::{fmt, io};
 
 /// What is wrong with a file that isn't a sealed one under the key.
@@ -74,12 +74,17 @@ impl IoError {
         error
     }
 
-    // One of our own: after 2^64 - 1 calls, or where a writer took nothing.
-    pub(crate) fn of(kind: ErrorKind) -> IoError
-        requires { kind ≢ ErrorKind.Interrupted }
-    {
+    // Of a writer that takes nothing.
+    pub(crate) fn write_zero() -> IoError {
         IoError {
-            error: io::Error::from(kind),
+            error: io::Error::from(ErrorKind::WriteZero),
+        }
+    }
+
+    // After 2^64 - 1 calls, at which the loops over calls stop.
+    pub(crate) fn timed_out() -> IoError {
+        IoError {
+            error: io::Error::from(ErrorKind::TimedOut),
         }
     }
 }
@@ -137,6 +142,22 @@ impl Display for Damage {
 
 impl Error for Damage {}
 
+impl From<Damage> for io::Error {
+    ghost from_gives = { λ _ result. error_kind result ≡ ErrorKind.InvalidData };
+
+    /// An error of the kind `InvalidData`, with the same text.
+    fn from(damage: Damage) -> io::Error
+        ensures { error_kind result ≡ ErrorKind.InvalidData }
+    {
+        let mut text = [0; 80];
+        let mut rest = &mut text[..];
+        let _ = write!(rest, "{damage}");
+        let len = 80 - rest.len().min(80);
+        let text = str::from_utf8(&text[..len]).unwrap_or("damaged sealed file");
+        io::Error::new(ErrorKind::InvalidData, text)
+    }
+}
+
 /// Why `encrypt` stopped.
 #[derive(Debug, Drop)]
 pub enum EncryptError {
@@ -179,6 +200,149 @@ pub enum RangeError {
     Read(IoError),
     /// The header or a chunk of the range isn't right.
     Damaged(Damage),
+}
+
+impl Display for EncryptError {
+    ghost use Rattle.sealed_file.specs.ErrorText.{encrypt_text};
+
+    ghost output = { encrypt_text };
+
+    fn fmt<W: fmt::Write>(&self, f: &mut Formatter<W>) -> fmt::Result {
+        match self {
+            EncryptError::Random(e) => write!(f, "the system gives no random bytes: {e}"),
+            EncryptError::Read(e) => write!(f, "cannot read the text: {e}"),
+            EncryptError::Write(e) => write!(f, "cannot write the sealed file: {e}"),
+            EncryptError::TooLong => {
+                f.write_str("the text has more than 2^48 bytes, which no sealed file may have")
+            }
+        }
+    }
+}
+
+impl Display for DecryptError {
+    ghost use Rattle.sealed_file.specs.ErrorText.{decrypt_text};
+
+    ghost output = { decrypt_text };
+
+    fn fmt<W: fmt::Write>(&self, f: &mut Formatter<W>) -> fmt::Result {
+        match self {
+            DecryptError::Read(e) => write!(f, "cannot read the sealed file: {e}"),
+            DecryptError::Write(e) => write!(f, "cannot write the text: {e}"),
+            DecryptError::Damaged(damage) => damage.fmt(f),
+        }
+    }
+}
+
+impl Display for ReadError {
+    ghost use Rattle.sealed_file.specs.ErrorText.{read_text};
+
+    ghost output = { read_text };
+
+    fn fmt<W: fmt::Write>(&self, f: &mut Formatter<W>) -> fmt::Result {
+        match self {
+            ReadError::Read(e) => write!(f, "cannot read the sealed file: {e}"),
+            ReadError::Damaged(damage) => damage.fmt(f),
+        }
+    }
+}
+
+impl Display for RangeError {
+    ghost use Rattle.sealed_file.specs.ErrorText.{range_text};
+
+    ghost output = { range_text };
+
+    fn fmt<W: fmt::Write>(&self, f: &mut Formatter<W>) -> fmt::Result {
+        match self {
+            RangeError::PastEnd => f.write_str("the part ends past the end of the text"),
+            RangeError::Read(e) => write!(f, "cannot read the sealed file: {e}"),
+            RangeError::Damaged(damage) => damage.fmt(f),
+        }
+    }
+}
+
+impl Error for EncryptError {}
+
+impl Error for DecryptError {}
+
+impl Error for ReadError {}
+
+impl Error for RangeError {}
+
+impl From<EncryptError> for io::Error {
+    /// The error that the source, the reader or the writer gave; for a text that is too long, one of the kind
+    /// `FileTooLarge`.
+    fn from(error: EncryptError) -> io::Error {
+        match error {
+            EncryptError::Random(e) => e,
+            EncryptError::Read(e) | EncryptError::Write(e) => e.into(),
+            EncryptError::TooLong => io::Error::from(ErrorKind::FileTooLarge),
+        }
+    }
+}
+
+impl From<DecryptError> for io::Error {
+    ghost use Rattle.sealed_file.specs.declared.error.Damage.{Damage};
+    ghost use Rattle.sealed_file.specs.declared.error.DecryptError.TheVariants.{Damaged};
+
+    ghost from_gives = { λ error result. (damage : Damage) → error ≡ Damaged damage
+        → error_kind result ≡ ErrorKind.InvalidData };
+
+    /// The error that the reader or the writer gave, or one of the kind `InvalidData` with the text of the damage. An
+    /// error of a reader or writer that has this kind comes as one of the kind `Other`.
+    fn from(error: DecryptError) -> io::Error
+        ensures damaged { (damage : Damage) → error ≡ Damaged damage
+            → error_kind result ≡ ErrorKind.InvalidData }
+        ensures only { error_kind result ≡ ErrorKind.InvalidData
+            → (damage : Damage) × (error ≡ Damaged damage) }
+    {
+        match error {
+            DecryptError::Read(e) | DecryptError::Write(e) => e.apart_from_damage(),
+            DecryptError::Damaged(damage) => damage.into(),
+        }
+    }
+}
+
+impl From<ReadError> for io::Error {
+    ghost use Rattle.sealed_file.specs.declared.error.Damage.{Damage};
+    ghost use Rattle.sealed_file.specs.declared.error.ReadError.TheVariants.{Damaged};
+
+    ghost from_gives = { λ error result. (damage : Damage) → error ≡ Damaged damage
+        → error_kind result ≡ ErrorKind.InvalidData };
+
+    /// As that of a [`DecryptError`].
+    fn from(error: ReadError) -> io::Error
+        ensures damaged { (damage : Damage) → error ≡ Damaged damage
+            → error_kind result ≡ ErrorKind.InvalidData }
+        ensures only { error_kind result ≡ ErrorKind.InvalidData
+            → (damage : Damage) × (error ≡ Damaged damage) }
+    {
+        match error {
+            ReadError::Read(e) => e.apart_from_damage(),
+            ReadError::Damaged(damage) => damage.into(),
+        }
+    }
+}
+
+impl From<RangeError> for io::Error {
+    ghost use Rattle.sealed_file.specs.declared.error.Damage.{Damage};
+    ghost use Rattle.sealed_file.specs.declared.error.RangeError.TheVariants.{Damaged};
+
+    ghost from_gives = { λ error result. (damage : Damage) → error ≡ Damaged damage
+        → error_kind result ≡ ErrorKind.InvalidData };
+
+    /// As that of a [`DecryptError`]; past the end, one of the kind `UnexpectedEof`.
+    fn from(error: RangeError) -> io::Error
+        ensures damaged { (damage : Damage) → error ≡ Damaged damage
+            → error_kind result ≡ ErrorKind.InvalidData }
+        ensures only { error_kind result ≡ ErrorKind.InvalidData
+            → (damage : Damage) × (error ≡ Damaged damage) }
+    {
+        match error {
+            RangeError::PastEnd => io::Error::from(ErrorKind::UnexpectedEof),
+            RangeError::Read(e) => e.apart_from_damage(),
+            RangeError::Damaged(damage) => damage.into(),
+        }
+    }
 }
 
 impl From<IoError> for ReadError {

@@ -88,5 +88,5 @@ pub(crate) fn fill_at<R: ReadAt>(file: &R, buf: &mut [u8], place: u64) -> Result
     if at >= buf.len() {
         return Ok(at);
     }
-    Err(IoError::of(ErrorKind::TimedOut))
+    Err(IoError::timed_out())
 }

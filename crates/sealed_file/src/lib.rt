@@ -1,6 +1,7 @@
 //! Sealed files, in which a change is noticed: the STREAM construction over XChaCha20-Poly1305, by chunks of 64 KiB, as
 //! `aead::stream` of RustCrypto writes them. [`encrypt`] and [`decrypt`] take any reader and any writer; the program
-//! `seal` calls them. `SealedReader` reads any part of the text. `specs/Sealed.antt` has the format.
+//! `seal` calls them. `SealedReader` reads any part of the text. `specs/Sealed.antt` has the format, and
+//! `specs/Opened.antt` what any bytes open to.
 //!
 //! `R.remaining reader` is `Some` of the bytes that the reader has left, `W.contents writer` of those that the writer
 //! holds, and `R.bytes file` of all those of a file. They are known for slices and `Vec`s; for a `File` they are
@@ -27,4 +28,4 @@ pub use error::{Damage, DecryptError, EncryptError, IoError, RangeError, ReadErr
 pub use file::ReadAt;
 pub use places::text_len;
 pub use reader::SealedReader;
-pub use stream::{BUFFER, decrypt, encrypt};
+pub use stream::{BUFFER, decrypt, encrypt, encrypt_with_salt};

@@ -297,7 +297,7 @@ fn size_of<R: ReadAt>(source: &R) -> Result<u64, IoError>
             }
         }
     }
-    Err(IoError::of(ErrorKind::TimedOut))
+    Err(IoError::timed_out())
 }
 
 // Copies text from byte `from` on, which may be past its end, and returns how many bytes that are.

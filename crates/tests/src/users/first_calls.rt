@@ -90,6 +90,11 @@ fn keys(rt: HostRuntime) {
         [key_of(file), key_of(&COUNTING), key_of(&file[1..])]
             == [Some(COUNTING), Some(COUNTING), None]
     );
+    // By `base64` of GNU coreutils.
+    let mut key = [0xff; 32];
+    key[..3].copy_from_slice(&[0xfb, 0xef, 0xbe]);
+    let file = b"seal-key-v1:++++//////////////////////////////////////8=\n";
+    assert!(rt; (line_of(&key) == *file) & (key_of(file) == Some(key)));
 }
 
 #[test]

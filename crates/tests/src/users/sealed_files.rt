@@ -3,10 +3,11 @@
 use super::unsteady::Unsteady;
 use Change::{Cut, Has, Turned};
 use known_answers::published::COUNTING as KEY;
+use sealed_file::chunk::salt_of;
 use sealed_file::Damage::{CutHeader, NotSealed, OtherVersion, WrongChunk, WrongEnd};
 use sealed_file::{
     BUFFER, CHUNK, Damage, DecryptError, EncryptError, RangeError, Salt, SealedReader, decrypt,
-    encrypt,
+    encrypt, encrypt_with_salt,
 };
 use std::alloc::{AllocError, Global};
 use std::io::{self, ErrorKind, Read, Write};
@@ -279,6 +280,49 @@ fn failures_are_told(rt: HostRuntime) -> Result<(), Fail> {
     for (read, write, said) in &FAILURES {
         let right = tell(rt.alloc(), text, file, *read, *write, *said);
         assert!(rt; right, "{read} {write}");
+    }
+    Ok(())
+}
+
+// Salts differ, and neither file has 8 bytes of the key that stand together in it.
+#[test]
+fn salts_are_random(rt: HostRuntime) -> Result<(), Fail> {
+    let mut buf = [1; BUFFER];
+    let (mut one, mut two) = (Vec::new(rt.alloc()), Vec::new(rt.alloc()));
+    encrypt(&rt, &KEY, &mut &b"text"[..], &mut one, &mut buf)?;
+    encrypt(&rt, &KEY, &mut &b"text"[..], &mut two, &mut buf)?;
+    let (one, two) = (one.as_slice(), two.as_slice());
+    let salt = salt_of(one)?;
+    let mut again = Vec::new(rt.alloc());
+    encrypt_with_salt(&salt, &KEY, &mut &b"text"[..], &mut again, &mut buf)?;
+    assert!(rt; (one.len() == 52) & (salt != salt_of(two)?) & (again.as_slice() == one));
+    assert!(rt; buf.iter().all(|byte| *byte == 0));
+    for part in KEY.windows(8) {
+        let is_there = [one, two].iter().any(|file| file.windows(8).any(|it| it == part));
+        assert!(rt; !is_there);
+    }
+    Ok(())
+}
+
+fn copied(file: &[u8], text: &mut Vec<u8>) -> io::Result<()> {
+    decrypt(&KEY, &mut &file[..], text, &mut [0; BUFFER])?;
+    Ok(())
+}
+
+// By `?`, in a program that returns an `io::Error`.
+#[test]
+fn errors_are_printed(rt: HostRuntime) -> Result<(), Fail> {
+    let mut text = Vec::new(rt.alloc());
+    let Err(e) = copied(MADE[2], &mut text) else {
+        return Err(Fail::from("no damage"));
+    };
+    let said = format!(in rt.alloc(); "{e}")?;
+    assert!(rt; (e.kind() == ErrorKind::InvalidData) & (said.as_str() == "not a sealed file"));
+    for damage in [WrongChunk(1), WrongChunk(u64::MAX >> 16), WrongEnd(2), CutHeader] {
+        let same = format!(in rt.alloc(); "{}", io::Error::from(damage))?;
+        let said = format!(in rt.alloc(); "{damage}")?;
+        assert!(rt; same == said);
+        assert!(rt; format!(in rt.alloc(); "{}", DecryptError::Damaged(damage))? == said);
     }
     Ok(())
 }

@@ -1,5 +1,5 @@
 use Rattle.sealed_file.proofs.EncryptLemmas.{Written}
-use Rattle.sealed_file.proofs.stream.encrypt.Given as goal
+use Rattle.sealed_file.proofs.stream.encrypt_with_salt.Given as goal
 
 abbrev pub invariant-chunks : goal.invariant-chunks
 invariant-chunks g l =
