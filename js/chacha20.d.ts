@@ -4,8 +4,8 @@
 // memories. The import fails where the engine has none.
 //
 // A value of a wrong type is a TypeError, one of a wrong length or out of range a RangeError; both name the argument,
-// and nothing is computed. No argument may be in a SharedArrayBuffer. Results are new arrays. Take keys, and nonces of
-// 24 bytes, from crypto.getRandomValues. Never use a nonce twice under one key.
+// and nothing is computed. No argument may be detached or in a SharedArrayBuffer. Results are new arrays. Take keys, and
+// nonces of 24 bytes, from crypto.getRandomValues. Never use a nonce twice under one key.
 
 /** One message's cipher, under its key and nonce. */
 export interface Cipher {
@@ -71,9 +71,9 @@ export function sealBlob(key: Uint8Array, blob: Blob): ReadableStream<Uint8Array
 export function openBlob(key: Uint8Array, blob: Blob): ReadableStream<Uint8Array>;
 
 /**
- * The text from byte `start` up to `end`. Only the chunks that it is in are read, so damage elsewhere, or a cut behind
- * them, goes unnoticed if `end` is still inside what is left. An empty range checks no tag. The stream fails with a
- * RangeError if `end` is past the end of the text.
+ * The text from byte `start` up to `end`. The last chunk is opened first, so a cut or a wrong key is an error, also where
+ * the range is empty. Besides it, only the chunks that the range is in are read: damage elsewhere goes unnoticed. The
+ * stream fails with a RangeError, which names the text's length, if `end` is past it.
  */
 export function readRange(key: Uint8Array, blob: Blob, start: number, end: number): ReadableStream<Uint8Array>;
 

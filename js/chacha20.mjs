@@ -4,8 +4,10 @@
 // This file is trusted: it is tested, not proved. It checks arguments, copies them into the module's memory, calls,
 // copies the result out, and zeroes what the call left in the memory. chacha20.d.ts documents the exports.
 
-// The module's exports. Pointers and lengths are BigInts.
-const wasm = await load(new URL("chacha20.wasm", import.meta.url));
+const module = await load(new URL("chacha20.wasm", import.meta.url));
+// The exports of its instance, which take pointers and lengths as BigInts, and its memory. During a call there are
+// none, nor after one in which the engine threw, as where its stack ends: such an instance refuses each later call.
+let wasm, bytes;
 
 async function load(url) {
   const least = new Uint8Array([0, 97, 115, 109, 1, 0, 0, 0, 5, 3, 1, 4, 1]); // Nothing but a 64-bit memory.
@@ -16,27 +18,46 @@ async function load(url) {
   if (!response.ok) throw new Error(`${url}: ${response.status} ${response.statusText}`);
   const file = await response.arrayBuffer();
   if (!WebAssembly.validate(file)) throw new Error(`${url} isn't the module, or not all of it`);
-  return (await WebAssembly.instantiate(file)).instance.exports;
+  return WebAssembly.compile(file);
+}
+
+function makeInstance() {
+  bytes?.fill(0);
+  const { exports } = new WebAssembly.Instance(module);
+  [wasm, bytes] = [exports, new Uint8Array(exports.memory.buffer)];
 }
 
 // The memory: a stack that grows down from STACK, of which no call takes more than DEPTH; constants; and from START on
 // the arguments and the result of a call.
+makeInstance();
 const [STACK, DEPTH] = [65536, 4096];
 const START = Math.ceil(Number(wasm.__heap_base.value) / 64) * 64;
-let bytes = new Uint8Array(wasm.memory.buffer);
 
-// The language's own getters, which an object can't replace.
+// The language's own getters and methods, which an object can't replace.
 const ARRAY = Object.getOwnPropertyDescriptors(Object.getPrototypeOf(Uint8Array.prototype));
 const [kindOf, bufferOf, lengthOf] = [Symbol.toStringTag, "buffer", "length"].map((name) => ARRAY[name].get);
+const write = ARRAY.set.value;
+const bufferLengthOf = Object.getOwnPropertyDescriptor(ArrayBuffer.prototype, "byteLength").get;
 const copyOf = (array) => new Uint8Array(array);
 const NONE = new Uint8Array();
+
+function refuses(act) {
+  try {
+    return void act();
+  } catch (error) {
+    if (error instanceof TypeError) return true;
+    throw error;
+  }
+}
 
 // Demands a Uint8Array, also of another window, of `length` bytes if that is given, which no thread or call changes.
 function demand(name, value, length) {
   if (kindOf.call(value) !== "Uint8Array") throw new TypeError(`${name} must be a Uint8Array`);
   const buffer = bufferOf.call(value);
-  if (buffer[Symbol.toStringTag] !== "ArrayBuffer") throw new TypeError(`${name} must not be in a SharedArrayBuffer`);
-  if (buffer === wasm.memory.buffer) throw new TypeError(`${name} must not be in the module's memory`);
+  // Only an ArrayBuffer has this length; no array can be made of one that is detached.
+  if (refuses(() => bufferLengthOf.call(buffer))) throw new TypeError(`${name} must not be in a SharedArrayBuffer`);
+  if (refuses(() => new Uint8Array(buffer))) throw new TypeError(`${name} must not be detached`);
+  if (buffer === bytes.buffer) throw new TypeError(`${name} must not be in the module's memory`);
   if (length >= 0 && lengthOf.call(value) !== length) throw new RangeError(`${name} must have ${length} bytes`);
   return value;
 }
@@ -46,9 +67,11 @@ function demandNumber(name, value, most) {
   if (value < 0 || value > most) throw new RangeError(`${name} must be from 0 to ${most}`);
 }
 
-// Writes the parts, one behind the other, into the memory, runs a call on their places, and returns the first `length`
-// bytes as it left them. A number among the parts is room for so many bytes. `name` tells which argument may be long.
+// Writes the parts, one behind the other, into the memory, runs a call of the exports on their places, and returns the
+// first `length` bytes as it left them, or throws the error that it returns. A number among the parts is room for so
+// many bytes. `name` tells which argument may be long.
 function call(name, parts, length, run) {
+  if (!wasm) makeInstance();
   const places = [];
   let end = START;
   for (const part of parts) {
@@ -56,10 +79,15 @@ function call(name, parts, length, run) {
     end += typeof part === "number" ? part : lengthOf.call(part);
   }
   if (end > bytes.length) grow(name, end);
+  const exports = wasm;
+  wasm = undefined;
   try {
     parts.forEach((part, i) => typeof part === "number" || bytes.set(part, Number(places[i])));
-    run(...places);
-    return bytes.slice(START, START + length);
+    const error = run(exports, ...places);
+    const left = error ? undefined : bytes.slice(START, START + length);
+    wasm = exports;
+    if (error) throw error;
+    return left;
   } finally {
     bytes.fill(0, START, end);
     bytes.fill(0, STACK - DEPTH, STACK);
@@ -77,7 +105,7 @@ function grow(name, length) {
   bytes = new Uint8Array(wasm.memory.buffer);
 }
 
-const aead = (encrypt_in_place, decrypt_in_place, nonceLength) => (key, nonce, aad = NONE) => {
+const aead = (name, nonceLength) => (key, nonce, aad = NONE) => {
   // Copied, since a caller may change them before the call.
   const own = [demand("key", key, 32), demand("nonce", nonce, nonceLength), demand("aad", aad)].map(copyOf);
   const aadLength = BigInt(own[2].length);
@@ -86,46 +114,49 @@ const aead = (encrypt_in_place, decrypt_in_place, nonceLength) => (key, nonce, a
     encrypt(text) {
       const length = lengthOf.call(demand("text", text));
       if (isUsed) throw new Error("the nonce was used: make a cipher with another one");
-      return call("text", [text, 16, ...own], length + 16, (text, tag, key, nonce, aad) => {
-        const isRefused = encrypt_in_place(key, nonce, aad, aadLength, text, BigInt(length), tag);
-        if (isRefused) throw new RangeError("text is too long for the cipher");
-        isUsed = true;
+      const sealed = call("text", [text, 16, ...own], length + 16, (wasm, text, tag, key, nonce, aad) => {
+        const encrypt = wasm[`${name}_encrypt_in_place`];
+        const isRefused = encrypt(key, nonce, aad, aadLength, text, BigInt(length), tag);
+        return isRefused ? new RangeError("text is too long for the cipher") : undefined;
       });
+      isUsed = true;
+      return sealed;
     },
     decrypt(sealed) {
       const length = lengthOf.call(demand("sealed", sealed)) - 16;
       if (length < 0) throw new RangeError("sealed must have at least 16 bytes, those of the tag");
-      return call("sealed", [sealed, ...own], length, (text, key, nonce, aad) => {
-        const tag = text + BigInt(length);
-        const isRefused = decrypt_in_place(key, nonce, aad, aadLength, text, BigInt(length), tag);
-        if (isRefused) throw new Error("wrong tag");
+      return call("sealed", [sealed, ...own], length, (wasm, text, key, nonce, aad) => {
+        const decrypt = wasm[`${name}_decrypt_in_place`];
+        const isRefused = decrypt(key, nonce, aad, aadLength, text, BigInt(length), text + BigInt(length));
+        return isRefused ? new Error("wrong tag") : undefined;
       });
     },
   };
 };
 
-const cipher = (xor_in_place, nonceLength) => (key, nonce, data, position = 0, ...more) => {
+const cipher = (name, nonceLength) => (key, nonce, data, position = 0, ...more) => {
   if (more.length > 0) throw new TypeError("noble's output and counter aren't taken: pass position, 64 * counter");
   const parts = [demand("data", data), demand("key", key, 32), demand("nonce", nonce, nonceLength)];
   const length = lengthOf.call(data);
   demandNumber("position", position, 2 ** 38);
-  return call("data", parts, length, (text, key, nonce) => {
-    const isRefused = xor_in_place(key, nonce, BigInt(position), text, BigInt(length));
-    if (isRefused) throw new RangeError("position: the data would pass the end of the keystream, byte 2^38");
+  return call("data", parts, length, (wasm, text, key, nonce) => {
+    const isRefused = wasm[`${name}_xor_in_place`](key, nonce, BigInt(position), text, BigInt(length));
+    const words = "position: the data would pass the end of the keystream, byte 2^38";
+    return isRefused ? new RangeError(words) : undefined;
   });
 };
 
-export const chacha20poly1305 = aead(wasm.chacha20_aead_encrypt_in_place, wasm.chacha20_aead_decrypt_in_place, 12);
-export const xchacha20poly1305 = aead(wasm.xchacha20_aead_encrypt_in_place, wasm.xchacha20_aead_decrypt_in_place, 24);
-export const chacha20 = cipher(wasm.chacha20_xor_in_place, 12);
-export const xchacha20 = cipher(wasm.xchacha20_xor_in_place, 24);
+export const chacha20poly1305 = aead("chacha20_aead", 12);
+export const xchacha20poly1305 = aead("xchacha20_aead", 24);
+export const chacha20 = cipher("chacha20", 12);
+export const xchacha20 = cipher("xchacha20", 24);
 
 export class ChaCha20Rng {
   #state;
 
   constructor(seed) {
     const parts = [49, demand("seed", seed, 32)];
-    this.#state = call("seed", parts, 49, (state, seed) => wasm.chacha20_rng_from_seed(seed, state));
+    this.#state = call("seed", parts, 49, (wasm, state, seed) => wasm.chacha20_rng_from_seed(seed, state));
   }
 
   static fromState(state) {
@@ -138,12 +169,13 @@ export class ChaCha20Rng {
 
   fill(output) {
     const length = lengthOf.call(demand("output", output));
-    output.set(this.#call(length, (words, state) => wasm.chacha20_rng_fill(state, words, BigInt(length))));
+    const words = this.#call(length, (wasm, words, state) => wasm.chacha20_rng_fill(state, words, BigInt(length)));
+    write.call(output, words);
     return output;
   }
 
   get wordPosition() {
-    const low = this.#call(16, (low, state) => wasm.chacha20_rng_get_word_pos(state, low, low + 8n));
+    const low = this.#call(16, (wasm, low, state) => wasm.chacha20_rng_get_word_pos(state, low, low + 8n));
     const words = new DataView(low.buffer);
     return words.getBigUint64(0, true) + (words.getBigUint64(8, true) << 64n);
   }
@@ -151,7 +183,8 @@ export class ChaCha20Rng {
   set wordPosition(position) {
     if (typeof position !== "bigint") throw new TypeError("wordPosition must be a BigInt");
     if (position < 0n || position >> 68n) throw new RangeError("wordPosition must be from 0 to 2^68 - 1");
-    this.#call(0, (_, state) => wasm.chacha20_rng_set_word_pos(state, BigInt.asUintN(64, position), position >> 64n));
+    const low = BigInt.asUintN(64, position);
+    this.#call(0, (wasm, _, state) => wasm.chacha20_rng_set_word_pos(state, low, position >> 64n));
   }
 
   // Runs a call with room for `length` bytes, and the state. Keeps the state, and returns the bytes, as it left them.
@@ -210,7 +243,8 @@ async function* sealed(key, blob, size) {
   }
 }
 
-// The text from `start` to `end`; to `Infinity`, of all chunks.
+// The text from `start` to `end`, where the last chunk is opened first, since it tells how long the text is; to
+// `Infinity`, of all chunks in their order. A key is wrong where chunk 0 is wrong too.
 async function* opened(key, blob, size, start, end) {
   const header = await read(blob, 0, Math.min(32, size));
   const begins = (length) => MAGIC.subarray(0, length).every((byte, i) => byte === header[i]);
@@ -219,10 +253,16 @@ async function* opened(key, blob, size, start, end) {
   if (!begins(13)) throw new Error("sealed in another version of the format");
   const last = lastPart(size - 32, SEALED);
   if (last >= 2 ** 32) throw new Error("longer than a sealed file can be");
-  if (end !== Infinity) demandNumber("end", end, Math.max(size - 32 - 16 * (last + 1), 0));
-  for (let i = Math.floor(start / CHUNK); i <= last && Math.max(CHUNK * i, start) < end; i++) {
+  const open = async (i) => {
     const chunk = await read(blob, 32 + SEALED * i, Math.min(32 + SEALED * (i + 1), size));
-    yield openChunk(key, header.subarray(13), i, last, chunk).subarray(Math.max(start - CHUNK * i, 0), end - CHUNK * i);
+    return openChunk(key, header.subarray(13), i, last, chunk);
+  };
+  const orFirst = (error) => open(0).then(() => { throw error; });
+  const kept = end === Infinity ? undefined : await open(last).catch(orFirst);
+  if (kept) demandNumber("end", end, CHUNK * last + kept.length);
+  for (let i = Math.floor(start / CHUNK); i <= last && Math.max(CHUNK * i, start) < end; i++) {
+    const text = i === last && kept ? kept : await open(i);
+    yield text.subarray(Math.max(start - CHUNK * i, 0), end - CHUNK * i);
   }
 }
 

@@ -16,20 +16,22 @@ import { runInNewContext } from "node:vm";
 const [PACKAGE, ROOM] = process.argv.slice(2).map((it) => resolve(it));
 const read = (name) => new Uint8Array(readFileSync(join(ROOM, name)));
 
-// The instance is private, so what the engine hands out is kept on its way.
-const { instantiate, validate } = WebAssembly;
+// Instances are private, so what the engine makes is kept on its way.
+const { Instance, validate } = WebAssembly;
 let module, proved;
-WebAssembly.instantiate = async (...words) => {
-  const made = await instantiate(...words);
-  [module, proved] = [made.module, made.instance.exports];
-  return made;
+const memories = [];
+WebAssembly.Instance = class extends Instance {
+  constructor(from) {
+    super(from);
+    [module, proved] = [from, this.exports];
+    memories.push(proved.memory);
+  }
 };
 const load = (query = "") => import(`${pathToFileURL(join(PACKAGE, "chacha20.mjs"))}${query}`);
 const chacha = await load();
-WebAssembly.instantiate = instantiate;
 const { chacha20poly1305, xchacha20poly1305, chacha20, xchacha20, ChaCha20Rng } = chacha;
 const { sealBlob, openBlob, readRange, readKey } = chacha;
-const memory = () => new Uint8Array(proved.memory.buffer);
+const memory = (it = proved.memory) => new Uint8Array(it.buffer);
 const fresh = memory().slice();
 
 // Bytes for keys, nonces and texts, of the same file for libsodium and for us.
@@ -186,6 +188,15 @@ const parts = {
   // Each wrong argument of each call, by its name.
   arguments() {
     const shared = (length) => new Uint8Array(new SharedArrayBuffer(length));
+    const disguised = (length) => {
+      const buffer = new SharedArrayBuffer(length);
+      return new Uint8Array(Object.defineProperty(buffer, Symbol.toStringTag, { value: "ArrayBuffer" }));
+    };
+    const detached = (length) => {
+      const array = new Uint8Array(length);
+      structuredClone(array.buffer, { transfer: [array.buffer] });
+      return array;
+    };
     const inside = (length) => memory().subarray(0, length);
     const never = [undefined, null, 32, "k".repeat(32), [...KEY], KEY.buffer, new Uint16Array(32)];
     never.push(new DataView(KEY.buffer), new Uint8ClampedArray(32), { length: 32, buffer: KEY.buffer });
@@ -196,11 +207,12 @@ const parts = {
       for (const it of never) if (!(isOptional && it === undefined)) fails(() => call(it), TypeError, `${name} must`);
       // What an array says of its buffer, or of what it is, has no effect.
       const lying = (value, more) => Object.defineProperty(value, more, { value: KEY.buffer });
-      for (const it of [shared(right ?? 20), lying(shared(right ?? 20), "buffer")]) {
+      for (const it of [shared(right ?? 20), disguised(right ?? 20), lying(shared(right ?? 20), "buffer")]) {
         fails(() => call(it), TypeError, `${name} must not be in a SharedArrayBuffer`);
       }
       fails(() => call(lying(inside(right ?? 20), "buffer")), TypeError, `${name} must not be in the module's memory`);
       fails(() => call(inside(right ?? 20)), TypeError, `${name} must not be in the module's memory`);
+      fails(() => call(detached(right ?? 20)), TypeError, `${name} must not be detached`);
       for (const it of right === undefined ? [] : lengths.filter((it) => it !== right)) {
         fails(() => call(new Uint8Array(it)), RangeError, `${name} must have ${right} bytes`);
       }
@@ -257,6 +269,13 @@ const parts = {
     for (const it of [undefined, null, 0, "0"]) fails(() => (rng.wordPosition = it), TypeError, "wordPosition must");
     for (const it of [-1n, 1n << 68n]) fails(() => (rng.wordPosition = it), RangeError, "wordPosition must");
     is(rng.wordPosition, 0n, "after what was refused");
+    // A method of a caller's class isn't called, and a caller may change its state at once.
+    const Own = class extends Uint8Array { set() {} };
+    same(new ChaCha20Rng(KEY).fill(new Own(40)), new ChaCha20Rng(KEY).fill(new Uint8Array(40)), "a set of its own");
+    const mine = rng.state;
+    const other = ChaCha20Rng.fromState(mine);
+    mine.fill(0);
+    same(other.state, rng.state, "own state");
     const blob = new Blob([AAD]);
     for (const [call, ...range] of [[sealBlob], [openBlob], [readRange, 0, 1]]) {
       bytes("key", (it) => call(it, blob, ...range), 32);
@@ -302,6 +321,7 @@ const parts = {
     const act = () => xchacha20poly1305(KEY, XNONCE).encrypt(POOL);
     fails(act, RangeError, "no room");
     Uint8Array.prototype.slice = slice;
+    chacha20(KEY, NONCE, AAD);
     clean("after a throw");
     // A memory that can't grow.
     const has = memory().length;
@@ -312,11 +332,36 @@ const parts = {
     fails(() => xchacha20poly1305(KEY, XNONCE).decrypt(long), RangeError, "sealed is too long");
     fails(() => chacha20(KEY, NONCE, long), RangeError, "data is too long");
     fails(() => new ChaCha20Rng(KEY).fill(long), RangeError, "output is too long");
+    const cipher = xchacha20poly1305(KEY, XNONCE);
+    fails(() => cipher.encrypt(long), RangeError, tooLong);
     delete proved.memory.grow;
+    same(cipher.encrypt(AAD), xchacha20poly1305(KEY, XNONCE).encrypt(AAD), "a text that was refused used no nonce");
     clean("after what doesn't fit");
     is(memory().length, has, "the memory's length");
     same(chacha20(KEY, NONCE, chacha20(KEY, NONCE, long)), long, "what fits once the memory grows");
     clean("after it has grown");
+    // A stack that ends inside the module. The next call is by another instance, and the memory before is wiped.
+    const sealed = xchacha20poly1305(KEY, XNONCE).encrypt(AAD);
+    const errors = Array(1000);
+    for (let words = 0; words < 20; words++) {
+      let caught = 0;
+      const dive = (...words) => {
+        try {
+          dive(...words);
+        } catch {}
+        try {
+          xchacha20poly1305(KEY, XNONCE).encrypt(AAD);
+        } catch (error) {
+          errors[caught++] = error;
+        }
+      };
+      dive(...Array(words));
+      same(xchacha20poly1305(KEY, XNONCE).encrypt(AAD), sealed, "after the stack's end");
+    }
+    is(errors.some((it) => /^RangeError: Max.*\n.*wasm:/.test(it?.stack)), true, "the stack ends inside the module");
+    is(memories.length > 1, true, "another instance");
+    for (const it of memories.slice(0, -1)) is(memory(it).every((byte) => byte === 0), true, "a memory before");
+    clean("after the stack's end");
   },
 
   // The generator, beside OpenSSL: the seed is the key, and the block and the stream are the 16 bytes of its iv.
@@ -382,10 +427,12 @@ const parts = {
         for (const end of edges.filter((it) => it >= start)) {
           places = [];
           same(await all(readRange(KEY, blob, start, end)), text.slice(start, end), `${name} from ${start} to ${end}`);
-          const wanted = [[0, Math.min(32, file.length)]];
-          for (let i = Math.floor(start / 65536); i * 65536 < end && start < end; i++) {
-            wanted.push([32 + 65552 * i, Math.min(32 + 65552 * (i + 1), file.length)]);
-          }
+          // The last chunk, and then the others that the range is in.
+          const last = Math.max(Math.ceil(text.length / 65536) - 1, 0);
+          const chunks = [last];
+          for (let i = Math.floor(start / 65536); i < last && i * 65536 < end && start < end; i++) chunks.push(i);
+          const ends = chunks.map((i) => [32 + 65552 * i, Math.min(32 + 65552 * (i + 1), file.length)]);
+          const wanted = [[0, 32], ...ends];
           is(JSON.stringify(places), JSON.stringify(wanted), `what ${name} from ${start} to ${end} reads`);
         }
       }
@@ -431,6 +478,21 @@ const parts = {
     is((await cancelled.read()).value.length, 65536, "a first part");
     await cancelled.cancel();
     is((await cancelled.read()).done, true, "after cancel");
+    // Nothing is read before it is asked for.
+    for (const [start, name, reads] of [[sealBlob, "text", [0, 1, 2]], [openBlob, "sealed", [2, 3, 4]]]) {
+      let asked = 0;
+      const blob = new Blob([read(`200000.${name}`)]);
+      blob.slice = (...range) => {
+        asked++;
+        return Blob.prototype.slice.call(blob, ...range);
+      };
+      const reader = start(KEY, blob).getReader();
+      for (const wanted of [undefined, ...reads]) {
+        if (wanted !== undefined) await reader.read();
+        await new Promise((done) => setTimeout(done, 5));
+        is(asked, wanted ?? 0, `what ${start.name} reads`);
+      }
+    }
     clean("after files");
   },
 
@@ -461,6 +523,14 @@ const parts = {
         same(Buffer.from(other.slice(12), "base64"), key, "what Node reads");
         fails(() => readKey(other), Error, "not a key");
       }
+    }
+    // The alphabet of URLs.
+    for (const byte of [251, 255]) {
+      const text = Buffer.alloc(32, byte).toString("base64");
+      same(readKey(`seal-key-v1:${text}`), Buffer.alloc(32, byte), text);
+      const other = text.replaceAll("+", "-").replaceAll("/", "_");
+      is(other === text, false, "another alphabet");
+      fails(() => readKey(`seal-key-v1:${other}`), Error, "not a key");
     }
     for (const length of [0, 1, 31, 33, 56]) fails(() => readKey(part(0, length)), Error, "not a key");
     fails(() => readKey("k".repeat(32)), Error, "not a key");
@@ -515,6 +585,12 @@ const parts = {
     const damaged = new Blob([changed(40)]);
     same(await all(readRange(KEY, damaged, 65536, 131072)), text.slice(65536, 131072), "beside the damage");
     await failsLater(readRange(KEY, damaged, 65535, 65537), Error, first);
+    // The last chunk is opened first, and a wrong key is told as such.
+    for (const range of [[0, 0], [0, 5], [70000, 70001], [0, 2 ** 48]]) {
+      const broken = [changed(file.length - 1), file.slice(0, -1), file.slice(0, 32 + 3 * 65552 + 16)];
+      for (const it of broken) await failsLater(readRange(KEY, new Blob([it]), ...range), Error, end);
+      await failsLater(readRange(part(1, 32), new Blob([file]), ...range), Error, first);
+    }
     // Lengths that no file of the room has.
     const huge = (size) => Object.defineProperty(new Blob([header]), "size", { value: size });
     await failsLater(openBlob(KEY, huge(32 + 65552 * 2 ** 32 + 1)), Error, "longer than a sealed file can be");
@@ -531,10 +607,39 @@ const parts = {
     }
     clean("after damage");
   },
+
+  // No call gives a text, a part or a length of a file that was cut near an edge, or that is longer than it was.
+  async cuts() {
+    for (const length of [0, 1, 65535, 65536, 65537, 131072]) {
+      const file = read(`${length}.sealed`);
+      const edges = [0, 32, 32 + 65552, 32 + 2 * 65552, file.length].filter((it) => it <= file.length);
+      const near = edges.flatMap((edge) => [...Array(41).keys()].map((it) => edge - 20 + it));
+      const lengths = new Set(near.filter((it) => it >= 0 && it < file.length));
+      for (const more of [1, 16, 17, 65552]) lengths.add(file.length + more);
+      for (const it of lengths) {
+        const bytes = new Uint8Array(it);
+        bytes.set(file.subarray(0, it));
+        const last = Math.max(Math.ceil((it - 32) / 65552) - 1, 0);
+        let words = `the text from byte ${65536 * last} on is damaged or cut`;
+        if (last === 0) words = "the key is wrong, or the text is damaged or cut";
+        // Chunk 0, or 1, was the last one.
+        if (last > 0 && length <= 65536) words = "the key is wrong, or bytes 0 to 65535 of the text are damaged";
+        if (it < 32) words = it < 12 ? "not a sealed file" : "the file ends in its header";
+        const blob = new Blob([bytes]);
+        for (const range of [[0, 0], [0, 1], [length, length], [Math.max(length - 1, 0), length], [0, 2 ** 48]]) {
+          is((await failsLater(readRange(KEY, blob, ...range), Error, words)).length, 0, `${length} cut to ${it}`);
+        }
+        const second = last > 1 ? "bytes 65536 to 131071 of the text are damaged" : words;
+        const front = await failsLater(openBlob(KEY, blob), Error, second);
+        is(front.length < Math.max(length, 1), true, `${length} cut to ${it}: a whole text`);
+      }
+    }
+    clean("after cuts");
+  },
 };
 
-const wanted = { module: 9, openssl: 8826, libsodium: 6619, forgeries: 12400, arguments: 656, memory: 190 };
-Object.assign(wanted, { generator: 843, files: 460, keys: 4117, damage: 144 });
+const wanted = { module: 9, openssl: 8826, libsodium: 6619, forgeries: 12400, arguments: 704, memory: 216 };
+Object.assign(wanted, { generator: 843, files: 468, keys: 4123, damage: 160, cuts: 5653 });
 assert.deepEqual(Object.keys(wanted), Object.keys(parts));
 let sum = 0;
 for (const [name, run] of Object.entries(parts)) {
