@@ -1,13 +1,14 @@
 // SPDX-License-Identifier: Apache-2.0 OR MIT
 //
-// Authenticated encryption, ciphers, a seeded generator and sealed files, by the proved functions of chacha20.wasm.
-// This file is trusted: it is tested, not proved. It checks arguments, copies them into the module's memory, calls,
-// copies the result out, and zeroes what the call left in the memory. chacha20.d.ts documents the exports.
+// Authenticated encryption, ciphers, streams, sealed files and seeded generators, by the proved functions of
+// chacha20.wasm. This file is trusted: it is tested, not proved. It checks arguments, copies them into the module's
+// memory, calls, copies the result out, and zeroes what the call left there. chacha20.d.ts documents the exports.
 
 const module = await load(new URL("chacha20.wasm", import.meta.url));
-// The exports of its instance, which take pointers and lengths as BigInts, and its memory. During a call there are
-// none, nor after one in which the engine threw, as where its stack ends: such an instance refuses each later call.
+// The exports of its instance, and its memory. There are none during a call, nor after one in which the engine threw, as
+// where its stack ends: such an instance refuses each later call.
 let wasm, bytes;
+makeInstance();
 
 async function load(url) {
   const least = new Uint8Array([0, 97, 115, 109, 1, 0, 0, 0, 5, 3, 1, 4, 1]); // Nothing but a 64-bit memory.
@@ -29,65 +30,70 @@ function makeInstance() {
 
 // The memory: a stack that grows down from STACK, of which no call takes more than DEPTH; constants; and from START on
 // the arguments and the result of a call.
-makeInstance();
 const [STACK, DEPTH] = [65536, 4096];
 const START = Math.ceil(Number(wasm.__heap_base.value) / 64) * 64;
 
-// The language's own getters and methods, which an object can't replace.
+// The language's own getters, which an object can't replace.
 const ARRAY = Object.getOwnPropertyDescriptors(Object.getPrototypeOf(Uint8Array.prototype));
-const [kindOf, bufferOf, lengthOf] = [Symbol.toStringTag, "buffer", "length"].map((name) => ARRAY[name].get);
-const write = ARRAY.set.value;
+const [kindOf, bufferOf, offsetOf, lengthOf] =
+  [Symbol.toStringTag, "buffer", "byteOffset", "length"].map((name) => ARRAY[name].get);
 const bufferLengthOf = Object.getOwnPropertyDescriptor(ArrayBuffer.prototype, "byteLength").get;
 const copyOf = (array) => new Uint8Array(array);
 const NONE = new Uint8Array();
 
-function refuses(act) {
-  try {
-    return void act();
-  } catch (error) {
-    if (error instanceof TypeError) return true;
-    throw error;
-  }
-}
-
 // Demands a Uint8Array, also of another window, of `length` bytes if that is given, which no thread or call changes.
+// Returns one of this window over the same bytes.
 function demand(name, value, length) {
   if (kindOf.call(value) !== "Uint8Array") throw new TypeError(`${name} must be a Uint8Array`);
   const buffer = bufferOf.call(value);
-  // Only an ArrayBuffer has this length; no array can be made of one that is detached.
-  if (refuses(() => bufferLengthOf.call(buffer))) throw new TypeError(`${name} must not be in a SharedArrayBuffer`);
-  if (refuses(() => new Uint8Array(buffer))) throw new TypeError(`${name} must not be detached`);
   if (buffer === bytes.buffer) throw new TypeError(`${name} must not be in the module's memory`);
-  if (length >= 0 && lengthOf.call(value) !== length) throw new RangeError(`${name} must have ${length} bytes`);
-  return value;
-}
-
-function demandNumber(name, value, most) {
-  if (!Number.isInteger(value)) throw new TypeError(`${name} must be a whole number`);
-  if (value < 0 || value > most) throw new RangeError(`${name} must be from 0 to ${most}`);
-}
-
-// Writes the parts, one behind the other, into the memory, runs a call of the exports on their places, and returns the
-// first `length` bytes as it left them, or throws the error that it returns. A number among the parts is room for so
-// many bytes. `name` tells which argument may be long.
-function call(name, parts, length, run) {
-  if (!wasm) makeInstance();
-  const places = [];
-  let end = START;
-  for (const part of parts) {
-    places.push(BigInt(end));
-    end += typeof part === "number" ? part : lengthOf.call(part);
+  let own;
+  try {
+    bufferLengthOf.call(buffer); // Which an ArrayBuffer alone has.
+    own = new Uint8Array(buffer, offsetOf.call(value), lengthOf.call(value));
+  } catch (cause) {
+    throw new TypeError(`${name} must not be detached or in a SharedArrayBuffer`, { cause });
   }
+  if (length >= 0 && own.length !== length) throw new RangeError(`${name} must have ${length} bytes`);
+  return own;
+}
+
+function demandNumber(name, value, most, least = 0) {
+  if (!Number.isInteger(value)) throw new TypeError(`${name} must be a whole number`);
+  if (value < least || value > most) throw new RangeError(`${name} must be from ${least} to ${most}`);
+}
+
+// Calls the export that `argumentsOf` names, with its arguments: a number as it is, an array by its place, [array] by its
+// place and length. What is written lies in front: arrays, or room for so many bytes, whose places `argumentsOf` is
+// given, and which is returned, in one array, as the call left it. `name` tells which argument may be long.
+function call(name, written, argumentsOf, refusals) {
+  if (!wasm) makeInstance();
+  const parts = [];
+  let end = START;
+  const place = (part) => {
+    parts.push({ part, at: end });
+    end += part.length ?? part;
+    return { at: BigInt(parts.at(-1).at), length: BigInt(part.length ?? part) };
+  };
+  const places = written.map(place);
+  const writtenEnd = end;
+  const [run, ...values] = argumentsOf(...places).flatMap((it) => {
+    const [value, isSlice] = Array.isArray(it) ? [it[0], true] : [it, false];
+    if (typeof value !== "object") return value;
+    const { at, length } = value.at instanceof Function ? place(value) : value;
+    return isSlice ? [at, length] : at;
+  });
   if (end > bytes.length) grow(name, end);
   const exports = wasm;
   wasm = undefined;
   try {
-    parts.forEach((part, i) => typeof part === "number" || bytes.set(part, Number(places[i])));
-    const error = run(exports, ...places);
-    const left = error ? undefined : bytes.slice(START, START + length);
+    for (const { part, at } of parts) if (typeof part === "object") bytes.set(part, at);
+    const status = exports[run](...values);
+    const left = status ? undefined : bytes.slice(START, writtenEnd);
     wasm = exports;
-    if (error) throw error;
-    return left;
+    if (!status) return left;
+    const [kind, words] = { 1: [RangeError, `${name} is too long`], 2: [Error, "wrong tag"], ...refusals }[status];
+    throw new kind(words);
   } finally {
     bytes.fill(0, START, end);
     bytes.fill(0, STACK - DEPTH, STACK);
@@ -105,45 +111,41 @@ function grow(name, length) {
   bytes = new Uint8Array(wasm.memory.buffer);
 }
 
+// A call that also moves a state, which it keeps.
+function step(name, state, written, argumentsOf) {
+  const left = call(name, [state, ...written], argumentsOf);
+  state.set(left.subarray(0, state.length));
+  return left.slice(state.length);
+}
+
 const aead = (name, nonceLength) => (key, nonce, aad = NONE) => {
   // Copied, since a caller may change them before the call.
-  const own = [demand("key", key, 32), demand("nonce", nonce, nonceLength), demand("aad", aad)].map(copyOf);
-  const aadLength = BigInt(own[2].length);
+  const [k, n, a] = [demand("key", key, 32), demand("nonce", nonce, nonceLength), demand("aad", aad)].map(copyOf);
   let isUsed = false;
   return {
     encrypt(text) {
-      const length = lengthOf.call(demand("text", text));
+      const own = demand("text", text);
       if (isUsed) throw new Error("the nonce was used: make a cipher with another one");
-      const sealed = call("text", [text, 16, ...own], length + 16, (wasm, text, tag, key, nonce, aad) => {
-        const encrypt = wasm[`${name}_encrypt_in_place`];
-        const isRefused = encrypt(key, nonce, aad, aadLength, text, BigInt(length), tag);
-        return isRefused ? new RangeError("text is too long for the cipher") : undefined;
-      });
+      const sealed = call("text", [own, 16], (text, tag) => [`${name}_encrypt_in_place`, k, n, [a], [text], tag]);
       isUsed = true;
       return sealed;
     },
     decrypt(sealed) {
-      const length = lengthOf.call(demand("sealed", sealed)) - 16;
-      if (length < 0) throw new RangeError("sealed must have at least 16 bytes, those of the tag");
-      return call("sealed", [sealed, ...own], length, (wasm, text, key, nonce, aad) => {
-        const decrypt = wasm[`${name}_decrypt_in_place`];
-        const isRefused = decrypt(key, nonce, aad, aadLength, text, BigInt(length), text + BigInt(length));
-        return isRefused ? new Error("wrong tag") : undefined;
-      });
+      const own = demand("sealed", sealed);
+      if (own.length < 16) throw new RangeError("sealed must have at least 16 bytes, those of the tag");
+      const [front, tag] = [own.subarray(0, -16), own.subarray(-16)];
+      return call("sealed", [front], (text) => [`${name}_decrypt_in_place`, k, n, [a], [text], tag]);
     },
   };
 };
 
 const cipher = (name, nonceLength) => (key, nonce, data, position = 0, ...more) => {
   if (more.length > 0) throw new TypeError("noble's output and counter aren't taken: pass position, 64 * counter");
-  const parts = [demand("data", data), demand("key", key, 32), demand("nonce", nonce, nonceLength)];
-  const length = lengthOf.call(data);
+  const own = [demand("key", key, 32), demand("nonce", nonce, nonceLength)];
   demandNumber("position", position, 2 ** 38);
-  return call("data", parts, length, (wasm, text, key, nonce) => {
-    const isRefused = wasm[`${name}_xor_in_place`](key, nonce, BigInt(position), text, BigInt(length));
-    const words = "position: the data would pass the end of the keystream, byte 2^38";
-    return isRefused ? new RangeError(words) : undefined;
-  });
+  const passes = [RangeError, "position: the data would pass the end of the keystream, byte 2^38"];
+  const argumentsOf = (text) => [`${name}_xor_in_place`, ...own, BigInt(position), [text]];
+  return call("data", [demand("data", data)], argumentsOf, { 1: passes });
 };
 
 export const chacha20poly1305 = aead("chacha20_aead", 12);
@@ -151,16 +153,18 @@ export const xchacha20poly1305 = aead("xchacha20_aead", 24);
 export const chacha20 = cipher("chacha20", 12);
 export const xchacha20 = cipher("xchacha20", 24);
 
-export class ChaCha20Rng {
+class Rng {
+  #fill;
   #state;
 
-  constructor(seed) {
-    const parts = [49, demand("seed", seed, 32)];
-    this.#state = call("seed", parts, 49, (wasm, state, seed) => wasm.chacha20_rng_from_seed(seed, state));
+  constructor(fill, seed) {
+    const own = demand("seed", seed, 32);
+    this.#fill = fill;
+    this.#state = call("seed", [49], (state) => ["chacha20_rng_from_seed", own, state]);
   }
 
   static fromState(state) {
-    const rng = new ChaCha20Rng(new Uint8Array(32));
+    const rng = new this(new Uint8Array(32));
     rng.#state = copyOf(demand("state", state, 49));
     return rng;
   }
@@ -168,35 +172,103 @@ export class ChaCha20Rng {
   get state() { return copyOf(this.#state); }
 
   fill(output) {
-    const length = lengthOf.call(demand("output", output));
-    const words = this.#call(length, (wasm, words, state) => wasm.chacha20_rng_fill(state, words, BigInt(length)));
-    write.call(output, words);
+    const own = demand("output", output);
+    own.set(step("output", this.#state, [own.length], (state, words) => [this.#fill, state, [words]]));
     return output;
   }
 
   get wordPosition() {
-    const low = this.#call(16, (wasm, low, state) => wasm.chacha20_rng_get_word_pos(state, low, low + 8n));
-    const words = new DataView(low.buffer);
+    const argumentsOf = (state, low, high) => ["chacha20_rng_get_word_pos", state, low, high];
+    const words = new DataView(step("state", this.#state, [8, 8], argumentsOf).buffer);
     return words.getBigUint64(0, true) + (words.getBigUint64(8, true) << 64n);
   }
 
   set wordPosition(position) {
     if (typeof position !== "bigint") throw new TypeError("wordPosition must be a BigInt");
     if (position < 0n || position >> 68n) throw new RangeError("wordPosition must be from 0 to 2^68 - 1");
-    const low = BigInt.asUintN(64, position);
-    this.#call(0, (wasm, _, state) => wasm.chacha20_rng_set_word_pos(state, low, position >> 64n));
-  }
-
-  // Runs a call with room for `length` bytes, and the state. Keeps the state, and returns the bytes, as it left them.
-  #call(length, run) {
-    const left = call("output", [length, this.#state], length + 49, run);
-    this.#state = left.slice(length);
-    return left.subarray(0, length);
+    const words = [BigInt.asUintN(64, position), position >> 64n];
+    step("state", this.#state, [], (state) => ["chacha20_rng_set_word_pos", state, ...words]);
   }
 }
 
+export class ChaCha20Rng extends Rng { constructor(seed) { super("chacha20_rng_fill", seed); } }
+export class ChaCha12Rng extends Rng { constructor(seed) { super("chacha12_rng_fill", seed); } }
+export class ChaCha8Rng extends Rng { constructor(seed) { super("chacha8_rng_fill", seed); } }
+
+// Streams: a header of 24 bytes, and messages, each 17 bytes longer than its text.
+function startStream(header, key) {
+  const own = [demand("key", key, 32), demand("header", header, 24)];
+  const state = call("key", [44], (state) => ["chacha20_secretstream_start", ...own, state]);
+  const rekey = () => void step("state", state, [], (state) => ["chacha20_secretstream_rekey", state]);
+  return { state, rekey };
+}
+
+function initPush(key) {
+  const header = crypto.getRandomValues(new Uint8Array(24));
+  const { state, rekey } = startStream(header, key);
+  const push = (text, tag = 0, aad = NONE) => {
+    const [input, more] = [demand("text", text), demand("aad", aad)];
+    demandNumber("tag", tag, 255);
+    return step("text", state, [input.length + 17], (state, message) =>
+      ["chacha20_secretstream_push", state, [more], [message], [input], tag]);
+  };
+  return { header, push, rekey };
+}
+
+function initPull(header, key) {
+  const { state, rekey } = startStream(header, key);
+  const pull = (message, aad = NONE) => {
+    const [input, more] = [demand("message", message), demand("aad", aad)];
+    if (input.length < 17) throw new RangeError("message must have at least 17 bytes");
+    const left = step("message", state, [input.length - 17, 1], (state, text, tag) =>
+      ["chacha20_secretstream_pull", state, [more], [text], [input], tag]);
+    return { text: left.slice(0, -1), tag: left.at(-1) };
+  };
+  return { pull, rekey };
+}
+
+// Hands on what `take` makes of the first bytes, then of each `size` bytes, and of the rest, the last.
+function inPieces(first, size, take, start) {
+  let [rest, next] = [NONE, first];
+  const transform = (chunk, controller) => {
+    const more = demand("chunk", chunk);
+    let all = new Uint8Array(rest.length + more.length);
+    all.set(rest);
+    all.set(more, rest.length);
+    for (; all.length > next; next = size) {
+      controller.enqueue(take(all.subarray(0, next), false));
+      all = all.subarray(next);
+    }
+    rest = copyOf(all);
+  };
+  return new TransformStream({ start, transform, flush: (controller) => controller.enqueue(take(rest, true)) });
+}
+
+function encryptor(key, size = CHUNK) {
+  demandNumber("size", size, 2 ** 32, 1);
+  const { header, push } = initPush(key);
+  return inPieces(size, size, (text, isLast) => push(text, isLast ? 3 : 0), (it) => it.enqueue(header));
+}
+
+function decryptor(key, size = CHUNK) {
+  demandNumber("size", size, 2 ** 32, 1);
+  const own = copyOf(demand("key", key, 32));
+  let stream;
+  return inPieces(24, size + 17, (piece, isLast) => {
+    if (isLast && (!stream || piece.length < 17)) throw new Error("the stream is cut");
+    if (!stream) {
+      stream = initPull(piece, own);
+      return NONE;
+    }
+    const { text, tag } = stream.pull(piece);
+    if (isLast !== (tag === 3)) throw new Error(isLast ? "the stream is cut" : "the stream goes on after its end");
+    return text;
+  });
+}
+
+export const SecretStream = { MESSAGE: 0, PUSH: 1, REKEY: 2, FINAL: 3, initPush, initPull, encryptor, decryptor };
+
 // Sealed files: a header of 32 bytes, and chunks of CHUNK bytes of text, each with its tag.
-const MAGIC = new TextEncoder().encode("chacha20seal1");
 const [CHUNK, SEALED] = [65536, 65552];
 
 export const sealBlob = (key, blob) => streamOf(sealed, key, blob);
@@ -206,16 +278,6 @@ export const readRange = (key, blob, start, end) => {
   demandNumber("start", start, end);
   return streamOf(opened, key, blob, start, end);
 };
-
-// The number of the last of the parts of `size` bytes.
-const lastPart = (length, size) => Math.max(Math.ceil(length / size) - 1, 0);
-
-// All bytes from `start` to `end`. The error is that of engines that notice a changed file themselves.
-async function read(blob, start, end) {
-  const bytes = new Uint8Array(await blob.slice(start, end).arrayBuffer());
-  if (bytes.length === end - start) return bytes;
-  throw new DOMException("blob doesn't give as many bytes as its size says", "NotReadableError");
-}
 
 // A stream of what a generator yields, each part once it is asked for.
 function streamOf(generator, key, blob, ...range) {
@@ -228,35 +290,33 @@ function streamOf(generator, key, blob, ...range) {
   return new ReadableStream({ pull }, { highWaterMark: 0 });
 }
 
-function chunkCipher(key, salt, number, last) {
-  const place = [number >>> 24, number >>> 16, number >>> 8, number, number === last ? 1 : 0];
-  return xchacha20poly1305(key, new Uint8Array([...salt, ...place]));
+// All bytes from `start` to `end`, or to the Blob's end. The error is that of engines that notice a changed file
+// themselves.
+async function read(blob, size, start, length) {
+  const bytes = new Uint8Array(await blob.slice(start, Math.min(start + length, size)).arrayBuffer());
+  if (bytes.length === Math.min(length, size - start)) return bytes;
+  throw new DOMException("blob doesn't give as many bytes as its size says", "NotReadableError");
 }
 
 async function* sealed(key, blob, size) {
-  const last = lastPart(size, CHUNK);
-  if (last >= 2 ** 32) throw new RangeError("blob has more than 2^48 bytes, which no sealed file may have");
+  if (size > 2 ** 48) throw new RangeError("blob has more than 2^48 bytes, which no sealed file may have");
   const salt = crypto.getRandomValues(new Uint8Array(19));
-  yield new Uint8Array([...MAGIC, ...salt]);
-  for (let i = 0; i <= last; i++) {
-    yield chunkCipher(key, salt, i, last).encrypt(await read(blob, CHUNK * i, Math.min(CHUNK * (i + 1), size)));
+  yield call("salt", [32], (header) => ["chacha20_file_header", salt, header]);
+  for (let i = 0; i === 0 || CHUNK * i < size; i++) {
+    const isLast = Number(CHUNK * (i + 1) >= size);
+    yield call("blob", [await read(blob, size, CHUNK * i, CHUNK), 16], ({ at, length }) =>
+      ["chacha20_file_seal_chunk_in_place", key, salt, i, isLast, [{ at, length: length + 16n }]]);
   }
 }
 
 // The text from `start` to `end`, where the last chunk is opened first, since it tells how long the text is; to
 // `Infinity`, of all chunks in their order. A key is wrong where chunk 0 is wrong too.
 async function* opened(key, blob, size, start, end) {
-  const header = await read(blob, 0, Math.min(32, size));
-  const begins = (length) => MAGIC.subarray(0, length).every((byte, i) => byte === header[i]);
-  if (!begins(12)) throw new Error("not a sealed file");
-  if (header.length < 32) throw new Error("the file ends in its header");
-  if (!begins(13)) throw new Error("sealed in another version of the format");
-  const last = lastPart(size - 32, SEALED);
+  const header = await read(blob, size, 0, 32);
+  const salt = call("blob", [19], (salt) => ["chacha20_file_salt", [header], salt], FILE);
+  const last = Math.max(Math.ceil((size - 32) / SEALED) - 1, 0);
   if (last >= 2 ** 32) throw new Error("longer than a sealed file can be");
-  const open = async (i) => {
-    const chunk = await read(blob, 32 + SEALED * i, Math.min(32 + SEALED * (i + 1), size));
-    return openChunk(key, header.subarray(13), i, last, chunk);
-  };
+  const open = async (i) => openChunk(key, salt, i, i === last, await read(blob, size, 32 + SEALED * i, SEALED));
   const orFirst = (error) => open(0).then(() => { throw error; });
   const kept = end === Infinity ? undefined : await open(last).catch(orFirst);
   if (kept) demandNumber("end", end, CHUNK * last + kept.length);
@@ -266,15 +326,19 @@ async function* opened(key, blob, size, start, end) {
   }
 }
 
-// The text of a chunk. Only that of an empty file has none.
-function openChunk(key, salt, number, last, chunk) {
+// What a file is that has no salt, by the status of the call.
+const FILE = Object.fromEntries([
+  [1, "not a sealed file"], [3, "sealed in another version of the format"], [4, "the file ends in its header"],
+].map(([status, words]) => [status, [Error, words]]));
+
+function openChunk(key, salt, number, isLast, chunk) {
   try {
-    if (number > 0 && chunk.length <= 16) throw new RangeError("no text");
-    return chunkCipher(key, salt, number, last).decrypt(chunk);
+    return call("chunk", [chunk], (chunk) =>
+      ["chacha20_file_open_chunk_in_place", key, salt, number, Number(isLast), [chunk]]).subarray(0, -16);
   } catch (cause) {
     const [from, to] = [CHUNK * number, CHUNK * (number + 1) - 1];
     const rest = number === 0 ? "the text" : `the text from byte ${from} on`;
-    const what = number === last ? `${rest} is damaged or cut` : `bytes ${from} to ${to} of the text are damaged`;
+    const what = isLast ? `${rest} is damaged or cut` : `bytes ${from} to ${to} of the text are damaged`;
     throw new Error(number === 0 ? `the key is wrong, or ${what}` : what, { cause });
   }
 }
@@ -282,9 +346,10 @@ function openChunk(key, salt, number, last, chunk) {
 // The line of a key file of `seal`, whose base64 has one form of 32 bytes.
 const LINE = /^seal-key-v1:([A-Za-z0-9+/]{42}[AEIMQUYcgkosw048]=)(?:\r?\n)?$/;
 export function readKey(file) {
-  const isText = typeof file === "string";
-  if (!isText && lengthOf.call(demand("file", file)) === 32) return copyOf(file);
-  const line = LINE.exec(isText ? file : new TextDecoder("utf-8", { ignoreBOM: true }).decode(file));
+  const text = typeof file === "string" ? file : undefined;
+  const own = text ?? demand("file", file);
+  if (text === undefined && own.length === 32) return copyOf(own);
+  const line = LINE.exec(text ?? new TextDecoder("utf-8", { ignoreBOM: true }).decode(own));
   if (!line) throw new Error("not a key: neither seal-key-v1: and 44 characters of base64, nor 32 bytes");
   return Uint8Array.from(atob(line[1]), (it) => it.charCodeAt(0));
 }

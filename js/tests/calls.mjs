@@ -30,7 +30,7 @@ WebAssembly.Instance = class extends Instance {
 const load = (query = "") => import(`${pathToFileURL(join(PACKAGE, "chacha20.mjs"))}${query}`);
 const chacha = await load();
 const { chacha20poly1305, xchacha20poly1305, chacha20, xchacha20, ChaCha20Rng } = chacha;
-const { sealBlob, openBlob, readRange, readKey } = chacha;
+const { SecretStream, sealBlob, openBlob, readRange, readKey } = chacha;
 const memory = (it = proved.memory) => new Uint8Array(it.buffer);
 const fresh = memory().slice();
 
@@ -89,7 +89,11 @@ const EXPORTS = `__heap_base memory
   chacha20_legacy_check chacha20_legacy_keystream chacha20_legacy_xor_between chacha20_legacy_xor_in_place
   hchacha20 chacha20_onetime_poly1305 chacha20_verify
   chacha20_rng_fill chacha20_rng_from_seed chacha20_rng_get_block_pos chacha20_rng_get_stream chacha20_rng_get_word_pos
-  chacha20_rng_set_block_pos chacha20_rng_set_stream chacha20_rng_set_word_pos`;
+  chacha20_rng_set_block_pos chacha20_rng_set_stream chacha20_rng_set_word_pos chacha12_rng_fill chacha8_rng_fill
+  chacha20_secretstream_start chacha20_secretstream_push chacha20_secretstream_pull chacha20_secretstream_rekey
+  chacha20_file_header chacha20_file_salt chacha20_file_text_len
+  chacha20_file_seal_chunk_between chacha20_file_seal_chunk_in_place
+  chacha20_file_open_chunk_between chacha20_file_open_chunk_in_place`;
 
 const parts = {
   // The module imports nothing, and exports what it should. So do the types.
@@ -97,7 +101,7 @@ const parts = {
     is(WebAssembly.Module.imports(module).length, 0, "imports");
     const names = WebAssembly.Module.exports(module).map((it) => it.name);
     is(names.sort().join(), EXPORTS.split(/\s+/).sort().join(), "exports");
-    const types = readFileSync(join(PACKAGE, "chacha20.d.ts"), "utf8").matchAll(/^export (?:function|class) (\w+)/gm);
+    const types = readFileSync(join(PACKAGE, "chacha20.d.ts"), "utf8").matchAll(/^export (?:const|function|class) (\w+)/gm);
     is([...types].map((it) => it[1]).sort().join(), Object.keys(chacha).sort().join(), "types");
     // An engine without 64-bit memory, and files that aren't the module.
     WebAssembly.validate = () => false;
@@ -208,11 +212,11 @@ const parts = {
       // What an array says of its buffer, or of what it is, has no effect.
       const lying = (value, more) => Object.defineProperty(value, more, { value: KEY.buffer });
       for (const it of [shared(right ?? 20), disguised(right ?? 20), lying(shared(right ?? 20), "buffer")]) {
-        fails(() => call(it), TypeError, `${name} must not be in a SharedArrayBuffer`);
+        fails(() => call(it), TypeError, `${name} must not be detached or in a SharedArrayBuffer`);
       }
       fails(() => call(lying(inside(right ?? 20), "buffer")), TypeError, `${name} must not be in the module's memory`);
       fails(() => call(inside(right ?? 20)), TypeError, `${name} must not be in the module's memory`);
-      fails(() => call(detached(right ?? 20)), TypeError, `${name} must not be detached`);
+      fails(() => call(detached(right ?? 20)), TypeError, `${name} must not be detached or in a SharedArrayBuffer`);
       for (const it of right === undefined ? [] : lengths.filter((it) => it !== right)) {
         fails(() => call(new Uint8Array(it)), RangeError, `${name} must have ${right} bytes`);
       }
@@ -276,6 +280,22 @@ const parts = {
     const other = ChaCha20Rng.fromState(mine);
     mine.fill(0);
     same(other.state, rng.state, "own state");
+    const stream = SecretStream.initPush(KEY);
+    bytes("key", SecretStream.initPush, 32);
+    bytes("key", (it) => SecretStream.initPull(stream.header, it), 32);
+    bytes("header", (it) => SecretStream.initPull(it, KEY), 24);
+    bytes("text", (it) => stream.push(it));
+    bytes("aad", (it) => stream.push(AAD, 0, it), undefined, true);
+    number("tag", (it) => stream.push(AAD, it), 255);
+    const pulling = SecretStream.initPull(stream.header, KEY);
+    bytes("message", (it) => pulling.pull(it));
+    bytes("aad", (it) => pulling.pull(part(0, 17), it), undefined, true);
+    for (let i = 0; i < 17; i++) fails(() => pulling.pull(part(0, i)), RangeError, "message must have");
+    for (const make of [SecretStream.encryptor, SecretStream.decryptor]) {
+      bytes("key", (it) => make(it), 32);
+      for (const it of [0, 2 ** 32 + 1]) fails(() => make(KEY, it), RangeError, "size must be from 1 to 4294967296");
+      for (const it of ["1", 0.5, null]) fails(() => make(KEY, it), TypeError, "size must be a whole number");
+    }
     const blob = new Blob([AAD]);
     for (const [call, ...range] of [[sealBlob], [openBlob], [readRange, 0, 1]]) {
       bytes("key", (it) => call(it, blob, ...range), 32);
@@ -294,7 +314,7 @@ const parts = {
     for (const length of [0, 1, 63, 64, 65, 500, 512, 1500, 66000]) {
       const [text, cipher] = [part(0, length), chacha20poly1305(KEY, NONCE, AAD)];
       const extended = xchacha20poly1305(KEY, XNONCE, AAD);
-      let sealed;
+      let sealed, stream;
       const calls = {
         encrypt: () => (sealed = cipher.encrypt(text)),
         decrypt: () => cipher.decrypt(sealed),
@@ -306,6 +326,9 @@ const parts = {
         "past the end": () => assert.throws(() => chacha20(KEY, NONCE, part(0, length + 1), 2 ** 38), /^RangeError/),
         fill: () => new ChaCha20Rng(KEY).fill(new Uint8Array(length)),
         wordPosition: () => (new ChaCha20Rng(KEY).wordPosition += BigInt(length)),
+        push: () => (sealed = (stream = SecretStream.initPush(KEY)).push(text, 2, AAD)),
+        pull: () => SecretStream.initPull(stream.header, KEY).pull(sealed, AAD),
+        rekey: () => stream.rekey(),
       };
       for (const [name, act] of Object.entries(calls)) {
         const unused = memory().subarray(0, 65536 - 4096).fill(0xa5);
@@ -406,6 +429,18 @@ const parts = {
     is(rng.wordPosition, 1n, "after the last word");
     rng.state.fill(0);
     same(rng.state, stateOf(KEY, 0n, 1n), "a copy of the state");
+    // Fewer rounds: the keystreams of TC1 of draft-strombergson-chacha-test-vectors.
+    for (const [Rng, wanted] of [
+      [chacha.ChaCha8Rng, "3e00ef2f895f40d67f5bb8e81f09a5a12c840ec3ce9a7f3b181be188ef711a1e"],
+      [chacha.ChaCha12Rng, "9bf49a6a0755f953811fce125f2683d50429c3bb49e074147e0089a52eae155f"],
+      [ChaCha20Rng, "76b8e0ada0f13d90405d6ae55386bd28bdd219b8a08ded1aa836efcc8b770dc7"],
+    ]) {
+      const rng = new Rng(new Uint8Array(32));
+      same(rng.fill(new Uint8Array(32)), Buffer.from(wanted, "hex"), Rng.name);
+      const other = Rng.fromState(rng.state);
+      same(other.fill(new Uint8Array(100)), rng.fill(new Uint8Array(100)), "from a state");
+      is(other.constructor, Rng, "its class");
+    }
   },
 
   // Files by the Python of seal's page are opened, whole and in parts, and files for it are made.
@@ -494,6 +529,70 @@ const parts = {
       }
     }
     clean("after files");
+  },
+
+  // Streams by libsodium are pulled, and streams for it are made.
+  async streams() {
+    const bytes = read("messages.stream");
+    const pulling = SecretStream.initPull(bytes.slice(0, 24), KEY);
+    let at = 24;
+    for (let i = 0; i < 60; i++) {
+      const [text, aad] = [part(i, (i * i) % 3000), part(i, i % 67)];
+      const message = bytes.slice(at, (at += text.length + 17));
+      const changed = message.slice();
+      changed[mixed(i) % message.length] ^= 1;
+      fails(() => pulling.pull(changed, aad), Error, "wrong tag");
+      fails(() => pulling.pull(message, part(9, aad.length + 1)), Error, "wrong tag");
+      const pulled = pulling.pull(message, aad);
+      same(pulled.text, text, `message ${i}`);
+      is(pulled.tag, i % 3, `tag ${i}`);
+      if (i === 30) pulling.rekey();
+    }
+    is(at, bytes.length, "messages");
+    // Headers are random, and hold nothing of the key.
+    const headers = [...Array(64)].map(() => SecretStream.initPush(KEY).header);
+    for (let at = 0; at < 24; at++) is(new Set(headers.map((it) => it[at])).size > 30, true, `byte ${at} of headers`);
+    const sending = SecretStream.initPush(KEY);
+    const receiving = SecretStream.initPull(sending.header, KEY);
+    sending.header.fill(0);
+    const { MESSAGE, PUSH, REKEY, FINAL } = SecretStream;
+    is([MESSAGE, PUSH, REKEY, FINAL].join(), "0,1,2,3", "tags");
+    for (const [tag, aad] of [[undefined, undefined], [PUSH, AAD], [REKEY], [255], [FINAL, AAD]]) {
+      const { text, tag: found } = receiving.pull(sending.push(AAD, tag, aad), aad);
+      same(text, AAD, "text");
+      is(found, tag ?? MESSAGE, "tag");
+    }
+    // As transforms, of bytes in pieces of any lengths.
+    const through = (transform, bytes, size) => {
+      let at = 0;
+      const pull = (it) => (at < bytes.length ? it.enqueue(bytes.slice(at, (at += size))) : it.close());
+      return new ReadableStream({ pull }).pipeThrough(transform);
+    };
+    for (const length of [0, 1, 4095, 4096, 4097, 20000]) {
+      const text = part(7, length);
+      for (const size of [1, 100, 4096, 4113, 30000]) {
+        const pushed = await all(through(SecretStream.encryptor(KEY, 4096), text, size));
+        if (size === 100) writeFileSync(join(ROOM, `${length}.pushed`), pushed);
+        is(pushed.length, 24 + length + 17 * Math.max(Math.ceil(length / 4096), 1), "its length");
+        same(await all(through(SecretStream.decryptor(KEY, 4096), pushed, size)), text, `${length} by ${size}`);
+      }
+    }
+    same(await all(through(SecretStream.decryptor(KEY), await all(through(SecretStream.encryptor(KEY), POOL, 5000)), 7000)),
+      POOL, "of 65536 bytes");
+    const [stream, text] = [read("4096.stream"), read("200000.text")];
+    same(await all(through(SecretStream.decryptor(KEY, 4096), stream, 1000)), text, "of libsodium");
+    for (const [bytes, words] of [
+      [stream.slice(0, 23), "the stream is cut"], [stream.slice(0, 24), "the stream is cut"],
+      [stream.slice(0, 24 + 16), "the stream is cut"], [stream.slice(0, 24 + 17), "wrong tag"],
+      [stream.slice(0, 24 + 4113), "the stream is cut"], [stream.slice(0, 24 + 2 * 4113), "the stream is cut"],
+      [stream.slice(0, 24 + 4113 + 5), "the stream is cut"], [stream.slice(0, -1), "wrong tag"],
+      [new Uint8Array([...stream, 0]), "wrong tag"], [part(0, 0), "the stream is cut"],
+    ]) await failsLater(through(SecretStream.decryptor(KEY, 4096), bytes, 1000), Error, words);
+    const ended = SecretStream.initPush(KEY);
+    const more = Buffer.concat([ended.header, ended.push(part(0, 5), FINAL), ended.push(part(0, 5), FINAL)]);
+    const goesOn = "the stream goes on after its end";
+    await failsLater(through(SecretStream.decryptor(KEY, 5), more, 100), Error, goesOn);
+    clean("after streams");
   },
 
   // The keys of key files, which Node's base64 makes. What `seal` refuses is refused.
@@ -638,8 +737,8 @@ const parts = {
   },
 };
 
-const wanted = { module: 9, openssl: 8826, libsodium: 6619, forgeries: 12400, arguments: 704, memory: 216 };
-Object.assign(wanted, { generator: 843, files: 468, keys: 4123, damage: 160, cuts: 5653 });
+const wanted = { module: 9, openssl: 8826, libsodium: 6619, forgeries: 12400, arguments: 961, memory: 270 };
+Object.assign(wanted, { generator: 852, files: 468, streams: 350, keys: 4123, damage: 160, cuts: 5653 });
 assert.deepEqual(Object.keys(wanted), Object.keys(parts));
 let sum = 0;
 for (const [name, run] of Object.entries(parts)) {
