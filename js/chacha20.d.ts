@@ -121,3 +121,6 @@ export function readRange(key: Uint8Array, blob: Blob, start: number, end: numbe
 
 /** The key of a key file of `seal`: of the line `seal-key-v1:` and base64, as text or bytes, or 32 bytes themselves. */
 export function readKey(file: string | Uint8Array): Uint8Array;
+
+// Nothing else is exported.
+export {};

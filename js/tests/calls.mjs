@@ -101,8 +101,20 @@ const parts = {
     is(WebAssembly.Module.imports(module).length, 0, "imports");
     const names = WebAssembly.Module.exports(module).map((it) => it.name);
     is(names.sort().join(), EXPORTS.split(/\s+/).sort().join(), "exports");
-    const types = readFileSync(join(PACKAGE, "chacha20.d.ts"), "utf8").matchAll(/^export (?:const|function|class) (\w+)/gm);
-    is([...types].map((it) => it[1]).sort().join(), Object.keys(chacha).sort().join(), "types");
+    const types = readFileSync(join(PACKAGE, "chacha20.d.ts"), "utf8");
+    const declared = types.matchAll(/^export (?:const|function|class) (\w+)/gm);
+    is([...declared].map((it) => it[1]).sort().join(), Object.keys(chacha).sort().join(), "types");
+    // What tsc can't compare: the names of arguments.
+    const { fill } = ChaCha20Rng.prototype;
+    const { initPush, initPull, encryptor, decryptor } = SecretStream;
+    const named = { chacha20poly1305, xchacha20poly1305, chacha20, xchacha20, sealBlob, openBlob, readRange, readKey, fill };
+    Object.assign(named, { initPush, initPull, encryptor, decryptor, ...initPush(KEY), ...initPull(XNONCE, KEY) });
+    Object.assign(named, chacha20poly1305(KEY, NONCE));
+    for (const [name, act] of Object.entries(named).filter(([name]) => name !== "header")) {
+      const ours = act.toString().match(/\(([^)]*)\)/)[1].replace(", ...more", "").replace(/ = \w+/g, "");
+      const theirs = types.match(new RegExp(`\\b${name}(?:<[^>]*>)?\\(([^)]*)\\)[:;]`))[1];
+      is([...theirs.matchAll(/(\w+)\??:/g)].map((it) => it[1]).join(", "), ours, `the arguments of ${name}`);
+    }
     // An engine without 64-bit memory, and files that aren't the module.
     WebAssembly.validate = () => false;
     await assert.rejects(load("?old"), /^Error: chacha20.wasm needs 64-bit memory: .* Node 20 to 23 with --exp/);
@@ -737,7 +749,7 @@ const parts = {
   },
 };
 
-const wanted = { module: 9, openssl: 8826, libsodium: 6619, forgeries: 12400, arguments: 961, memory: 270 };
+const wanted = { module: 27, openssl: 8826, libsodium: 6619, forgeries: 12400, arguments: 961, memory: 270 };
 Object.assign(wanted, { generator: 852, files: 468, streams: 350, keys: 4123, damage: 160, cuts: 5653 });
 assert.deepEqual(Object.keys(wanted), Object.keys(parts));
 let sum = 0;
