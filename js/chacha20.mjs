@@ -1,140 +1,28 @@
 // SPDX-License-Identifier: Apache-2.0 OR MIT
 //
-// Authenticated encryption, ciphers, streams, sealed files and seeded generators, by the proved functions of
-// chacha20.wasm. This file is trusted: it is tested, not proved. It checks arguments, copies them into the module's
-// memory, calls, copies the result out, and zeroes what the call left there. chacha20.d.ts documents the exports.
+// Authenticated encryption, ciphers, generators, streams and sealed files, by the proved functions of chacha20.wasm.
+// This file is trusted: it is tested, not proved. chacha20.d.ts documents its exports.
 
-const module = await load(new URL("chacha20.wasm", import.meta.url));
-// The exports of its instance, and its memory. There are none during a call, nor after one in which the engine threw, as
-// where its stack ends: such an instance refuses each later call.
-let wasm, bytes;
-makeInstance();
-
-async function load(url) {
-  const least = new Uint8Array([0, 97, 115, 109, 1, 0, 0, 0, 5, 3, 1, 4, 1]); // Nothing but a 64-bit memory.
-  const engines = "Chrome 133, Firefox 134, Node 24, or Node 20 to 23 with --experimental-wasm-memory64";
-  if (!WebAssembly.validate(least)) throw new Error(`chacha20.wasm needs 64-bit memory: ${engines}`);
-  const readFile = async () => (await import("node:fs/promises")).readFile(url); // Node's fetch reads no files.
-  const response = url.protocol === "file:" ? { ok: true, arrayBuffer: readFile } : await fetch(url);
-  if (!response.ok) throw new Error(`${url}: ${response.status} ${response.statusText}`);
-  const file = await response.arrayBuffer();
-  if (!WebAssembly.validate(file)) throw new Error(`${url} isn't the module, or not all of it`);
-  return WebAssembly.compile(file);
-}
-
-function makeInstance() {
-  bytes?.fill(0);
-  const { exports } = new WebAssembly.Instance(module);
-  [wasm, bytes] = [exports, new Uint8Array(exports.memory.buffer)];
-}
-
-// The memory: a stack that grows down from STACK, of which no call takes more than DEPTH; constants; and from START on
-// the arguments and the result of a call.
-const [STACK, DEPTH] = [65536, 4096];
-const START = Math.ceil(Number(wasm.__heap_base.value) / 64) * 64;
-
-// The language's own getters, which an object can't replace.
-const ARRAY = Object.getOwnPropertyDescriptors(Object.getPrototypeOf(Uint8Array.prototype));
-const [kindOf, bufferOf, offsetOf, lengthOf] =
-  [Symbol.toStringTag, "buffer", "byteOffset", "length"].map((name) => ARRAY[name].get);
-const bufferLengthOf = Object.getOwnPropertyDescriptor(ArrayBuffer.prototype, "byteLength").get;
-const copyOf = (array) => new Uint8Array(array);
-const NONE = new Uint8Array();
-
-// Demands a Uint8Array, also of another window, of `length` bytes if that is given, which no thread or call changes.
-// Returns one of this window over the same bytes.
-function demand(name, value, length) {
-  if (kindOf.call(value) !== "Uint8Array") throw new TypeError(`${name} must be a Uint8Array`);
-  const buffer = bufferOf.call(value);
-  if (buffer === bytes.buffer) throw new TypeError(`${name} must not be in the module's memory`);
-  let own;
-  try {
-    bufferLengthOf.call(buffer); // Which an ArrayBuffer alone has.
-    own = new Uint8Array(buffer, offsetOf.call(value), lengthOf.call(value));
-  } catch (cause) {
-    throw new TypeError(`${name} must not be detached or in a SharedArrayBuffer`, { cause });
-  }
-  if (length >= 0 && own.length !== length) throw new RangeError(`${name} must have ${length} bytes`);
-  return own;
-}
-
-function demandNumber(name, value, most, least = 0) {
-  if (!Number.isInteger(value)) throw new TypeError(`${name} must be a whole number`);
-  if (value < least || value > most) throw new RangeError(`${name} must be from ${least} to ${most}`);
-}
-
-// Calls the export that `argumentsOf` names, with its arguments: a number as it is, an array by its place, [array] by its
-// place and length. What is written lies in front: arrays, or room for so many bytes, whose places `argumentsOf` is
-// given, and which is returned, in one array, as the call left it. `name` tells which argument may be long.
-function call(name, written, argumentsOf, refusals) {
-  if (!wasm) makeInstance();
-  const parts = [];
-  let end = START;
-  const place = (part) => {
-    parts.push({ part, at: end });
-    end += part.length ?? part;
-    return { at: BigInt(parts.at(-1).at), length: BigInt(part.length ?? part) };
-  };
-  const places = written.map(place);
-  const writtenEnd = end;
-  const [run, ...values] = argumentsOf(...places).flatMap((it) => {
-    const [value, isSlice] = Array.isArray(it) ? [it[0], true] : [it, false];
-    if (typeof value !== "object") return value;
-    const { at, length } = value.at instanceof Function ? place(value) : value;
-    return isSlice ? [at, length] : at;
-  });
-  if (end > bytes.length) grow(name, end);
-  const exports = wasm;
-  wasm = undefined;
-  try {
-    for (const { part, at } of parts) if (typeof part === "object") bytes.set(part, at);
-    const status = exports[run](...values);
-    const left = status ? undefined : bytes.slice(START, writtenEnd);
-    wasm = exports;
-    if (!status) return left;
-    const [kind, words] = { 1: [RangeError, `${name} is too long`], 2: [Error, "wrong tag"], ...refusals }[status];
-    throw new kind(words);
-  } finally {
-    bytes.fill(0, START, end);
-    bytes.fill(0, STACK - DEPTH, STACK);
-  }
-}
-
-// Makes the memory so long. It never shrinks.
-function grow(name, length) {
-  try {
-    // A string, which becomes the BigInt that engines want, or the Number that they wanted before WebAssembly 3.0.
-    wasm.memory.grow(String(Math.ceil((length - bytes.length) / 65536)));
-  } catch (cause) {
-    throw new RangeError(`${name} is too long: the module's memory can't have ${length} bytes`, { cause });
-  }
-  bytes = new Uint8Array(wasm.memory.buffer);
-}
-
-// A call that also moves a state, which it keeps.
-function step(name, state, written, argumentsOf) {
-  const left = call(name, [state, ...written], argumentsOf);
-  state.set(left.subarray(0, state.length));
-  return left.slice(state.length);
-}
+import { call, copyOf, demand, demandNumber, NONE, step } from "./module.mjs";
 
 const aead = (name, nonceLength) => (key, nonce, aad = NONE) => {
   // Copied, since a caller may change them before the call.
-  const [k, n, a] = [demand("key", key, 32), demand("nonce", nonce, nonceLength), demand("aad", aad)].map(copyOf);
+  const own = [demand("key", key, 32), demand("nonce", nonce, nonceLength), demand("aad", aad)].map(copyOf);
+  own.push([own.pop()]);
   let isUsed = false;
   return {
     encrypt(text) {
-      const own = demand("text", text);
+      const input = demand("text", text);
       if (isUsed) throw new Error("the nonce was used: make a cipher with another one");
-      const sealed = call("text", [own, 16], (text, tag) => [`${name}_encrypt_in_place`, k, n, [a], [text], tag]);
+      const sealed = call("text", [input, 16], (text, tag) => [`${name}_encrypt_in_place`, ...own, [text], tag]);
       isUsed = true;
       return sealed;
     },
     decrypt(sealed) {
-      const own = demand("sealed", sealed);
-      if (own.length < 16) throw new RangeError("sealed must have at least 16 bytes, those of the tag");
-      const [front, tag] = [own.subarray(0, -16), own.subarray(-16)];
-      return call("sealed", [front], (text) => [`${name}_decrypt_in_place`, k, n, [a], [text], tag]);
+      const input = demand("sealed", sealed);
+      if (input.length < 16) throw new RangeError("sealed must have at least 16 bytes, those of the tag");
+      const [front, tag] = [input.subarray(0, -16), input.subarray(-16)];
+      return call("sealed", [front], (text) => [`${name}_decrypt_in_place`, ...own, [text], tag]);
     },
   };
 };
@@ -142,16 +30,14 @@ const aead = (name, nonceLength) => (key, nonce, aad = NONE) => {
 const cipher = (name, nonceLength) => (key, nonce, data, position = 0, ...more) => {
   if (more.length > 0) throw new TypeError("noble's output and counter aren't taken: pass position, 64 * counter");
   const own = [demand("key", key, 32), demand("nonce", nonce, nonceLength)];
-  demandNumber("position", position, 2 ** 38);
+  demandNumber("position", position, 0, 2 ** 38);
   const passes = [RangeError, "position: the data would pass the end of the keystream, byte 2^38"];
   const argumentsOf = (text) => [`${name}_xor_in_place`, ...own, BigInt(position), [text]];
   return call("data", [demand("data", data)], argumentsOf, { 1: passes });
 };
 
-export const chacha20poly1305 = aead("chacha20_aead", 12);
-export const xchacha20poly1305 = aead("xchacha20_aead", 24);
-export const chacha20 = cipher("chacha20", 12);
-export const xchacha20 = cipher("xchacha20", 24);
+export const [chacha20poly1305, xchacha20poly1305] = [aead("chacha20_aead", 12), aead("xchacha20_aead", 24)];
+export const [chacha20, xchacha20] = [cipher("chacha20", 12), cipher("xchacha20", 24)];
 
 class Rng {
   #fill;
@@ -196,11 +82,13 @@ export class ChaCha12Rng extends Rng { constructor(seed) { super("chacha12_rng_f
 export class ChaCha8Rng extends Rng { constructor(seed) { super("chacha8_rng_fill", seed); } }
 
 // Streams: a header of 24 bytes, and messages, each 17 bytes longer than its text.
+const FINAL = 3;
+export const SecretStream = { MESSAGE: 0, PUSH: 1, REKEY: 2, FINAL, initPush, initPull, encryptor, decryptor };
+
 function startStream(header, key) {
   const own = [demand("key", key, 32), demand("header", header, 24)];
   const state = call("key", [44], (state) => ["chacha20_secretstream_start", ...own, state]);
-  const rekey = () => void step("state", state, [], (state) => ["chacha20_secretstream_rekey", state]);
-  return { state, rekey };
+  return { state, rekey: () => void step("state", state, [], (state) => ["chacha20_secretstream_rekey", state]) };
 }
 
 function initPush(key) {
@@ -208,7 +96,7 @@ function initPush(key) {
   const { state, rekey } = startStream(header, key);
   const push = (text, tag = 0, aad = NONE) => {
     const [input, more] = [demand("text", text), demand("aad", aad)];
-    demandNumber("tag", tag, 255);
+    demandNumber("tag", tag, 0, 255);
     return step("text", state, [input.length + 17], (state, message) =>
       ["chacha20_secretstream_push", state, [more], [message], [input], tag]);
   };
@@ -227,7 +115,7 @@ function initPull(header, key) {
   return { pull, rekey };
 }
 
-// Hands on what `take` makes of the first bytes, then of each `size` bytes, and of the rest, the last.
+// Hands on what `take` makes of the first `first` bytes, then of each `size` bytes, and of the rest, which is the last.
 function inPieces(first, size, take, start) {
   let [rest, next] = [NONE, first];
   const transform = (chunk, controller) => {
@@ -245,13 +133,13 @@ function inPieces(first, size, take, start) {
 }
 
 function encryptor(key, size = CHUNK) {
-  demandNumber("size", size, 2 ** 32, 1);
+  demandNumber("size", size, 1, 2 ** 32);
   const { header, push } = initPush(key);
-  return inPieces(size, size, (text, isLast) => push(text, isLast ? 3 : 0), (it) => it.enqueue(header));
+  return inPieces(size, size, (text, isLast) => push(text, isLast ? FINAL : 0), (it) => it.enqueue(header));
 }
 
 function decryptor(key, size = CHUNK) {
-  demandNumber("size", size, 2 ** 32, 1);
+  demandNumber("size", size, 1, 2 ** 32);
   const own = copyOf(demand("key", key, 32));
   let stream;
   return inPieces(24, size + 17, (piece, isLast) => {
@@ -261,12 +149,10 @@ function decryptor(key, size = CHUNK) {
       return NONE;
     }
     const { text, tag } = stream.pull(piece);
-    if (isLast !== (tag === 3)) throw new Error(isLast ? "the stream is cut" : "the stream goes on after its end");
+    if (isLast !== (tag === FINAL)) throw new Error(isLast ? "the stream is cut" : "the stream goes on after its end");
     return text;
   });
 }
-
-export const SecretStream = { MESSAGE: 0, PUSH: 1, REKEY: 2, FINAL: 3, initPush, initPull, encryptor, decryptor };
 
 // Sealed files: a header of 32 bytes, and chunks of CHUNK bytes of text, each with its tag.
 const [CHUNK, SEALED] = [65536, 65552];
@@ -274,8 +160,8 @@ const [CHUNK, SEALED] = [65536, 65552];
 export const sealBlob = (key, blob) => streamOf(sealed, key, blob);
 export const openBlob = (key, blob) => streamOf(opened, key, blob, 0, Infinity);
 export const readRange = (key, blob, start, end) => {
-  demandNumber("end", end, 2 ** 48);
-  demandNumber("start", start, end);
+  demandNumber("end", end, 0, 2 ** 48);
+  demandNumber("start", start, 0, end);
   return streamOf(opened, key, blob, start, end);
 };
 
@@ -290,11 +176,11 @@ function streamOf(generator, key, blob, ...range) {
   return new ReadableStream({ pull }, { highWaterMark: 0 });
 }
 
-// All bytes from `start` to `end`, or to the Blob's end. The error is that of engines that notice a changed file
-// themselves.
+// So many bytes, or all that are left. The error is that of engines that notice a changed file themselves.
 async function read(blob, size, start, length) {
-  const bytes = new Uint8Array(await blob.slice(start, Math.min(start + length, size)).arrayBuffer());
-  if (bytes.length === Math.min(length, size - start)) return bytes;
+  const end = Math.min(start + length, size);
+  const bytes = new Uint8Array(await blob.slice(start, end).arrayBuffer());
+  if (bytes.length === end - start) return bytes;
   throw new DOMException("blob doesn't give as many bytes as its size says", "NotReadableError");
 }
 
@@ -304,32 +190,31 @@ async function* sealed(key, blob, size) {
   yield call("salt", [32], (header) => ["chacha20_file_header", salt, header]);
   for (let i = 0; i === 0 || CHUNK * i < size; i++) {
     const isLast = Number(CHUNK * (i + 1) >= size);
-    yield call("blob", [await read(blob, size, CHUNK * i, CHUNK), 16], ({ at, length }) =>
-      ["chacha20_file_seal_chunk_in_place", key, salt, i, isLast, [{ at, length: length + 16n }]]);
+    yield call("blob", [await read(blob, size, CHUNK * i, CHUNK), 16], ({ place, length }) =>
+      ["chacha20_file_seal_chunk_in_place", key, salt, i, isLast, [{ place, length: length + 16n }]]);
   }
 }
 
 // The text from `start` to `end`, where the last chunk is opened first, since it tells how long the text is; to
 // `Infinity`, of all chunks in their order. A key is wrong where chunk 0 is wrong too.
 async function* opened(key, blob, size, start, end) {
-  const header = await read(blob, size, 0, 32);
-  const salt = call("blob", [19], (salt) => ["chacha20_file_salt", [header], salt], FILE);
+  const front = await read(blob, size, 0, 32);
+  const salt = call("blob", [19], (salt) => ["chacha20_file_salt", [front], salt], {
+    1: [Error, "not a sealed file"],
+    3: [Error, "sealed in another version of the format"],
+    4: [Error, "the file ends in its header"],
+  });
   const last = Math.max(Math.ceil((size - 32) / SEALED) - 1, 0);
   if (last >= 2 ** 32) throw new Error("longer than a sealed file can be");
   const open = async (i) => openChunk(key, salt, i, i === last, await read(blob, size, 32 + SEALED * i, SEALED));
   const orFirst = (error) => open(0).then(() => { throw error; });
   const kept = end === Infinity ? undefined : await open(last).catch(orFirst);
-  if (kept) demandNumber("end", end, CHUNK * last + kept.length);
+  if (kept) demandNumber("end", end, 0, CHUNK * last + kept.length);
   for (let i = Math.floor(start / CHUNK); i <= last && Math.max(CHUNK * i, start) < end; i++) {
     const text = i === last && kept ? kept : await open(i);
     yield text.subarray(Math.max(start - CHUNK * i, 0), end - CHUNK * i);
   }
 }
-
-// What a file is that has no salt, by the status of the call.
-const FILE = Object.fromEntries([
-  [1, "not a sealed file"], [3, "sealed in another version of the format"], [4, "the file ends in its header"],
-].map(([status, words]) => [status, [Error, words]]));
 
 function openChunk(key, salt, number, isLast, chunk) {
   try {
@@ -346,10 +231,9 @@ function openChunk(key, salt, number, isLast, chunk) {
 // The line of a key file of `seal`, whose base64 has one form of 32 bytes.
 const LINE = /^seal-key-v1:([A-Za-z0-9+/]{42}[AEIMQUYcgkosw048]=)(?:\r?\n)?$/;
 export function readKey(file) {
-  const text = typeof file === "string" ? file : undefined;
-  const own = text ?? demand("file", file);
-  if (text === undefined && own.length === 32) return copyOf(own);
-  const line = LINE.exec(text ?? new TextDecoder("utf-8", { ignoreBOM: true }).decode(own));
+  const own = typeof file === "string" ? undefined : demand("file", file);
+  if (own?.length === 32) return copyOf(own);
+  const line = LINE.exec(own ? new TextDecoder("utf-8", { ignoreBOM: true }).decode(own) : file);
   if (!line) throw new Error("not a key: neither seal-key-v1: and 44 characters of base64, nor 32 bytes");
   return Uint8Array.from(atob(line[1]), (it) => it.charCodeAt(0));
 }

@@ -27,8 +27,8 @@ WebAssembly.Instance = class extends Instance {
     memories.push(proved.memory);
   }
 };
-const load = (query = "") => import(`${pathToFileURL(join(PACKAGE, "chacha20.mjs"))}${query}`);
-const chacha = await load();
+const load = (name) => import(`${pathToFileURL(PACKAGE)}/${name}`);
+const chacha = await load("chacha20.mjs");
 const { chacha20poly1305, xchacha20poly1305, chacha20, xchacha20, ChaCha20Rng } = chacha;
 const { SecretStream, sealBlob, openBlob, readRange, readKey } = chacha;
 const memory = (it = proved.memory) => new Uint8Array(it.buffer);
@@ -117,7 +117,7 @@ const parts = {
     }
     // An engine without 64-bit memory, and files that aren't the module.
     WebAssembly.validate = () => false;
-    await assert.rejects(load("?old"), /^Error: chacha20.wasm needs 64-bit memory: .* Node 20 to 23 with --exp/);
+    await assert.rejects(load("module.mjs?old"), /^Error: chacha20.wasm needs 64-bit memory: .* Node 18 to 23 with --exp/);
     WebAssembly.validate = validate;
     count++;
     const wasm = readFileSync(join(PACKAGE, "chacha20.wasm"));
@@ -126,7 +126,7 @@ const parts = {
       const folder = join(ROOM, `damaged${i}`);
       mkdirSync(folder);
       writeFileSync(join(folder, "chacha20.wasm"), file);
-      copyFileSync(join(PACKAGE, "chacha20.mjs"), join(folder, "chacha20.mjs"));
+      for (const it of ["chacha20.mjs", "module.mjs"]) copyFileSync(join(PACKAGE, it), join(folder, it));
       const words = /^Error: file:.*chacha20.wasm isn't the module, or not all of it$/;
       await assert.rejects(import(pathToFileURL(join(folder, "chacha20.mjs"))), words);
       count++;
