@@ -68,6 +68,14 @@ def at(name):
     return driver.find_element("id", name)
 
 
+def click(name):
+    at(name).click()
+
+
+def key_now():
+    return at("key").get_attribute("value")
+
+
 def shows(*names):
     return [at(it).is_displayed() for it in names]
 
@@ -124,14 +132,6 @@ def asks(act, is_accepted=False):
     text = alert.text
     alert.accept() if is_accepted else alert.dismiss()
     return text
-
-
-def click(name):
-    at(name).click()
-
-
-def key_now():
-    return at("key").get_attribute("value")
 
 
 def state():
@@ -364,31 +364,21 @@ driver.get(f"{URL}/seal.html")
 same(said("This"), f"This page can't work here: {URL}/chacha20.wasm: 404 File not found.", "without a module")
 (SITE / "away").rename(SITE / "chacha20.wasm")
 
-# The messages of libsodium, in this engine.
+# A stream by libsodium, through `fetch`, and one that is cut.
 driver.get(f"{URL}/blank.html")
-messages = later("""const done = arguments[0];
-    (async () => {
-      const { xchacha20poly1305 } = await import("/chacha20.mjs");
-      const read = async (name) => new Uint8Array(await (await fetch("/room/" + name)).arrayBuffer());
-      const [pool, messages] = [await read("pool"), await read("messages")];
-      const part = (start, length) => pool.slice(start, start + length);
-      const isSame = (one, other) => one.length === other.length && one.every((it, i) => it === other[i]);
-      let at = 0, right = 0;
-      const lengths = [...Array(2200).keys(), 4096, 65535, 65536, 65537, 200000, 1 << 20];
-      for (const [i, length] of lengths.entries()) {
-        const sealed = messages.slice(at, (at += length + 16));
-        const cipher = xchacha20poly1305(part(i, 32), part(i + 32, 24), part(i + 56, i % 67));
-        right += isSame(cipher.encrypt(part(i, length)), sealed);
-        right += isSame(cipher.decrypt(sealed), part(i, length));
-        try {
-          cipher.decrypt(sealed.map((it, i) => it ^ (i === 0)));
-        } catch (error) {
-          right += error.message === "wrong tag";
-        }
-      }
-      return right;
-    })().then(done, (error) => done(error.stack))""")
-same(messages, 3 * 2206, "messages of libsodium")
-if count < 100:
-    sys.exit("page: fewer than 100 comparisons")
+(ROOM / "cut.stream").write_bytes((ROOM / "4096.stream").read_bytes()[: 24 + 4 * 4113])
+for name, wanted in ("4096", [(ROOM / "200000.text").read_bytes().hex(), ""]), ("cut", ["", "the stream is cut"]):
+    found = later("""const [url, done] = arguments;
+        const parts = [];
+        (async () => {
+          const { SecretStream } = await import("/chacha20.mjs");
+          const [key, stream] = await Promise.all(["/room/key", url].map((it) => fetch(it)));
+          const opened = SecretStream.decryptor(new Uint8Array(await key.arrayBuffer()), 4096);
+          for await (const part of stream.body.pipeThrough(opened)) parts.push(part);
+          const bytes = new Uint8Array(await new Blob(parts).arrayBuffer());
+          return [Array.from(bytes, (it) => it.toString(16).padStart(2, "0")).join(""), ""];
+        })().then(done, (error) => done(["", error.message]))""", f"/room/{name}.stream")
+    same(found, wanted, f"the stream {name}")
+if count < 105:
+    sys.exit("page: fewer than 105 comparisons")
 print(f"page: {count} comparisons, 0 wrong")
