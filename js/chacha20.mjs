@@ -5,39 +5,43 @@
 
 import { call, copyOf, demand, demandNumber, NONE, step } from "./module.mjs";
 
-const aead = (name, nonceLength) => (key, nonce, aad = NONE) => {
+const aead = (encrypt, decrypt, nonceLength) => (key, nonce, aad = NONE) => {
   // Copied, since a caller may change them before the call.
   const own = [demand("key", key, 32), demand("nonce", nonce, nonceLength), demand("aad", aad)].map(copyOf);
-  own.push([own.pop()]);
+  const aadLength = BigInt(own[2].length);
   let isUsed = false;
   return {
     encrypt(text) {
       const input = demand("text", text);
       if (isUsed) throw new Error("the nonce was used: make a cipher with another one");
-      const sealed = call("text", [input, 16], (text, tag) => [`${name}_encrypt_in_place`, ...own, [text], tag]);
+      const sealed = call("text", [input, 16, ...own], input.length + 16, (wasm, text, tag, key, nonce, aad) =>
+        wasm[encrypt](key, nonce, aad, aadLength, text, BigInt(input.length), tag));
       isUsed = true;
       return sealed;
     },
     decrypt(sealed) {
       const input = demand("sealed", sealed);
       if (input.length < 16) throw new RangeError("sealed must have at least 16 bytes, those of the tag");
-      const [front, tag] = [input.subarray(0, -16), input.subarray(-16)];
-      return call("sealed", [front], (text) => [`${name}_decrypt_in_place`, ...own, [text], tag]);
+      const length = input.length - 16;
+      return call("sealed", [input, ...own], length, (wasm, text, key, nonce, aad) =>
+        wasm[decrypt](key, nonce, aad, aadLength, text, BigInt(length), text + BigInt(length)));
     },
   };
 };
 
-const cipher = (name, nonceLength) => (key, nonce, data, position = 0, ...more) => {
+const cipher = (xor, nonceLength) => (key, nonce, data, position = 0, ...more) => {
   if (more.length > 0) throw new TypeError("noble's output and counter aren't taken: pass position, 64 * counter");
   const own = [demand("key", key, 32), demand("nonce", nonce, nonceLength)];
   demandNumber("position", position, 0, 2 ** 38);
-  const passes = [RangeError, "position: the data would pass the end of the keystream, byte 2^38"];
-  const argumentsOf = (text) => [`${name}_xor_in_place`, ...own, BigInt(position), [text]];
-  return call("data", [demand("data", data)], argumentsOf, { 1: passes });
+  const input = demand("data", data);
+  const run = (wasm, text, key, nonce) => wasm[xor](key, nonce, BigInt(position), text, BigInt(input.length));
+  const passes = "position: the data would pass the end of the keystream, byte 2^38";
+  return call("data", [input, ...own], input.length, run, { 1: [RangeError, passes] });
 };
 
-export const [chacha20poly1305, xchacha20poly1305] = [aead("chacha20_aead", 12), aead("xchacha20_aead", 24)];
-export const [chacha20, xchacha20] = [cipher("chacha20", 12), cipher("xchacha20", 24)];
+const aeadOf = (name, length) => aead(`${name}_aead_encrypt_in_place`, `${name}_aead_decrypt_in_place`, length);
+export const [chacha20poly1305, xchacha20poly1305] = [aeadOf("chacha20", 12), aeadOf("xchacha20", 24)];
+export const [chacha20, xchacha20] = [cipher("chacha20_xor_in_place", 12), cipher("xchacha20_xor_in_place", 24)];
 
 class Rng {
   #fill;
@@ -46,7 +50,7 @@ class Rng {
   constructor(fill, seed) {
     const own = demand("seed", seed, 32);
     this.#fill = fill;
-    this.#state = call("seed", [49], (state) => ["chacha20_rng_from_seed", own, state]);
+    this.#state = call("seed", [49, own], 49, (wasm, state, seed) => wasm.chacha20_rng_from_seed(seed, state));
   }
 
   static fromState(state) {
@@ -59,13 +63,14 @@ class Rng {
 
   fill(output) {
     const own = demand("output", output);
-    own.set(step("output", this.#state, [own.length], (state, words) => [this.#fill, state, [words]]));
+    const run = (wasm, state, words) => wasm[this.#fill](state, words, BigInt(own.length));
+    own.set(step("output", this.#state, [own.length], own.length, run));
     return output;
   }
 
   get wordPosition() {
-    const argumentsOf = (state, low, high) => ["chacha20_rng_get_word_pos", state, low, high];
-    const words = new DataView(step("state", this.#state, [8, 8], argumentsOf).buffer);
+    const run = (wasm, state, low) => wasm.chacha20_rng_get_word_pos(state, low, low + 8n);
+    const words = new DataView(step("state", this.#state, [16], 16, run).buffer);
     return words.getBigUint64(0, true) + (words.getBigUint64(8, true) << 64n);
   }
 
@@ -73,7 +78,7 @@ class Rng {
     if (typeof position !== "bigint") throw new TypeError("wordPosition must be a BigInt");
     if (position < 0n || position >> 68n) throw new RangeError("wordPosition must be from 0 to 2^68 - 1");
     const words = [BigInt.asUintN(64, position), position >> 64n];
-    step("state", this.#state, [], (state) => ["chacha20_rng_set_word_pos", state, ...words]);
+    step("state", this.#state, [], 0, (wasm, state) => wasm.chacha20_rng_set_word_pos(state, ...words));
   }
 }
 
@@ -87,8 +92,10 @@ export const SecretStream = { MESSAGE: 0, PUSH: 1, REKEY: 2, FINAL, initPush, in
 
 function startStream(header, key) {
   const own = [demand("key", key, 32), demand("header", header, 24)];
-  const state = call("key", [44], (state) => ["chacha20_secretstream_start", ...own, state]);
-  return { state, rekey: () => void step("state", state, [], (state) => ["chacha20_secretstream_rekey", state]) };
+  const state = call("key", [44, ...own], 44, (wasm, state, key, header) =>
+    wasm.chacha20_secretstream_start(key, header, state));
+  const rekey = () => void step("state", state, [], 0, (wasm, state) => wasm.chacha20_secretstream_rekey(state));
+  return { state, rekey };
 }
 
 function initPush(key) {
@@ -97,8 +104,10 @@ function initPush(key) {
   const push = (text, tag = 0, aad = NONE) => {
     const [input, more] = [demand("text", text), demand("aad", aad)];
     demandNumber("tag", tag, 0, 255);
-    return step("text", state, [input.length + 17], (state, message) =>
-      ["chacha20_secretstream_push", state, [more], [message], [input], tag]);
+    const size = input.length + 17;
+    const lengths = [more, input].map((it) => BigInt(it.length));
+    return step("text", state, [size, input, more], size, (wasm, state, message, text, aad) =>
+      wasm.chacha20_secretstream_push(state, aad, lengths[0], message, BigInt(size), text, lengths[1], tag));
   };
   return { header, push, rekey };
 }
@@ -108,9 +117,11 @@ function initPull(header, key) {
   const pull = (message, aad = NONE) => {
     const [input, more] = [demand("message", message), demand("aad", aad)];
     if (input.length < 17) throw new RangeError("message must have at least 17 bytes");
-    const left = step("message", state, [input.length - 17, 1], (state, text, tag) =>
-      ["chacha20_secretstream_pull", state, [more], [text], [input], tag]);
-    return { text: left.slice(0, -1), tag: left.at(-1) };
+    const size = input.length - 17;
+    const lengths = [more, input].map((it) => BigInt(it.length));
+    const left = step("message", state, [size, 1, input, more], size + 1, (wasm, state, text, tag, message, aad) =>
+      wasm.chacha20_secretstream_pull(state, aad, lengths[0], text, BigInt(size), message, lengths[1], tag));
+    return { text: left.slice(0, -1), tag: left[size] };
   };
   return { pull, rekey };
 }
@@ -187,11 +198,13 @@ async function read(blob, size, start, length) {
 async function* sealed(key, blob, size) {
   if (size > 2 ** 48) throw new RangeError("blob has more than 2^48 bytes, which no sealed file may have");
   const salt = crypto.getRandomValues(new Uint8Array(19));
-  yield call("salt", [32], (header) => ["chacha20_file_header", salt, header]);
+  yield call("salt", [32, salt], 32, (wasm, header, salt) => wasm.chacha20_file_header(salt, header));
   for (let i = 0; i === 0 || CHUNK * i < size; i++) {
     const isLast = Number(CHUNK * (i + 1) >= size);
-    yield call("blob", [await read(blob, size, CHUNK * i, CHUNK), 16], ({ place, length }) =>
-      ["chacha20_file_seal_chunk_in_place", key, salt, i, isLast, [{ place, length: length + 16n }]]);
+    const text = await read(blob, size, CHUNK * i, CHUNK);
+    const length = text.length + 16;
+    yield call("blob", [text, 16, key, salt], length, (wasm, chunk, _, key, salt) =>
+      wasm.chacha20_file_seal_chunk_in_place(key, salt, i, isLast, chunk, BigInt(length)));
   }
 }
 
@@ -199,7 +212,8 @@ async function* sealed(key, blob, size) {
 // `Infinity`, of all chunks in their order. A key is wrong where chunk 0 is wrong too.
 async function* opened(key, blob, size, start, end) {
   const front = await read(blob, size, 0, 32);
-  const salt = call("blob", [19], (salt) => ["chacha20_file_salt", [front], salt], {
+  const run = (wasm, salt, file) => wasm.chacha20_file_salt(file, BigInt(front.length), salt);
+  const salt = call("blob", [19, front], 19, run, {
     1: [Error, "not a sealed file"],
     3: [Error, "sealed in another version of the format"],
     4: [Error, "the file ends in its header"],
@@ -218,8 +232,9 @@ async function* opened(key, blob, size, start, end) {
 
 function openChunk(key, salt, number, isLast, chunk) {
   try {
-    return call("chunk", [chunk], (chunk) =>
-      ["chacha20_file_open_chunk_in_place", key, salt, number, Number(isLast), [chunk]]).subarray(0, -16);
+    const length = BigInt(chunk.length);
+    return call("chunk", [chunk, key, salt], chunk.length - 16, (wasm, chunk, key, salt) =>
+      wasm.chacha20_file_open_chunk_in_place(key, salt, number, Number(isLast), chunk, length));
   } catch (cause) {
     const [from, to] = [CHUNK * number, CHUNK * (number + 1) - 1];
     const rest = number === 0 ? "the text" : `the text from byte ${from} on`;

@@ -61,34 +61,24 @@ export function demandNumber(name, value, least, most) {
   if (value < least || value > most) throw new RangeError(`${name} must be from ${least} to ${most}`);
 }
 
-// Calls the export that `argumentsOf` names, with its arguments: a number as it is, an array by its place, [array] by
-// its place and length. What is written lies in front: arrays, or room for so many bytes, whose places `argumentsOf` is
-// given, and which is returned, in one array, as the call left it. `name` tells which argument may be long.
-export function call(name, written, argumentsOf, refusals) {
+// Writes the parts, one behind the other, into the memory, runs a call of the exports on their places, and returns the
+// first `length` bytes as it left them. A number among the parts is room for so many bytes. `name` tells which argument
+// may be long. Each status but 0 is an error.
+export function call(name, parts, length, run, refusals) {
   if (!wasm) makeInstance();
-  const parts = [];
+  const places = [];
   let end = START;
-  const place = (part) => {
-    const [at, length] = [end, part.length ?? part];
-    end += length;
-    parts.push([part, at]);
-    return { place: BigInt(at), length: BigInt(length) };
-  };
-  const places = written.map(place);
-  const writtenEnd = end;
-  const [run, ...values] = argumentsOf(...places).flatMap((it) => {
-    const value = Array.isArray(it) ? it[0] : it;
-    if (typeof value !== "object") return value;
-    const found = value.place === undefined ? place(value) : value;
-    return value === it ? found.place : [found.place, found.length];
-  });
+  for (const part of parts) {
+    places.push(BigInt(end));
+    end += typeof part === "number" ? part : part.length;
+  }
   if (end > bytes.length) grow(name, end);
   const exports = wasm;
   wasm = undefined;
   try {
-    for (const [part, at] of parts) if (typeof part === "object") bytes.set(part, at);
-    const status = exports[run](...values);
-    const left = status ? undefined : bytes.slice(START, writtenEnd);
+    parts.forEach((part, i) => typeof part === "number" || bytes.set(part, Number(places[i])));
+    const status = run(exports, ...places);
+    const left = status ? undefined : bytes.slice(START, START + length);
     wasm = exports;
     if (!status) return left;
     const [kind, words] = { 1: [RangeError, `${name} is too long`], 2: [Error, "wrong tag"], ...refusals }[status];
@@ -110,9 +100,9 @@ function grow(name, length) {
   bytes = new Uint8Array(wasm.memory.buffer);
 }
 
-// A call that also moves a state, which it keeps.
-export function step(name, state, written, argumentsOf) {
-  const left = call(name, [state, ...written], argumentsOf);
+// A call that also moves a state, which it keeps. It returns the `length` bytes behind the state.
+export function step(name, state, parts, length, run) {
+  const left = call(name, [state, ...parts], state.length + length, run);
   state.set(left.subarray(0, state.length));
   return left.slice(state.length);
 }
