@@ -487,6 +487,11 @@ const parts = {
       await failsLater(readRange(KEY, blob, 0, text.length + 1), RangeError, past);
       writeFileSync(join(ROOM, `${name}.made`), await all(sealBlob(KEY, new Blob([text]))));
     }
+    // No call goes further down the stack than is zeroed.
+    const unused = memory().subarray(0, 65536 - 4096).fill(0xa5);
+    same(await all(openBlob(KEY, new Blob([await all(sealBlob(KEY, new Blob([POOL])))]))), POOL, "there and back");
+    is(unused.every((it) => it === 0xa5), true, "the stack");
+    unused.fill(0);
     const one = await all(sealBlob(KEY, new Blob([AAD])));
     // 19 random bytes: among 64 files each place has many values, and each salt has many.
     const salts = [];
@@ -750,7 +755,7 @@ const parts = {
 };
 
 const wanted = { module: 27, openssl: 8826, libsodium: 6619, forgeries: 12400, arguments: 961, memory: 270 };
-Object.assign(wanted, { generator: 852, files: 468, streams: 350, keys: 4123, damage: 160, cuts: 5653 });
+Object.assign(wanted, { generator: 852, files: 470, streams: 350, keys: 4123, damage: 160, cuts: 5653 });
 assert.deepEqual(Object.keys(wanted), Object.keys(parts));
 let sum = 0;
 for (const [name, run] of Object.entries(parts)) {
