@@ -554,7 +554,7 @@ static void file_of_seal(struct run *run) {
         int size = open_chunk(file, len, i, key, text);
         holds(run, size == (i ? 70000 - TEXT : TEXT), "a chunk of seal's file");
         for (size_t at = 10 * ((TEXT * (size_t)i + 9) / 10); at + 10 <= TEXT * (size_t)i + (size_t)size; at += 10, lines++) {
-            char line[12];
+            char line[24];
             snprintf(line, sizeof line, "%09zu\n", at / 10);
             same_bytes(run, text + at - TEXT * (size_t)i, (const uint8_t *)line, 10, "a line of seal's file");
         }

@@ -89,6 +89,7 @@ static void by_stream(size_t aad_len, size_t len) {
 /* A last chunk, opened in place or into the input. */
 static void by_chunk(uint32_t number, size_t len) {
     if (len > CHACHA20_FILE_TEXT_BYTES) len = CHACHA20_FILE_TEXT_BYTES;
+    if (len == 0) number = 0;
     chacha20_file_header(nonce, tag_room);
     done(chacha20_file_seal_chunk(key, nonce, number, 1, input, input, len));
     done(chacha20_file_seal_chunk(key, nonce, number, 1, output, input, len));
@@ -139,7 +140,7 @@ static void by_library(size_t longest) {
                 by_aead((enum layout)layout, positions[i] % 300, len);
             }
             all_secret(), by_stream(positions[i] % 300, len);
-            all_secret(), by_chunk((uint32_t)positions[i] + 1, len);
+            all_secret(), by_chunk((uint32_t)positions[i], len);
             all_secret();
             hchacha20(key, nonce, output);
             by_generator(positions[i], len);

@@ -16,20 +16,22 @@ import { runInNewContext } from "node:vm";
 const [PACKAGE, ROOM] = process.argv.slice(2).map((it) => resolve(it));
 const read = (name) => new Uint8Array(readFileSync(join(ROOM, name)));
 
-// The instance is private, so what the engine hands out is kept on its way.
-const { instantiate, validate } = WebAssembly;
+// Instances are private, so what the engine makes is kept on its way.
+const { Instance, validate } = WebAssembly;
 let module, proved;
-WebAssembly.instantiate = async (...words) => {
-  const made = await instantiate(...words);
-  [module, proved] = [made.module, made.instance.exports];
-  return made;
+const memories = [];
+WebAssembly.Instance = class extends Instance {
+  constructor(from) {
+    super(from);
+    [module, proved] = [from, this.exports];
+    memories.push(proved.memory);
+  }
 };
-const load = (query = "") => import(`${pathToFileURL(join(PACKAGE, "chacha20.mjs"))}${query}`);
-const chacha = await load();
-WebAssembly.instantiate = instantiate;
+const load = (name) => import(`${pathToFileURL(PACKAGE)}/${name}`);
+const chacha = await load("chacha20.mjs");
 const { chacha20poly1305, xchacha20poly1305, chacha20, xchacha20, ChaCha20Rng } = chacha;
-const { sealBlob, openBlob, readRange, readKey } = chacha;
-const memory = () => new Uint8Array(proved.memory.buffer);
+const { SecretStream, sealBlob, openBlob, readRange, readKey } = chacha;
+const memory = (it = proved.memory) => new Uint8Array(it.buffer);
 const fresh = memory().slice();
 
 // Bytes for keys, nonces and texts, of the same file for libsodium and for us.
@@ -87,7 +89,11 @@ const EXPORTS = `__heap_base memory
   chacha20_legacy_check chacha20_legacy_keystream chacha20_legacy_xor_between chacha20_legacy_xor_in_place
   hchacha20 chacha20_onetime_poly1305 chacha20_verify
   chacha20_rng_fill chacha20_rng_from_seed chacha20_rng_get_block_pos chacha20_rng_get_stream chacha20_rng_get_word_pos
-  chacha20_rng_set_block_pos chacha20_rng_set_stream chacha20_rng_set_word_pos`;
+  chacha20_rng_set_block_pos chacha20_rng_set_stream chacha20_rng_set_word_pos chacha12_rng_fill chacha8_rng_fill
+  chacha20_secretstream_start chacha20_secretstream_push chacha20_secretstream_pull chacha20_secretstream_rekey
+  chacha20_file_header chacha20_file_salt chacha20_file_text_len
+  chacha20_file_seal_chunk_between chacha20_file_seal_chunk_in_place
+  chacha20_file_open_chunk_between chacha20_file_open_chunk_in_place`;
 
 const parts = {
   // The module imports nothing, and exports what it should. So do the types.
@@ -95,11 +101,23 @@ const parts = {
     is(WebAssembly.Module.imports(module).length, 0, "imports");
     const names = WebAssembly.Module.exports(module).map((it) => it.name);
     is(names.sort().join(), EXPORTS.split(/\s+/).sort().join(), "exports");
-    const types = readFileSync(join(PACKAGE, "chacha20.d.ts"), "utf8").matchAll(/^export (?:function|class) (\w+)/gm);
-    is([...types].map((it) => it[1]).sort().join(), Object.keys(chacha).sort().join(), "types");
+    const types = readFileSync(join(PACKAGE, "chacha20.d.ts"), "utf8");
+    const declared = types.matchAll(/^export (?:const|function|class) (\w+)/gm);
+    is([...declared].map((it) => it[1]).sort().join(), Object.keys(chacha).sort().join(), "types");
+    // What tsc can't compare: the names of arguments.
+    const { fill } = ChaCha20Rng.prototype;
+    const { initPush, initPull, encryptor, decryptor } = SecretStream;
+    const named = { chacha20poly1305, xchacha20poly1305, chacha20, xchacha20, sealBlob, openBlob, readRange, readKey, fill };
+    Object.assign(named, { initPush, initPull, encryptor, decryptor, ...initPush(KEY), ...initPull(XNONCE, KEY) });
+    Object.assign(named, chacha20poly1305(KEY, NONCE));
+    for (const [name, act] of Object.entries(named).filter(([name]) => name !== "header")) {
+      const ours = act.toString().match(/\(([^)]*)\)/)[1].replace(", ...more", "").replace(/ = \w+/g, "");
+      const theirs = types.match(new RegExp(`\\b${name}(?:<[^>]*>)?\\(([^)]*)\\)[:;]`))[1];
+      is([...theirs.matchAll(/(\w+)\??:/g)].map((it) => it[1]).join(", "), ours, `the arguments of ${name}`);
+    }
     // An engine without 64-bit memory, and files that aren't the module.
     WebAssembly.validate = () => false;
-    await assert.rejects(load("?old"), /^Error: chacha20.wasm needs 64-bit memory: .* Node 20 to 23 with --exp/);
+    await assert.rejects(load("module.mjs?old"), /^Error: chacha20.wasm needs 64-bit memory: .* Node 18 to 23 with --exp/);
     WebAssembly.validate = validate;
     count++;
     const wasm = readFileSync(join(PACKAGE, "chacha20.wasm"));
@@ -108,7 +126,7 @@ const parts = {
       const folder = join(ROOM, `damaged${i}`);
       mkdirSync(folder);
       writeFileSync(join(folder, "chacha20.wasm"), file);
-      copyFileSync(join(PACKAGE, "chacha20.mjs"), join(folder, "chacha20.mjs"));
+      for (const it of ["chacha20.mjs", "module.mjs"]) copyFileSync(join(PACKAGE, it), join(folder, it));
       const words = /^Error: file:.*chacha20.wasm isn't the module, or not all of it$/;
       await assert.rejects(import(pathToFileURL(join(folder, "chacha20.mjs"))), words);
       count++;
@@ -186,6 +204,15 @@ const parts = {
   // Each wrong argument of each call, by its name.
   arguments() {
     const shared = (length) => new Uint8Array(new SharedArrayBuffer(length));
+    const disguised = (length) => {
+      const buffer = new SharedArrayBuffer(length);
+      return new Uint8Array(Object.defineProperty(buffer, Symbol.toStringTag, { value: "ArrayBuffer" }));
+    };
+    const detached = (length) => {
+      const array = new Uint8Array(length);
+      structuredClone(array.buffer, { transfer: [array.buffer] });
+      return array;
+    };
     const inside = (length) => memory().subarray(0, length);
     const never = [undefined, null, 32, "k".repeat(32), [...KEY], KEY.buffer, new Uint16Array(32)];
     never.push(new DataView(KEY.buffer), new Uint8ClampedArray(32), { length: 32, buffer: KEY.buffer });
@@ -196,11 +223,12 @@ const parts = {
       for (const it of never) if (!(isOptional && it === undefined)) fails(() => call(it), TypeError, `${name} must`);
       // What an array says of its buffer, or of what it is, has no effect.
       const lying = (value, more) => Object.defineProperty(value, more, { value: KEY.buffer });
-      for (const it of [shared(right ?? 20), lying(shared(right ?? 20), "buffer")]) {
-        fails(() => call(it), TypeError, `${name} must not be in a SharedArrayBuffer`);
+      for (const it of [shared(right ?? 20), disguised(right ?? 20), lying(shared(right ?? 20), "buffer")]) {
+        fails(() => call(it), TypeError, `${name} must not be detached or in a SharedArrayBuffer`);
       }
       fails(() => call(lying(inside(right ?? 20), "buffer")), TypeError, `${name} must not be in the module's memory`);
       fails(() => call(inside(right ?? 20)), TypeError, `${name} must not be in the module's memory`);
+      fails(() => call(detached(right ?? 20)), TypeError, `${name} must not be detached or in a SharedArrayBuffer`);
       for (const it of right === undefined ? [] : lengths.filter((it) => it !== right)) {
         fails(() => call(new Uint8Array(it)), RangeError, `${name} must have ${right} bytes`);
       }
@@ -257,6 +285,29 @@ const parts = {
     for (const it of [undefined, null, 0, "0"]) fails(() => (rng.wordPosition = it), TypeError, "wordPosition must");
     for (const it of [-1n, 1n << 68n]) fails(() => (rng.wordPosition = it), RangeError, "wordPosition must");
     is(rng.wordPosition, 0n, "after what was refused");
+    // A method of a caller's class isn't called, and a caller may change its state at once.
+    const Own = class extends Uint8Array { set() {} };
+    same(new ChaCha20Rng(KEY).fill(new Own(40)), new ChaCha20Rng(KEY).fill(new Uint8Array(40)), "a set of its own");
+    const mine = rng.state;
+    const other = ChaCha20Rng.fromState(mine);
+    mine.fill(0);
+    same(other.state, rng.state, "own state");
+    const stream = SecretStream.initPush(KEY);
+    bytes("key", SecretStream.initPush, 32);
+    bytes("key", (it) => SecretStream.initPull(stream.header, it), 32);
+    bytes("header", (it) => SecretStream.initPull(it, KEY), 24);
+    bytes("text", (it) => stream.push(it));
+    bytes("aad", (it) => stream.push(AAD, 0, it), undefined, true);
+    number("tag", (it) => stream.push(AAD, it), 255);
+    const pulling = SecretStream.initPull(stream.header, KEY);
+    bytes("message", (it) => pulling.pull(it));
+    bytes("aad", (it) => pulling.pull(part(0, 17), it), undefined, true);
+    for (let i = 0; i < 17; i++) fails(() => pulling.pull(part(0, i)), RangeError, "message must have");
+    for (const make of [SecretStream.encryptor, SecretStream.decryptor]) {
+      bytes("key", (it) => make(it), 32);
+      for (const it of [0, 2 ** 32 + 1]) fails(() => make(KEY, it), RangeError, "size must be from 1 to 4294967296");
+      for (const it of ["1", 0.5, null]) fails(() => make(KEY, it), TypeError, "size must be a whole number");
+    }
     const blob = new Blob([AAD]);
     for (const [call, ...range] of [[sealBlob], [openBlob], [readRange, 0, 1]]) {
       bytes("key", (it) => call(it, blob, ...range), 32);
@@ -275,7 +326,7 @@ const parts = {
     for (const length of [0, 1, 63, 64, 65, 500, 512, 1500, 66000]) {
       const [text, cipher] = [part(0, length), chacha20poly1305(KEY, NONCE, AAD)];
       const extended = xchacha20poly1305(KEY, XNONCE, AAD);
-      let sealed;
+      let sealed, stream;
       const calls = {
         encrypt: () => (sealed = cipher.encrypt(text)),
         decrypt: () => cipher.decrypt(sealed),
@@ -287,6 +338,9 @@ const parts = {
         "past the end": () => assert.throws(() => chacha20(KEY, NONCE, part(0, length + 1), 2 ** 38), /^RangeError/),
         fill: () => new ChaCha20Rng(KEY).fill(new Uint8Array(length)),
         wordPosition: () => (new ChaCha20Rng(KEY).wordPosition += BigInt(length)),
+        push: () => (sealed = (stream = SecretStream.initPush(KEY)).push(text, 2, AAD)),
+        pull: () => SecretStream.initPull(stream.header, KEY).pull(sealed, AAD),
+        rekey: () => stream.rekey(),
       };
       for (const [name, act] of Object.entries(calls)) {
         const unused = memory().subarray(0, 65536 - 4096).fill(0xa5);
@@ -302,6 +356,7 @@ const parts = {
     const act = () => xchacha20poly1305(KEY, XNONCE).encrypt(POOL);
     fails(act, RangeError, "no room");
     Uint8Array.prototype.slice = slice;
+    chacha20(KEY, NONCE, AAD);
     clean("after a throw");
     // A memory that can't grow.
     const has = memory().length;
@@ -312,11 +367,36 @@ const parts = {
     fails(() => xchacha20poly1305(KEY, XNONCE).decrypt(long), RangeError, "sealed is too long");
     fails(() => chacha20(KEY, NONCE, long), RangeError, "data is too long");
     fails(() => new ChaCha20Rng(KEY).fill(long), RangeError, "output is too long");
+    const cipher = xchacha20poly1305(KEY, XNONCE);
+    fails(() => cipher.encrypt(long), RangeError, tooLong);
     delete proved.memory.grow;
+    same(cipher.encrypt(AAD), xchacha20poly1305(KEY, XNONCE).encrypt(AAD), "a text that was refused used no nonce");
     clean("after what doesn't fit");
     is(memory().length, has, "the memory's length");
     same(chacha20(KEY, NONCE, chacha20(KEY, NONCE, long)), long, "what fits once the memory grows");
     clean("after it has grown");
+    // A stack that ends inside the module. The next call is by another instance, and the memory before is wiped.
+    const sealed = xchacha20poly1305(KEY, XNONCE).encrypt(AAD);
+    const errors = Array(1000);
+    for (let words = 0; words < 20; words++) {
+      let caught = 0;
+      const dive = (...words) => {
+        try {
+          dive(...words);
+        } catch {}
+        try {
+          xchacha20poly1305(KEY, XNONCE).encrypt(AAD);
+        } catch (error) {
+          errors[caught++] = error;
+        }
+      };
+      dive(...Array(words));
+      same(xchacha20poly1305(KEY, XNONCE).encrypt(AAD), sealed, "after the stack's end");
+    }
+    is(errors.some((it) => /^RangeError: Max.*\n.*wasm:/.test(it?.stack)), true, "the stack ends inside the module");
+    is(memories.length > 1, true, "another instance");
+    for (const it of memories.slice(0, -1)) is(memory(it).every((byte) => byte === 0), true, "a memory before");
+    clean("after the stack's end");
   },
 
   // The generator, beside OpenSSL: the seed is the key, and the block and the stream are the 16 bytes of its iv.
@@ -361,6 +441,18 @@ const parts = {
     is(rng.wordPosition, 1n, "after the last word");
     rng.state.fill(0);
     same(rng.state, stateOf(KEY, 0n, 1n), "a copy of the state");
+    // Fewer rounds: the keystreams of TC1 of draft-strombergson-chacha-test-vectors.
+    for (const [Rng, wanted] of [
+      [chacha.ChaCha8Rng, "3e00ef2f895f40d67f5bb8e81f09a5a12c840ec3ce9a7f3b181be188ef711a1e"],
+      [chacha.ChaCha12Rng, "9bf49a6a0755f953811fce125f2683d50429c3bb49e074147e0089a52eae155f"],
+      [ChaCha20Rng, "76b8e0ada0f13d90405d6ae55386bd28bdd219b8a08ded1aa836efcc8b770dc7"],
+    ]) {
+      const rng = new Rng(new Uint8Array(32));
+      same(rng.fill(new Uint8Array(32)), Buffer.from(wanted, "hex"), Rng.name);
+      const other = Rng.fromState(rng.state);
+      same(other.fill(new Uint8Array(100)), rng.fill(new Uint8Array(100)), "from a state");
+      is(other.constructor, Rng, "its class");
+    }
   },
 
   // Files by the Python of seal's page are opened, whole and in parts, and files for it are made.
@@ -382,10 +474,12 @@ const parts = {
         for (const end of edges.filter((it) => it >= start)) {
           places = [];
           same(await all(readRange(KEY, blob, start, end)), text.slice(start, end), `${name} from ${start} to ${end}`);
-          const wanted = [[0, Math.min(32, file.length)]];
-          for (let i = Math.floor(start / 65536); i * 65536 < end && start < end; i++) {
-            wanted.push([32 + 65552 * i, Math.min(32 + 65552 * (i + 1), file.length)]);
-          }
+          // The last chunk, and then the others that the range is in.
+          const last = Math.max(Math.ceil(text.length / 65536) - 1, 0);
+          const chunks = [last];
+          for (let i = Math.floor(start / 65536); i < last && i * 65536 < end && start < end; i++) chunks.push(i);
+          const ends = chunks.map((i) => [32 + 65552 * i, Math.min(32 + 65552 * (i + 1), file.length)]);
+          const wanted = [[0, 32], ...ends];
           is(JSON.stringify(places), JSON.stringify(wanted), `what ${name} from ${start} to ${end} reads`);
         }
       }
@@ -393,6 +487,11 @@ const parts = {
       await failsLater(readRange(KEY, blob, 0, text.length + 1), RangeError, past);
       writeFileSync(join(ROOM, `${name}.made`), await all(sealBlob(KEY, new Blob([text]))));
     }
+    // No call goes further down the stack than is zeroed.
+    const unused = memory().subarray(0, 65536 - 4096).fill(0xa5);
+    same(await all(openBlob(KEY, new Blob([await all(sealBlob(KEY, new Blob([POOL])))]))), POOL, "there and back");
+    is(unused.every((it) => it === 0xa5), true, "the stack");
+    unused.fill(0);
     const one = await all(sealBlob(KEY, new Blob([AAD])));
     // 19 random bytes: among 64 files each place has many values, and each salt has many.
     const salts = [];
@@ -431,7 +530,86 @@ const parts = {
     is((await cancelled.read()).value.length, 65536, "a first part");
     await cancelled.cancel();
     is((await cancelled.read()).done, true, "after cancel");
+    // Nothing is read before it is asked for.
+    for (const [start, name, reads] of [[sealBlob, "text", [0, 1, 2]], [openBlob, "sealed", [2, 3, 4]]]) {
+      let asked = 0;
+      const blob = new Blob([read(`200000.${name}`)]);
+      blob.slice = (...range) => {
+        asked++;
+        return Blob.prototype.slice.call(blob, ...range);
+      };
+      const reader = start(KEY, blob).getReader();
+      for (const wanted of [undefined, ...reads]) {
+        if (wanted !== undefined) await reader.read();
+        await new Promise((done) => setTimeout(done, 5));
+        is(asked, wanted ?? 0, `what ${start.name} reads`);
+      }
+    }
     clean("after files");
+  },
+
+  // Streams by libsodium are pulled, and streams for it are made.
+  async streams() {
+    const bytes = read("messages.stream");
+    const pulling = SecretStream.initPull(bytes.slice(0, 24), KEY);
+    let at = 24;
+    for (let i = 0; i < 60; i++) {
+      const [text, aad] = [part(i, (i * i) % 3000), part(i, i % 67)];
+      const message = bytes.slice(at, (at += text.length + 17));
+      const changed = message.slice();
+      changed[mixed(i) % message.length] ^= 1;
+      fails(() => pulling.pull(changed, aad), Error, "wrong tag");
+      fails(() => pulling.pull(message, part(9, aad.length + 1)), Error, "wrong tag");
+      const pulled = pulling.pull(message, aad);
+      same(pulled.text, text, `message ${i}`);
+      is(pulled.tag, i % 3, `tag ${i}`);
+      if (i === 30) pulling.rekey();
+    }
+    is(at, bytes.length, "messages");
+    // Headers are random, and hold nothing of the key.
+    const headers = [...Array(64)].map(() => SecretStream.initPush(KEY).header);
+    for (let at = 0; at < 24; at++) is(new Set(headers.map((it) => it[at])).size > 30, true, `byte ${at} of headers`);
+    const sending = SecretStream.initPush(KEY);
+    const receiving = SecretStream.initPull(sending.header, KEY);
+    sending.header.fill(0);
+    const { MESSAGE, PUSH, REKEY, FINAL } = SecretStream;
+    is([MESSAGE, PUSH, REKEY, FINAL].join(), "0,1,2,3", "tags");
+    for (const [tag, aad] of [[undefined, undefined], [PUSH, AAD], [REKEY], [255], [FINAL, AAD]]) {
+      const { text, tag: found } = receiving.pull(sending.push(AAD, tag, aad), aad);
+      same(text, AAD, "text");
+      is(found, tag ?? MESSAGE, "tag");
+    }
+    // As transforms, of bytes in pieces of any lengths.
+    const through = (transform, bytes, size) => {
+      let at = 0;
+      const pull = (it) => (at < bytes.length ? it.enqueue(bytes.slice(at, (at += size))) : it.close());
+      return new ReadableStream({ pull }).pipeThrough(transform);
+    };
+    for (const length of [0, 1, 4095, 4096, 4097, 20000]) {
+      const text = part(7, length);
+      for (const size of [1, 100, 4096, 4113, 30000]) {
+        const pushed = await all(through(SecretStream.encryptor(KEY, 4096), text, size));
+        if (size === 100) writeFileSync(join(ROOM, `${length}.pushed`), pushed);
+        is(pushed.length, 24 + length + 17 * Math.max(Math.ceil(length / 4096), 1), "its length");
+        same(await all(through(SecretStream.decryptor(KEY, 4096), pushed, size)), text, `${length} by ${size}`);
+      }
+    }
+    same(await all(through(SecretStream.decryptor(KEY), await all(through(SecretStream.encryptor(KEY), POOL, 5000)), 7000)),
+      POOL, "of 65536 bytes");
+    const [stream, text] = [read("4096.stream"), read("200000.text")];
+    same(await all(through(SecretStream.decryptor(KEY, 4096), stream, 1000)), text, "of libsodium");
+    for (const [bytes, words] of [
+      [stream.slice(0, 23), "the stream is cut"], [stream.slice(0, 24), "the stream is cut"],
+      [stream.slice(0, 24 + 16), "the stream is cut"], [stream.slice(0, 24 + 17), "wrong tag"],
+      [stream.slice(0, 24 + 4113), "the stream is cut"], [stream.slice(0, 24 + 2 * 4113), "the stream is cut"],
+      [stream.slice(0, 24 + 4113 + 5), "the stream is cut"], [stream.slice(0, -1), "wrong tag"],
+      [new Uint8Array([...stream, 0]), "wrong tag"], [part(0, 0), "the stream is cut"],
+    ]) await failsLater(through(SecretStream.decryptor(KEY, 4096), bytes, 1000), Error, words);
+    const ended = SecretStream.initPush(KEY);
+    const more = Buffer.concat([ended.header, ended.push(part(0, 5), FINAL), ended.push(part(0, 5), FINAL)]);
+    const goesOn = "the stream goes on after its end";
+    await failsLater(through(SecretStream.decryptor(KEY, 5), more, 100), Error, goesOn);
+    clean("after streams");
   },
 
   // The keys of key files, which Node's base64 makes. What `seal` refuses is refused.
@@ -461,6 +639,14 @@ const parts = {
         same(Buffer.from(other.slice(12), "base64"), key, "what Node reads");
         fails(() => readKey(other), Error, "not a key");
       }
+    }
+    // The alphabet of URLs.
+    for (const byte of [251, 255]) {
+      const text = Buffer.alloc(32, byte).toString("base64");
+      same(readKey(`seal-key-v1:${text}`), Buffer.alloc(32, byte), text);
+      const other = text.replaceAll("+", "-").replaceAll("/", "_");
+      is(other === text, false, "another alphabet");
+      fails(() => readKey(`seal-key-v1:${other}`), Error, "not a key");
     }
     for (const length of [0, 1, 31, 33, 56]) fails(() => readKey(part(0, length)), Error, "not a key");
     fails(() => readKey("k".repeat(32)), Error, "not a key");
@@ -515,6 +701,12 @@ const parts = {
     const damaged = new Blob([changed(40)]);
     same(await all(readRange(KEY, damaged, 65536, 131072)), text.slice(65536, 131072), "beside the damage");
     await failsLater(readRange(KEY, damaged, 65535, 65537), Error, first);
+    // The last chunk is opened first, and a wrong key is told as such.
+    for (const range of [[0, 0], [0, 5], [70000, 70001], [0, 2 ** 48]]) {
+      const broken = [changed(file.length - 1), file.slice(0, -1), file.slice(0, 32 + 3 * 65552 + 16)];
+      for (const it of broken) await failsLater(readRange(KEY, new Blob([it]), ...range), Error, end);
+      await failsLater(readRange(part(1, 32), new Blob([file]), ...range), Error, first);
+    }
     // Lengths that no file of the room has.
     const huge = (size) => Object.defineProperty(new Blob([header]), "size", { value: size });
     await failsLater(openBlob(KEY, huge(32 + 65552 * 2 ** 32 + 1)), Error, "longer than a sealed file can be");
@@ -531,10 +723,39 @@ const parts = {
     }
     clean("after damage");
   },
+
+  // No call gives a text, a part or a length of a file that was cut near an edge, or that is longer than it was.
+  async cuts() {
+    for (const length of [0, 1, 65535, 65536, 65537, 131072]) {
+      const file = read(`${length}.sealed`);
+      const edges = [0, 32, 32 + 65552, 32 + 2 * 65552, file.length].filter((it) => it <= file.length);
+      const near = edges.flatMap((edge) => [...Array(41).keys()].map((it) => edge - 20 + it));
+      const lengths = new Set(near.filter((it) => it >= 0 && it < file.length));
+      for (const more of [1, 16, 17, 65552]) lengths.add(file.length + more);
+      for (const it of lengths) {
+        const bytes = new Uint8Array(it);
+        bytes.set(file.subarray(0, it));
+        const last = Math.max(Math.ceil((it - 32) / 65552) - 1, 0);
+        let words = `the text from byte ${65536 * last} on is damaged or cut`;
+        if (last === 0) words = "the key is wrong, or the text is damaged or cut";
+        // Chunk 0, or 1, was the last one.
+        if (last > 0 && length <= 65536) words = "the key is wrong, or bytes 0 to 65535 of the text are damaged";
+        if (it < 32) words = it < 12 ? "not a sealed file" : "the file ends in its header";
+        const blob = new Blob([bytes]);
+        for (const range of [[0, 0], [0, 1], [length, length], [Math.max(length - 1, 0), length], [0, 2 ** 48]]) {
+          is((await failsLater(readRange(KEY, blob, ...range), Error, words)).length, 0, `${length} cut to ${it}`);
+        }
+        const second = last > 1 ? "bytes 65536 to 131071 of the text are damaged" : words;
+        const front = await failsLater(openBlob(KEY, blob), Error, second);
+        is(front.length < Math.max(length, 1), true, `${length} cut to ${it}: a whole text`);
+      }
+    }
+    clean("after cuts");
+  },
 };
 
-const wanted = { module: 9, openssl: 8826, libsodium: 6619, forgeries: 12400, arguments: 656, memory: 190 };
-Object.assign(wanted, { generator: 843, files: 460, keys: 4117, damage: 144 });
+const wanted = { module: 27, openssl: 8826, libsodium: 6619, forgeries: 12400, arguments: 961, memory: 270 };
+Object.assign(wanted, { generator: 852, files: 470, streams: 350, keys: 4123, damage: 160, cuts: 5653 });
 assert.deepEqual(Object.keys(wanted), Object.keys(parts));
 let sum = 0;
 for (const [name, run] of Object.entries(parts)) {
