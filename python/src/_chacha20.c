@@ -15,11 +15,11 @@ enum { LONG_CALL = 2048 };
 
 /* A parameter for an object with a contiguous buffer, which has LEN bytes, or any number of them. */
 enum { MOST = 4, ANY = -1 };
-enum flags { INPUT, OPTIONAL = 1, OUTPUT = 2 };
+enum kind { INPUT, OPTIONAL, OUTPUT };
 struct parameter {
     const char *name;
     Py_ssize_t len;
-    int flags;
+    enum kind kind;
 };
 
 /* What a call has taken, where it writes, and what it returns. */
@@ -41,7 +41,7 @@ static int has(const Py_buffer *view, const char *name, Py_ssize_t len) {
 }
 
 static int hold(Py_buffer *view, PyObject *object, const struct parameter *it) {
-    const char *word = it->flags & OUTPUT ? "writable, " : "";
+    const char *word = it->kind == OUTPUT ? "writable, " : "";
     if (PyObject_GetBuffer(object, view, *word ? PyBUF_WRITABLE : PyBUF_SIMPLE) == 0)
         return has(view, it->name, it->len);
     if (PyErr_ExceptionMatches(PyExc_Exception) && !PyErr_ExceptionMatches(PyExc_MemoryError))
@@ -72,7 +72,7 @@ static int take(struct call *call, int numbers, const struct parameter *paramete
         objects[at] = args[given + i];
     }
     for (int i = 0; i < count; i++) {
-        if ((parameters[i].flags & OPTIONAL) && (!objects[i] || Py_IsNone(objects[i]))) continue;
+        if (parameters[i].kind == OPTIONAL && (!objects[i] || Py_IsNone(objects[i]))) continue;
         if (!objects[i]) PyErr_Format(PyExc_TypeError, "%s is missing", parameters[i].name);
         if (!objects[i] || !hold(&call->at[i], objects[i], &parameters[i])) return 0;
     }
@@ -179,10 +179,10 @@ static PyType_Spec CIPHER = {
 #define FUNCTION(NAME) static PyObject *NAME(PyObject *Py_UNUSED(module), ARGUMENTS)
 FUNCTION(xor_at) {
     static const struct parameter PARAMETERS[] = {
-        {"key", CHACHA20_KEY_BYTES, INPUT}, {"nonce", ANY, INPUT}, {"data", ANY, INPUT}, {"buf", ANY, OUTPUT | OPTIONAL}};
+        {"key", CHACHA20_KEY_BYTES, INPUT}, {"nonce", ANY, INPUT}, {"data", ANY, INPUT}, {"buf", ANY, OUTPUT}};
     struct call it = {0};
     const Py_buffer *key = &it.at[0], *nonce = &it.at[1], *data = &it.at[2], *buf = &it.at[3];
-    if (take(&it, 1, PARAMETERS, 4, args, given, NULL) && output(&it, buf, data->len))
+    if (take(&it, 1, PARAMETERS, given > 4 ? 4 : 3, args, given, NULL) && output(&it, buf, data->len))
         it.status = nonce->len == XCHACHA20_NONCE_BYTES
             ? xchacha20_xor(key->buf, nonce->buf, it.number[0], it.to, data->buf, data->len)
             : nonce->len == CHACHA20_NONCE_BYTES
@@ -323,7 +323,7 @@ FUNCTION(generator_get) {
 }
 
 static PyMethodDef METHODS[] = {
-    ENTRY(xor_at, 0, "position, key, nonce, data, buf=None, /", ""),
+    ENTRY(xor_at, 0, "position, key, nonce, /, *data", ""),
     ENTRY(stream_start, 0, "key, header, /", ""),
     ENTRY(stream_push, 0, "tag, state, data, aad, /", ""),
     ENTRY(stream_pull, 0, "state, data, aad, /", ""),

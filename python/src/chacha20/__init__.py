@@ -1,8 +1,5 @@
-"""Authenticated encryption by ChaCha20-Poly1305 and XChaCha20-Poly1305.
-
-Streams are in chacha20.secretstream, sealed files in chacha20.files, a generator for NumPy in chacha20.numpy, and the bare
-ciphers, which don't authenticate, in chacha20.unauthenticated.
-"""
+"""Authenticated encryption of messages; of streams in chacha20.secretstream, and of files in chacha20.files. A generator for
+NumPy is in chacha20.numpy; the bare ciphers, which don't authenticate, are in chacha20.unauthenticated."""
 
 from __future__ import annotations
 
@@ -49,20 +46,14 @@ class _Cipher(_chacha20.Cipher):
 
 
 class ChaCha20Poly1305(_Cipher):
-    """ChaCha20-Poly1305 (RFC 8439). Its nonces of 12 bytes are too short to be random: count the messages.
-
-    Never use a nonce twice under one key.
-    """
+    """ChaCha20-Poly1305 (RFC 8439). Never use a nonce twice under one key: 12 bytes are too short for random ones."""
 
     __slots__ = ()
     _nonce_len = 12
 
 
 class XChaCha20Poly1305(_Cipher):
-    """XChaCha20-Poly1305 (draft-irtf-cfrg-xchacha). Its nonces of 24 bytes may be random.
-
-    Never use a nonce twice under one key.
-    """
+    """XChaCha20-Poly1305 (draft-irtf-cfrg-xchacha). Never use a nonce twice under one key: 24 bytes may be random."""
 
     __slots__ = ()
     _nonce_len = 24

@@ -11,18 +11,14 @@ import numpy as np
 
 from chacha20 import _chacha20, _copy
 
-__all__ = ["ChaCha"]
-
 _STREAMS = 1 << 64
 _WORDS = 1 << 68
 _CHILDREN = 1 << 16
 
 
 class ChaCha(np.random.BitGenerator):
-    """The stream `stream` of a seed, by ChaCha with 20, 12 or 8 rounds.
-
-    The seed is 32 bytes, or a SeedSequence, or what that takes, which makes 32 bytes of it. None stands for random bytes.
-    """
+    """A stream of a seed, by ChaCha with 20, 12 or 8 rounds. The seed is 32 bytes, or a SeedSequence, or what that takes, which
+    makes 32 bytes of it; None stands for random ones."""
 
     capsule: object
 
@@ -90,10 +86,8 @@ class ChaCha(np.random.BitGenerator):
         return made
 
     def spawn(self, n_children: int) -> list[ChaCha]:
-        """New generators, at the start of streams that no other spawned one has, if streams that you number yourself are
-        below 2^16. Child k of stream s, from 1 on, has s + k * 2^16, and where s has more digits in base 2^16, k is the
-        next digit: so a stream has 65535 children, and three generations.
-        """
+        """Generators for streams that no other spawned one has, if those that you number yourself are below 2^16: child k of
+        a stream, from 1 to 65535, has k as one more digit of its number in base 2^16. Three generations have room."""
         with self.lock:
             seed, stream, word, rounds, spawned = self._get()
             place = 16 * max(-(-stream.bit_length() // 16), 1)

@@ -1,5 +1,5 @@
-"""Streams of messages, as libsodium's crypto_secretstream_xchacha20poly1305: messages can't be changed, left out, put in
-another order or, if the reader waits for Tag.FINAL, cut off at the end."""
+"""Streams, those of libsodium's crypto_secretstream_xchacha20poly1305: no message can be changed, dropped or moved unnoticed,
+nor the end cut off, if the reader waits for Tag.FINAL."""
 
 from __future__ import annotations
 
@@ -13,24 +13,19 @@ from chacha20 import _chacha20, _copy
 if typing.TYPE_CHECKING:
     from _typeshed import ReadableBuffer
 
-__all__ = ["PullStream", "PushStream", "Tag"]
-
 
 class Tag(enum.IntFlag):
-    """What a message says of the stream. Any byte may be a tag."""
+    """What a message says: PUSH ends a group, FINAL the stream; after REKEY both sides take another key. Any byte may be one."""
 
     MESSAGE = 0
     PUSH = 1
-    """The last message of a group."""
     REKEY = 2
-    """The streams take another key for what follows."""
     FINAL = 3
-    """The last message of the stream."""
 
 
 class _Stream:
     def __init__(self, key: ReadableBuffer, header: bytes) -> None:
-        # The lock keeps two threads from using one nonce.
+        # Without the lock, two threads could use one nonce.
         self._state = bytearray(_chacha20.stream_start(_copy("key", key, 32), header))
         self._lock = threading.Lock()
 
@@ -57,10 +52,7 @@ class PullStream(_Stream):
         super().__init__(key, _copy("header", header, 24))
 
     def pull(self, message: ReadableBuffer, aad: ReadableBuffer = b"") -> tuple[bytes, Tag]:
-        """The text and the tag of the next message.
-
-        Raises InvalidTag for any other message, and then still awaits this one.
-        """
+        """The text and the tag of the next message. Any other one raises InvalidTag, and this one is still awaited."""
         with self._lock:
             text, tag = _chacha20.stream_pull(self._state, message, aad)
         return text, Tag(tag)
