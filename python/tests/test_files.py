@@ -49,7 +49,8 @@ def test_both_ways(tmp_path: pathlib.Path, length: int) -> None:
             assert sum(file.write(text[at : at + step]) for at in range(0, length, step)) == length
         assert PAGE["open_file"](KEY, made.getvalue()) == text and not made.closed
     path.write_bytes(sealed(text))
-    for place in str(path), path, os.fsencode(path), io.BytesIO(sealed(text)):
+    places: list[Any] = [str(path), path, os.fsencode(path), io.BytesIO(sealed(text))]
+    for place in places:
         with files.open(place, KEY) as reader:
             assert reader.read() == text and reader.read() == b"" and reader.tell() == length
     folder = TOP / "crates/seal/data"
@@ -234,7 +235,7 @@ def test_threads_and_memory() -> None:
     """Threads can share a reader or a writer: no read is torn. No chunk stays in memory."""
     reader, found, made = reader_of(sealed(LONG[:250000])), list[bytes](), io.BytesIO()
     with files.create(made, KEY) as file:
-        in_threads(lambda: [(found.append(reader.read(250)), file.write(bytes(4096))) for _ in range(100)])
+        in_threads(lambda: [(found.extend([reader.read(250)]), file.write(bytes(4096))) for _ in range(100)])  # type: ignore
     assert sorted(found) == sorted(LONG[at : at + 250] for at in range(0, 200000, 250))
     assert PAGE["open_file"](KEY, made.getvalue()) == bytes(800 * 4096)
     once = sealed(LONG[:100000])

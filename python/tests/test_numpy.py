@@ -50,7 +50,8 @@ def test_words(seed: bytes, stream: int, word: int, sizes: list[int], at: int) -
 
 
 def test_known_answers() -> None:
-    """Cases of this repository, of which some are rand_chacha's, with 20, 12 and 8 rounds. Bytes are words."""
+    """Cases of this repository, of which some are rand_chacha's, with 20, 12 and 8 rounds. Bytes are words,
+    and a keystream from the nonce 0 is stream 0."""
 
     def data(text: str) -> bytes:  # 00*12, 01..20
         text = re.sub(r"(\w\w)\*(\d+)", lambda it: it[1] * int(it[2]), text)
@@ -59,13 +60,13 @@ def test_known_answers() -> None:
     cases, calls = set(), 0
     for file in "cases", "more_cases", "published":
         text = (TOP / f"crates/known_answers/src/{file}.rt").read_text().replace("\\\n", "")
-        for rounds, seed, lines in re.findall(r"(?m)^ChaCha(20|12|8)Rng seed ([0-9a-f.* ]+)\n((?:.+\n)*)", text):
+        for rounds, seed, lines in re.findall(r"(?m)^ChaCha(20|12|8)(?:Rng seed| key) ([0-9a-f.* ]+)(?: nonce 00\*12)?\n((?:.+\n)*)", text):
             bits = ChaCha(data(seed), rounds=int(rounds))
             for call, argument, answer in re.findall(r"(?m)^(\w+)(?: (\d[\w^-]*))?(?: -> ([^|\n]+))?", lines):
                 count, state = int(eval((argument or "0").replace("^", "**"))), state_of(bits)
                 if call in ("next_u32", "next_u64"):
                     found: object = draws(bits)(int(call[-2:]))
-                elif call == "fill_bytes":
+                elif call in ("fill_bytes", "write"):
                     words = [draws(bits)(32) for _ in range(-(-count // 4))]
                     found = struct.pack(f"<{len(words)}I", *words)[:count]
                 elif call == "get_word_pos":
@@ -76,7 +77,7 @@ def test_known_answers() -> None:
                 else:
                     break
                 if answer and ".." not in answer:
-                    assert found == (data(answer) if call == "fill_bytes" else eval(answer.replace("^", "**")))
+                    assert found == (data(answer) if isinstance(found, bytes) else eval(answer.replace("^", "**")))
                     calls += 1
                     cases.add((rounds, seed, lines))
     assert len(cases) >= 12 and calls >= 70 and {it[0] for it in cases} == {"20", "12", "8"}, (len(cases), calls)
