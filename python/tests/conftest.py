@@ -1,12 +1,6 @@
 """What the tests share."""
 
-import array
-import ctypes
-import gc
-import mmap
-import pathlib
-import re
-import threading
+import array, ctypes, gc, mmap, pathlib, re, threading
 from collections.abc import Callable
 from typing import Any
 

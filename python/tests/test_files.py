@@ -1,21 +1,13 @@
 """Sealed files, beside `seal`, whose file of numbers is in the repository, and libsodium by the Python of seal's page."""
 
-import base64
-import gc
-import io
-import os
-import pathlib
-import shutil
-import tarfile
-import zipfile
+import base64, gc, io, os, pathlib, shutil, tarfile, zipfile
 from collections.abc import Callable
 from typing import Any, cast
 
 import numpy as np
 import pytest
 from conftest import BUFFERS, NO_BUFFERS, TOP, examples, in_threads, leaves_no_memory
-from hypothesis import given
-from hypothesis import strategies as st
+from hypothesis import given, strategies as st
 
 from chacha20 import files
 from chacha20.files import SealedFileError

@@ -1,11 +1,6 @@
 """Messages and the bare ciphers, beside OpenSSL by `cryptography`, libsodium by PyNaCl, and published vectors."""
 
-import pathlib
-import pickle
-import re
-import sys
-import threading
-import time
+import pathlib, pickle, re, sys, threading, time
 from collections.abc import Callable
 from typing import Any
 
@@ -14,8 +9,7 @@ import pytest
 from conftest import BUFFERS, NO_BUFFERS, TOP, in_threads, leaves_no_memory
 from cryptography.hazmat.primitives.ciphers import Cipher, algorithms
 from cryptography.hazmat.primitives.ciphers.aead import ChaCha20Poly1305 as OpenSSL
-from hypothesis import given
-from hypothesis import strategies as st
+from hypothesis import given, strategies as st
 from nacl import bindings
 
 import chacha20

@@ -1,18 +1,13 @@
 """The generator, beside OpenSSL, the known answers of this repository, and the definitions of NumPy's draws."""
 
-import copy
-import pickle
-import re
-import struct
-import threading
+import copy, pickle, re, struct, threading
 from typing import Any
 
 import numpy as np
 import pytest
 from conftest import BUFFERS, TOP, in_threads, leaves_no_memory
 from cryptography.hazmat.primitives.ciphers import Cipher, algorithms
-from hypothesis import given
-from hypothesis import strategies as st
+from hypothesis import given, strategies as st
 
 from chacha20.numpy import ChaCha
 

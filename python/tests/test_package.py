@@ -1,11 +1,6 @@
 """The wheel, by pip in an empty environment, the programs of docs/PYTHON.md, and types."""
 
-import os
-import pathlib
-import re
-import subprocess
-import sys
-import zipfile
+import os, pathlib, re, subprocess, sys, zipfile
 
 from conftest import TOP, examples
 

@@ -4,8 +4,7 @@ from typing import Any
 
 import pytest
 from conftest import BUFFERS, NO_BUFFERS, in_threads, leaves_no_memory
-from hypothesis import given
-from hypothesis import strategies as st
+from hypothesis import given, strategies as st
 from nacl.bindings import crypto_secretstream as sodium
 
 from chacha20 import InvalidTag
@@ -58,9 +57,9 @@ def test_refused() -> None:
 def test_threads_and_memory() -> None:
     """Threads that push on one stream never use one nonce: each message is another one of the stream."""
     pushes, sent = PushStream(KEY), list[bytes]()
-    in_threads(lambda: sent.extend([pushes.push(bytes(9000)) for _ in range(20)]))
+    in_threads(lambda: sent.extend([pushes.push(bytes(1 << 18)) for _ in range(6)]))
     pulls, rest = PullStream(KEY, pushes.header), set(sent)
-    for _ in range(160):
+    for _ in range(48):
         for message in rest:
             try:
                 pulls.pull(message)
@@ -68,7 +67,7 @@ def test_threads_and_memory() -> None:
                 continue
             rest.remove(message)
             break
-    assert len(sent) == 160 and not rest
+    assert len(sent) == 48 and not rest
 
     def act() -> None:
         message = pushes.push(bytes(1 << 16))

@@ -3,8 +3,7 @@ NumPy is in chacha20.numpy; the bare ciphers, which don't authenticate, are in c
 
 from __future__ import annotations
 
-import os
-import typing
+import os, typing
 
 from chacha20 import _chacha20
 

@@ -2,27 +2,14 @@
 
 from __future__ import annotations
 
-import base64
-import contextlib
-import io
-import os
-import re
-import secrets
-import stat
-import threading
-import typing
+import base64, contextlib, io, os, re, secrets, stat, threading, typing
 
 from chacha20 import InvalidTag, _chacha20, _copy
-from chacha20._chacha20 import FILE_CHUNK_BYTES as CHUNK
-from chacha20._chacha20 import FILE_HEADER_BYTES as HEADER
-from chacha20._chacha20 import FILE_TEXT_BYTES as TEXT
+from chacha20._chacha20 import FILE_CHUNK_BYTES as CHUNK, FILE_HEADER_BYTES as HEADER, FILE_TEXT_BYTES as TEXT
 
 if typing.TYPE_CHECKING:
     from _typeshed import ReadableBuffer, StrPath, WriteableBuffer
-
     File = StrPath | bytes | typing.IO[bytes]
-
-__all__ = ["SealedFileError", "SealedReader", "SealedWriter", "create", "open", "read_key"]
 
 
 class SealedFileError(OSError):

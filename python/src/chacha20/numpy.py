@@ -3,9 +3,7 @@ rand_chacha's generators and of this library's. A number of 64 bits takes two wo
 
 from __future__ import annotations
 
-import operator
-import os
-import typing
+import operator, os, typing
 
 import numpy as np
 

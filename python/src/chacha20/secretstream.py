@@ -3,10 +3,7 @@ nor the end cut off, if the reader waits for Tag.FINAL."""
 
 from __future__ import annotations
 
-import enum
-import os
-import threading
-import typing
+import enum, os, threading, typing
 
 from chacha20 import _chacha20, _copy
 
