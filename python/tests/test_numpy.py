@@ -161,7 +161,7 @@ def test_threads_and_memory() -> None:
         thread = threading.Thread(target=act)
         with bits.lock:
             thread.start()
-            thread.join(0.05)
+            thread.join(0.2)
             assert thread.is_alive()
         thread.join()
     leaves_no_memory(lambda: [np.random.Generator(ChaCha(SEED)).random() for _ in range(20)])
