@@ -154,8 +154,10 @@ static PyObject *message(PyObject *object, int opens, int count, ARGUMENTS, PyOb
     return end(&it, "data is too long, or buf overlaps an argument and isn't in place");
 }
 
-#define MESSAGE_METHOD(NAME, OPENS, LAST) \
-    static PyObject *NAME(PyObject *it, ARGUMENTS, PyObject *names) { return message(it, OPENS, LAST, args, given, names); }
+#define MESSAGE_METHOD(NAME, OPENS, COUNT)                            \
+    static PyObject *NAME(PyObject *it, ARGUMENTS, PyObject *names) { \
+        return message(it, OPENS, COUNT, args, given, names);         \
+    }
 MESSAGE_METHOD(encrypt, 0, 3)
 MESSAGE_METHOD(encrypt_into, 0, 4)
 MESSAGE_METHOD(decrypt, 1, 3)
@@ -175,7 +177,6 @@ static PyType_Spec CIPHER = {
     "chacha20._chacha20.Cipher", sizeof(cipher), 0, Py_TPFLAGS_DEFAULT | Py_TPFLAGS_BASETYPE, CIPHER_SLOTS};
 
 /* The functions of METHODS, below */
-
 #define FUNCTION(NAME) static PyObject *NAME(PyObject *Py_UNUSED(module), ARGUMENTS)
 FUNCTION(xor_at) {
     static const struct parameter PARAMETERS[] = {
@@ -317,7 +318,7 @@ FUNCTION(generator_set) {
 
 FUNCTION(generator_get) {
     const struct bitgen *bits = given == 1 ? PyCapsule_GetPointer(args[0], "BitGenerator") : NULL;
-    if (!bits || bits->next_uint64 != next_uint64) return PyErr_Format(PyExc_TypeError, "no capsule of a generator");
+    if (!bits || !bits->state || bits->next_uint64 != next_uint64) return PyErr_Format(PyExc_TypeError, "no generator");
     const struct generator *own = bits->state;
     return Py_BuildValue("(y#I)", own->state, (Py_ssize_t)sizeof own->state, (unsigned)(WORDS - own->used));
 }
@@ -344,7 +345,6 @@ static int fill_module(PyObject *module) {
             PyModule_AddIntConstant(module, "FILE_CHUNK_BYTES", CHACHA20_FILE_CHUNK_BYTES) < 0 ||
             PyModule_AddIntConstant(module, "FILE_TEXT_BYTES", CHACHA20_FILE_TEXT_BYTES) < 0 ? -1 : 0;
 }
-
 static PyModuleDef_Slot SLOTS[] = {{Py_mod_exec, fill_module}, {0}};
 static struct PyModuleDef MODULE = {PyModuleDef_HEAD_INIT, "_chacha20", NULL, 0, METHODS, SLOTS, NULL, NULL, NULL};
 PyMODINIT_FUNC PyInit__chacha20(void) { return PyModuleDef_Init(&MODULE); }

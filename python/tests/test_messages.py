@@ -5,6 +5,7 @@ from collections.abc import Callable
 from typing import Any
 
 import cryptography_vectors  # type: ignore
+import numpy as np
 import pytest
 from conftest import BUFFERS, NO_BUFFERS, TOP, in_threads, leaves_no_memory
 from cryptography.hazmat.primitives.ciphers import Cipher, algorithms
@@ -150,7 +151,7 @@ def test_bare(kind: Any, nonce: bytes) -> None:
     refused(TypeError, "", cipher.xor_into, bytes(8), room, 1.5)
     refused(ValueError, "overlaps", cipher.xor_into, view[:64], view[8:72])
     assert room == bytes(8) and view == bytes(80)
-    assert len(cipher.xor(bytes(8), 2**38 - 8)) == 8 and cipher.xor(b"", 2**38) == b""
+    assert len(cipher.xor(bytes(8), np.int64(2**38 - 8))) == 8 and cipher.xor(b"", 2**38) == b""
     for length in {8, 11, 12, 13, 24, 25} - {len(nonce)}:
         refused(ValueError, "nonce must have", kind, KEY, bytes(length))
 

@@ -134,6 +134,7 @@ def test_seeds() -> None:
     wanted = np.random.SeedSequence(5).generate_state(8).astype("<u4").tobytes()
     assert all(state_of(ChaCha(it))["seed"] == wanted for it in (5, [5], np.array([5]), np.random.SeedSequence(5)))
     assert state_of(ChaCha())["seed"] != state_of(ChaCha())["seed"]
+    assert state_of(ChaCha(SEED, np.int64(3), np.int8(8))) == state_of(ChaCha(SEED, 3, 8))  # type: ignore
     bits = ChaCha(SEED)
     before, state = bits.state, state_of(bits)
     wrong: list[Any] = [("seed", bytes(31)), ("stream", -1), ("stream", 2**64), ("rounds", 10), ("word", 2**68), ("spawned", -1)]

@@ -34,12 +34,13 @@ class ChaCha(np.random.BitGenerator):
         self._put(seed, stream, 0, rounds, 0)
 
     def _put(self, seed: bytes, stream: int, word: int, rounds: int, spawned: int) -> None:
+        stream, word, rounds, spawned = map(operator.index, (stream, word, rounds, spawned))
         for name, value, end in ("stream", stream, _STREAMS), ("word", word, _WORDS), ("spawned", spawned, _CHILDREN):
-            if not 0 <= operator.index(value) < end:
+            if not 0 <= value < end:
                 raise ValueError(f"{name} must be from 0 to {end - 1}")
         if rounds not in (20, 12, 8):
             raise ValueError("rounds must be 20, 12 or 8")
-        state = seed + operator.index(stream).to_bytes(8, "little") + operator.index(word).to_bytes(9, "little")
+        state = seed + stream.to_bytes(8, "little") + word.to_bytes(9, "little")
         _chacha20.generator_set(rounds, state, self.capsule)
         self._rounds, self._spawned = rounds, spawned
 

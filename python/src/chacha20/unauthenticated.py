@@ -3,7 +3,7 @@ of the text, and nothing notices."""
 
 from __future__ import annotations
 
-import typing
+import operator, typing
 
 from chacha20 import _chacha20, _copy
 
@@ -32,7 +32,7 @@ class ChaCha20:
     def _xor(self, position: int, *data: ReadableBuffer) -> typing.Any:
         if not 0 <= position <= 1 << 38:
             raise ValueError("position must be from 0 to 2^38")
-        return _chacha20.xor_at(position, *self._secret, *data)
+        return _chacha20.xor_at(operator.index(position), *self._secret, *data)
 
 
 class XChaCha20(ChaCha20):
