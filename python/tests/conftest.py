@@ -5,10 +5,11 @@ from collections.abc import Callable
 from typing import Any
 
 import numpy as np
-from hypothesis import settings
+from hypothesis import HealthCheck, settings
 
 TOP = pathlib.Path(__file__).resolve().parents[2]
-settings.register_profile("few", deadline=None, max_examples=60, database=None)
+# A busy machine is slow.
+settings.register_profile("few", deadline=None, max_examples=60, database=None, suppress_health_check=list(HealthCheck))
 settings.load_profile("few")
 
 
