@@ -3,7 +3,6 @@
 
 mod authenticated;
 mod contracts;
-mod cut_files;
 mod dice;
 mod draws;
 mod exports;
