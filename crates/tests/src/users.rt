@@ -3,6 +3,7 @@
 
 mod authenticated;
 mod contracts;
+mod cut_files;
 mod dice;
 mod draws;
 mod exports;

@@ -64,7 +64,7 @@ impl RandomSource for Given<'_> {
     }
 }
 
-static SALT: Salt = *b"defghijklmnopqrstuv";
+pub static SALT: Salt = *b"defghijklmnopqrstuv";
 
 // What is said of a file, whose text goes to `text`, where reader and writer fail in these calls, or never.
 fn opened(file: &[u8], text: &mut Vec<u8>, read: u32, write: u32) -> Said {
@@ -74,7 +74,7 @@ fn opened(file: &[u8], text: &mut Vec<u8>, read: u32, write: u32) -> Said {
 }
 
 // The same of a text, whose file goes to `file`.
-fn made(salt: &[u8], text: &[u8], file: &mut Vec<u8>, read: u32, write: u32) -> Said {
+pub fn made(salt: &[u8], text: &[u8], file: &mut Vec<u8>, read: u32, write: u32) -> Said {
     let mut reader = Unsteady::new(text, 1000, read);
     let mut writer = Unsteady::new(file, 1000, write);
     let mut buf = [0; BUFFER];

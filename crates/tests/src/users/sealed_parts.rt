@@ -105,7 +105,7 @@ fn from_disk(key: &Key, file: File, start: u64, window: &mut [u8]) -> Result<(),
 }
 
 // A file that has these bytes, and whose name is removed.
-fn unnamed(rt: &HostRuntime, bytes: &[u8]) -> io::Result<File> {
+pub fn unnamed(rt: &HostRuntime, bytes: &[u8]) -> io::Result<File> {
     let path = "sealed_parts.tmp";
     let mut options = OpenOptions::new();
     options.read(true).write(true).create(true).truncate(true);
@@ -190,7 +190,7 @@ fn a_chunk_is_kept(rt: HostRuntime) -> Result<(), Fail> {
 }
 
 // What is said of a range.
-fn range<S: ReadAt + Drop>(source: S, start: u64, window: &mut [u8]) -> Result<(), RangeError> {
+pub fn range<S: ReadAt + Drop>(source: S, start: u64, window: &mut [u8]) -> Result<(), RangeError> {
     let mut buf = [0; BUFFER];
     let mut reader = SealedReader::new(&KEY, source, &mut buf)?;
     reader.read_exact_at(start, window)
