@@ -60,6 +60,9 @@ static int has_aad(int call) { return call < HAVE_TAG || is_stream(call); }
 static int has_tag(int call) { return call < HAVE_TAG || call == PULL; }
 static const uint64_t block = 0x123456789abcdef0, offset = 0xfedcba9876543210;
 
+/* Whether a chunk is the last: no other number than 0 says no. */
+static int last_of(const size_t *len) { return len[INPUT] % 2 ? 256 : 0; }
+
 static int run_call(int call, uint8_t *const *at, const size_t *len) {
 #define MESSAGE_AT at[KEY], at[NONCE], at[AAD], len[AAD], at[OUTPUT], at[INPUT], len[OUTPUT], at[TAG]
     switch (call) {
@@ -75,8 +78,8 @@ static int run_call(int call, uint8_t *const *at, const size_t *len) {
         case 9: return chacha20_legacy_keystream(at[KEY], at[NONCE], block, offset, at[OUTPUT], len[OUTPUT]);
         case PUSH: return chacha20_secretstream_push(at[KEY], at[AAD], len[AAD], at[OUTPUT], at[INPUT], len[INPUT], 250);
         case PULL: return chacha20_secretstream_pull(at[KEY], at[AAD], len[AAD], at[OUTPUT], at[INPUT], len[INPUT], at[TAG]);
-        case SEAL: return chacha20_file_seal_chunk(at[KEY], at[NONCE], (uint32_t)block, 256, at[OUTPUT], at[INPUT], len[INPUT]);
-        default: return chacha20_file_open_chunk(at[KEY], at[NONCE], (uint32_t)block, 0, at[OUTPUT], at[INPUT], len[INPUT]);
+        case SEAL: return chacha20_file_seal_chunk(at[KEY], at[NONCE], (uint32_t)block, last_of(len), at[OUTPUT], at[INPUT], len[INPUT]);
+        default: return chacha20_file_open_chunk(at[KEY], at[NONCE], (uint32_t)block, last_of(len), at[OUTPUT], at[INPUT], len[INPUT]);
     }
 }
 
@@ -160,7 +163,7 @@ static void try_call(int call, uint8_t *const *at, const size_t *len) {
     }
     is(got.numbers[n++] == (has_aad(call) ? len[AAD] : call >= SEAL ? (uint32_t)block : block), "another number is handed on");
     if (call == LEGACY_XOR || call == LEGACY_KEYSTREAM) is(got.numbers[n++] == offset, "another offset is handed on");
-    if (call >= SEAL) is(got.numbers[n++] == (call == SEAL), "whether a chunk is the last");
+    if (call >= SEAL) is(got.numbers[n++] == (last_of(len) != 0), "whether a chunk is the last");
     is(got.numbers[n++] == (is_between || call != OPEN ? len[OUTPUT] : len[INPUT]), "another length is handed on");
     if (is_between) is(got.numbers[n++] == len[INPUT], "another length is handed on");
     if (call == PUSH) is(got.numbers[n++] == 250, "another tag byte is handed on");
@@ -210,6 +213,7 @@ static void all_overlaps_and_lengths(void) {
         if (has_input) len[INPUT] = longest[i % 4];
         try_call(call, at, len);
         /* And what is too short. */
+        lay_apart(at), at[OUTPUT] = upper_half;
         if (less[call]) len[INPUT] = less[call] - 1, try_call(call, at, len);
     }
 }

@@ -158,8 +158,8 @@ pub extern "C" fn chacha20_file_open_chunk_in_place(
     xchacha20_aead_decrypt_in_place(key, &nonce, &[], text, &tag)
 }
 
-/// `chacha20_file_open_chunk_in_place` of the chunk `input`, into `output`, which overlaps no other argument. Where that
-/// hasn't 16 bytes less, it returns 1 and writes nothing.
+/// `chacha20_file_open_chunk_in_place` of the chunk `input`, into `output`, which overlaps no other argument. Where
+/// that hasn't 16 bytes less, it returns 1 and writes nothing.
 #[unsafe(no_mangle)]
 pub extern "C" fn chacha20_file_open_chunk_between(
     key: &Key,

@@ -6,7 +6,6 @@ use Rattle.chacha20poly1305.specs.ChaCha.{quarter, columns, diagonals, rounds, a
 use Rattle.chacha20poly1305.specs.Poly1305.{number, accumulator, tag_from}
 use Rattle.chacha20poly1305.specs.Aead.{mac_key}
 use Rattle.secretstream.specs.Stream.{State, start, message_of, after, moved, counted, rekeyed}
-use Rattle.secretstream.specs.declared.tag.Tag.{Tag}
 use Rattle.secretstream.specs.Tags.{byte_of, tag_of}
 use Rattle.secretstream.specs.declared.tag.Tag.TheVariants.{Message, Push, Rekey, Final, Other}
 
