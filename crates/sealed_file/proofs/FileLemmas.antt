@@ -4,7 +4,7 @@ use Rattle.sealed_file.specs.declared.error.Damage.{Damage}
 use Rattle.sealed_file.specs.Ranges.{place}
 use Rattle.sealed_file.specs.Sealed.{header, chunk, chunks, piece, last_number, sealed, HasSalt, IsFileDamage, IsSealed}
 use Rattle.sealed_file.proofs.ChunkLemmas.{length-chunks, length-chunk, length-last, full-chunk, length-piece, length-piece-at, chunks-begin}
-use Rattle.sealed_file.proofs.HeaderLemmas.{front-is, no-header}
+use Rattle.sealed_file.proofs.HeaderLemmas.{front-is}
 
 module _ (key salt text : List ℕ) (size : length salt ≡ 19) where
   pub length-front : (i : ℕ) → 65536 * i ≤ length text → length (header salt ++ chunks key salt text i) ≡ place i
@@ -60,11 +60,3 @@ pub own : (key salt salt' text file : List ℕ) → length salt' ≡ 19 → take
 own key salt salt' text file size begins is =
     let same = ap (drop 13) (sym (front-is file salt' (has-salt key salt' text file size is)) ∙ begins) in
     (same, is ∙ ap (λ s. sealed key s text) same)
-
--- what is wrong with no sealed file
-pub no-sealed : (key file : List ℕ) (damage : Damage) → IsFileDamage file damage
-    → (salt text : List ℕ) → IsSealed key salt text file → ⊥
-no-sealed key file damage wrong salt text (size, most, is) =
-    let (rest, _, begins) = has-salt key salt text file size is in
-    no-header file damage wrong salt rest size
-    (omega (arith, ap length is ∙ length-sealed key salt text size, most)) begins

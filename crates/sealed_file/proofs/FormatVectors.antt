@@ -59,7 +59,8 @@ nonce = refl
 -- files of one, two and three chunks
 with_chunks : (key salt text : List ℕ) (n : ℕ) → last_number text ≡ n → sealed key salt text
     ≡ header salt ++ chunks key salt text n ++ chunk key salt n true (piece text n)
-with_chunks key salt text n is = ap (λ n. header salt ++ chunks key salt text n ++ chunk key salt n true (piece text n)) is
+with_chunks key salt text n is =
+    ap (λ n. header salt ++ chunks key salt text n ++ chunk key salt n true (piece text n)) is
 
 pub one_chunk : (key salt text : List ℕ) → length text ≤ 65536
     → sealed key salt text ≡ header salt ++ [] ++ chunk key salt 0 true (take 65536 text)

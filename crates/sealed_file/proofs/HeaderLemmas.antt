@@ -11,17 +11,6 @@ use Rattle.sealed_file.specs.declared.error.Damage.{Damage}
 use Rattle.sealed_file.specs.declared.error.Damage.TheVariants.{NotSealed, OtherVersion, CutHeader, TooLong, WrongChunk, WrongEnd}
 use Rattle.sealed_file.specs.Sealed.{header, HasSalt, IsFileDamage}
 
--- then there is no header, or the file is too long
-pub no-header : (file : List ℕ) (damage : Damage) → IsFileDamage file damage → (salt rest : List ℕ)
-    → length salt ≡ 19 → length file ≤ 32 + 65552 * 2 ^ 32 → file ≢ header salt ++ rest
-no-header file NotSealed other salt rest size fits same = other (ap (take 12) same)
-no-header file CutHeader (_, short) salt rest size fits same =
-    omega (arith, short, size, ap length same, length-append (header salt) rest)
-no-header file OtherVersion (_, _, other) salt rest size fits same = other (ap (take 13) same)
-no-header file TooLong many salt rest size fits same = omega (arith, many, fits)
-no-header file (WrongChunk i) none salt rest size fits same = none
-no-header file (WrongEnd i) none salt rest size fits same = none
-
 -- the first 32 bytes decide
 damage-more : (xs rest : List ℕ) (damage : Damage) → 32 ≤ length xs → IsFileDamage xs damage
     → IsFileDamage (xs ++ rest) damage

@@ -42,7 +42,8 @@ module _ (key salt : List ℕ) (i : ℕ) (last : Bool) where
   right-chunk bytes text some is =
       let same : decrypted bytes ≡ text = ap decrypted is ∙ chunk-opens key salt i last text in
       chosen _ _ (decrypted bytes)
-      ((bytes_eq-Decides bytes (chunk key salt i last (decrypted bytes))).1 (is ∙ ap (chunk key salt i last) (sym same)))
+      ((bytes_eq-Decides bytes (chunk key salt i last (decrypted bytes))).1
+      (is ∙ ap (chunk key salt i last) (sym same)))
       (may-have i (decrypted bytes) (λ later. omega (arith, ap length same, some later)))
       ∙ ap Some same
 
@@ -151,7 +152,8 @@ opened-keeps key salt text bytes (suc n) i =
       | Some next ↦ opened_from key salt n (i + 1) (text ++ next) (drop 65552 bytes)
     ]
 
-    keeps : (o : Option (List ℕ)) → ((next : List ℕ) → (more : List ℕ) × ((told (Some next)).0 ≡ (text ++ next) ++ more))
+    keeps : (o : Option (List ℕ))
+        → ((next : List ℕ) → (more : List ℕ) × ((told (Some next)).0 ≡ (text ++ next) ++ more))
         → (more : List ℕ) × ((told o).0 ≡ text ++ more)
     keeps None behind = ([], sym (append-nil text))
     keeps (Some next) behind = let (more, is) = behind next in (next ++ more, is ∙ append_assoc text next more)

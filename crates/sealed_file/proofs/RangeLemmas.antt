@@ -10,7 +10,7 @@ use Rattle.sealed_file.specs.declared.error.Damage.{Damage}
 use Rattle.sealed_file.specs.declared.error.Damage.TheVariants.{NotSealed, OtherVersion, CutHeader, TooLong, WrongChunk, WrongEnd}
 use Rattle.sealed_file.specs.Ranges.{File, place, EndsAt, HasChunk, HasRange, IsWrong, CopiesFrom}
 use Rattle.sealed_file.proofs.ChunkLemmas.{length-chunk, length-piece-at, chunk-same}
-use Rattle.sealed_file.proofs.FileLemmas.{chunk-here, has-salt, length-front, length-sealed, no-sealed, own}
+use Rattle.sealed_file.proofs.FileLemmas.{chunk-here, has-salt, length-front, length-sealed, own}
 use Rattle.sealed_file.proofs.HeaderLemmas.{front-is}
 use Rattle.sealed_file.proofs.ListLemmas.{get-piece, slice-same}
 

@@ -13,7 +13,8 @@ abbrev pub header_damage : List ℕ → Option Damage
 header_damage file =
     if not (bytes_eq (take 12 file) (codes "chacha20seal")) then Some NotSealed
     else (if nat_lt (length file) 32 then Some CutHeader
-    else (if not (bytes_eq (take 13 file) (codes "chacha20seal1")) then Some OtherVersion else None))
+    else (if not (bytes_eq (take 13 file) (codes "chacha20seal1")) then Some OtherVersion
+    else None))
 
 -- only chunk 0 may have an empty text
 abbrev pub may_have : ℕ → List ℕ → Bool

@@ -3,8 +3,8 @@
 use super::unsteady::Unsteady;
 use Change::{Cut, Has, Turned};
 use known_answers::published::COUNTING as KEY;
-use sealed_file::chunk::salt_of;
 use sealed_file::Damage::{CutHeader, NotSealed, OtherVersion, WrongChunk, WrongEnd};
+use sealed_file::chunk::salt_of;
 use sealed_file::{
     BUFFER, CHUNK, Damage, DecryptError, EncryptError, RangeError, Salt, SealedReader, decrypt,
     encrypt, encrypt_with_salt,
@@ -298,7 +298,9 @@ fn salts_are_random(rt: HostRuntime) -> Result<(), Fail> {
     assert!(rt; (one.len() == 52) & (salt != salt_of(two)?) & (again.as_slice() == one));
     assert!(rt; buf.iter().all(|byte| *byte == 0));
     for part in KEY.windows(8) {
-        let is_there = [one, two].iter().any(|file| file.windows(8).any(|it| it == part));
+        let is_there = [one, two]
+            .iter()
+            .any(|file| file.windows(8).any(|it| it == part));
         assert!(rt; !is_there);
     }
     Ok(())
@@ -318,7 +320,12 @@ fn errors_are_printed(rt: HostRuntime) -> Result<(), Fail> {
     };
     let said = format!(in rt.alloc(); "{e}")?;
     assert!(rt; (e.kind() == ErrorKind::InvalidData) & (said.as_str() == "not a sealed file"));
-    for damage in [WrongChunk(1), WrongChunk(u64::MAX >> 16), WrongEnd(2), CutHeader] {
+    for damage in [
+        WrongChunk(1),
+        WrongChunk(u64::MAX >> 16),
+        WrongEnd(2),
+        CutHeader,
+    ] {
         let same = format!(in rt.alloc(); "{}", io::Error::from(damage))?;
         let said = format!(in rt.alloc(); "{damage}")?;
         assert!(rt; same == said);
