@@ -1,7 +1,8 @@
 /* SPDX-License-Identifier: Apache-2.0 OR MIT
 
-   Authenticated encryption by ChaCha20-Poly1305 and XChaCha20-Poly1305, the bare ciphers, HChaCha20,
-   Poly1305 and seekable generators of random words, for Linux on x86-64 and aarch64.
+   Authenticated encryption by ChaCha20-Poly1305 and XChaCha20-Poly1305, libsodium's streams, sealed
+   files, the bare ciphers, HChaCha20, Poly1305 and seekable generators of random words, for Linux on
+   x86-64 and aarch64.
 
        uint8_t key[CHACHA20_KEY_BYTES], nonce[XCHACHA20_NONCE_BYTES], tag[CHACHA20_TAG_BYTES];
        ...
@@ -22,8 +23,8 @@
    - Positions and lengths count bytes, blocks of 64 bytes where a name has |block|, and words of 32
      bits where it has |word_pos|.
    - Data of length 0 may be null. With any other null pointer the behaviour is undefined.
-   - |output| may be |input|. Authenticated encryption and the ciphers refuse any other overlap of what
-     they write with an argument, and lengths above PTRDIFF_MAX, which no object has. Other functions
+   - |output| may be |input|, but for streams. Authenticated encryption, the ciphers, streams and chunks
+     refuse any other overlap of what they write with an argument, and lengths above PTRDIFF_MAX, which no object has. Other functions
      say what may overlap. Inputs may overlap: a key and a nonce may be parts of one buffer. Data of
      length 0 overlap nothing.
    - Bytes need no alignment.
