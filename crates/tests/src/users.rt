@@ -21,6 +21,5 @@ mod unsteady;
 mod message;
 mod pieces;
 mod secret_streams;
-mod sectors;
 mod simulation;
 mod wireguard;
