@@ -5,8 +5,8 @@ libsodium, and compares what the page saved: page.py PACKAGE ROOM [SCREENSHOT]. 
 import atexit, base64, http.server, os, pathlib, shutil, sys, threading, time
 
 from selenium import webdriver
-from selenium.common.exceptions import NoAlertPresentException
 from selenium.webdriver.chrome.service import Service
+from selenium.webdriver.support.expected_conditions import alert_is_present
 from selenium.webdriver.support.ui import WebDriverWait
 
 PACKAGE, ROOM = map(pathlib.Path, sys.argv[1:3])
@@ -93,15 +93,17 @@ def save(link, name):
 
 
 def asks(act, is_accepted=False):
-    """What the page asks."""
+    """What the page asks, which it may do later."""
     act()
-    try:
-        alert = driver.switch_to.alert
-    except NoAlertPresentException:
-        return ""
+    alert = until(lambda: alert_is_present()(driver), "a question")
     text = alert.text
     alert.accept() if is_accepted else alert.dismiss()
     return text
+
+
+def asks_nothing(act):
+    act()
+    return not alert_is_present()(driver)
 
 
 def state():
@@ -134,7 +136,7 @@ same([at(it).is_enabled() for it in BUTTONS], [False] * 3 + [True] * 4, "what is
 ASKED = "This key isn't saved. Without it nobody can open what was sealed under it. Replace it?"
 URGES = "Save the key too: without it nobody can open what you sealed."
 make, letter = at("make").click, lambda: at("key").send_keys("x")
-same([asks(make), *state()], ["", True, False, ""], "a first key")
+same([asks_nothing(make), *state()], [True, True, False, ""], "a first key")
 keys = [key_now()]
 for _ in range(7):
     same(asks(make, True), ASKED, "asks for another key")
@@ -143,7 +145,7 @@ made = [base64.b64decode(it.removeprefix("seal-key-v1:")) for it in keys]
 same([(len(it), len(set(it)) > 20) for it in made], [(32, True)] * 8, "random keys")
 same([it for it in zip(*made) if len(set(it)) < 4], [], "bytes that keys share")
 for act in make, letter, lambda: at("keyfile").send_keys(str(ROOM / "key")):
-    until(lambda: asks(act) == ASKED, "a question")
+    same(asks(act), ASKED, "a question")
 same(key_now(), keys[-1], "the key stays")
 choose("65537.text")
 does("seal", "Sealed 65537.text: 65,601 bytes.")
@@ -155,7 +157,7 @@ same([save("keep", "page.key"), shows("kept"), *state()], ["my.key", [True], Tru
 same((ROOM / "page.key").read_text(), f"{key}\n", "the key's file")
 at("kept").click()
 same([shows("kept", "save"), *state()], [[False, True], False, True, ""], "a key that is saved")
-same([asks(letter), key_now(), shows("keep", "save")], ["", f"{key}x", [False, False]], "no key, and no result")
+same([asks_nothing(letter), key_now(), shows("keep", "save")], [True, f"{key}x", [False, False]], "no key or result")
 for it in "hunter2", "", key[:-1], f"{key[:-2]}B=", key[12:]:
     fill(key=it)
     same(shows("keep"), [False], f"saves the key {it}")
@@ -315,6 +317,6 @@ for name, wanted in ("4096", list((ROOM / "200000.text").read_bytes())), ("cut",
           return parts;
         })().then(done, (error) => done(error.message))""", f"/room/{name}.stream")
     same(found, wanted, f"the stream {name}")
-if count < 100:
-    sys.exit(f"page: {count} comparisons, and not 100")
+if count < 103:
+    sys.exit(f"page: {count} comparisons, and not 103")
 print(f"page: {count} comparisons, 0 wrong")
