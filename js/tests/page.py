@@ -264,7 +264,7 @@ same([said("Cancelled."), shows("save")], ["Cancelled.", [False]], "what was can
 # On a narrow screen nothing is wider than it, and a result is in sight.
 narrow = {"width": 320, "height": 480, "deviceScaleFactor": 1, "mobile": True}
 driver.execute_cdp_cmd("Emulation.setDeviceMetricsOverride", narrow)
-long = "a-long-name-without-a-space" * 8
+long = "alongnamewithoutaspace" * 10
 (ROOM / long).write_text("short")
 choose(long)
 does("seal", f"Sealed {long}: 53 bytes.")
