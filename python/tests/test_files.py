@@ -99,7 +99,7 @@ def test_archives(tmp_path: pathlib.Path) -> None:
 def test_damage() -> None:
     """No file that is cut, or has more bytes, opens. A damaged chunk is refused by reads of its bytes alone."""
     text, whole = LONG[:200000], sealed(LONG[:200000])
-    for at in [0, 1, 11, 12, 13, 31]:
+    for at in [12, 13, 31]:
         assert str(refusal(reader_of, whole[:at])) == "the file ends in its header"
     for at in [32, 48, 49, 31 + CHUNK]:
         assert str(refusal(reader_of, whole[:at])) == "the key is wrong, or the text is damaged or cut"
@@ -108,7 +108,8 @@ def test_damage() -> None:
         assert str(error) == f"the text from byte {TEXT * number} on is damaged or cut"
         assert (error.start, error.end) == (TEXT * number, None) and isinstance(error, OSError)
     assert str(refusal(reader_of, whole + b"\0")) == f"the text from byte {3 * TEXT} on is damaged or cut"
-    assert str(refusal(reader_of, b"text")) == str(refusal(reader_of, b"x" * 500)) == "not a sealed file"
+    for other in b"", b"chacha20sea", b"x" * 500:
+        assert str(refusal(reader_of, other)) == "not a sealed file"
     assert str(refusal(reader_of, b"chacha20seal2" + whole[13:])) == "sealed in another version of the format"
     wrong = "the key is wrong, or bytes 0 to 65535 of the text are damaged"
     for file, key in (whole, KEY[::-1]), (whole[:40] + b"\0" + whole[41:-1] + b"\0", KEY):
