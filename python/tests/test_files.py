@@ -34,17 +34,19 @@ def refusal(call: Callable[..., object], *values: Any) -> SealedFileError:
 
 @pytest.mark.parametrize("length", [0, 1, TEXT - 1, TEXT, TEXT + 1, 2 * TEXT, 200000])
 def test_both_ways(tmp_path: pathlib.Path, length: int) -> None:
-    text, path = LONG[:length], tmp_path / "file"
+    text, path, headers = LONG[:length], tmp_path / "file", set()
     for step in 1 << 20, 65536, 4099:
         made = io.BytesIO()
         with files.create(made, KEY) as file:
             assert sum(file.write(text[at : at + step]) for at in range(0, length, step)) == length
         assert PAGE["open_file"](KEY, made.getvalue()) == text and not made.closed
+        headers.add(made.getvalue()[:32])
     path.write_bytes(sealed(text))
     places: list[Any] = [str(path), path, os.fsencode(path), io.BytesIO(sealed(text))]
     for place in places:
         with files.open(place, KEY) as reader:
             assert reader.read() == text and reader.read() == b"" and reader.tell() == length
+    assert not places[3].closed and len(headers) == 3
     folder = TOP / "crates/seal/data"
     with files.open(folder / "numbers.sealed", files.read_key(folder / "key")) as reader:
         assert reader.read() == b"".join(b"%09d\n" % it for it in range(7000))
