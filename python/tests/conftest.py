@@ -9,7 +9,7 @@ from hypothesis import HealthCheck, settings
 
 TOP = pathlib.Path(__file__).resolve().parents[2]
 # A busy machine is slow.
-settings.register_profile("few", deadline=None, max_examples=60, database=None, suppress_health_check=list(HealthCheck))
+settings.register_profile("few", deadline=None, max_examples=40, database=None, suppress_health_check=list(HealthCheck))
 settings.load_profile("few")
 
 
@@ -33,8 +33,10 @@ BUFFERS: list[Callable[[bytes], Any]] = [
 NO_BUFFERS: list[Any] = ["text", 5, [1], memoryview(b"abcdef")[::2], np.zeros((4, 4), np.uint8).T[1:]]
 
 
-def in_threads(act: Callable[[], object], count: int = 8) -> None:
-    threads = [threading.Thread(target=act) for _ in range(count)]
+def in_threads(act: Callable[[], object]) -> None:
+    """Eight threads that begin together."""
+    start = threading.Barrier(8)
+    threads = [threading.Thread(target=lambda: (start.wait(), act())) for _ in range(8)]
     for it in threads:
         it.start()
     for it in threads:

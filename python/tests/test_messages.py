@@ -214,7 +214,7 @@ def test_memory() -> None:
         refused(ValueError, "", cipher.encrypt_into, NONCE, view[8:-8], None, buf)
         refused(ValueError, "", plain.xor, text, 2**38)
 
-    objects = cipher, text, sealed, buf, KEY, NONCE, ChaCha20Poly1305
+    objects = cipher, text, sealed, buf, KEY, NONCE, ChaCha20Poly1305, InvalidTag, chacha20
     before = [sys.getrefcount(it) for it in objects]
     leaves_no_memory(act)
     assert all(sys.getrefcount(it) - count < 100 for it, count in zip(objects, before))

@@ -45,8 +45,7 @@ def test_words(seed: bytes, stream: int, word: int, sizes: list[int], at: int) -
 
 
 def test_known_answers() -> None:
-    """Cases of this repository, of which some are rand_chacha's, with 20, 12 and 8 rounds. Bytes are words,
-    and a keystream from the nonce 0 is stream 0."""
+    """Cases of this repository, with 20, 12 and 8 rounds. Bytes are words, and a keystream from the nonce 0 is stream 0."""
 
     def data(text: str) -> bytes:  # 00*12, 01..20
         text = re.sub(r"(\w\w)\*(\d+)", lambda it: it[1] * int(it[2]), text)

@@ -1,5 +1,6 @@
 """Streams, beside libsodium by PyNaCl, both ways."""
 
+import threading
 from typing import Any
 
 import pytest
@@ -68,11 +69,22 @@ def test_threads_and_memory() -> None:
             rest.remove(message)
             break
     assert len(sent) == 48 and not rest
+    message = pushes.push(b"")
+    for lock, act in (pushes._lock, lambda: pushes.push(b"")), (pulls._lock, lambda: pulls.pull(message)):
+        thread = threading.Thread(target=act)
+        with lock:
+            thread.start()
+            thread.join(0.2)
+            assert thread.is_alive()
+        thread.join()
 
-    def act() -> None:
+    pushes = PushStream(KEY)
+    pulls = PullStream(KEY, pushes.header)
+
+    def pair() -> None:
         message = pushes.push(bytes(1 << 16))
         with pytest.raises(InvalidTag):
             pulls.pull(message, b"x")
         pulls.pull(message)
 
-    leaves_no_memory(act)
+    leaves_no_memory(pair)

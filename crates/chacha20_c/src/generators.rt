@@ -14,6 +14,9 @@ use chacha20::backends::Lanes8;
 use chacha20::state_bytes::{seed_in, stored, stream_in, word_pos_in};
 use chacha20::{ChaChaRng, R8, R12, R20, Rounds, Seed, SerializedRngState};
 
+// That of the named generators.
+type Backend = Lanes8;
+
 /// Writes the state of a seed: the start of stream 0. `state` and `seed` do not overlap.
 #[unsafe(no_mangle)]
 pub extern "C" fn chacha20_rng_from_seed(seed: &Seed, state: &mut SerializedRngState)
@@ -138,7 +141,7 @@ fn fill_bytes<R: Rounds>(state: &mut SerializedRngState, output: &mut [u8])
         ≡ (fill R.COUNT (of_state_bytes state.old) (length output.old)).1 }
     ensures stored { state.new ≡ state_bytes (of_state_bytes state.new) }
 {
-    let mut rng = ChaChaRng::<R, Lanes8>::deserialize_state(state);
+    let mut rng = ChaChaRng::<R, Backend>::deserialize_state(state);
     rng.fill_bytes(output);
     *state = rng.serialize_state();
 }

@@ -13,6 +13,9 @@ use std::io;
 use std::marker::Model;
 use std::random::RandomSource;
 
+// That of the named ciphers.
+type Backend = Lanes16;
+
 /// Makes the messages of a stream, one after another. Clauses see it as its state.
 #[derive(Drop)]
 pub struct PushStream {
@@ -66,14 +69,14 @@ impl PushStream {
         ensures next { OnOk result (self.new ≡ after self.old aad.now (byte_of tag) text.now) }
         ensures refused { OnErr result ((self.new ≡ self.old) × (output.new ≡ output.old)) }
     {
-        self.state.push::<Lanes16>(aad, tag.byte(), text, output)
+        self.state.push::<Backend>(aad, tag.byte(), text, output)
     }
 
     /// Takes another key, as after a message with `Tag::Rekey`. The receiver has to call it at the same place.
     pub fn rekey(&mut self)
         ensures { self.new ≡ rekeyed self.old }
     {
-        self.state.rekey::<Lanes16>();
+        self.state.rekey::<Backend>();
     }
 }
 
@@ -132,7 +135,7 @@ impl PullStream {
             → OnOk result (self.new ≡ after self.old aad.now byte text) }
         ensures refused { OnErr result ((self.new ≡ self.old) × (output.new ≡ output.old)) }
     {
-        let byte = self.state.pull::<Lanes16>(aad, message, output)?;
+        let byte = self.state.pull::<Backend>(aad, message, output)?;
         Ok(Tag::from_byte(byte))
     }
 
@@ -140,6 +143,6 @@ impl PullStream {
     pub fn rekey(&mut self)
         ensures { self.new ≡ rekeyed self.old }
     {
-        self.state.rekey::<Lanes16>();
+        self.state.rekey::<Backend>();
     }
 }

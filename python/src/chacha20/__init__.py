@@ -12,7 +12,6 @@ if typing.TYPE_CHECKING:
 
     _Self = typing.TypeVar("_Self", bound="_Cipher")
 
-__all__ = ["ChaCha20Poly1305", "InvalidTag", "XChaCha20Poly1305"]
 __version__ = _chacha20.version
 
 

@@ -9,9 +9,7 @@ import numpy as np
 
 from chacha20 import _chacha20, _copy
 
-_STREAMS = 1 << 64
-_WORDS = 1 << 68
-_CHILDREN = 1 << 16
+_STREAMS, _WORDS, _CHILDREN = 1 << 64, 1 << 68, 1 << 16
 
 
 class ChaCha(np.random.BitGenerator):

@@ -4,7 +4,7 @@ ghost use Rattle.std.specs.Prelude.{◌≡◌, IfOk, OnOk, IsOk};
 ghost use Rattle.secretstream.specs.Tags.{byte_of};
 
 use known_answers::published::{COUNTING, FROM_80};
-use secretstream::{Error, PullStream, PushStream, Tag};
+use secretstream::{Error, Header, PullStream, PushStream, Tag};
 use std::io::{self, ErrorKind};
 use std::random::RandomSource;
 
@@ -227,4 +227,22 @@ fn in_step(rt: HostRuntime) {
         let last = pass_one(&mut sender, &mut receiver, Tag::Final, &mut [9; 100]);
         assert!(rt; passed & (last == Ok(Tag::Final)));
     }
+}
+
+fn drawn_header<R: RandomSource>(random: &R) -> io::Result<Header> {
+    let (header, _) = PushStream::init(random, &FROM_80)?;
+    Ok(header)
+}
+
+#[test]
+fn headers_are_random(rt: HostRuntime) -> io::Result<()> {
+    let headers = [drawn_header(&rt)?, drawn_header(&rt)?];
+    assert!(rt; headers[0] != headers[1]);
+    for part in FROM_80.windows(8) {
+        let is_there = headers
+            .iter()
+            .any(|header| header.windows(8).any(|it| it == part));
+        assert!(rt; !is_there);
+    }
+    Ok(())
 }
