@@ -267,25 +267,26 @@ int chacha20_file_salt(const uint8_t *input, size_t len, uint8_t salt[19]) {
 
 uint64_t chacha20_file_text_len(uint64_t file_len) { return PROVED(chacha20_file_text_len, file_len); }
 
-int chacha20_file_seal_chunk(const uint8_t key[32], const uint8_t salt[19], uint32_t number, int last, uint8_t *output,
+int chacha20_file_seal_chunk(const uint8_t key[32], const uint8_t salt[19], uint64_t number, int last, uint8_t *output,
                              const uint8_t *input, size_t len) {
+    uint32_t chunk = (uint32_t)number;
     if (len == 0) input = output;
-    if (len > CHACHA20_FILE_TEXT_BYTES || !chunk_fits(output, len + 16, input, len, key, salt))
+    if (number > UINT32_MAX || len > CHACHA20_FILE_TEXT_BYTES || !chunk_fits(output, len + 16, input, len, key, salt))
         return CHACHA20_REFUSED;
     if (output == input)
-        return PROVED(chacha20_file_seal_chunk_in_place, key, salt, number, last != 0, output, len + 16);
-    return PROVED(chacha20_file_seal_chunk_between, key, salt, number, last != 0, output, len + 16, input, len);
+        return PROVED(chacha20_file_seal_chunk_in_place, key, salt, chunk, last != 0, output, len + 16);
+    return PROVED(chacha20_file_seal_chunk_between, key, salt, chunk, last != 0, output, len + 16, input, len);
 }
 
-int chacha20_file_open_chunk(const uint8_t key[32], const uint8_t salt[19], uint32_t number, int last, uint8_t *output,
+int chacha20_file_open_chunk(const uint8_t key[32], const uint8_t salt[19], uint64_t number, int last, uint8_t *output,
                              const uint8_t *input, size_t len) {
     uint8_t none = 0;
+    uint32_t chunk = (uint32_t)number;
     if (len == 16) output = &none;
-    if (len < 16 || len > CHACHA20_FILE_CHUNK_BYTES || !chunk_fits(output, len - 16, input, len, key, salt))
-        return CHACHA20_REFUSED;
-    if (output == input)
-        return PROVED(chacha20_file_open_chunk_in_place, key, salt, number, last != 0, output, len);
-    return PROVED(chacha20_file_open_chunk_between, key, salt, number, last != 0, output, len - 16, input, len);
+    if (number > UINT32_MAX || len < 16 || len > CHACHA20_FILE_CHUNK_BYTES ||
+        !chunk_fits(output, len - 16, input, len, key, salt)) return CHACHA20_REFUSED;
+    if (output == input) return PROVED(chacha20_file_open_chunk_in_place, key, salt, chunk, last != 0, output, len);
+    return PROVED(chacha20_file_open_chunk_between, key, salt, chunk, last != 0, output, len - 16, input, len);
 }
 
 const char *chacha20_version(void) { return CHACHA20_VERSION; }

@@ -23,10 +23,10 @@
    - Positions and lengths count bytes, blocks of 64 bytes where a name has |block|, and words of 32
      bits where it has |word_pos|.
    - Data of length 0 may be null. With any other null pointer the behaviour is undefined.
-   - |output| may be |input|, but for streams. Authenticated encryption, the ciphers, streams and chunks
-     refuse any other overlap of what they write with an argument, and lengths above PTRDIFF_MAX, which no object has. Other functions
-     say what may overlap. Inputs may overlap: a key and a nonce may be parts of one buffer. Data of
-     length 0 overlap nothing.
+   - |output| may be |input|, except in streams. Authenticated encryption, the ciphers, streams and chunks
+     refuse any other overlap of what they write with an argument, and lengths above PTRDIFF_MAX, which no
+     object has. Other functions say what may overlap. Inputs may overlap: a key and a nonce may be parts
+     of one buffer. Data of length 0 overlap nothing.
    - Bytes need no alignment.
    - No function allocates, takes a lock, throws or keeps state between calls. Threads and signal
      handlers may call any function at any time if none writes memory that another uses.
@@ -88,17 +88,18 @@ extern "C" {
 /* What a function that can refuse returns. After all but CHACHA20_OK nothing was written: the data are
    NOT encrypted, or NOT decrypted. Don't send or use |output|.
 
-   CHACHA20_REFUSED    an argument breaks a rule of the function: a length, a position or an overlap.
-                       The caller can check it before the call.
+   CHACHA20_REFUSED    an argument breaks a rule of the function: a length, a position, a number or an
+                       overlap. Data that are too short for their tag are refused too.
    CHACHA20_WRONG_TAG  the tag is wrong: something was changed, or the key, the nonce, the state or the
                        associated data aren't those of the sender.
 
-   The last two are answers of chacha20_file_salt alone. */
+   The last three are answers of chacha20_file_salt alone. */
 #define CHACHA20_OK 0
 #define CHACHA20_REFUSED 1
 #define CHACHA20_WRONG_TAG 2
 #define CHACHA20_OTHER_VERSION 3
 #define CHACHA20_CUT_HEADER 4
+#define CHACHA20_NOT_SEALED 5
 
 /* The tag bytes of a stream's messages. Other bytes are allowed. */
 #define CHACHA20_SECRETSTREAM_MESSAGE 0
@@ -120,7 +121,7 @@ typedef char chacha20_size_t_has_64_bits[sizeof(size_t) == 8 ? 1 : -1];
 #define CHACHA20_ATTR_MAC __attribute__((__nonnull__(1, 4)))
 #define CHACHA20_ATTR_CHUNK __attribute__((__warn_unused_result__, __nonnull__(1, 2)))
 #define CHACHA20_ATTR_PUSH __attribute__((__warn_unused_result__, __nonnull__(1, 4)))
-#define CHACHA20_ATTR_PULL __attribute__((__warn_unused_result__, __nonnull__(1, 5, 7)))
+#define CHACHA20_ATTR_PULL __attribute__((__warn_unused_result__, __nonnull__(1, 7)))
 #define CHACHA20_ATTR_SALT __attribute__((__warn_unused_result__, __nonnull__(3)))
 #else
 #define CHACHA20_ATTR_MUST_USE
@@ -316,7 +317,7 @@ uint64_t chacha20_rng_get_block_pos(const uint8_t state[CHACHA20_AT_LEAST 49]) C
 void chacha20_rng_set_block_pos(uint8_t state[CHACHA20_AT_LEAST 49], uint64_t block)
                                 CHACHA20_ATTR_NONNULL;
 
-/* The stream. Setting moves to word 0 of the stream. */
+/* The stream. Setting moves to word 0 of the stream; Rust's rand_chacha keeps the word position. */
 uint64_t chacha20_rng_get_stream(const uint8_t state[CHACHA20_AT_LEAST 49]) CHACHA20_ATTR_NONNULL;
 void chacha20_rng_set_stream(uint8_t state[CHACHA20_AT_LEAST 49], uint64_t stream)
                              CHACHA20_ATTR_NONNULL;
@@ -354,7 +355,7 @@ void chacha20_secretstream_start(const uint8_t key[CHACHA20_AT_LEAST 32],
                                  uint8_t state[CHACHA20_AT_LEAST 44]) CHACHA20_ATTR_NONNULL;
 
 /* chacha20_secretstream_push writes the message of |len| bytes of |input|, which has 17 bytes more, to
-   |output|, and moves |state| behind it. The associated data |aad| aren't sent; the receiver has to pass
+   |output|, and moves |state| past it. The associated data |aad| aren't sent; the receiver has to pass
    the same. After a |tag| with bit 1 set, as REKEY and FINAL, both sides have another key.
 
    It returns CHACHA20_OK, or CHACHA20_REFUSED if |len| is greater than CHACHA20_AEAD_LONGEST - 64, if
@@ -364,7 +365,7 @@ int chacha20_secretstream_push(uint8_t state[CHACHA20_AT_LEAST 44], const uint8_
                                CHACHA20_ATTR_PUSH CHACHA20_ATTR_READS(2, 3) CHACHA20_ATTR_READS(5, 6);
 
 /* chacha20_secretstream_pull checks that the |len| bytes of |input| are the next message. Then it writes
-   its text, of |len| - 17 bytes, to |output|, and its tag byte to |tag|, and moves |state| behind it.
+   its text, of |len| - 17 bytes, to |output|, and its tag byte to |tag|, and moves |state| past it.
 
    It returns CHACHA20_OK, CHACHA20_WRONG_TAG for other bytes, or CHACHA20_REFUSED if |len| is less than
    17 or greater than CHACHA20_AEAD_LONGEST - 47, if |aad_len| is greater than PTRDIFF_MAX, or if |state|,
@@ -380,7 +381,8 @@ void chacha20_secretstream_rekey(uint8_t state[CHACHA20_AT_LEAST 44]) CHACHA20_A
 
    The files of the program seal: a header of 32 bytes, and chunks. Each chunk but the last has 65536 bytes
    of text, and in the file 16 more; chunk i begins at byte 32 + 65552 * i. Here every chunk is a call, and
-   the caller reads and writes. |buffer| has 65552 bytes, and |len| is what a read returned:
+   the caller reads and writes. |buffer| has 65552 bytes. A read gives all bytes that it is asked for, unless
+   the file ends:
 
        chacha20_file_header(salt, header);                               // 19 random bytes as salt
        write(header, 32);
@@ -398,7 +400,8 @@ void chacha20_secretstream_rekey(uint8_t state[CHACHA20_AT_LEAST 44]) CHACHA20_A
        }
 
    Seal each number once under a salt: a second chunk of that number uses the nonce again. To read a part,
-   open the last chunk first: until then the file's length is only a claim, and may have been cut. */
+   open the last chunk first, number (file_len - 33) / 65552: until then the file's length is only a claim,
+   and may have been cut. */
 
 /* chacha20_file_header writes the header of a file with |salt|. Never use a salt twice under one key; draw
    it at random. |header| may overlap |salt|. */
@@ -406,9 +409,9 @@ void chacha20_file_header(const uint8_t salt[CHACHA20_AT_LEAST 19],
                           uint8_t header[CHACHA20_AT_LEAST 32]) CHACHA20_ATTR_NONNULL;
 
 /* chacha20_file_salt writes the salt of a file that begins with |input|, of which it reads at most 32 bytes.
-   It returns CHACHA20_OK, CHACHA20_CUT_HEADER if the file ends in its header, CHACHA20_OTHER_VERSION for one
-   of another version of the format, or CHACHA20_REFUSED for one that isn't sealed. |salt| may overlap
-   |input|. */
+   It returns CHACHA20_OK, CHACHA20_NOT_SEALED if the file doesn't begin with the magic word,
+   CHACHA20_CUT_HEADER if it has fewer than 32 bytes, or CHACHA20_OTHER_VERSION for another version of the
+   format. |salt| may overlap |input|. */
 int chacha20_file_salt(const uint8_t *input, size_t len, uint8_t salt[CHACHA20_AT_LEAST 19])
                        CHACHA20_ATTR_SALT CHACHA20_ATTR_READS(1, 2);
 
@@ -418,10 +421,11 @@ uint64_t chacha20_file_text_len(uint64_t file_len);
 /* chacha20_file_seal_chunk writes chunk |number| of the text |input| to |output|, with |len| + 16 bytes.
    |last| is 0 or not: whether the file ends with it. |output| may be |input|.
 
-   It returns CHACHA20_OK, or CHACHA20_REFUSED if |output| overlaps what it may not, or if |len| isn't 65536,
-   nor, for a last chunk, less: 0 only for chunk 0. */
+   |len| must be 65536; in the last chunk it may be less, but 0 only in chunk 0. It returns CHACHA20_OK, or
+   CHACHA20_REFUSED for another |len|, if |number| is greater than 2^32 - 1, which no file has, or if
+   |output| overlaps what it may not. */
 int chacha20_file_seal_chunk(const uint8_t key[CHACHA20_AT_LEAST 32],
-                             const uint8_t salt[CHACHA20_AT_LEAST 19], uint32_t number, int last,
+                             const uint8_t salt[CHACHA20_AT_LEAST 19], uint64_t number, int last,
                              uint8_t *output, const uint8_t *input, size_t len)
                              CHACHA20_ATTR_CHUNK CHACHA20_ATTR_READS(6, 7);
 
@@ -431,7 +435,7 @@ int chacha20_file_seal_chunk(const uint8_t key[CHACHA20_AT_LEAST 32],
    It returns CHACHA20_OK, CHACHA20_WRONG_TAG if the bytes aren't this chunk, or CHACHA20_REFUSED where
    chacha20_file_seal_chunk does for a text of |len| - 16 bytes. */
 int chacha20_file_open_chunk(const uint8_t key[CHACHA20_AT_LEAST 32],
-                             const uint8_t salt[CHACHA20_AT_LEAST 19], uint32_t number, int last,
+                             const uint8_t salt[CHACHA20_AT_LEAST 19], uint64_t number, int last,
                              uint8_t *output, const uint8_t *input, size_t len)
                              CHACHA20_ATTR_CHUNK CHACHA20_ATTR_READS(6, 7);
 

@@ -214,9 +214,9 @@ async function* opened(key, blob, size, start, end) {
   const front = await read(blob, size, 0, 32);
   const run = (wasm, salt, file) => wasm.chacha20_file_salt(file, BigInt(front.length), salt);
   const salt = call("blob", [19, front], 19, run, {
-    1: [Error, "not a sealed file"],
     3: [Error, "sealed in another version of the format"],
     4: [Error, "the file ends in its header"],
+    5: [Error, "not a sealed file"],
   });
   const last = Math.max(Math.ceil((size - 32) / SEALED) - 1, 0);
   if (last >= 2 ** 32) throw new Error("longer than a sealed file can be");

@@ -460,7 +460,7 @@ enum { TEXT = CHACHA20_FILE_TEXT_BYTES, SALT = CHACHA20_FILE_SALT_BYTES };
 /* A chunk, whose nonce is the salt, the number and whether it is the last. */
 struct chunk {
     uint8_t key[32], nonce[24];
-    uint32_t number;
+    uint64_t number;
     int last;
     size_t len; /* of the text */
 };
@@ -518,6 +518,9 @@ static void files_of_each_length(struct run *run) {
         holds(run, apply_chunk(&it, 1, 0, input) == answer && apply_chunk(&it, 1, 1, input) == answer, "a length to seal");
         holds(run, apply_chunk(&it, 0, 0, input) == wanted && apply_chunk(&it, 0, 1, input) == wanted, "a length to open");
     }
+    struct chunk beyond = {.number = UINT64_C(1) << 32, .len = TEXT};
+    for (int i = 0; i < 2; i++)
+        holds(run, apply_chunk(&beyond, i, 0, input) == CHACHA20_REFUSED, "a number past the last chunk's");
     for (uint64_t i = 0; i < 2000; i++) {
         wide len = i < 1000 ? i * 131 : next(run) >> i % 60, body = len < 32 ? 0 : len - 32, tags = 16 * ((body + 65551) / 65552);
         holds(run, chacha20_file_text_len((uint64_t)len) == (uint64_t)(body < tags ? 0 : body - tags), "a text's length");
@@ -527,11 +530,11 @@ static void files_of_each_length(struct run *run) {
     for (size_t len = 0; len < 40; len++) {
         uint8_t file[40] = {0};
         memcpy(file, header, 32), memset(found, 0x55, SALT);
-        int wanted = len < 12 ? CHACHA20_REFUSED : len < 32 ? CHACHA20_CUT_HEADER : CHACHA20_OK;
+        int wanted = len < 12 ? CHACHA20_NOT_SEALED : len < 32 ? CHACHA20_CUT_HEADER : CHACHA20_OK;
         holds(run, chacha20_file_salt(len ? file : NULL, len, found) == wanted, "a header's length");
         for (int i = 0; i < SALT; i++) holds(run, found[i] == (wanted ? 0x55 : salt[i]), "a header's salt");
         file[len % 13] ^= 1, memset(found, 0x55, SALT);
-        if (len >= 12) wanted = len % 13 < 12 ? CHACHA20_REFUSED : wanted ? wanted : CHACHA20_OTHER_VERSION;
+        if (len >= 12) wanted = len % 13 < 12 ? CHACHA20_NOT_SEALED : wanted ? wanted : CHACHA20_OTHER_VERSION;
         holds(run, chacha20_file_salt(file, len, found) == wanted && found[0] == 0x55, "another header");
     }
 }

@@ -78,8 +78,8 @@ static int run_call(int call, uint8_t *const *at, const size_t *len) {
         case 9: return chacha20_legacy_keystream(at[KEY], at[NONCE], block, offset, at[OUTPUT], len[OUTPUT]);
         case PUSH: return chacha20_secretstream_push(at[KEY], at[AAD], len[AAD], at[OUTPUT], at[INPUT], len[INPUT], 250);
         case PULL: return chacha20_secretstream_pull(at[KEY], at[AAD], len[AAD], at[OUTPUT], at[INPUT], len[INPUT], at[TAG]);
-        case SEAL: return chacha20_file_seal_chunk(at[KEY], at[NONCE], (uint32_t)block, last_of(len), at[OUTPUT], at[INPUT], len[INPUT]);
-        default: return chacha20_file_open_chunk(at[KEY], at[NONCE], (uint32_t)block, last_of(len), at[OUTPUT], at[INPUT], len[INPUT]);
+        case SEAL: return chacha20_file_seal_chunk(at[KEY], at[NONCE], block & UINT32_MAX, last_of(len), at[OUTPUT], at[INPUT], len[INPUT]);
+        default: return chacha20_file_open_chunk(at[KEY], at[NONCE], block & UINT32_MAX, last_of(len), at[OUTPUT], at[INPUT], len[INPUT]);
     }
 }
 

@@ -254,13 +254,12 @@ FUNCTION(file_text_len) {
     return PyLong_FromUnsignedLongLong(chacha20_file_text_len(it.number[0]));
 }
 
-typedef int chunk_function(const uint8_t *, const uint8_t *, uint32_t, int, uint8_t *, const uint8_t *, size_t);
+typedef int chunk_function(const uint8_t *, const uint8_t *, uint64_t, int, uint8_t *, const uint8_t *, size_t);
 static PyObject *chunk(chunk_function *run, Py_ssize_t growth, ARGUMENTS) {
     struct call it = {0};
     const Py_buffer *key = &it.at[0], *salt = &it.at[1], *data = &it.at[2];
     if (take(&it, 2, CHUNK, 3, args, given, NULL) && output(&it, NULL, data->len + growth))
-        it.status = it.number[0] > UINT32_MAX ? CHACHA20_REFUSED
-            : run(key->buf, salt->buf, (uint32_t)it.number[0], it.number[1] != 0, it.to, data->buf, data->len);
+        it.status = run(key->buf, salt->buf, it.number[0], it.number[1] != 0, it.to, data->buf, data->len);
     return end(&it, "no chunk has this number or length");
 }
 FUNCTION(file_seal_chunk) { return chunk(chacha20_file_seal_chunk, CHACHA20_TAG_BYTES, args, given); }

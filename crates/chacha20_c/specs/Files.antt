@@ -1,11 +1,12 @@
 -- Sealed files, without their bytes at hand.
 use Rattle.std.specs.Prelude.{◌≡◌, ◌⊎◌, ◌<◌, ℕ, Bool, List, IsTrue}
 use Rattle.sealed_file.specs.declared.error.Damage.{Damage}
-use Rattle.sealed_file.specs.declared.error.Damage.TheVariants.{OtherVersion, CutHeader}
+use Rattle.sealed_file.specs.declared.error.Damage.TheVariants.{NotSealed, OtherVersion, CutHeader}
 use Rattle.sealed_file.specs.Sealed.{chunk}
 
--- the status of a file's damage: NotSealed has that of a refusal
+-- the status of what is wrong with a header
 abbrev pub status_of : Damage → ℕ
+status_of NotSealed = 5
 status_of OtherVersion = 3
 status_of CutHeader = 4
 status_of _ = 1

@@ -23,7 +23,7 @@ pub extern "C" fn chacha20_file_header(salt: &Salt, output: &mut [u8; 32])
 }
 
 /// Writes the salt of a file, from its first 32 bytes; more may follow. Returns 0. Where they aren't a header, it
-/// returns 3 for one of another version, 4 for a file that ends in its header, and else 1, and writes nothing. `salt`
+/// returns 3 for one of another version, 4 for a file that ends in its header, and else 5, and writes nothing. `salt`
 /// overlaps no other argument.
 #[unsafe(no_mangle)]
 pub extern "C" fn chacha20_file_salt(input: &[u8], salt: &mut Salt) -> u32
@@ -54,6 +54,7 @@ fn status_of(damage: Damage) -> u32
     ensures some { result ≢ 0 }
 {
     match damage {
+        Damage::NotSealed => 5,
         Damage::OtherVersion => 3,
         Damage::CutHeader => 4,
         _ => 1,

@@ -66,7 +66,7 @@ class SealedReader(_Sealed):
         self._size = self._file.seek(0, os.SEEK_END)
         salt = _chacha20.file_salt(self._bytes(0, min(self._size, HEADER)))
         if isinstance(salt, int):
-            words = {1: "not a sealed file", 3: "sealed in another version of the format", 4: "the file ends in its header"}
+            words = {3: "sealed in another version of the format", 4: "the file ends in its header", 5: "not a sealed file"}
             raise SealedFileError(words[salt])
         self._salt, self._length = salt, _chacha20.file_text_len(self._size)
         self._last = max(-(-(self._size - HEADER) // CHUNK) - 1, 0)

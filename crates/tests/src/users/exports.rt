@@ -336,7 +336,7 @@ fn headers() -> bool {
         chacha20_file_salt(&header, &mut salt),
         chacha20_file_salt(&header[..31], &mut salt),
     ];
-    (answers == [0, 1, 3, 4])
+    (answers == [0, 5, 3, 4])
         & (header == *b"chacha20seal20123456789abcdefghi")
         & (salt == SALT)
         & (chacha20_file_text_len(32 + 65552 + 17) == 65537)
