@@ -492,7 +492,7 @@ static void forged_chunk(struct run *run, struct chunk it, int is_in_place) {
 }
 
 static void one_chunk(struct run *run) {
-    struct chunk it = {.number = (uint32_t)(next(run) >> (32 + below(run, 33))), .last = (int)below(run, 2)};
+    struct chunk it = {.number = next(run) >> 32 >> below(run, 33), .last = (int)below(run, 2)};
     random_bytes(run, it.key, 32), random_bytes(run, it.nonce, SALT);
     it.len = it.last ? below(run, (below(run, 2) ? 300 : TEXT) + 1) : TEXT;
     if (it.number) it.len += !it.len;
@@ -559,7 +559,7 @@ static void file_of_seal(struct run *run) {
         for (size_t at = 10 * ((TEXT * (size_t)i + 9) / 10); at + 10 <= TEXT * (size_t)i + (size_t)size; at += 10, lines++) {
             char line[24];
             snprintf(line, sizeof line, "%09zu\n", at / 10);
-            same_bytes(run, text + at - TEXT * (size_t)i, (const uint8_t *)line, 10, "a line of seal's file");
+            same_bytes(run, text + (at - TEXT * (size_t)i), (const uint8_t *)line, 10, "a line of seal's file");
         }
     }
     holds(run, lines == 6999 && chacha20_file_text_len(len) == 70000, "the length of seal's file");
@@ -636,6 +636,8 @@ static void too_long(struct run *run) {
                        it->decrypt(far_key, far_nonce, aad, none, tag, tag, 0, tag) == CHACHA20_REFUSED,
               "what is too long was taken");
     }
+    /* Of a message of a stream, the first byte and the last 16 may be read before it is refused. */
+    mprotect(other, PAGE, PROT_READ), mprotect(other + CHACHA20_STREAM_BYTES - PAGE, PAGE, PROT_READ);
     for (size_t over = 1; over < 100; over += 33) {
         uint8_t state[STATE] = {0}, found = 0;
         holds(run, chacha20_secretstream_push(state, NULL, 0, room, other, CHACHA20_AEAD_LONGEST - 64 + over, 0) == CHACHA20_REFUSED &&
