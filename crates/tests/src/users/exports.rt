@@ -355,7 +355,7 @@ fn message_of_chunk() -> [u8; 30] {
 const NUMBER: u32 = 0x0102_0304;
 
 fn seals() -> bool {
-    let (mut data, mut output) = ([0; 30], [0; 30]);
+    let (mut data, mut output, mut short) = ([0; 30], [0; 30], [0; 16]);
     data[..14].copy_from_slice(b"attack at dawn");
     let answers = [
         chacha20_file_seal_chunk_in_place(&FROM_80, &SALT, NUMBER, true, &mut data),
@@ -375,7 +375,7 @@ fn seals() -> bool {
             &mut output,
             b"attack at dawn",
         ),
-        chacha20_file_seal_chunk_between(&FROM_80, &SALT, NUMBER, true, &mut output[..16], b""),
+        chacha20_file_seal_chunk_between(&FROM_80, &SALT, NUMBER, true, &mut short, b""),
     ];
     (answers == [0, 0, 1, 1]) & (data == message_of_chunk()) & (output == data)
 }
