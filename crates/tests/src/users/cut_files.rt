@@ -29,7 +29,7 @@ fn damage_of(len: usize) -> Said {
 // What is said of a slice and of a `File`, if that is the same, where a read of no bytes would do.
 fn said(rt: &HostRuntime, file: &[u8]) -> Result<Option<Said>, Fail> {
     let slice = of_range(range(file, 0, &mut []));
-    let on_disk = of_range(range(unnamed(rt, file)?, 0, &mut []));
+    let on_disk = of_range(range(unnamed(rt, "cut.tmp", file)?, 0, &mut []));
     Ok(if slice == on_disk { Some(slice) } else { None })
 }
 

@@ -105,8 +105,7 @@ fn from_disk(key: &Key, file: File, start: u64, window: &mut [u8]) -> Result<(),
 }
 
 // A file that has these bytes, and whose name is removed.
-pub fn unnamed(rt: &HostRuntime, bytes: &[u8]) -> io::Result<File> {
-    let path = "sealed_parts.tmp";
+pub fn unnamed(rt: &HostRuntime, path: &str, bytes: &[u8]) -> io::Result<File> {
     let mut options = OpenOptions::new();
     options.read(true).write(true).create(true).truncate(true);
     let mut file = options.open(rt, path)?;
@@ -124,9 +123,9 @@ fn parts(rt: HostRuntime) -> Result<(), Fail> {
     assert!(rt; text.get(65500..65600) == Some(&window[..]));
     assert!(rt; is_read(text, file)?);
     assert!(rt; is_read(text, &Unsteady::new(file, 1000, 0))?);
-    from_disk(&KEY, unnamed(&rt, file)?, 70000, &mut window)?;
+    from_disk(&KEY, unnamed(&rt, "parts.tmp", file)?, 70000, &mut window)?;
     assert!(rt; text.get(70000..70100) == Some(&window[..]));
-    assert!(rt; is_read(text, unnamed(&rt, file)?)?);
+    assert!(rt; is_read(text, unnamed(&rt, "parts.tmp", file)?)?);
     Ok(())
 }
 
