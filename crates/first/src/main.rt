@@ -1,9 +1,9 @@
 //! Seals a message under a random key and nonce, opens it, and refuses a forged one.
 #![tactic(auto)]
 
-ghost use Rattle.std.specs.Prelude.{◌≡◌, ◌+◌, ◌≤◌, ◌↔◌, ◌^◌, ℕ, List, [], length, IsOk, OnOk, OnErr};
+ghost use Rattle.std.specs.Prelude.{◌≡◌, ◌+◌, ◌≤◌, ◌↔◌, ◌^◌, ℕ, List, [], length, take, drop, IsOk, OnOk, OnErr};
 ghost use Rattle.chacha20poly1305.specs.XChaCha.{xchacha_stream};
-ghost use Rattle.chacha20poly1305.specs.Aead.{sealed_message};
+ghost use Rattle.chacha20poly1305.specs.Aead.{sealed_message, poly1305_tag};
 
 use chacha20poly1305::{Error, XChaCha20Poly1305, XNonce};
 use std::{io, str};
@@ -55,6 +55,8 @@ fn open(
     ensures text { (plaintext : List ℕ)
         → sealed.now ≡ sealed_message (xchacha_stream 10 cipher.now nonce.now) [] plaintext
         → OnOk result (text.new ≡ plaintext) }
+    ensures right_tag { let n = length text.old in IsOk result → drop n sealed.now
+        ≡ poly1305_tag (xchacha_stream 10 cipher.now nonce.now) [] (take n sealed.now) }
     ensures refused { OnErr result (text.new ≡ text.old) }
 {
     cipher.decrypt(nonce, b"", sealed, text)
