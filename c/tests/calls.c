@@ -8,11 +8,10 @@
 #include <signal.h>
 #include <stdio.h>
 #include <stdlib.h>
-#include <string.h>
 #include <ucontext.h>
 #include <unistd.h>
 
-#include "../../include/chacha20.h"
+#include "calls.h"
 #include "compare.h"
 
 static int wrong;
@@ -45,79 +44,18 @@ static void positions(void) {
 
 /* The stack that a call takes: it runs on a painted one, from 64 multiples of 16 bytes over a page. The first call is a deep one,
    since it may also bind memcpy and memset. Other compilers and linkers may take MARGIN more. */
-enum { STACK = 1 << 15, MARGIN = 1024, PLACES = 64, LONGEST = (1 << 14) + 1000, PAINT = 0xa5 };
+enum { STACK = 1 << 15, MARGIN = 1024, PLACES = 64, PAINT = 0xa5 };
 
 static volatile uint8_t stack[STACK] __attribute__((aligned(4096)));
-static uint8_t one_key[32], one_nonce[24], one_aad[30], one_tag[16], one_state[CHACHA20_RNG_STATE_BYTES];
-static uint8_t input[LONGEST + 17], output[LONGEST + 17];
+static struct own own;
 static size_t call_len;
 static int call_kind;
 static const volatile uint8_t *call_begin;
 static ucontext_t home, away;
 
-#define MESSAGE one_key, one_nonce, one_aad, sizeof one_aad
-#define STREAM one_state, one_aad, sizeof one_aad
-
 static void on_stack(void) {
-    int answer = CHACHA20_OK;
-    uint64_t low, high;
     call_begin = __builtin_frame_address(0);
-    switch (call_kind) {
-        case 0: answer = chacha20_xor(one_key, one_nonce, 5, output, input, call_len); break;
-        case 1: answer = chacha20_xor(one_key, one_nonce, 5, output, output, call_len); break;
-        case 2: answer = chacha20_keystream(one_key, one_nonce, 5, output, call_len); break;
-        case 3: answer = xchacha20_xor(one_key, one_nonce, 5, output, input, call_len); break;
-        case 4: answer = xchacha20_xor(one_key, one_nonce, 5, output, output, call_len); break;
-        case 5: answer = xchacha20_keystream(one_key, one_nonce, 5, output, call_len); break;
-        case 6: answer = chacha20_legacy_xor(one_key, one_nonce, 0, 5, output, input, call_len); break;
-        case 7: answer = chacha20_legacy_xor(one_key, one_nonce, 0, 5, output, output, call_len); break;
-        case 8: answer = chacha20_legacy_keystream(one_key, one_nonce, 0, 5, output, call_len); break;
-        case 9: answer = chacha20_aead_encrypt(MESSAGE, output, output, call_len, one_tag); break;
-        case 10: answer = chacha20_aead_encrypt(MESSAGE, output, input, call_len, one_tag); break;
-        case 11: answer = xchacha20_aead_encrypt(MESSAGE, output, output, call_len, one_tag); break;
-        case 12: answer = xchacha20_aead_encrypt(MESSAGE, output, input, call_len, one_tag); break;
-        case 13: answer = chacha20_aead_decrypt(MESSAGE, output, output, call_len, one_tag); break;
-        case 14: answer = chacha20_aead_decrypt(MESSAGE, output, input, call_len, one_tag); break;
-        case 15: answer = xchacha20_aead_decrypt(MESSAGE, output, output, call_len, one_tag); break;
-        case 16: answer = xchacha20_aead_decrypt(MESSAGE, output, input, call_len, one_tag); break;
-        case 17: chacha20_rng_fill(one_state, output, call_len); break;
-        case 18: chacha20_onetime_poly1305(one_key, input, call_len, one_tag); break;
-        case 19: answer = chacha20_verify(input, input, call_len); break;
-        case 20: hchacha20(one_key, one_nonce, output); break;
-        case 21: chacha20_rng_from_seed(one_key, one_state), chacha20_rng_set_stream(one_state, 5); break;
-        case 22: chacha20_rng_set_word_pos(one_state, 5, 6), chacha20_rng_get_word_pos(one_state, &low, &high); break;
-        case 23: chacha20_rng_set_block_pos(one_state, chacha20_rng_get_block_pos(one_state)); break;
-        case 24: answer = chacha20_rng_get_stream(one_state) > 5 || !chacha20_version() || chacha20_block_position(0); break;
-        case 25: answer = chacha20_check(5, call_len) | chacha20_legacy_check(5, 5, call_len); break;
-        case 26: chacha12_rng_fill(one_state, output, call_len); break;
-        case 27: chacha8_rng_fill(one_state, output, call_len); break;
-        case 28: answer = chacha20_secretstream_push(STREAM, output, input, call_len, CHACHA20_SECRETSTREAM_FINAL); break;
-        case 29: answer = chacha20_secretstream_pull(STREAM, input, output, call_len + 17, one_tag); break;
-        case 30: chacha20_secretstream_start(one_key, one_nonce, one_state), chacha20_secretstream_rekey(one_state); break;
-        case 31: answer = chacha20_file_seal_chunk(one_key, one_nonce, 5, 1, output, input, call_len); break;
-        case 32: answer = chacha20_file_seal_chunk(one_key, one_nonce, 5, 1, output, output, call_len); break;
-        case 33: answer = chacha20_file_open_chunk(one_key, one_nonce, 5, 1, input, output, call_len + 16); break;
-        case 34: answer = chacha20_file_open_chunk(one_key, one_nonce, 5, 1, output, output, call_len + 16); break;
-        default: chacha20_file_header(one_nonce, output), answer = chacha20_file_salt(output, 32, input) + (int)chacha20_file_text_len(48);
-    }
-    is("an answer", answer == CHACHA20_OK);
-}
-enum { CALL_KINDS = 36 };
-
-/* What is decrypted has its right tag. */
-static void before_call(void) {
-    uint8_t kept[sizeof one_state];
-    memcpy(kept, one_state, sizeof kept);
-    if (call_kind == 29) is("an answer", chacha20_secretstream_push(STREAM, output, input, call_len, 3) == CHACHA20_OK);
-    if (call_kind == 33 || call_kind == 34)
-        is("an answer", chacha20_file_seal_chunk(one_key, one_nonce, 5, 1, output, input, call_len) == CHACHA20_OK);
-    memcpy(one_state, kept, sizeof kept);
-    if (call_kind == 13 || call_kind == 15) memcpy(input, output, call_len);
-    if (call_kind < 13 || call_kind > 16) return;
-    int answer = call_kind < 15 ? chacha20_aead_encrypt(MESSAGE, output, input, call_len, one_tag)
-                                : xchacha20_aead_encrypt(MESSAGE, output, input, call_len, one_tag);
-    if (call_kind == 14 || call_kind == 16) memcpy(input, output, call_len);
-    is("an answer", answer == CHACHA20_OK);
+    is("an answer", call(call_kind, &own, call_len) == CHACHA20_OK);
 }
 
 static void run_at(void (*function)(void), size_t below) {
@@ -132,13 +70,13 @@ static void run_at(void (*function)(void), size_t below) {
 
 /* The most bytes below a call. */
 static size_t deepest(void) {
-    static const size_t lengths[] = {LONGEST, 4096, 2190, 1780, 1370, 960, 550, 140, 70, 1};
+    static const size_t lengths[] = {MOST, 4096, 2190, 1780, 1370, 960, 550, 140, 70, 1};
     size_t most = 0;
     for (size_t i = 0; i < CALL_KINDS * sizeof lengths / sizeof lengths[0]; i++) {
         call_kind = (int)(i % CALL_KINDS), call_len = lengths[i / CALL_KINDS];
         for (size_t place = 0; place < PLACES; place++) {
             size_t at = 0;
-            before_call();
+            is("an answer", prepare(call_kind, &own, call_len) == CHACHA20_OK);
             run_at(on_stack, 16 * (37 * (place + 16) % 256));
             while (stack[at] == PAINT) at++;
             if ((size_t)(call_begin - (stack + at)) > most) most = (size_t)(call_begin - (stack + at));
@@ -150,7 +88,7 @@ static size_t deepest(void) {
 static int is_wiped;
 static void then_wiped(void) {
     call_begin = __builtin_frame_address(0);
-    is("an answer", chacha20_keystream(one_key, one_nonce, 0, output, 1000) == CHACHA20_OK);
+    is("an answer", chacha20_keystream(own.key, own.nonce, 0, own.output, 1000) == CHACHA20_OK);
     if (is_wiped) chacha20_wipe_stack();
 }
 
@@ -171,8 +109,8 @@ static uint8_t zeros[LEN], right[LEN], handled[LEN];
 
 static void before_constructors(int argc, char **argv, char **environment) {
     (void)argc, (void)argv, (void)environment;
-    plain_c.xor_from_block[IETF](one_key, one_nonce, 0, right, zeros, LEN);
-    int answer = chacha20_xor(one_key, one_nonce, 0, handled, zeros, LEN);
+    plain_c.xor_from_block[IETF](own.key, own.nonce, 0, right, zeros, LEN);
+    int answer = chacha20_xor(own.key, own.nonce, 0, handled, zeros, LEN);
     is("a call before the constructors", answer == CHACHA20_OK && memcmp(handled, right, LEN) == 0);
 }
 __attribute__((section(".preinit_array"), used)) static void (*const first)(int, char **, char **) = before_constructors;
@@ -183,7 +121,7 @@ __attribute__((force_align_arg_pointer))
 #endif
 static void handler(int signal) {
     memset(handled, 0, LEN);
-    if (signal != SIGUSR1 || chacha20_xor(one_key, one_nonce, 0, handled, zeros, LEN) != CHACHA20_OK) handled[0] ^= 1;
+    if (signal != SIGUSR1 || chacha20_xor(own.key, own.nonce, 0, handled, zeros, LEN) != CHACHA20_OK) handled[0] ^= 1;
 }
 
 static void in_handler(void) {
