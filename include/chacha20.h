@@ -19,7 +19,7 @@
    For every function:
 
    - Arguments of ciphers come in one order: key, nonce, associated data, position, output, input,
-     length, tag.
+     length, tag. An output of a fixed size comes last.
    - Positions and lengths count bytes, blocks of 64 bytes where a name has |block|, and words of 32
      bits where it has |word_pos|.
    - Data of length 0 may be null. With any other null pointer the behaviour is undefined.
@@ -119,7 +119,7 @@ typedef char chacha20_size_t_has_64_bits[sizeof(size_t) == 8 ? 1 : -1];
 #define CHACHA20_ATTR_CIPHER __attribute__((__warn_unused_result__, __nonnull__(1, 2)))
 #define CHACHA20_ATTR_AEAD __attribute__((__warn_unused_result__, __nonnull__(1, 2, 8)))
 #define CHACHA20_ATTR_MAC __attribute__((__nonnull__(1, 4)))
-#define CHACHA20_ATTR_CHUNK __attribute__((__warn_unused_result__, __nonnull__(1, 2)))
+#define CHACHA20_ATTR_SEAL_CHUNK __attribute__((__warn_unused_result__, __nonnull__(1, 2, 5)))
 #define CHACHA20_ATTR_PUSH __attribute__((__warn_unused_result__, __nonnull__(1, 4)))
 #define CHACHA20_ATTR_PULL __attribute__((__warn_unused_result__, __nonnull__(1, 7)))
 #define CHACHA20_ATTR_SALT __attribute__((__warn_unused_result__, __nonnull__(3)))
@@ -130,7 +130,7 @@ typedef char chacha20_size_t_has_64_bits[sizeof(size_t) == 8 ? 1 : -1];
 #define CHACHA20_ATTR_CIPHER
 #define CHACHA20_ATTR_AEAD
 #define CHACHA20_ATTR_MAC
-#define CHACHA20_ATTR_CHUNK
+#define CHACHA20_ATTR_SEAL_CHUNK
 #define CHACHA20_ATTR_PUSH
 #define CHACHA20_ATTR_PULL
 #define CHACHA20_ATTR_SALT
@@ -427,7 +427,7 @@ uint64_t chacha20_file_text_len(uint64_t file_len);
 int chacha20_file_seal_chunk(const uint8_t key[CHACHA20_AT_LEAST 32],
                              const uint8_t salt[CHACHA20_AT_LEAST 19], uint64_t number, int last,
                              uint8_t *output, const uint8_t *input, size_t len)
-                             CHACHA20_ATTR_CHUNK CHACHA20_ATTR_READS(6, 7);
+                             CHACHA20_ATTR_SEAL_CHUNK CHACHA20_ATTR_READS(6, 7);
 
 /* chacha20_file_open_chunk checks the |len| bytes of chunk |input|, and then writes its text, of |len| - 16
    bytes, to |output|, which may be |input|.
@@ -437,7 +437,7 @@ int chacha20_file_seal_chunk(const uint8_t key[CHACHA20_AT_LEAST 32],
 int chacha20_file_open_chunk(const uint8_t key[CHACHA20_AT_LEAST 32],
                              const uint8_t salt[CHACHA20_AT_LEAST 19], uint64_t number, int last,
                              uint8_t *output, const uint8_t *input, size_t len)
-                             CHACHA20_ATTR_CHUNK CHACHA20_ATTR_READS(6, 7);
+                             CHACHA20_ATTR_CIPHER CHACHA20_ATTR_READS(6, 7);
 
 /* chacha20_version returns the version of the library that runs. */
 const char *chacha20_version(void);
@@ -458,7 +458,7 @@ const char *chacha20_version(void);
 #undef CHACHA20_ATTR_SEAL
 #undef CHACHA20_ATTR_TAG
 #undef CHACHA20_ATTR_VERIFY
-#undef CHACHA20_ATTR_CHUNK
+#undef CHACHA20_ATTR_SEAL_CHUNK
 #undef CHACHA20_ATTR_PUSH
 #undef CHACHA20_ATTR_PULL
 #undef CHACHA20_ATTR_SALT
