@@ -1,6 +1,6 @@
-"""Sealed files, beside `seal`, whose file of numbers is in the repository, and libsodium by the Python of seal's page."""
+"""Sealed files, beside `seal`, whose file of numbers is in the repository, libsodium by the Python of seal's page, and JavaScript."""
 
-import base64, gc, io, os, pathlib, shutil, tarfile, zipfile
+import base64, gc, io, os, pathlib, shutil, subprocess, tarfile, zipfile
 from collections.abc import Callable
 from typing import Any, cast
 
@@ -50,6 +50,31 @@ def test_both_ways(tmp_path: pathlib.Path, length: int) -> None:
     folder = TOP / "crates/seal/data"
     with files.open(folder / "numbers.sealed", files.read_key(folder / "key")) as reader:
         assert reader.read() == b"".join(b"%09d\n" % it for it in range(7000))
+
+
+JAVASCRIPT = """
+import fs from "node:fs";
+const { sealBlob, openBlob, readKey } = await import(process.argv[1]);
+const key = readKey(fs.readFileSync("key"));
+for (const [way, from, to] of [[sealBlob, "text", "theirs"], [openBlob, "ours", "back"]])
+  fs.writeFileSync(to, new Uint8Array(await new Response(way(key, new Blob([fs.readFileSync(from)]))).arrayBuffer()));
+"""
+
+
+def test_javascript(tmp_path: pathlib.Path) -> None:
+    """JavaScript opens our file, and we open its file."""
+    text, module = LONG[:200000], TOP / "c/out/wasm64-unknown-unknown/js/chacha20.mjs"
+    (tmp_path / "key").write_bytes(KEY)
+    (tmp_path / "text").write_bytes(text)
+    with files.create(tmp_path / "ours", KEY) as file:
+        file.write(text)
+    # Before 24, Node has 64-bit memories only by a flag, and before 19 `crypto`.
+    flags = ["--experimental-wasm-memory64", "--experimental-global-webcrypto"]
+    has = [it for it in flags if subprocess.run(["node", it, "-e", ""], capture_output=True).returncode == 0]
+    subprocess.run(["node", *has, "--input-type=module", "-e", JAVASCRIPT, module], cwd=tmp_path, check=True)
+    assert (tmp_path / "back").read_bytes() == text
+    with files.open(tmp_path / "theirs", KEY) as reader:
+        assert reader.read() == text
 
 
 @given(st.lists(st.tuples(st.sampled_from([0, 1, 2]), st.integers(-5000, 205000), st.integers(0, 140000)), max_size=8))
