@@ -4,8 +4,9 @@
 // memories. The import fails where the engine has none.
 //
 // A value of a wrong type is a TypeError, one of a wrong length or out of range a RangeError; both name the argument,
-// and nothing is computed. No argument may be detached or in a SharedArrayBuffer. Results are new arrays. Take keys, and
-// nonces of 24 bytes, from crypto.getRandomValues. Never use a nonce twice under one key.
+// and nothing is computed. What the module's memory can't hold is a RangeError of the engine. No argument may be detached
+// or in a SharedArrayBuffer. Results are new arrays. Take keys, and nonces of 24 bytes, from crypto.getRandomValues.
+// Never use a nonce twice under one key.
 
 /** One message's cipher, under its key and nonce. */
 export interface Cipher {

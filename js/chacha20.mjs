@@ -3,18 +3,20 @@
 // Authenticated encryption, ciphers, generators, streams and sealed files, by the proved functions of chacha20.wasm.
 // This file is trusted: it is tested, not proved. chacha20.d.ts documents its exports.
 
-import { call, copyOf, demand, demandNumber, NONE, step } from "./module.mjs";
+import { call, demand, demandNumber, step } from "./module.mjs";
+
+const NONE = new Uint8Array();
 
 const aead = (encrypt, decrypt, nonceLength) => (key, nonce, aad = NONE) => {
   // Copied, since a caller may change them before the call.
-  const own = [demand("key", key, 32), demand("nonce", nonce, nonceLength), demand("aad", aad)].map(copyOf);
+  const own = [demand("key", key, 32), demand("nonce", nonce, nonceLength), demand("aad", aad)].map((it) => it.slice());
   const aadLength = BigInt(own[2].length);
   let isUsed = false;
   return {
     encrypt(text) {
       const input = demand("text", text);
       if (isUsed) throw new Error("the nonce was used: make a cipher with another one");
-      const sealed = call("text", [input, 16, ...own], input.length + 16, (wasm, text, tag, key, nonce, aad) =>
+      const sealed = call([input, 16, ...own], input.length + 16, (wasm, text, tag, key, nonce, aad) =>
         wasm[encrypt](key, nonce, aad, aadLength, text, BigInt(input.length), tag));
       isUsed = true;
       return sealed;
@@ -23,7 +25,7 @@ const aead = (encrypt, decrypt, nonceLength) => (key, nonce, aad = NONE) => {
       const input = demand("sealed", sealed);
       if (input.length < 16) throw new RangeError("sealed must have at least 16 bytes, those of the tag");
       const length = input.length - 16;
-      return call("sealed", [input, ...own], length, (wasm, text, key, nonce, aad) =>
+      return call([input, ...own], length, (wasm, text, key, nonce, aad) =>
         wasm[decrypt](key, nonce, aad, aadLength, text, BigInt(length), text + BigInt(length)));
     },
   };
@@ -31,70 +33,67 @@ const aead = (encrypt, decrypt, nonceLength) => (key, nonce, aad = NONE) => {
 
 const cipher = (xor, nonceLength) => (key, nonce, data, position = 0, ...more) => {
   if (more.length > 0) throw new TypeError("noble's output and counter aren't taken: pass position, 64 * counter");
-  const own = [demand("key", key, 32), demand("nonce", nonce, nonceLength)];
+  const parts = [demand("data", data), demand("key", key, 32), demand("nonce", nonce, nonceLength)];
   demandNumber("position", position, 0, 2 ** 38);
-  const input = demand("data", data);
-  const run = (wasm, text, key, nonce) => wasm[xor](key, nonce, BigInt(position), text, BigInt(input.length));
-  const passes = "position: the data would pass the end of the keystream, byte 2^38";
-  return call("data", [input, ...own], input.length, run, { 1: [RangeError, passes] });
+  const { length } = parts[0];
+  return call(parts, length, (wasm, text, key, nonce) => wasm[xor](key, nonce, BigInt(position), text, BigInt(length)));
 };
 
-const aeadOf = (name, length) => aead(`${name}_aead_encrypt_in_place`, `${name}_aead_decrypt_in_place`, length);
-export const [chacha20poly1305, xchacha20poly1305] = [aeadOf("chacha20", 12), aeadOf("xchacha20", 24)];
-export const [chacha20, xchacha20] = [cipher("chacha20_xor_in_place", 12), cipher("xchacha20_xor_in_place", 24)];
+export const chacha20poly1305 = aead("chacha20_aead_encrypt_in_place", "chacha20_aead_decrypt_in_place", 12);
+export const xchacha20poly1305 = aead("xchacha20_aead_encrypt_in_place", "xchacha20_aead_decrypt_in_place", 24);
+export const chacha20 = cipher("chacha20_xor_in_place", 12);
+export const xchacha20 = cipher("xchacha20_xor_in_place", 24);
 
-class Rng {
-  #fill;
+// The generator that is filled by an export.
+const rng = (fill) => class Rng {
   #state;
 
-  constructor(fill, seed) {
-    const own = demand("seed", seed, 32);
-    this.#fill = fill;
-    this.#state = call("seed", [49, own], 49, (wasm, state, seed) => wasm.chacha20_rng_from_seed(seed, state));
+  constructor(seed) {
+    const run = (wasm, state, seed) => wasm.chacha20_rng_from_seed(seed, state);
+    this.#state = call([49, demand("seed", seed, 32)], 49, run);
   }
 
   static fromState(state) {
-    const rng = new this(new Uint8Array(32));
-    rng.#state = copyOf(demand("state", state, 49));
-    return rng;
+    const made = new this(new Uint8Array(32));
+    made.#state = demand("state", state, 49).slice();
+    return made;
   }
 
-  get state() { return copyOf(this.#state); }
+  get state() { return this.#state.slice(); }
 
   fill(output) {
     const own = demand("output", output);
-    const run = (wasm, state, words) => wasm[this.#fill](state, words, BigInt(own.length));
-    own.set(step("output", this.#state, [own.length], own.length, run));
+    const run = (wasm, state, words) => wasm[fill](state, words, BigInt(own.length));
+    own.set(step(this.#state, [own.length], own.length, run));
     return output;
   }
 
   get wordPosition() {
     const run = (wasm, state, low) => wasm.chacha20_rng_get_word_pos(state, low, low + 8n);
-    const words = new DataView(step("state", this.#state, [16], 16, run).buffer);
+    const words = new DataView(step(this.#state, [16], 16, run).buffer);
     return words.getBigUint64(0, true) + (words.getBigUint64(8, true) << 64n);
   }
 
   set wordPosition(position) {
     if (typeof position !== "bigint") throw new TypeError("wordPosition must be a BigInt");
     if (position < 0n || position >> 68n) throw new RangeError("wordPosition must be from 0 to 2^68 - 1");
-    const words = [BigInt.asUintN(64, position), position >> 64n];
-    step("state", this.#state, [], 0, (wasm, state) => wasm.chacha20_rng_set_word_pos(state, ...words));
+    // Of a BigInt a call takes the low 64 bits.
+    step(this.#state, [], 0, (wasm, state) => wasm.chacha20_rng_set_word_pos(state, position, position >> 64n));
   }
-}
+};
 
-export class ChaCha20Rng extends Rng { constructor(seed) { super("chacha20_rng_fill", seed); } }
-export class ChaCha12Rng extends Rng { constructor(seed) { super("chacha12_rng_fill", seed); } }
-export class ChaCha8Rng extends Rng { constructor(seed) { super("chacha8_rng_fill", seed); } }
+export class ChaCha20Rng extends rng("chacha20_rng_fill") {}
+export class ChaCha12Rng extends rng("chacha12_rng_fill") {}
+export class ChaCha8Rng extends rng("chacha8_rng_fill") {}
 
 // Streams: a header of 24 bytes, and messages, each 17 bytes longer than its text.
 const FINAL = 3;
 export const SecretStream = { MESSAGE: 0, PUSH: 1, REKEY: 2, FINAL, initPush, initPull, encryptor, decryptor };
 
 function startStream(header, key) {
-  const own = [demand("key", key, 32), demand("header", header, 24)];
-  const state = call("key", [44, ...own], 44, (wasm, state, key, header) =>
-    wasm.chacha20_secretstream_start(key, header, state));
-  const rekey = () => void step("state", state, [], 0, (wasm, state) => wasm.chacha20_secretstream_rekey(state));
+  const parts = [44, demand("key", key, 32), demand("header", header, 24)];
+  const state = call(parts, 44, (wasm, state, key, header) => wasm.chacha20_secretstream_start(key, header, state));
+  const rekey = () => void step(state, [], 0, (wasm, state) => wasm.chacha20_secretstream_rekey(state));
   return { state, rekey };
 }
 
@@ -105,9 +104,9 @@ function initPush(key) {
     const [input, more] = [demand("text", text), demand("aad", aad)];
     demandNumber("tag", tag, 0, 255);
     const size = input.length + 17;
-    const lengths = [more, input].map((it) => BigInt(it.length));
-    return step("text", state, [size, input, more], size, (wasm, state, message, text, aad) =>
-      wasm.chacha20_secretstream_push(state, aad, lengths[0], message, BigInt(size), text, lengths[1], tag));
+    const lengths = [more.length, size, input.length].map(BigInt);
+    return step(state, [size, input, more], size, (wasm, state, message, text, aad) =>
+      wasm.chacha20_secretstream_push(state, aad, lengths[0], message, lengths[1], text, lengths[2], tag));
   };
   return { header, push, rekey };
 }
@@ -118,9 +117,9 @@ function initPull(header, key) {
     const [input, more] = [demand("message", message), demand("aad", aad)];
     if (input.length < 17) throw new RangeError("message must have at least 17 bytes");
     const size = input.length - 17;
-    const lengths = [more, input].map((it) => BigInt(it.length));
-    const left = step("message", state, [size, 1, input, more], size + 1, (wasm, state, text, tag, message, aad) =>
-      wasm.chacha20_secretstream_pull(state, aad, lengths[0], text, BigInt(size), message, lengths[1], tag));
+    const lengths = [more.length, size, input.length].map(BigInt);
+    const left = step(state, [size, 1, input, more], size + 1, (wasm, state, text, tag, message, aad) =>
+      wasm.chacha20_secretstream_pull(state, aad, lengths[0], text, lengths[1], message, lengths[2], tag));
     return { text: left.slice(0, -1), tag: left[size] };
   };
   return { pull, rekey };
@@ -138,7 +137,7 @@ function inPieces(first, size, take, start) {
       controller.enqueue(take(all.subarray(0, next), false));
       all = all.subarray(next);
     }
-    rest = copyOf(all);
+    rest = all.slice();
   };
   return new TransformStream({ start, transform, flush: (controller) => controller.enqueue(take(rest, true)) });
 }
@@ -151,15 +150,13 @@ function encryptor(key, size = CHUNK) {
 
 function decryptor(key, size = CHUNK) {
   demandNumber("size", size, 1, 2 ** 32);
-  const own = copyOf(demand("key", key, 32));
+  const own = demand("key", key, 32).slice();
   let stream;
-  return inPieces(24, size + 17, (piece, isLast) => {
-    if (isLast && (!stream || piece.length < 17)) throw new Error("the stream is cut");
-    if (!stream) {
-      stream = initPull(piece, own);
-      return NONE;
-    }
-    const { text, tag } = stream.pull(piece);
+  return inPieces(24 + size + 17, size + 17, (piece, isLast) => {
+    const message = stream ? piece : piece.subarray(24);
+    if (message.length < 17) throw new Error("the stream is cut");
+    stream ??= initPull(piece.subarray(0, 24), own);
+    const { text, tag } = stream.pull(message);
     if (isLast !== (tag === FINAL)) throw new Error(isLast ? "the stream is cut" : "the stream goes on after its end");
     return text;
   });
@@ -179,7 +176,7 @@ export const readRange = (key, blob, start, end) => {
 // A stream of what a generator yields, each part once it is asked for.
 function streamOf(generator, key, blob, ...range) {
   if (!(blob instanceof Blob)) throw new TypeError("blob must be a Blob");
-  const parts = generator(copyOf(demand("key", key, 32)), blob, blob.size, ...range);
+  const parts = generator(demand("key", key, 32).slice(), blob, blob.size, ...range);
   const pull = async (controller) => {
     const { value, done } = await parts.next();
     return done ? controller.close() : controller.enqueue(value);
@@ -198,12 +195,12 @@ async function read(blob, size, start, length) {
 async function* sealed(key, blob, size) {
   if (size > 2 ** 48) throw new RangeError("blob has more than 2^48 bytes, which no sealed file may have");
   const salt = crypto.getRandomValues(new Uint8Array(19));
-  yield call("salt", [32, salt], 32, (wasm, header, salt) => wasm.chacha20_file_header(salt, header));
-  for (let i = 0; i === 0 || CHUNK * i < size; i++) {
-    const isLast = Number(CHUNK * (i + 1) >= size);
+  yield call([32, salt], 32, (wasm, header, salt) => wasm.chacha20_file_header(salt, header));
+  for (let i = 0, isLast = false; !isLast; i++) {
+    isLast = CHUNK * (i + 1) >= size;
     const text = await read(blob, size, CHUNK * i, CHUNK);
     const length = text.length + 16;
-    yield call("blob", [text, 16, key, salt], length, (wasm, chunk, _, key, salt) =>
+    yield call([text, 16, key, salt], length, (wasm, chunk, _, key, salt) =>
       wasm.chacha20_file_seal_chunk_in_place(key, salt, i, isLast, chunk, BigInt(length)));
   }
 }
@@ -212,12 +209,7 @@ async function* sealed(key, blob, size) {
 // `Infinity`, of all chunks in their order. A key is wrong where chunk 0 is wrong too.
 async function* opened(key, blob, size, start, end) {
   const front = await read(blob, size, 0, 32);
-  const run = (wasm, salt, file) => wasm.chacha20_file_salt(file, BigInt(front.length), salt);
-  const salt = call("blob", [19, front], 19, run, {
-    3: [Error, "sealed in another version of the format"],
-    4: [Error, "the file ends in its header"],
-    5: [Error, "not a sealed file"],
-  });
+  const salt = call([19, front], 19, (wasm, salt, file) => wasm.chacha20_file_salt(file, BigInt(front.length), salt));
   const last = Math.max(Math.ceil((size - 32) / SEALED) - 1, 0);
   if (last >= 2 ** 32) throw new Error("longer than a sealed file can be");
   const open = async (i) => openChunk(key, salt, i, i === last, await read(blob, size, 32 + SEALED * i, SEALED));
@@ -231,23 +223,20 @@ async function* opened(key, blob, size, start, end) {
 }
 
 function openChunk(key, salt, number, isLast, chunk) {
-  try {
-    const length = BigInt(chunk.length);
-    return call("chunk", [chunk, key, salt], chunk.length - 16, (wasm, chunk, key, salt) =>
-      wasm.chacha20_file_open_chunk_in_place(key, salt, number, Number(isLast), chunk, length));
-  } catch (cause) {
-    const [from, to] = [CHUNK * number, CHUNK * (number + 1) - 1];
-    const rest = number === 0 ? "the text" : `the text from byte ${from} on`;
-    const what = isLast ? `${rest} is damaged or cut` : `bytes ${from} to ${to} of the text are damaged`;
-    throw new Error(number === 0 ? `the key is wrong, or ${what}` : what, { cause });
-  }
+  const [from, to] = [CHUNK * number, CHUNK * (number + 1) - 1];
+  const rest = number === 0 ? "the text" : `the text from byte ${from} on`;
+  const what = isLast ? `${rest} is damaged or cut` : `bytes ${from} to ${to} of the text are damaged`;
+  const damage = number === 0 ? `the key is wrong, or ${what}` : what;
+  const run = (wasm, place, key, salt) =>
+    wasm.chacha20_file_open_chunk_in_place(key, salt, number, isLast, place, BigInt(chunk.length));
+  return call([chunk, key, salt], chunk.length - 16, run, damage);
 }
 
 // The line of a key file of `seal`, whose base64 has one form of 32 bytes.
 const LINE = /^seal-key-v1:([A-Za-z0-9+/]{42}[AEIMQUYcgkosw048]=)(?:\r?\n)?$/;
 export function readKey(file) {
   const own = typeof file === "string" ? undefined : demand("file", file);
-  if (own?.length === 32) return copyOf(own);
+  if (own?.length === 32) return own.slice();
   const line = LINE.exec(own ? new TextDecoder("utf-8", { ignoreBOM: true }).decode(own) : file);
   if (!line) throw new Error("not a key: neither seal-key-v1: and 44 characters of base64, nor 32 bytes");
   return Uint8Array.from(atob(line[1]), (it) => it.charCodeAt(0));

@@ -24,7 +24,7 @@ async function load(url) {
 function makeInstance() {
   bytes?.fill(0);
   const { exports } = new WebAssembly.Instance(module);
-  [wasm, bytes] = [exports, new Uint8Array(exports.memory.buffer)];
+  [wasm, bytes] = [exports, new Uint8Array(exports.memory.buffer)]; // At once, since the stack may end between them.
 }
 
 // The memory: a stack that grows down from STACK, of which no call takes more than DEPTH; constants; and from START on
@@ -36,19 +36,15 @@ const getter = (of, name) => Object.getOwnPropertyDescriptor(of.prototype, name)
 const [kindOf, bufferOf, offsetOf, lengthOf] = [Symbol.toStringTag, "buffer", "byteOffset", "length"]
   .map((name) => getter(Object.getPrototypeOf(Uint8Array), name));
 const bufferLengthOf = getter(ArrayBuffer, "byteLength");
-export const copyOf = (array) => new Uint8Array(array);
-export const NONE = new Uint8Array();
 
 // Demands a Uint8Array, also of another window, of `length` bytes if that is given, which no thread or call changes.
 // Returns one of this window over the same bytes.
 export function demand(name, value, length) {
   if (kindOf.call(value) !== "Uint8Array") throw new TypeError(`${name} must be a Uint8Array`);
-  const buffer = bufferOf.call(value);
-  if (buffer === bytes.buffer) throw new TypeError(`${name} must not be in the module's memory`);
   let own;
   try {
-    bufferLengthOf.call(buffer); // Which an ArrayBuffer alone has.
-    own = new Uint8Array(buffer, offsetOf.call(value), lengthOf.call(value));
+    bufferLengthOf.call(bufferOf.call(value)); // Which an ArrayBuffer alone has.
+    own = new Uint8Array(bufferOf.call(value), offsetOf.call(value), lengthOf.call(value));
   } catch (cause) {
     throw new TypeError(`${name} must not be detached or in a SharedArrayBuffer`, { cause });
   }
@@ -61,10 +57,16 @@ export function demandNumber(name, value, least, most) {
   if (value < least || value > most) throw new RangeError(`${name} must be from ${least} to ${most}`);
 }
 
+// What the statuses of exports mean, from 1 on. The last three are of chacha20_file_salt.
+const REFUSALS = [
+  "the data would pass the end of the keystream, byte 2^38", "wrong tag", "sealed in another version of the format",
+  "the file ends in its header", "not a sealed file",
+];
+
 // Writes the parts, one behind the other, into the memory, runs a call of the exports on their places, and returns the
-// first `length` bytes as it left them. A number among the parts is room for so many bytes. `name` tells which argument
-// may be long. Each status but 0 is an error.
-export function call(name, parts, length, run, refusals) {
+// first `length` bytes as it left them. A number among the parts is room for so many bytes. Each status but 0 is an
+// error, of the sentence `damage` if one is given.
+export function call(parts, length, run, damage) {
   if (!wasm) makeInstance();
   const places = [];
   let end = START;
@@ -72,37 +74,30 @@ export function call(name, parts, length, run, refusals) {
     places.push(BigInt(end));
     end += typeof part === "number" ? part : part.length;
   }
-  if (end > bytes.length) grow(name, end);
+  if (end > bytes.length) {
+    // A string, which becomes the BigInt that engines want, or the Number that they wanted before WebAssembly 3.0.
+    wasm.memory.grow(String(Math.ceil((end - bytes.length) / 65536)));
+    bytes = new Uint8Array(wasm.memory.buffer);
+  }
   const exports = wasm;
   wasm = undefined;
+  let status, left;
   try {
     parts.forEach((part, i) => typeof part === "number" || bytes.set(part, Number(places[i])));
-    const status = run(exports, ...places);
-    const left = status ? undefined : bytes.slice(START, START + length);
-    wasm = exports;
-    if (!status) return left;
-    const [kind, words] = { 1: [RangeError, `${name} is too long`], 2: [Error, "wrong tag"], ...refusals }[status];
-    throw new kind(words);
+    status = run(exports, ...places);
+    if (!status) left = bytes.slice(START, START + length);
   } finally {
     bytes.fill(0, START, end);
     bytes.fill(0, STACK - DEPTH, STACK);
   }
-}
-
-// Makes the memory so long. It never shrinks.
-function grow(name, length) {
-  try {
-    // A string, which becomes the BigInt that engines want, or the Number that they wanted before WebAssembly 3.0.
-    wasm.memory.grow(String(Math.ceil((length - bytes.length) / 65536)));
-  } catch (cause) {
-    throw new RangeError(`${name} is too long: the module's memory can't have ${length} bytes`, { cause });
-  }
-  bytes = new Uint8Array(wasm.memory.buffer);
+  wasm = exports;
+  if (!status) return left;
+  throw new (status === 1 && !damage ? RangeError : Error)(damage ?? REFUSALS[status - 1]);
 }
 
 // A call that also moves a state, which it keeps. It returns the `length` bytes behind the state.
-export function step(name, state, parts, length, run) {
-  const left = call(name, [state, ...parts], state.length + length, run);
+export function step(state, parts, length, run) {
+  const left = call([state, ...parts], state.length + length, run);
   state.set(left.subarray(0, state.length));
   return left.slice(state.length);
 }
