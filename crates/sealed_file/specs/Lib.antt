@@ -1,5 +1,4 @@
 pub mod DamageText
-pub mod ErrorText
 pub mod Opened
 pub mod Ranges
 pub mod Sealed

@@ -1,8 +1,11 @@
 //! Why a call fails.
 
-ghost use Rattle.std.specs.Prelude.{◌≡◌, ◌≢◌, IsSome, IfSome};
+ghost use Rattle.std.specs.Prelude.{◌≡◌, ◌≢◌, ◌↔◌, codes, Some, None, IsSome, IfSome};
 ghost use Rattle.std.specs.IoError.{error_kind};
 ghost use Rattle.std.specs.declared.io.ErrorKind.{ErrorKind};
+ghost use Rattle.sealed_file.specs.DamageText.{damage_text};
+ghost use Rattle.sealed_file.specs.Sealed.{damage_at};
+ghost use Rattle.sealed_file.specs.declared.error.Damage.{Damage};
 
 use std::error::Error;
 use std::fmt::{Display, Formatter};
@@ -27,8 +30,6 @@ pub enum Damage {
 }
 
 impl Damage {
-    ghost use Rattle.sealed_file.specs.Sealed.{damage_at};
-
     // That of a chunk that isn't right.
     pub(crate) fn of_chunk(number: u64, last: bool) -> Damage
         ensures { result ≡ damage_at number last }
@@ -93,9 +94,7 @@ impl From<IoError> for io::Error {
     ghost from_gives = { λ error result. result ≡ error.error };
 
     /// The error that the reader, the writer or the file gave.
-    fn from(error: IoError) -> io::Error
-        ensures { result ≡ error.error }
-    {
+    fn from(error: IoError) -> io::Error {
         let IoError { error } = error;
         error
     }
@@ -110,9 +109,6 @@ impl Display for IoError {
 impl Error for IoError {}
 
 impl Display for Damage {
-    ghost use Rattle.std.specs.Prelude.{Some};
-    ghost use Rattle.sealed_file.specs.DamageText.{damage_text};
-
     ghost output = { λ damage. Some (damage_text damage) };
 
     fn fmt<W: fmt::Write>(&self, f: &mut Formatter<W>) -> fmt::Result {
@@ -146,9 +142,7 @@ impl From<Damage> for io::Error {
     ghost from_gives = { λ _ result. error_kind result ≡ ErrorKind.InvalidData };
 
     /// An error of the kind `InvalidData`, with the same text.
-    fn from(damage: Damage) -> io::Error
-        ensures { error_kind result ≡ ErrorKind.InvalidData }
-    {
+    fn from(damage: Damage) -> io::Error {
         let mut text = [0; 80];
         let mut rest = &mut text[..];
         let _ = write!(rest, "{damage}");
@@ -203,9 +197,13 @@ pub enum RangeError {
 }
 
 impl Display for EncryptError {
-    ghost use Rattle.sealed_file.specs.ErrorText.{encrypt_text};
+    ghost use Rattle.sealed_file.specs.declared.error.EncryptError.TheVariants.{TooLong};
 
-    ghost output = { encrypt_text };
+    ghost output = { λ error. elim error [
+        | TooLong ↦ Some (codes
+            "the text has more than 2^48 bytes, which no sealed file may have")
+        | _ ↦ None
+    ] };
 
     fn fmt<W: fmt::Write>(&self, f: &mut Formatter<W>) -> fmt::Result {
         match self {
@@ -220,9 +218,12 @@ impl Display for EncryptError {
 }
 
 impl Display for DecryptError {
-    ghost use Rattle.sealed_file.specs.ErrorText.{decrypt_text};
+    ghost use Rattle.sealed_file.specs.declared.error.DecryptError.TheVariants.{Damaged};
 
-    ghost output = { decrypt_text };
+    ghost output = { λ error. elim error [
+        | Damaged damage ↦ Some (damage_text damage)
+        | _ ↦ None
+    ] };
 
     fn fmt<W: fmt::Write>(&self, f: &mut Formatter<W>) -> fmt::Result {
         match self {
@@ -234,9 +235,12 @@ impl Display for DecryptError {
 }
 
 impl Display for ReadError {
-    ghost use Rattle.sealed_file.specs.ErrorText.{read_text};
+    ghost use Rattle.sealed_file.specs.declared.error.ReadError.TheVariants.{Damaged};
 
-    ghost output = { read_text };
+    ghost output = { λ error. elim error [
+        | Damaged damage ↦ Some (damage_text damage)
+        | _ ↦ None
+    ] };
 
     fn fmt<W: fmt::Write>(&self, f: &mut Formatter<W>) -> fmt::Result {
         match self {
@@ -247,9 +251,13 @@ impl Display for ReadError {
 }
 
 impl Display for RangeError {
-    ghost use Rattle.sealed_file.specs.ErrorText.{range_text};
+    ghost use Rattle.sealed_file.specs.declared.error.RangeError.TheVariants.{PastEnd, Damaged};
 
-    ghost output = { range_text };
+    ghost output = { λ error. elim error [
+        | PastEnd ↦ Some (codes "the part ends past the end of the text")
+        | Damaged damage ↦ Some (damage_text damage)
+        | _ ↦ None
+    ] };
 
     fn fmt<W: fmt::Write>(&self, f: &mut Formatter<W>) -> fmt::Result {
         match self {
@@ -281,20 +289,14 @@ impl From<EncryptError> for io::Error {
 }
 
 impl From<DecryptError> for io::Error {
-    ghost use Rattle.sealed_file.specs.declared.error.Damage.{Damage};
     ghost use Rattle.sealed_file.specs.declared.error.DecryptError.TheVariants.{Damaged};
 
-    ghost from_gives = { λ error result. (damage : Damage) → error ≡ Damaged damage
-        → error_kind result ≡ ErrorKind.InvalidData };
+    ghost from_gives = { λ error result. error_kind result ≡ ErrorKind.InvalidData
+        ↔ ((damage : Damage) × (error ≡ Damaged damage)) };
 
     /// The error that the reader or the writer gave, or one of the kind `InvalidData` with the text of the damage. An
     /// error of a reader or writer that has this kind comes as one of the kind `Other`.
-    fn from(error: DecryptError) -> io::Error
-        ensures damaged { (damage : Damage) → error ≡ Damaged damage
-            → error_kind result ≡ ErrorKind.InvalidData }
-        ensures only { error_kind result ≡ ErrorKind.InvalidData
-            → (damage : Damage) × (error ≡ Damaged damage) }
-    {
+    fn from(error: DecryptError) -> io::Error {
         match error {
             DecryptError::Read(e) | DecryptError::Write(e) => e.apart_from_damage(),
             DecryptError::Damaged(damage) => damage.into(),
@@ -303,19 +305,13 @@ impl From<DecryptError> for io::Error {
 }
 
 impl From<ReadError> for io::Error {
-    ghost use Rattle.sealed_file.specs.declared.error.Damage.{Damage};
     ghost use Rattle.sealed_file.specs.declared.error.ReadError.TheVariants.{Damaged};
 
-    ghost from_gives = { λ error result. (damage : Damage) → error ≡ Damaged damage
-        → error_kind result ≡ ErrorKind.InvalidData };
+    ghost from_gives = { λ error result. error_kind result ≡ ErrorKind.InvalidData
+        ↔ ((damage : Damage) × (error ≡ Damaged damage)) };
 
     /// As that of a [`DecryptError`].
-    fn from(error: ReadError) -> io::Error
-        ensures damaged { (damage : Damage) → error ≡ Damaged damage
-            → error_kind result ≡ ErrorKind.InvalidData }
-        ensures only { error_kind result ≡ ErrorKind.InvalidData
-            → (damage : Damage) × (error ≡ Damaged damage) }
-    {
+    fn from(error: ReadError) -> io::Error {
         match error {
             ReadError::Read(e) => e.apart_from_damage(),
             ReadError::Damaged(damage) => damage.into(),
@@ -324,19 +320,13 @@ impl From<ReadError> for io::Error {
 }
 
 impl From<RangeError> for io::Error {
-    ghost use Rattle.sealed_file.specs.declared.error.Damage.{Damage};
     ghost use Rattle.sealed_file.specs.declared.error.RangeError.TheVariants.{Damaged};
 
-    ghost from_gives = { λ error result. (damage : Damage) → error ≡ Damaged damage
-        → error_kind result ≡ ErrorKind.InvalidData };
+    ghost from_gives = { λ error result. error_kind result ≡ ErrorKind.InvalidData
+        ↔ ((damage : Damage) × (error ≡ Damaged damage)) };
 
     /// As that of a [`DecryptError`]; past the end, one of the kind `UnexpectedEof`.
-    fn from(error: RangeError) -> io::Error
-        ensures damaged { (damage : Damage) → error ≡ Damaged damage
-            → error_kind result ≡ ErrorKind.InvalidData }
-        ensures only { error_kind result ≡ ErrorKind.InvalidData
-            → (damage : Damage) × (error ≡ Damaged damage) }
-    {
+    fn from(error: RangeError) -> io::Error {
         match error {
             RangeError::PastEnd => io::Error::from(ErrorKind::UnexpectedEof),
             RangeError::Read(e) => e.apart_from_damage(),
@@ -350,9 +340,7 @@ impl From<IoError> for ReadError {
 
     ghost from_gives = { λ error result. result ≡ Read error };
 
-    fn from(error: IoError) -> ReadError
-        ensures { result ≡ Read error }
-    {
+    fn from(error: IoError) -> ReadError {
         ReadError::Read(error)
     }
 }
@@ -362,9 +350,7 @@ impl From<Damage> for ReadError {
 
     ghost from_gives = { λ damage result. result ≡ Damaged damage };
 
-    fn from(damage: Damage) -> ReadError
-        ensures { result ≡ Damaged damage }
-    {
+    fn from(damage: Damage) -> ReadError {
         ReadError::Damaged(damage)
     }
 }
@@ -374,9 +360,7 @@ impl From<ReadError> for RangeError {
 
     ghost from_gives = { λ error result. result ≡ as_range_error error };
 
-    fn from(error: ReadError) -> RangeError
-        ensures { result ≡ as_range_error error }
-    {
+    fn from(error: ReadError) -> RangeError {
         match error {
             ReadError::Read(e) => RangeError::Read(e),
             ReadError::Damaged(damage) => RangeError::Damaged(damage),
