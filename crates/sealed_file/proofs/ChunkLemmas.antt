@@ -1,12 +1,12 @@
 -- Chunks of a file: where each stands, and that a file has one text.
-use Rattle.std.proofs.Common.{◌≡◌, ◌<◌, ◌≤◌, ◌+◌, ◌-◌, ◌*◌, ◌/◌, ◌∙◌, ℕ, zero, suc, Bool, true, false, List, [], ◌++◌, length, take, drop, arith, refl, sym, ap, ap₂, append_assoc, append-nil, length-append, length-drop, length-take, length-take-le, take_at, drop_at, take_all, min, inl, inr, eq-or-lt_of_le, add-one}
+use Rattle.std.proofs.Common.{◌≡◌, ◌<◌, ◌≤◌, ◌+◌, ◌-◌, ◌*◌, ◌/◌, ◌∙◌, ℕ, zero, suc, Bool, true, false, List, [], ◌++◌, length, take, drop, arith, refl, sym, ap, ap₂, append_assoc, append-nil, length-append, length-drop, length-take, length-take-le, drop_at, take_all, min, inl, inr, eq-or-lt_of_le, add-one}
 use Rattle.std.proofs.Math.Nat.{min_comm}
 use Rattle.std.proofs.lemmas.List.{take-append-le, drop-append-le}
-use Rattle.chacha20.specs.ChaCha.{xor_stream}
 use Rattle.chacha20.specs.XChaCha.{xchacha_stream}
-use Rattle.chacha20.proofs.KeystreamLemmas.{length-xor_stream, xor_stream-xor_stream}
+use Rattle.chacha20.proofs.KeystreamLemmas.{xor_stream-xor_stream}
 use Rattle.chacha20poly1305.specs.Aead.{encrypted, poly1305_tag}
-use Rattle.chacha20poly1305.proofs.AeadLemmas.{length-sealed_message}
+use Rattle.chacha20poly1305.proofs.AeadLemmas.{length-sealed_message, tag-sealed_message, take-sealed_message}
+use Rattle.sealed_file.specs.Opened.{decrypted}
 use Rattle.sealed_file.specs.Sealed.{xchacha20_poly1305, header, chunk_nonce, chunk, chunks, piece, last_number, sealed}
 
 pub length-chunk : (key salt : List ℕ) (i : ℕ) (last : Bool) (text : List ℕ)
@@ -19,65 +19,37 @@ pub full-chunk : (key salt : List ℕ) (i : ℕ) (last : Bool) (text : List ℕ)
     → length (chunk key salt i last text) ≡ 65552
 full-chunk key salt i last text full = length-chunk key salt i last text ∙ ap (λ k. k + 16) full
 
--- a chunk has one text
-pub chunk-same : (key salt : List ℕ) (i : ℕ) (last : Bool) (xs ys : List ℕ)
-    → chunk key salt i last xs ≡ chunk key salt i last ys → xs ≡ ys
-unfolding chunk
-chunk-same key salt i last xs ys same =
-    let stream = xchacha_stream 10 key (chunk_nonce salt i last) in
-    let size : length xs ≡ length ys =
-    omega (arith, sym (length-chunk key salt i last xs) ∙ ap length same ∙ length-chunk key salt i last ys) in
-    let front : (zs : List ℕ) → take (length zs) (xchacha20_poly1305 key (chunk_nonce salt i last) zs)
-    ≡ encrypted stream zs =
-    λ zs. take_at (encrypted stream zs) (poly1305_tag stream [] (encrypted stream zs)) (length zs)
-    (length-xor_stream stream 64 zs) in
-    let ciphertext : encrypted stream xs ≡ encrypted stream ys =
-    sym (front xs) ∙ ap₂ take size same ∙ front ys in
-    sym (xor_stream-xor_stream stream 64 xs) ∙ ap (xor_stream stream 64) ciphertext ∙ xor_stream-xor_stream stream 64 ys
-
--- which decrypting gives
+-- decrypting gives the text
 pub chunk-opens : (key salt : List ℕ) (i : ℕ) (last : Bool) (text : List ℕ)
-    → let bytes = chunk key salt i last text in
-    encrypted (xchacha_stream 10 key (chunk_nonce salt i last)) (take (length bytes - 16) bytes) ≡ text
+    → decrypted key salt i last (chunk key salt i last text) ≡ text
 unfolding chunk
 chunk-opens key salt i last text =
     let stream = xchacha_stream 10 key (chunk_nonce salt i last) in
-    let ciphertext = encrypted stream text in
-    let size = length-xor_stream stream 64 text in
-    let end : length ciphertext ≡ length (chunk key salt i last text) - 16 =
-    omega (arith, size, length-chunk key salt i last text) in
-    ap (encrypted stream) (take_at ciphertext (poly1305_tag stream [] ciphertext) _ end)
+    let bytes = chunk key salt i last text in
+    ap (encrypted stream) (take-sealed_message stream [] text (length bytes - 16)
+    (omega (arith, length-chunk key salt i last text)))
     ∙ xor_stream-xor_stream stream 64 text
 
--- what the AEAD made or accepted is a chunk
-pub chunk-is : (key salt : List ℕ) (i : ℕ) (last : Bool) (text nonce ciphertext tag : List ℕ)
-    → nonce ≡ chunk_nonce salt i last → ciphertext ≡ encrypted (xchacha_stream 10 key nonce) text
-    → tag ≡ poly1305_tag (xchacha_stream 10 key nonce) [] ciphertext → ciphertext ++ tag ≡ chunk key salt i last text
-unfolding chunk
-chunk-is key salt i last text nonce ciphertext tag nonce_is encrypts tags =
-    ap₂ ◌++◌ encrypts (tags ∙ ap (poly1305_tag (xchacha_stream 10 key nonce) []) encrypts)
-    ∙ ap (λ n. xchacha20_poly1305 key n text) nonce_is
+-- so a chunk has one text
+pub chunk-same : (key salt : List ℕ) (i : ℕ) (last : Bool) (xs ys : List ℕ)
+    → chunk key salt i last xs ≡ chunk key salt i last ys → xs ≡ ys
+chunk-same key salt i last xs ys same =
+    sym (chunk-opens key salt i last xs) ∙ ap (decrypted key salt i last) same ∙ chunk-opens key salt i last ys
 
-without-tag : (bytes text : ℕ) → bytes ≡ text + 16 → text ≡ bytes - 16
-without-tag bytes text long = omega (arith, long)
+-- a chunk is a message under its nonce
+pub chunk-is : (key salt : List ℕ) (i : ℕ) (last : Bool) (text nonce : List ℕ) → nonce ≡ chunk_nonce salt i last
+    → xchacha20_poly1305 key nonce text ≡ chunk key salt i last text
+unfolding chunk
+chunk-is key salt i last text nonce nonce_is = ap (λ n. xchacha20_poly1305 key n text) nonce_is
 
 -- the last 16 bytes of a chunk are the tag of the bytes before them
 pub chunk-tag : (key salt : List ℕ) (i : ℕ) (last : Bool) (text nonce bytes : List ℕ)
     → nonce ≡ chunk_nonce salt i last → bytes ≡ chunk key salt i last text
     → drop (length bytes - 16) bytes ≡ poly1305_tag (xchacha_stream 10 key nonce) [] (take (length bytes - 16) bytes)
-unfolding chunk
 chunk-tag key salt i last text nonce bytes nonce_is same =
-    let stream = xchacha_stream 10 key (chunk_nonce salt i last) in
-    let ciphertext = encrypted stream text in
-    let tag = poly1305_tag stream [] ciphertext in
-    let end = length bytes - 16 in
-    let size : length ciphertext ≡ end =
-    length-xor_stream stream 64 text
-    ∙ without-tag (length bytes) (length text) (ap length same ∙ length-chunk key salt i last text) in
-    let front : take end bytes ≡ ciphertext = ap (take end) same ∙ take_at ciphertext tag end size in
-    ap (drop end) same ∙ drop_at ciphertext tag end size
-    ∙ sym (ap (λ n. poly1305_tag (xchacha_stream 10 key n) [] (take end bytes)) nonce_is
-    ∙ ap (poly1305_tag stream []) front)
+    tag-sealed_message (xchacha_stream 10 key nonce) [] text (length bytes - 16) bytes
+    (same ∙ sym (chunk-is key salt i last text nonce nonce_is))
+    (omega (arith, ap length same, length-chunk key salt i last text))
 
 -- Pieces of a text.
 
@@ -163,10 +135,10 @@ module _ (key salt : List ℕ) where
         (rest ++ next, ap (λ cs. cs ++ next) is ∙ append_assoc (chunks key salt text i) rest next)
   ]
 
-  -- a file begins with them
-  pub chunks-begin : (text : List ℕ) (i : ℕ) → i ≤ last_number text
-      → (rest : List ℕ) × (sealed key salt text ≡ (header salt ++ chunks key salt text i) ++ rest)
-  chunks-begin text i within =
+  -- a file begins with them, and has more
+  pub begins-before : (text : List ℕ) (i : ℕ) → i ≤ last_number text
+      → (rest : List ℕ) × (sealed key salt text ≡ (header salt ++ chunks key salt text i) ++ rest) × (0 < length rest)
+  begins-before text i within =
       let n = last_number text in
       let last = chunk key salt n true (piece text n) in
       let (rest, is) = chunks-of text n i within in (
@@ -174,4 +146,9 @@ module _ (key salt : List ℕ) where
         ap (λ cs. (header salt ++ cs) ++ last) is
             ∙ ap (λ cs. cs ++ last) (sym (append_assoc (header salt) (chunks key salt text i) rest))
             ∙ append_assoc (header salt ++ chunks key salt text i) rest last,
+        omega (arith, length-append rest last, length-chunk key salt n true (piece text n)),
       )
+
+  pub chunks-begin : (text : List ℕ) (i : ℕ) → i ≤ last_number text
+      → (rest : List ℕ) × (sealed key salt text ≡ (header salt ++ chunks key salt text i) ++ rest)
+  chunks-begin text i within = let (rest, is, _) = begins-before text i within in (rest, is)

@@ -1,17 +1,17 @@
 -- What a reader had, of which the chunks before chunk i were right.
-use Rattle.std.proofs.Common.{◌≡◌, ◌<◌, ◌≤◌, ◌+◌, ◌-◌, ◌*◌, ◌^◌, ◌∙◌, ℕ, true, false, not, List, [], ◌++◌, Some, None, IfSome, IsSome, IsNone, IsTrue, IsFalse, is_some, length, take, take_at, take_all, drop, arith, refl, sym, ap, subst, append-nil, append_assoc, length-append, length-take-le, Bool}
-use Rattle.std.proofs.Math.Seq.{take-append-add, take-length}
-use Rattle.std.proofs.lemmas.Option.{IfSome_then}
+use Rattle.std.proofs.Common.{◌≡◌, ◌<◌, ◌≤◌, ◌+◌, ◌-◌, ◌*◌, ◌^◌, ◌∙◌, ℕ, true, false, not, List, [], ◌++◌, Some, None, IfSome, IsSome, IsNone, IsTrue, IsFalse, is_some, length, take, drop, take_all, arith, refl, sym, ap, subst, append-nil, append_assoc, length-append, length-take-le, Bool}
+use Rattle.std.proofs.Math.Seq.{take-append_seam}
 use Rattle.std.specs.declared.option.Option.{Option}
 use Rattle.std.specs.Io.KnownBytes.{Appends, Consumes, IsAtEnd}
 use Rattle.std.proofs.KnownBytes.{Appends-nil, Appends-trans, Consumes-nil, Consumes-trans}
 use Rattle.sealed_file.specs.declared.error.Damage.{Damage}
 use Rattle.sealed_file.specs.declared.error.Damage.TheVariants.{TooLong}
-use Rattle.sealed_file.specs.Opened.{header_damage, opened, opened_chunk, opened_rest}
-use Rattle.sealed_file.specs.Sealed.{header, chunk, chunks, sealed, left, damage_at, IsFileDamage, IsNoChunk, IsSealed}
+use Rattle.sealed_file.specs.Opened.{followed, opened, opened_chunk, opened_rest}
+use Rattle.sealed_file.specs.Sealed.{header, header_damage, chunk, chunks, sealed, left, damage_at, IsNoChunk, IsSealed}
 use Rattle.sealed_file.proofs.ChunkLemmas.{chunks-more, sealed-end, length-chunk}
-use Rattle.sealed_file.proofs.EncryptLemmas.{front-more, next-of, rest-of}
-use Rattle.sealed_file.proofs.OpenedLemmas.{front-tells, opened-adds, opened-front, opened-keeps, opened-long, opened-next, opened-sealed, right-chunk, wrong-chunk, opened_behind}
+use Rattle.sealed_file.proofs.EncryptLemmas.{Before, and-next, front-more, next-of, rest-of}
+use Rattle.sealed_file.proofs.HeaderLemmas.{header-front}
+use Rattle.sealed_file.proofs.OpenedLemmas.{opened-front, opened-long, opened-sealed, opened-step, right-chunk, wrong-chunk}
 
 -- what is wrong with a reader's bytes, and the text before it, which is written
 abbrev pub HasDamage : Option (List ℕ) → List ℕ → Option (List ℕ) → Option (List ℕ) → Damage → Type 0
@@ -22,24 +22,16 @@ HasDamage a key w v damage = (file text : List ℕ) × IfSome a (λ all. all ≡
 abbrev pub HasHeaderDamage : Option (List ℕ) → Damage → Type 0
 HasHeaderDamage a damage = (file : List ℕ) × IfSome a (λ all. all ≡ file) × (header_damage file ≡ Some damage)
 
-pub header-wrong : (a b : Option (List ℕ)) (front : List ℕ) (damage : Damage) → Consumes a b front → length front ≤ 32
-    → (length front < 32 → IsAtEnd b) → IsFileDamage front damage → HasHeaderDamage a damage
-header-wrong a b front damage read fits end wrong =
+pub header-wrong : (a b : Option (List ℕ)) (front : List ℕ) (damage : Damage) → Consumes a b front
+    → (length front < 32 → IsAtEnd b) → header_damage front ≡ Some damage → HasHeaderDamage a damage
+header-wrong a b front damage read end wrong =
     let (rest, all, _, nothing) = rest-of a b None front read in
-    (front ++ rest, all, front-tells front rest damage wrong fits (λ short. nothing refl (end short)))
+    (front ++ rest, all, header-front front rest (λ short. nothing refl (end short)) ∙ wrong)
 
 pub nothing-written : (a w : Option (List ℕ)) (key : List ℕ) (damage : Damage) → HasHeaderDamage a damage
     → HasDamage a key w w damage
-nothing-written a w key damage (file, all, wrong) = (
-  file,
-  [],
-  all,
-  ap (λ o. elim o [
-    | None ↦ opened_rest key (take 19 (drop 13 file)) 0 [] (drop 32 file)
-    | Some d ↦ ([], Some d)
-  ]) wrong,
-  Appends-nil w,
-)
+nothing-written a w key damage (file, all, wrong) =
+    (file, [], all, ap (λ d. followed ([], d) (opened_rest key (take 19 (drop 13 file)) 0 (drop 32 file))) wrong, Appends-nil w)
 
 -- one text
 pub text-of : (a w v : Option (List ℕ)) (key salt text file : List ℕ) → IfSome a (λ all. all ≡ file)
@@ -61,48 +53,41 @@ none-written a w key =
     let (file, all, _, _) = rest-of a a None [] (Consumes-nil a) in (file, 0, all, Appends-nil w)
 
 -- the chunks before chunk i were right, and their text is written
-pub record Opened (a b w v : Option (List ℕ)) (next : Option ℕ) (key salt : List ℕ) (i : ℕ) : Type 0 where
-  pub text : List ℕ
-  pub long : length text ≡ 65536 * i
-  pub some : 0 < i → IsSome next
-  pub read : Consumes a (left next b) (header salt ++ chunks key salt text i)
-  pub written : Appends w v text
+abbrev pub Opened : (a b w v : Option (List ℕ)) (next : Option ℕ) (key salt : List ℕ) → ℕ → Type 0
+Opened a b w v next key salt i = Before a b w v next i (λ text. header salt ++ chunks key salt text i) (λ text. text)
 
--- what such a file opens to
-front-opens : (key salt text rest : List ℕ) (i : ℕ) → length salt ≡ 19 → length text ≡ 65536 * i → i ≤ 2 ^ 32
-    → (0 < i → 0 < length rest)
-    → opened key ((header salt ++ chunks key salt text i) ++ rest) ≡ opened_rest key salt i text rest
-front-opens key salt text rest i size long most some =
-    opened-front key salt text rest i size (omega (arith, long)) most some
-    ∙ ap (λ t. opened_rest key salt i t rest) (take_all (65536 * i) text (omega (arith, long)))
-
--- Only it is written.
-module _ {a b w v : Option (List ℕ)} {next : Option ℕ} {key salt : List ℕ} {i : ℕ} (size : length salt ≡ 19)
+module _ {a b w v : Option (List ℕ)} {next : Option ℕ} (key salt : List ℕ) {i : ℕ} (size : length salt ≡ 19)
     (most : i ≤ 2 ^ 32) (before : Opened a b w v next key salt i) where
+  abbrev front : List ℕ
+  front = header salt ++ chunks key salt before.text i
+
+  -- what the file opens to, with what follows
+  opens : (rest : List ℕ) → (IsSome next → 0 < length rest)
+      → opened key (front ++ rest) ≡ followed (before.text, None) (opened_rest key salt i rest)
+  opens rest some =
+      opened-front key salt before.text rest i size (omega (arith, before.long)) most
+      (λ later. some (before.some later))
+      ∙ ap (λ t. followed (t, None) (opened_rest key salt i rest))
+      (take_all (65536 * i) before.text (omega (arith, before.long)))
+
   pub so-far : RightFront a key w v
   so-far =
-      let text = before.text in
-      let front = header salt ++ chunks key salt text i in
-      let (rest, all, some, _) = rest-of a b next front before.read in
-      let is = front-opens key salt text rest i size before.long most (λ later. some (before.some later)) in
-      let (more, keeps) = opened-keeps key salt text rest _ i in (
+      let (rest, all, some, _) = rest-of a b next front before.read in (
         front ++ rest,
-        length text,
+        length before.text,
         all,
-        subst (Appends w v) (sym (ap (take (length text)) (ap (λ p. p.0) is ∙ keeps)
-            ∙ take_at text more (length text) refl)) before.written,
+        subst (Appends w v) (sym (ap (λ p. take (length before.text) p.0) (opens rest some)
+            ∙ take-append_seam before.text _)) before.written,
       )
 
   pub too-long : i ≡ 2 ^ 32 → HasDamage a key w v TooLong
   too-long at =
-      let text = before.text in
-      let front = header salt ++ chunks key salt text i in
       let (rest, all, some, _) = rest-of a b next front before.read in (
         front ++ rest,
-        text,
+        before.text,
         all,
-        front-opens key salt text rest i size before.long most (λ later. some (before.some later))
-            ∙ opened-long key salt text rest i at,
+        opens rest some ∙ ap (followed (before.text, None)) (opened-long key salt i _ rest at)
+            ∙ ap (λ t. (t, Some TooLong)) (append-nil before.text),
         before.written,
       )
 
@@ -122,108 +107,69 @@ pub record Opening (a b w v : Option (List ℕ)) (after : Option ℕ) (key salt 
   pub more : IsFalse last → (piece : List ℕ) → HasText key salt bytes i last piece
       → (u : Option (List ℕ)) → Appends v u piece → Opened a b w u after key salt (i + 1)
 
--- Of n bytes that were read, and the byte behind them, if there is one.
-module _ (a b b' w v : Option (List ℕ)) (next after : Option ℕ) (key salt buf : List ℕ) (i n : ℕ) (last : Bool)
-    (before : Opened a b w v next key salt i) (size : length salt ≡ 19) (few : i < 2 ^ 32)
-    (read : Consumes (left next b) (left after b') (take n buf)) (fits : (n ≤ 65552) × (IsSome next → 0 < n))
-    (full : IsSome after → n ≡ 65552) (end : IsNone after → IsAtEnd b') (is_last : is_some after ≡ not last)
-    (room : n ≤ length buf) where
-  abbrev front : List ℕ
-  front = header salt ++ chunks key salt before.text i
-
-  abbrev bytes : List ℕ
-  bytes = take n buf
-
-  long : length bytes ≡ n
-  long = length-take-le n buf room
-
-  some : 0 < i → 0 < length bytes
-  some later = omega (arith, long, fits.1 (before.some later))
-
-  read' : Consumes a (left after b') (front ++ bytes)
-  read' = Consumes-trans a (left next b) (left after b') front bytes before.read read
-
-  next-is : (rest : List ℕ) × IfSome a (λ all. all ≡ (front ++ bytes) ++ rest) × (IsTrue last → rest ≡ [])
-      × (IsFalse last → IsSome after × (0 < length rest))
-  next-is = next-of a b' after (front ++ bytes) last read' end is_last
-
-  abbrev rest : List ℕ
-  rest = next-is.0
-
-  abbrev file : List ℕ
-  file = (front ++ bytes) ++ rest
-
-  whole : IsFalse last → length bytes ≡ 65552
-  whole goes = long ∙ full (next-is.3 goes).0
-
-  opens : (o : Option (List ℕ)) → opened_chunk key salt i last bytes ≡ o
-      → opened key file ≡ opened_behind key salt i last before.text rest o
-  opens o is =
-      ap (opened key) (append_assoc front bytes rest)
-      ∙ front-opens key salt before.text (bytes ++ rest) i size before.long (omega (arith, few))
-      (λ later. omega (arith, length-append bytes rest, some later))
-      ∙ opened-next key salt before.text i bytes rest last o is few
-      (λ ends. (omega (arith, long, fits.0), next-is.2 ends)) (λ goes. (whole goes, (next-is.3 goes).1))
-
-  whole-here : (piece : List ℕ) → HasText key salt bytes i last piece → IsTrue last
-      → (length piece ≤ 65536) × (file ≡ sealed key salt (before.text ++ piece))
-  whole-here piece (first, is) ends =
-      let short : length piece ≤ 65536 =
-      omega (arith, long, fits.0, ap length is, length-chunk key salt i last piece) in (
-        short,
-        ap (λ r. (front ++ bytes) ++ r) (next-is.2 ends) ∙ append-nil (front ++ bytes)
-            ∙ ap (λ c. front ++ c) (is ∙ ap (λ l. chunk key salt i l piece) ends)
-            ∙ sealed-end key salt before.text piece i before.long short first,
-      )
-
-  next-here : (piece : List ℕ) → HasText key salt bytes i last piece → IsFalse last
-      → (length (before.text ++ piece) ≡ 65536 * (i + 1))
-      × (front ++ bytes ≡ header salt ++ chunks key salt (before.text ++ piece) (i + 1))
-  next-here piece (_, is) goes =
-      let all : length piece ≡ 65536 =
-      omega (arith, whole goes, ap length is, length-chunk key salt i last piece) in (
-        omega (arith, length-append before.text piece, before.long, all),
-        ap (λ c. front ++ c) (is ∙ ap (λ l. chunk key salt i l piece) goes)
-            ∙ chunks-more key salt before.text piece i before.long all,
-      )
-
-  pub opening : Opening a b' w v after key salt bytes i last
-  opening = record {
-    wrong = λ no_text. (
-      file,
-      before.text,
-      next-is.1,
-      opens None (wrong-chunk key salt i last bytes no_text),
-      before.written,
-    );
-    partly = λ piece (first, is) u k less done.
-        let (more, adds) = opened-adds key salt before.text piece rest i last in (
-          file,
-          length before.text + k,
-          next-is.1,
-          front-more w v u before.text piece more (opened key file).0 k
-              (ap (λ p. p.0) (opens (Some piece) (right-chunk key salt i last bytes piece first is)) ∙ adds) less
-              before.written done,
-        );
-    whole = λ ends piece has u done.
-        let (short, is) = whole-here piece has ends in (
-          salt,
-          before.text ++ piece,
-          file,
-          next-is.1,
-          (size, omega (arith, length-append before.text piece, before.long, short, few), is),
-          Appends-trans w v u before.text piece before.written done,
-        );
-    more = λ goes piece has u done.
-        let (long', is') = next-here piece has goes in
-        record {
-          text = before.text ++ piece;
-          long = long';
-          some = λ _. (next-is.3 goes).0;
-          read = subst (Consumes a (left after b')) is' read';
-          written = Appends-trans w v u before.text piece before.written done;
-        };
-  }
+-- of n bytes that were read, and the byte behind them, if there is one
+pub opening : {a b w v : Option (List ℕ)} {next : Option ℕ} (key salt : List ℕ) {i : ℕ} (b' : Option (List ℕ))
+    (after : Option ℕ) (buf : List ℕ) (n : ℕ) (last : Bool) → Opened a b w v next key salt i → length salt ≡ 19
+    → i < 2 ^ 32 → Consumes (left next b) (left after b') (take n buf) → (n ≤ 65552) × (IsSome next → 0 < n)
+    → (IsSome after → n ≡ 65552) → (IsNone after → IsAtEnd b') → is_some after ≡ not last → n ≤ length buf
+    → Opening a b' w v after key salt (take n buf) i last
+opening {a} {b} {w} {v} {next} key salt {i} b' after buf n last before size few read fits full end is_last room =
+    let text = before.text in
+    let front = header salt ++ chunks key salt text i in
+    let bytes = take n buf in
+    let long = length-take-le n buf room in
+    let read' = Consumes-trans a (left next b) (left after b') front bytes before.read read in
+    let (rest, all, ends, goes) = next-of a b' after (front ++ bytes) last read' end is_last in
+    let whole : IsFalse last → length bytes ≡ 65552 = λ no. long ∙ full (goes no).0 in
+    let file = (front ++ bytes) ++ rest in
+    let (more, step) = opened-step key salt i last bytes rest (omega (arith, long, fits.0)) ends
+    (λ no. (whole no, (goes no).1)) in
+    let is : opened key file ≡ followed (text, None) (followed (opened_chunk key salt i last bytes) more) =
+    ap (opened key) (append_assoc front bytes rest)
+    ∙ opens key salt size (omega (arith, few)) before (bytes ++ rest)
+    (λ some. omega (arith, length-append bytes rest, long, fits.1 some))
+    ∙ ap (followed (text, None)) step in
+    record {
+      wrong = λ none. (
+        file,
+        text,
+        all,
+        is ∙ ap (λ part. followed (text, None) (followed part more)) (wrong-chunk key salt i last few bytes none)
+            ∙ ap (λ t. (t, Some (damage_at i last))) (append-nil text),
+        before.written,
+      );
+      partly = λ piece (some, right) u k less done. (
+        file,
+        length text + k,
+        all,
+        subst (λ t. Appends w u (take (length text + k) t))
+            (sym (ap (λ p. p.0) (is ∙ ap (λ part. followed (text, None) (followed part more))
+            (right-chunk key salt i last few bytes piece some right))))
+            (front-more w v u text piece more.0 k less before.written done),
+      );
+      whole = λ yes piece (some, right) u done.
+          let short : length piece ≤ 65536 =
+          omega (arith, long, fits.0, ap length right, length-chunk key salt i last piece) in (
+            salt,
+            text ++ piece,
+            file,
+            all,
+            (
+              size,
+              omega (arith, length-append text piece, before.long, short, few),
+              ap (λ r. (front ++ bytes) ++ r) (ends yes) ∙ append-nil (front ++ bytes)
+                  ∙ ap (λ c. front ++ c) (right ∙ ap (λ l. chunk key salt i l piece) yes)
+                  ∙ sealed-end key salt text piece i before.long short some,
+            ),
+            Appends-trans w v u text piece before.written done,
+          );
+      more = λ no piece (_, right) u done.
+          let full' : length piece ≡ 65536 =
+          omega (arith, whole no, ap length right, length-chunk key salt i last piece) in
+          and-next b' u after (λ t. header salt ++ chunks key salt t (i + 1)) (λ t. t) piece piece bytes before full'
+          (goes no).0 read done (ap (λ c. front ++ c) (right ∙ ap (λ l. chunk key salt i l piece) no)
+          ∙ chunks-more key salt text piece i before.long full') refl;
+    }
 
 -- the text of a chunk that was opened in place
 pub has-text : (key salt buf new : List ℕ) (i n : ℕ) (last : Bool) → n ≤ length buf

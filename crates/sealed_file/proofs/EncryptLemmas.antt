@@ -7,8 +7,7 @@ use Rattle.std.specs.declared.option.Option.{Option}
 use Rattle.std.specs.Io.KnownBytes.{Appends, Consumes, IsAtEnd}
 use Rattle.std.proofs.KnownBytes.{Appends-nil, Appends-trans, Consumes-nil, Consumes-trans}
 use Rattle.sealed_file.specs.Sealed.{header, chunk, chunks, last_number, sealed, left, IsSealed}
-use Rattle.sealed_file.proofs.ChunkLemmas.{chunks-begin, chunks-front, chunks-more, sealed-end}
-use Rattle.sealed_file.proofs.FileLemmas.{length-front, length-sealed}
+use Rattle.sealed_file.proofs.ChunkLemmas.{begins-before, chunks-front, chunks-more, sealed-end}
 
 -- a byte that was read ahead
 pub ahead : (a : Option (List ℕ)) (xs : List ℕ) (x : ℕ) → 0 < length xs
@@ -55,81 +54,88 @@ long-text a b next xs n read long more =
     let (rest, all, some, _) = rest-of a b next xs read in
     IfSome_then a all (λ ys is. omega (arith, ap length is, length-append xs rest, some more, long))
 
+-- the chunks before chunk i: what a reader gave, and what a writer took, by their text
+pub record Before (a b w v : Option (List ℕ)) (next : Option ℕ) (i : ℕ) (gave took : List ℕ → List ℕ) : Type 0 where
+  pub text : List ℕ
+  pub long : length text ≡ 65536 * i
+  pub some : 0 < i → IsSome next
+  pub read : Consumes a (left next b) (gave text)
+  pub written : Appends w v (took text)
+
+-- and the next one
+pub and-next : {a b w v : Option (List ℕ)} {next : Option ℕ} {i : ℕ} {gave took : List ℕ → List ℕ} (b' u : Option (List ℕ))
+    (after : Option ℕ) (gave' took' : List ℕ → List ℕ) (piece new bytes : List ℕ) → (before : Before a b w v next i gave took) → length piece ≡ 65536
+    → IsSome after → Consumes (left next b) (left after b') bytes → Appends v u new
+    → gave before.text ++ bytes ≡ gave' (before.text ++ piece) → took before.text ++ new ≡ took' (before.text ++ piece)
+    → Before a b' w u after (i + 1) gave' took'
+and-next {a} {b} {w} {v} {next} {i} {gave} {took} b' u after gave' took' piece new bytes before full goes read done gives takes = record {
+  text = before.text ++ piece;
+  long = omega (arith, length-append before.text piece, before.long, full);
+  some = λ _. goes;
+  read = subst (Consumes a (left after b')) gives (Consumes-trans a (left next b) (left after b') _ bytes before.read read);
+  written = subst (Appends w u) takes (Appends-trans w v u _ new before.written done);
+}
+
 -- what was written is a front of the file of a text, and not all of it: of the reader's, where that is known
 abbrev pub SealedFront : Option (List ℕ) → List ℕ → List ℕ → Option (List ℕ) → Option (List ℕ) → Type 0
 SealedFront a key salt w v = (text : List ℕ) × (n : ℕ) × IfSome a (λ all. all ≡ text)
     × (n < length (sealed key salt text)) × Appends w v (take n (sealed key salt text))
 
 -- a front of what follows
-pub front-more : (w v u : Option (List ℕ)) (xs ys rest all : List ℕ) (n : ℕ) → all ≡ (xs ++ ys) ++ rest → n ≤ length ys
-    → Appends w v xs → Appends v u (take n ys) → Appends w u (take (length xs + n) all)
-front-more w v u xs ys rest all n is less before more =
-    subst (Appends w u)
-    (sym (ap (take (length xs + n)) (is ∙ append_assoc xs ys rest) ∙ take-append-add xs (ys ++ rest) n
-    ∙ ap (λ zs. xs ++ zs) (take-append-le n ys rest less))) (Appends-trans w v u xs (take n ys) before more)
+pub front-more : (w v u : Option (List ℕ)) (xs ys rest : List ℕ) (n : ℕ) → n ≤ length ys
+    → Appends w v xs → Appends v u (take n ys) → Appends w u (take (length xs + n) (xs ++ (ys ++ rest)))
+front-more w v u xs ys rest n less before more =
+    subst (Appends w u) (sym (take-append-add xs (ys ++ rest) n ∙ ap (λ zs. xs ++ zs) (take-append-le n ys rest less)))
+    (Appends-trans w v u xs (take n ys) before more)
+
+sealed-front : (a w v u : Option (List ℕ)) (key salt text xs ys rest : List ℕ) (n : ℕ) → IfSome a (λ all. all ≡ text)
+    → sealed key salt text ≡ xs ++ (ys ++ rest) → n ≤ length ys → n < length (ys ++ rest)
+    → Appends w v xs → Appends v u (take n ys) → SealedFront a key salt w u
+sealed-front a w v u key salt text xs ys rest n all is fits less before more = (
+  text,
+  length xs + n,
+  all,
+  omega (arith, ap length is, length-append xs (ys ++ rest), less),
+  subst (λ file. Appends w u (take (length xs + n) file)) (sym is) (front-more w v u xs ys rest n fits before more),
+)
 
 -- a front of the header is written
 pub front-header : (a w v : Option (List ℕ)) (key salt : List ℕ) (n : ℕ) → length salt ≡ 19 → n < 32
     → Appends w v (take n (header salt)) → SealedFront a key salt w v
 front-header a w v key salt n size few written =
     let (text, all, _, _) = rest-of a a None [] (Consumes-nil a) in
-    let (tail, is) = chunks-begin key salt text 0 (omega arith) in
-    let begins = is ∙ ap (λ cs. cs ++ tail) (append-nil (header salt)) in (
-      text,
-      0 + n,
-      all,
-      omega (arith, few, size, ap length begins, length-append (header salt) tail),
-      front-more w w v [] (header salt) tail (sealed key salt text) n begins (omega (arith, few, size)) (Appends-nil w)
-          written,
-    )
+    let (tail, is, _) = begins-before key salt text 0 (omega arith) in
+    sealed-front a w w v key salt text [] (header salt) tail n all
+    (is ∙ ap (λ head. head ++ tail) (append-nil (header salt))) (omega (arith, few, size))
+    (omega (arith, few, size, length-append (header salt) tail)) (Appends-nil w) written
 
 -- the chunks before chunk i are written
-pub record Written (a b w v : Option (List ℕ)) (next : Option ℕ) (key salt : List ℕ) (i : ℕ) : Type 0 where
-  pub text : List ℕ
-  pub long : length text ≡ 65536 * i
-  pub some : 0 < i → IsSome next
-  pub read : Consumes a (left next b) text
-  pub written : Appends w v (header salt ++ chunks key salt text i)
+abbrev pub Written : (a b w v : Option (List ℕ)) (next : Option ℕ) (key salt : List ℕ) → ℕ → Type 0
+Written a b w v next key salt i = Before a b w v next i (λ text. text) (λ text. header salt ++ chunks key salt text i)
 
 -- a file begins with its first chunks, behind which something follows
+least : (i n : ℕ) → (0 < i → 0 < n) → i ≤ (65536 * i + n - 1) / 65536
+least zero n some = omega arith
+least (suc i) n some = omega (arith, some (omega arith))
+
 file-begins : (key salt text rest : List ℕ) (i : ℕ) → length text ≡ 65536 * i → (0 < i → 0 < length rest)
     → (tail : List ℕ) × (sealed key salt (text ++ rest) ≡ (header salt ++ chunks key salt text i) ++ tail)
-file-begins key salt text rest zero long more = chunks-begin key salt (text ++ rest) 0 (omega arith)
-file-begins key salt text rest (suc i) long more =
-    let (tail, is) = chunks-begin key salt (text ++ rest) (suc i)
-    (omega (arith, long, more (omega arith), length-append text rest)) in (
+    × (0 < length tail)
+file-begins key salt text rest i long more =
+    let (tail, is, some) = begins-before key salt (text ++ rest) i
+    (omega (arith, long, length-append text rest, least i (length rest) more)) in (
       tail,
-      is ∙ ap (λ cs. (header salt ++ cs) ++ tail) (chunks-front key salt text rest (suc i) (omega (arith, long))),
+      is ∙ ap (λ cs. (header salt ++ cs) ++ tail) (chunks-front key salt text rest i (omega (arith, long))),
+      some,
     )
 
--- and more than these
-not-all : (i text rest last : ℕ) → text ≡ 65536 * i → (0 < i → 0 < rest) → last ≡ (text + rest - 1) / 65536
-    → 32 + 65552 * i < 32 + (text + rest + 16 * (last + 1))
-not-all zero text rest last long more is = omega arith
-not-all (suc i) text rest last long more is = omega (arith, long, more (omega arith), is)
-
-pub front-before : {a b w v : Option (List ℕ)} {next : Option ℕ} {key salt : List ℕ} {i : ℕ} → length salt ≡ 19
+pub front-before : {a b w v : Option (List ℕ)} {next : Option ℕ} (key salt : List ℕ) {i : ℕ}
     → Written a b w v next key salt i → SealedFront a key salt w v
-front-before {a} {b} {w} {v} {next} {key} {salt} {i} size before =
+front-before {a} {b} {w} {v} {next} key salt {i} before =
     let text = before.text in
-    let front = header salt ++ chunks key salt text i in
     let (rest, all, some, _) = rest-of a b next text before.read in
-    let more : 0 < i → 0 < length rest = λ later. some (before.some later) in
-    let (tail, is) = file-begins key salt text rest i before.long more in
-    let begins = ap (take (length front)) is ∙ take_at front tail (length front) refl in (
-      text ++ rest,
-      length front,
-      all,
-      omega (
-        arith,
-        length-front key salt text size i (omega (arith, before.long)),
-        length-sealed key salt (text ++ rest) size,
-        not-all i (length text) (length rest) (last_number (text ++ rest)) before.long more
-            (ap (λ k. (k - 1) / 65536) (length-append text rest)),
-        length-append text rest,
-      ),
-      subst (Appends w v) (sym begins) before.written,
-    )
+    let (tail, is, left) = file-begins key salt text rest i before.long (λ later. some (before.some later)) in
+    sealed-front a w v v key salt (text ++ rest) _ [] tail 0 all is (omega arith) left before.written (Appends-nil v)
 
 -- and with the next one, a last one or another
 chunk-begins : (key salt text piece rest : List ℕ) (i : ℕ) (last : Bool) → length text ≡ 65536 * i
@@ -144,7 +150,7 @@ chunk-begins key salt text piece rest i true long fits some none more = (
 )
 chunk-begins key salt text piece rest i false long fits some none more =
     let (full, one) = more refl in
-    let (tail, is) = file-begins key salt (text ++ piece) rest (i + 1)
+    let (tail, is, _) = file-begins key salt (text ++ piece) rest (i + 1)
     (omega (arith, length-append text piece, long, full)) (λ _. one) in
     (tail, is ∙ ap (λ cs. cs ++ tail) (sym (chunks-more key salt text piece i long full)))
 
@@ -165,14 +171,14 @@ pub record Sealing (a b w v : Option (List ℕ)) (after : Option ℕ) (key salt 
   pub more : IsFalse last → (u : Option (List ℕ)) → Appends v u new → Written a b w u after key salt (i + 1)
 
 -- of n bytes of text that were read, and the byte behind them, if there is one
-pub sealing : {a b w v : Option (List ℕ)} {next : Option ℕ} {key salt : List ℕ} {i : ℕ} (b' : Option (List ℕ))
+pub sealing : {a b w v : Option (List ℕ)} {next : Option ℕ} (key salt : List ℕ) {i : ℕ} (b' : Option (List ℕ))
     (after : Option ℕ) (buf new : List ℕ) (n : ℕ) (last : Bool)
     → Written a b w v next key salt i → length salt ≡ 19 → i < 2 ^ 32
     → Consumes (left next b) (left after b') (take n buf) → (n ≤ 65536) × (IsSome next → 0 < n)
     → (IsSome after → n ≡ 65536) → (IsNone after → IsAtEnd b') → is_some after ≡ not last → n + 16 ≤ length buf
     → new ≡ chunk key salt i last (take (length (take (n + 16) buf) - 16) (take (n + 16) buf))
     → Sealing a b' w v after key salt new i last
-sealing {a} {b} {w} {v} {next} {key} {salt} {i} b' after buf new n last before size few read fits full end
+sealing {a} {b} {w} {v} {next} key salt {i} b' after buf new n last before size few read fits full end
     is_last room is =
     let text = before.text in
     let piece = take n buf in
@@ -188,14 +194,9 @@ sealing {a} {b} {w} {v} {next} {key} {salt} {i} b' after buf new n last before s
     chunk-begins key salt text piece rest i last before.long (omega (arith, long, fits.0)) first ends tells in
     record {
       partly = λ u k less done.
-          let begins = file ∙ ap (λ c. (front ++ c) ++ tail) (sym is') in (
-            (text ++ piece) ++ rest,
-            length front + k,
-            all,
-            omega (arith, less, ap length begins, length-append (front ++ new) tail, length-append front new),
-            front-more w v u front new tail (sealed key salt ((text ++ piece) ++ rest)) k begins (omega (arith, less))
-                before.written done,
-          );
+          let begins = file ∙ ap (λ c. (front ++ c) ++ tail) (sym is') ∙ append_assoc front new tail in
+          sealed-front a w v u key salt ((text ++ piece) ++ rest) front new tail k all begins (omega (arith, less))
+          (omega (arith, less, length-append new tail)) before.written done;
       whole = λ yes u done. (
         text ++ piece,
         sealed key salt (text ++ piece),
@@ -207,15 +208,8 @@ sealing {a} {b} {w} {v} {next} {key} {salt} {i} b' after buf new n last before s
             ∙ sealed-end key salt text piece i before.long (omega (arith, long, fits.0)) first)
             (Appends-trans w v u front new before.written done),
       );
-      more = λ no u done. record {
-        text = text ++ piece;
-        long = omega (arith, length-append text piece, before.long, (tells no).0);
-        some = λ _. (goes no).0;
-        read = read';
-        written = subst (Appends w u)
-            (ap (λ c. front ++ c)
-            (is' ∙ ap (λ l. chunk key salt i l piece) no)
-            ∙ chunks-more key salt text piece i before.long (tells no).0)
-            (Appends-trans w v u front new before.written done);
-      };
+      more = λ no u done. and-next b' u after (λ t. t) (λ t. header salt ++ chunks key salt t (i + 1)) piece new piece
+          before (tells no).0 (goes no).0 read done refl (ap (λ c. front ++ c)
+          (is' ∙ ap (λ l. chunk key salt i l piece) no)
+          ∙ chunks-more key salt text piece i before.long (tells no).0);
     }

@@ -1,29 +1,27 @@
 -- What is wrong with a header.
-use Rattle.std.proofs.Common.{◌≡◌, ◌≢◌, ◌≤◌, ◌+◌, ◌*◌, ◌^◌, ◌∙◌, ℕ, List, ◌++◌, inl, inr, IfSome, length, take, drop, codes, arith, sym, ap, subst, length-append, length-drop, length-take, length-take-le, take_at, take_all, take-take, le_refl}
-use Rattle.std.proofs.lemmas.Bool.{cases_lt}
-use Rattle.std.proofs.lemmas.List.{take-append-le, take-append-drop}
+use Rattle.std.proofs.Common.{◌≡◌, ◌≤◌, ◌<◌, ◌∙◌, ℕ, List, [], ◌++◌, Some, inl, inr, IfSome, length, take, drop, codes, arith, sym, ap, subst, append-nil, length-append, length-drop, length-take, length-take-le, take_at, take_all, take-take, le_refl}
+use Rattle.std.proofs.lemmas.Bool.{cases_lt, le-ltb}
+use Rattle.std.proofs.lemmas.List.{drop_all, take-append-le, take-append-drop}
 use Rattle.std.proofs.lemmas.Option.{IfSome_then}
 use Rattle.std.specs.declared.option.Option.{Option}
 use Rattle.std.specs.Option.{ForSome}
 use Rattle.std.specs.Io.KnownBytes.{Consumes}
 use Rattle.sealed_file.proofs.ListLemmas.{for_some}
 use Rattle.sealed_file.specs.declared.error.Damage.{Damage}
-use Rattle.sealed_file.specs.declared.error.Damage.TheVariants.{NotSealed, OtherVersion, CutHeader, TooLong, WrongChunk, WrongEnd}
-use Rattle.sealed_file.specs.Sealed.{header, HasSalt, IsFileDamage}
+use Rattle.sealed_file.specs.Sealed.{header, header_damage, HasSalt, IsFileDamage}
 
--- the first 32 bytes decide
-damage-more : (xs rest : List ℕ) (damage : Damage) → 32 ≤ length xs → IsFileDamage xs damage
-    → IsFileDamage (xs ++ rest) damage
-damage-more xs rest NotSealed long other = λ same. other (sym (take-append-le 12 xs rest (omega (arith, long))) ∙ same)
-damage-more xs rest CutHeader long (_, short) = absurd (omega (arith, long, short))
-damage-more xs rest OtherVersion long (same, _, other) = (
-  take-append-le 12 xs rest (omega (arith, long)) ∙ same,
-  omega (arith, long, length-append xs rest),
-  λ version. other (sym (take-append-le 13 xs rest (omega (arith, long))) ∙ version),
-)
-damage-more xs rest TooLong long many = omega (arith, many, length-append xs rest)
-damage-more xs rest (WrongChunk i) long none = none
-damage-more xs rest (WrongEnd i) long none = none
+-- the first 32 bytes, or all that there are, tell
+pub header-front : (front rest : List ℕ) → (length front < 32 → rest ≡ [])
+    → header_damage (front ++ rest) ≡ header_damage front
+header-front front rest all = elim (cases_lt (length front) 32) [
+  | inl short ↦ ap header_damage (ap (λ r. front ++ r) (all short) ∙ append-nil front)
+  | inr long ↦ rw (
+    take-append-le 12 front rest (omega (arith, long)),
+    take-append-le 13 front rest (omega (arith, long)),
+    le-ltb (length (front ++ rest)) 32 (omega (arith, long, length-append front rest)),
+    le-ltb (length front) 32 long,
+  )
+]
 
 -- bytes behind a magic word
 pub salt-behind : (file salt : List ℕ) → file ≡ codes "chacha20seal1" ++ drop 13 file → 32 ≤ length file
@@ -61,10 +59,7 @@ header-read a b bytes salt n read size has =
 
 -- what the first 32 bytes of a file say of it, or all that it has
 pub front-damage : (a : Option (List ℕ)) (front : List ℕ) (damage : Damage) → IfSome a (λ all. front ≡ take 32 all)
-    → IsFileDamage front damage → IfSome a (λ all. IsFileDamage all damage)
-front-damage a front damage read wrong = IfSome_then a read (λ all is. elim (cases_lt (length all) 32) [
-  | inl short ↦ subst (λ xs. IsFileDamage xs damage) (is ∙ take_all 32 all (omega (arith, short))) wrong
-  | inr long ↦
-      subst (λ xs. IsFileDamage xs damage) (ap (λ xs. xs ++ drop 32 all) is ∙ take-append-drop 32 all)
-      (damage-more front (drop 32 all) damage (omega (arith, ap length is, length-take-le 32 all long)) wrong)
-])
+    → header_damage front ≡ Some damage → IfSome a (λ all. IsFileDamage all damage)
+front-damage a front damage read wrong = IfSome_then a read (λ all is. inl (
+    ap header_damage (sym (take-append-drop 32 all)) ∙ header-front (take 32 all) (drop 32 all)
+    (λ short. drop_all 32 all (omega (arith, short, length-take 32 all))) ∙ ap header_damage (sym is) ∙ wrong))

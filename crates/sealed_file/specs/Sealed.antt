@@ -1,8 +1,7 @@
 -- The format of a sealed file: STREAM of 64 KiB chunks. A key, a text and a file are lists of bytes, and a salt is 19
 -- random bytes.
-use Rattle.std.specs.Prelude.{◌≡◌, ◌≢◌, ℕ, zero, suc, ◌+◌, ◌<◌, ◌≤◌, ◌-◌, ◌*◌, ◌/◌, ◌^◌, Bool, true, false, if◌then◌else◌}
-use Rattle.std.specs.Prelude.{List, [], ◌∷◌, ◌++◌, take, drop, length, codes}
-use Rattle.std.specs.Prelude.{Some, None}
+use Rattle.std.specs.Prelude.{◌≡◌, ◌≢◌, ◌⊎◌, ℕ, zero, suc, ◌+◌, ◌<◌, ◌≤◌, ◌-◌, ◌*◌, ◌/◌, ◌^◌, nat_lt, Bool, true, false, not, if◌then◌else◌}
+use Rattle.std.specs.Prelude.{List, [], ◌∷◌, ◌++◌, take, drop, length, codes, bytes_eq, Some, None}
 use Rattle.std.specs.declared.option.Option.{Option}
 use Rattle.std.specs.Io.KnownBytes.{prepend_known}
 use Rattle.std.specs.Int.{w32, to_be_bytes, div_ceil}
@@ -23,15 +22,19 @@ header salt = codes "chacha20seal1" ++ salt
 abbrev pub HasSalt : List ℕ → List ℕ → Type 0
 HasSalt file salt = (rest : List ℕ) × (length salt ≡ 19) × (file ≡ header salt ++ rest)
 
--- what is wrong with a file before any chunk is opened: the magic word, the length or the version
+-- what is wrong with the header of a file: the magic word, the length or the version
+abbrev pub header_damage : List ℕ → Option Damage
+header_damage file =
+    if not (bytes_eq (codes "chacha20seal") (take 12 file)) then Some NotSealed
+    else (if nat_lt (length file) 32 then Some CutHeader
+    else (if not (bytes_eq (codes "chacha20seal1") (take 13 file)) then Some OtherVersion
+    else None))
+
+-- what is wrong with a file before any chunk is opened
 abbrev pub IsFileDamage : List ℕ → Damage → Type 0
-IsFileDamage file NotSealed = take 12 file ≢ codes "chacha20seal"
-IsFileDamage file CutHeader = (take 12 file ≡ codes "chacha20seal") × (length file < 32)
-IsFileDamage file OtherVersion =
-    (take 12 file ≡ codes "chacha20seal") × (32 ≤ length file)
-    × (take 13 file ≢ codes "chacha20seal1")
-IsFileDamage file TooLong = 32 + 65552 * 2 ^ 32 < length file
-IsFileDamage file _ = ⊥
+IsFileDamage file damage =
+    (header_damage file ≡ Some damage)
+    ⊎ ((damage ≡ TooLong) × (32 + 65552 * 2 ^ 32 < length file))
 
 -- the nonce of a chunk: the salt, the chunk's number in 4 bytes, and 1 for the last chunk, 0 for others
 abbrev pub chunk_nonce : List ℕ → ℕ → Bool → List ℕ

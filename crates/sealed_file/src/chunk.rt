@@ -1,7 +1,7 @@
 //! The parts of a sealed file.
 
-ghost use Rattle.std.specs.Prelude.{◌≡◌, ◌≢◌, ◌<◌, ◌≤◌, ◌-◌, ◌^◌, ◌↔◌, ℕ, List, Bool, length, take, drop, IsTrue, IsFalse, IsOk, IfOk, IfErr};
-ghost use Rattle.sealed_file.specs.Sealed.{header, chunk_nonce, chunk, HasSalt, IsFileDamage};
+ghost use Rattle.std.specs.Prelude.{◌≡◌, ◌<◌, ◌≤◌, ◌-◌, ◌^◌, ◌↔◌, ℕ, List, Bool, length, take, drop, IsTrue, IsFalse, Some, IsOk, IfOk, IfErr, bytes_eq};
+ghost use Rattle.sealed_file.specs.Sealed.{header, header_damage, chunk_nonce, chunk, HasSalt, IsNoChunk};
 
 use crate::error::Damage;
 use chacha20::{Key, XNonce};
@@ -36,7 +36,7 @@ pub fn header(salt: &Salt) -> [u8; 32]
 pub fn salt_of(file: &[u8]) -> Result<Salt, Damage>
     ensures accepted { IsOk result ↔ ((salt : List ℕ) × HasSalt file.now salt) }
     ensures salt { IfOk result (λ salt. HasSalt file.now salt) }
-    ensures damage { IfErr result (λ e. IsFileDamage file.now e) }
+    ensures damage { IfErr result (λ e. header_damage file.now ≡ Some e) }
 {
     if !begins_with(file, &MAGIC[..12]) {
         return Err(Damage::NotSealed);
@@ -53,7 +53,8 @@ pub fn salt_of(file: &[u8]) -> Result<Salt, Damage>
 }
 
 fn begins_with(file: &[u8], word: &[u8]) -> bool
-    ensures { IsTrue result ↔ (take (length word.now) file.now ≡ word.now) }
+    ensures value { result ≡ bytes_eq word.now (take (length word.now) file.now) }
+    ensures decides { IsTrue result ↔ (take (length word.now) file.now ≡ word.now) }
 {
     file.starts_with(word)
 }
@@ -96,8 +97,7 @@ pub fn open_chunk(key: &Key, salt: &Salt, number: u64, last: bool, bytes: &mut [
     ensures right { IsTrue result → bytes.old
         ≡ chunk key.now salt.now number last (take (length bytes.old - 16) bytes.new) }
     ensures long { IsTrue result → (16 ≤ length bytes.old) × (0 < number → 16 < length bytes.old) }
-    ensures wrong { IsFalse result → (text : List ℕ) → (0 < number → 0 < length text)
-        → bytes.old ≢ chunk key.now salt.now number last text }
+    ensures wrong { IsFalse result → IsNoChunk key.now salt.now number last bytes.old }
     ensures refused { IsFalse result → bytes.new ≡ bytes.old }
     ensures tag { let end = length bytes.old - 16 in drop end bytes.new ≡ drop end bytes.old }
 {

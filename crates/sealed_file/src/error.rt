@@ -106,8 +106,6 @@ impl Display for IoError {
     }
 }
 
-impl Error for IoError {}
-
 impl Display for Damage {
     ghost output = { λ damage. Some (damage_text damage) };
 
@@ -135,8 +133,6 @@ impl Display for Damage {
         }
     }
 }
-
-impl Error for Damage {}
 
 impl From<Damage> for io::Error {
     ghost from_gives = { λ _ result. error_kind result ≡ ErrorKind.InvalidData };
@@ -268,12 +264,11 @@ impl Display for RangeError {
     }
 }
 
+impl Error for IoError {}
+impl Error for Damage {}
 impl Error for EncryptError {}
-
 impl Error for DecryptError {}
-
 impl Error for ReadError {}
-
 impl Error for RangeError {}
 
 impl From<EncryptError> for io::Error {

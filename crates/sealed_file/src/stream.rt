@@ -5,8 +5,8 @@ ghost use Rattle.std.specs.Io.KnownBytes.{Appends, Consumes, IsAtEnd};
 ghost use Rattle.std.specs.declared.io.Error.{Error};
 ghost use Rattle.sealed_file.specs.declared.error.Damage.{Damage};
 ghost use Rattle.sealed_file.specs.declared.error.IoError.{IoError};
-ghost use Rattle.sealed_file.specs.Opened.{header_damage, opened};
-ghost use Rattle.sealed_file.specs.Sealed.{header, sealed, left, IsSealed};
+ghost use Rattle.sealed_file.specs.Opened.{opened};
+ghost use Rattle.sealed_file.specs.Sealed.{header, header_damage, sealed, left, IsSealed};
 
 use crate::chunk::{CHUNK, CHUNKS, Salt, TAG, header, open_chunk, salt_of, seal_chunk};
 use crate::error::{Damage, DecryptError, EncryptError, IoError};
@@ -209,16 +209,30 @@ fn read_chunk<R: Read>(
     ensures whole { IfOk result (λ (n, after). IsSome after → n ≡ size) }
     ensures end { IfOk result (λ (n, after). IsNone after → IsAtEnd (R.remaining reader.new)) }
 {
-    let mut held = 0;
-    if let Some(byte) = next {
-        buf[0] = byte;
-        held = 1;
-    }
-    let n = held + fill(reader, &mut buf[held..size + 1])?;
+    let n = fill_behind(reader, next, &mut buf[..size + 1])?;
     if n <= size {
         return Ok((n, None));
     }
     Ok((size, Some(buf[size])))
+}
+
+// Fills the buffer, which begins with `next` if there is one.
+fn fill_behind<R: Read>(
+    reader: &mut R,
+    next: Option<u8>,
+    buf: &mut [u8],
+) -> Result<usize, IoError>
+    requires { 0 < length buf.old }
+    ensures bytes { IfOk result (λ n. Consumes (left next (R.remaining reader.old))
+        (R.remaining reader.new) (take n buf.new)) }
+    ensures size { IfOk result (λ n. (n ≤ length buf.old) × (IsSome next → 0 < n)) }
+    ensures end { IfOk result (λ n. n < length buf.old → IsAtEnd (R.remaining reader.new)) }
+{
+    let Some(byte) = next else {
+        return fill(reader, buf);
+    };
+    buf[0] = byte;
+    Ok(1 + fill(reader, &mut buf[1..])?)
 }
 
 /// Reads until the buffer is full or the reader ends, and returns how many bytes came. A read that a signal interrupts

@@ -1,9 +1,9 @@
 use Rattle.std.proofs.Common.{◌≡◌, ◌∙◌, ◌-◌, [], IsOk, arith, length, take, drop, sym, ap, take_at, drop_at, length-take-le, true≢false}
 use Rattle.std.proofs.lemmas.List.{take-append-drop, take_rest}
 use Rattle.chacha20.specs.XChaCha.{xchacha_stream}
-use Rattle.chacha20.proofs.KeystreamLemmas.{xor_stream-xor_stream}
 use Rattle.chacha20.proofs.StdLemmas.{on_ok-holds}
 use Rattle.chacha20poly1305.specs.Aead.{encrypted, poly1305_tag}
+use Rattle.chacha20poly1305.proofs.AeadLemmas.{sealed_message-parts}
 use Rattle.sealed_file.specs.Sealed.{chunk}
 use Rattle.sealed_file.proofs.ChunkLemmas.{chunk-is, chunk-tag, length-chunk}
 use Rattle.sealed_file.proofs.chunk.open_chunk.Goals.{then-number-eq0, else-number-eq0}
@@ -26,28 +26,24 @@ returns-then-bytes-least-clause-wrong c refused text some same =
 
 pub returns-clause-right : goal.returns-clause-right
 returns-clause-right c opened =
-    let key = c.args.key.now in
     let bytes = c.args.bytes.now in
     let end = length bytes - 16 in
-    let ciphertext = take end bytes in
     let text = c.decrypt_in_place_detached.new.message in
     let nonce = c.chunk_nonce-nonce.result in
-    let stream = xchacha_stream 10 key nonce in
+    let stream = xchacha_stream 10 c.args.key.now nonce in
+    let answer = c.decrypt_in_place_detached.ensures in
     let accepted : IsOk c.decrypt_in_place_detached.result = sym c.is_ok.ensures.value ∙ opened in
-    let right : drop end bytes ≡ poly1305_tag stream [] ciphertext =
+    let right : drop end bytes ≡ poly1305_tag stream [] (take end bytes) =
     sym (c.copy_from_slice.ensures.after ∙ take_rest bytes end)
-    ∙ ((rw c.new-cipher.ensures at c.decrypt_in_place_detached.ensures.accepted).0 accepted).1 in
-    let size : length text ≡ end = c.decrypt_in_place_detached.auto.message ∙ length-take-le end bytes (omega arith) in
-    let plain : text ≡ encrypted stream ciphertext =
-    on_ok-holds c.decrypt_in_place_detached.result accepted
-    ((rw c.new-cipher.ensures at c.decrypt_in_place_detached.ensures.decrypted) (encrypted stream ciphertext)
-    (sym (xor_stream-xor_stream stream 64 ciphertext))) in
-    let encrypts : ciphertext ≡ encrypted stream text =
-    sym (xor_stream-xor_stream stream 64 ciphertext) ∙ ap (encrypted stream) (sym plain) in
+    ∙ ((rw c.new-cipher.ensures at answer.accepted).0 accepted).1 in
+    let plain : text ≡ encrypted stream (take end bytes) =
+    on_ok-holds c.decrypt_in_place_detached.result accepted (rw c.new-cipher.ensures at answer.text) in
     sym (take-append-drop end bytes)
-    ∙ chunk-is key c.args.salt.now c.args.number c.args.last text nonce ciphertext (drop end bytes)
-    c.chunk_nonce-nonce.ensures.value encrypts right
-    ∙ ap (chunk key c.args.salt.now c.args.number c.args.last) (sym (take_at text (drop end bytes) end size))
+    ∙ sealed_message-parts stream [] (take end bytes) (drop end bytes) text right plain
+    ∙ chunk-is c.args.key.now c.args.salt.now c.args.number c.args.last text nonce c.chunk_nonce-nonce.ensures.value
+    ∙ ap (chunk c.args.key.now c.args.salt.now c.args.number c.args.last)
+    (sym (take_at text (drop end bytes) end
+    (c.decrypt_in_place_detached.auto.message ∙ length-take-le end bytes (omega arith))))
 
 pub returns-clause-wrong : goal.returns-clause-wrong
 returns-clause-wrong c refused text some same =

@@ -8,7 +8,7 @@ returns-clause-salt c =
     let file = c.args.file.now in
     salt-behind file c.copy_from_slice.new.self
     (sym (take-append-drop 13 file) ∙ ap (λ xs. xs ++ drop 13 file)
-    (c.begins_with-2.ensures.0 c.if-not-begins_with-2.false))
+    (c.begins_with-2.ensures.decides.0 c.if-not-begins_with-2.false))
     c.if-file-lt32.false c.copy_from_slice.ensures.after
 
 pub returns-clause-accepted : goal.returns-clause-accepted

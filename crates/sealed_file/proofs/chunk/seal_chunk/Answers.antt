@@ -1,4 +1,4 @@
-use Rattle.std.proofs.Common.{◌≡◌, ◌∙◌, [], ap}
+use Rattle.std.proofs.Common.{◌≡◌, ◌∙◌, ◌++◌, [], ap, ap₂}
 use Rattle.chacha20.specs.XChaCha.{xchacha_stream}
 use Rattle.chacha20poly1305.specs.Aead.{encrypted, poly1305_tag}
 use Rattle.sealed_file.specs.Sealed.{chunk}
@@ -17,6 +17,6 @@ returns c =
     rw (c.unwrap-tag.ensures, c.new-cipher.ensures) at c.encrypt_in_place_detached.ensures.ciphertext in
     let tags : c.unwrap-tag.result ≡ poly1305_tag stream [] ciphertext =
     rw (c.unwrap-tag.ensures, c.new-cipher.ensures) at c.encrypt_in_place_detached.ensures.tag in
-    chunk-is key c.args.salt.now c.args.number c.args.last text nonce ciphertext c.copy_from_slice.new.self
-    c.chunk_nonce-nonce.ensures.value encrypts (c.copy_from_slice.ensures.after ∙ tags)
+    ap₂ ◌++◌ encrypts (c.copy_from_slice.ensures.after ∙ tags ∙ ap (poly1305_tag stream []) encrypts)
+    ∙ chunk-is key c.args.salt.now c.args.number c.args.last text nonce c.chunk_nonce-nonce.ensures.value
     ∙ ap (chunk key c.args.salt.now c.args.number c.args.last) c.split_at_mut-text.ensures.front

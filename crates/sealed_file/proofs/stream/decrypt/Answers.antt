@@ -4,8 +4,31 @@ use Rattle.std.proofs.KnownBytes.{Appends-nil}
 use Rattle.sealed_file.specs.declared.error.Damage.{Damage}
 use Rattle.sealed_file.specs.declared.error.DecryptError.TheVariants.{Damaged}
 use Rattle.sealed_file.specs.Sealed.{header}
-use Rattle.sealed_file.proofs.DecryptLemmas.{HasDamage, has-text, none-written, nothing-written, opening, so-far, text-of, too-long}
+use Rattle.sealed_file.proofs.DecryptLemmas.{HasDamage, HasText, Opening, has-text, none-written, nothing-written, opening, so-far, text-of, too-long}
+use Rattle.sealed_file.proofs.stream.decrypt.Given.{Over}
+use Rattle.sealed_file.proofs.stream.decrypt.Goals.{After-open_chunk, After-write_whole}
 use Rattle.sealed_file.proofs.stream.decrypt.Goals as goal
+
+tells : (g : Over) (c : After-open_chunk g) → Opening (g.R.Read.remaining c.args.reader.now)
+    (g.R.Read.remaining c.read_chunk.new.reader) (g.W.Write.contents c.args.writer.now)
+    (g.W.Write.contents c.chunks.writer) c.in-Ok-read_chunk.read.1 c.args.key.now c.in-Ok.salt
+    (take c.in-Ok-read_chunk.read.0 c.read_chunk.new.buf) c.chunks.number c.is_none-last.result
+tells g c =
+    let read = c.in-Ok-read_chunk.ensures in
+    opening c.args.key.now c.in-Ok.salt (g.R.Read.remaining c.read_chunk.new.reader) c.in-Ok-read_chunk.read.1
+    c.read_chunk.new.buf c.in-Ok-read_chunk.read.0 c.is_none-last.result c.chunks.invariant c.in-Ok.ensures.size
+    c.chunks-test.true read.bytes read.size read.whole read.end c.is_none-last.ensures
+    (omega (arith, read.size.0, c.read_chunk.auto.buf, c.told-buf))
+
+has : (g : Over) (c : After-write_whole g) → HasText c.args.key.now c.in-Ok.salt
+    (take c.in-Ok-read_chunk.read.0 c.read_chunk.new.buf) c.chunks.number c.is_none-last.result
+    (take (c.in-Ok-read_chunk.read.0 - 16) c.open_chunk.new.bytes)
+has g c =
+    let is = c.if-not-open_chunk.ensures in
+    has-text c.args.key.now c.in-Ok.salt c.read_chunk.new.buf c.open_chunk.new.bytes c.chunks.number
+    c.in-Ok-read_chunk.read.0 c.is_none-last.result
+    (omega (arith, c.in-Ok-read_chunk.ensures.size.0, c.read_chunk.auto.buf, c.told-buf)) c.open_chunk.auto.bytes
+    (is.right refl) (is.long refl)
 
 pub returns-in-Err-clause-damaged : goal.returns-in-Err-clause-damaged
 returns-in-Err-clause-damaged g c damage is =
@@ -28,54 +51,29 @@ chunks-init g c = record {
 
 pub returns-in-Err-read_chunk-clause-only_right : goal.returns-in-Err-read_chunk-clause-only_right
 returns-in-Err-read_chunk-clause-only_right g c =
-    so-far c.in-Ok.ensures.size (omega (arith, c.chunks-test.true)) c.chunks.invariant
+    so-far c.args.key.now c.in-Ok.salt c.in-Ok.ensures.size (omega (arith, c.chunks-test.true)) c.chunks.invariant
 
 pub returns-then-not-open_chunk-clause-damaged : goal.returns-then-not-open_chunk-clause-damaged
 returns-then-not-open_chunk-clause-damaged g c damage is =
-    let read = c.in-Ok-read_chunk.ensures in
-    let room : c.in-Ok-read_chunk.read.0 ≤ length c.read_chunk.new.buf =
-    omega (arith, read.size.0, c.read_chunk.auto.buf, c.told-buf) in
-    let tells = opening _ _ (g.R.Read.remaining c.read_chunk.new.reader) _ _ _ c.in-Ok-read_chunk.read.1 _ _
-    c.read_chunk.new.buf _ c.in-Ok-read_chunk.read.0 c.is_none-last.result c.chunks.invariant c.in-Ok.ensures.size
-    c.chunks-test.true read.bytes read.size read.whole read.end c.is_none-last.ensures room in
     let same : c.of_chunk.result ≡ damage = (cc) in
     subst (HasDamage (g.R.Read.remaining c.args.reader.now) c.args.key.now _ _) (sym c.of_chunk.ensures ∙ same)
-    (tells.wrong (c.if-not-open_chunk.ensures.wrong refl))
+    ((tells g (goal.at.returns-then-not-open_chunk-clause-damaged g c).After-open_chunk).wrong
+    (c.if-not-open_chunk.ensures.wrong refl))
 
 pub returns-then-not-open_chunk-clause-only_right : goal.returns-then-not-open_chunk-clause-only_right
 returns-then-not-open_chunk-clause-only_right g c =
-    so-far c.in-Ok.ensures.size (omega (arith, c.chunks-test.true)) c.chunks.invariant
+    so-far c.args.key.now c.in-Ok.salt c.in-Ok.ensures.size (omega (arith, c.chunks-test.true)) c.chunks.invariant
 
 pub returns-in-Err-write_whole-clause-only_right : goal.returns-in-Err-write_whole-clause-only_right
 returns-in-Err-write_whole-clause-only_right g c =
-    let read = c.in-Ok-read_chunk.ensures in
-    let room : c.in-Ok-read_chunk.read.0 ≤ length c.read_chunk.new.buf =
-    omega (arith, read.size.0, c.read_chunk.auto.buf, c.told-buf) in
-    let tells = opening _ _ (g.R.Read.remaining c.read_chunk.new.reader) _ _ _ c.in-Ok-read_chunk.read.1 _ _
-    c.read_chunk.new.buf _ c.in-Ok-read_chunk.read.0 c.is_none-last.result c.chunks.invariant c.in-Ok.ensures.size
-    c.chunks-test.true read.bytes read.size read.whole read.end c.is_none-last.ensures room in
-    let is = c.if-not-open_chunk.ensures in
-    let new = c.open_chunk.new.bytes in
-    let has = has-text c.args.key.now c.in-Ok.salt c.read_chunk.new.buf new c.chunks.number c.in-Ok-read_chunk.read.0
-    c.is_none-last.result room c.open_chunk.auto.bytes (is.right refl) (is.long refl) in
-    let piece = take (c.in-Ok-read_chunk.read.0 - 16) new in
+    let at = goal.at.returns-in-Err-write_whole-clause-only_right g c in
     let (k, less, more) = c.in-Err-write_whole.ensures.partly in
-    tells.partly piece has _ k (omega (arith, less)) more
+    (tells g at.After-open_chunk).partly _ (has g at.After-write_whole) _ k (omega (arith, less)) more
 
 pub returns-then-last-clause-accepted : goal.returns-then-last-clause-accepted
 returns-then-last-clause-accepted g c =
-    let read = c.in-Ok-read_chunk.ensures in
-    let room : c.in-Ok-read_chunk.read.0 ≤ length c.read_chunk.new.buf =
-    omega (arith, read.size.0, c.read_chunk.auto.buf, c.told-buf) in
-    let tells = opening _ _ (g.R.Read.remaining c.read_chunk.new.reader) _ _ _ c.in-Ok-read_chunk.read.1 _ _
-    c.read_chunk.new.buf _ c.in-Ok-read_chunk.read.0 c.is_none-last.result c.chunks.invariant c.in-Ok.ensures.size
-    c.chunks-test.true read.bytes read.size read.whole read.end c.is_none-last.ensures room in
-    let is = c.if-not-open_chunk.ensures in
-    let new = c.open_chunk.new.bytes in
-    let has = has-text c.args.key.now c.in-Ok.salt c.read_chunk.new.buf new c.chunks.number c.in-Ok-read_chunk.read.0
-    c.is_none-last.result room c.open_chunk.auto.bytes (is.right refl) (is.long refl) in
-    let piece = take (c.in-Ok-read_chunk.read.0 - 16) new in
-    tells.whole c.if-last.true piece has _ c.in_default.ensures.written
+    let at = goal.at.returns-then-last-clause-accepted g c in
+    (tells g at.After-open_chunk).whole c.if-last.true _ (has g at.After-write_whole) _ c.in_default.ensures.written
 
 pub returns-then-last-clause-text : goal.returns-then-last-clause-text
 returns-then-last-clause-text g c =
@@ -84,26 +82,16 @@ returns-then-last-clause-text g c =
 
 pub chunks-preserved : goal.chunks-preserved
 chunks-preserved g c =
-    let read = c.in-Ok-read_chunk.ensures in
-    let room : c.in-Ok-read_chunk.read.0 ≤ length c.read_chunk.new.buf =
-    omega (arith, read.size.0, c.read_chunk.auto.buf, c.told-buf) in
-    let tells = opening _ _ (g.R.Read.remaining c.read_chunk.new.reader) _ _ _ c.in-Ok-read_chunk.read.1 _ _
-    c.read_chunk.new.buf _ c.in-Ok-read_chunk.read.0 c.is_none-last.result c.chunks.invariant c.in-Ok.ensures.size
-    c.chunks-test.true read.bytes read.size read.whole read.end c.is_none-last.ensures room in
-    let is = c.if-not-open_chunk.ensures in
-    let new = c.open_chunk.new.bytes in
-    let has = has-text c.args.key.now c.in-Ok.salt c.read_chunk.new.buf new c.chunks.number c.in-Ok-read_chunk.read.0
-    c.is_none-last.result room c.open_chunk.auto.bytes (is.right refl) (is.long refl) in
-    let piece = take (c.in-Ok-read_chunk.read.0 - 16) new in
-    tells.more c.if-last.false piece has _ c.in_default.ensures.written
+    let at = goal.at.chunks-preserved g c in
+    (tells g at.After-open_chunk).more c.if-last.false _ (has g at.After-write_whole) _ c.in_default.ensures.written
 
 pub returns-clause-damaged : goal.returns-clause-damaged
 returns-clause-damaged g c damage is =
     let same : Damage.TooLong ≡ damage = (cc) in
     subst (HasDamage (g.R.Read.remaining c.args.reader.now) c.args.key.now _ _) same
-    (too-long c.in-Ok.ensures.size (omega (arith, c.chunks-test.false)) c.chunks.invariant
+    (too-long c.args.key.now c.in-Ok.salt c.in-Ok.ensures.size (omega (arith, c.chunks-test.false)) c.chunks.invariant
     (omega (arith, c.chunks-test.false)))
 
 pub returns-clause-only_right : goal.returns-clause-only_right
 returns-clause-only_right g c =
-    so-far c.in-Ok.ensures.size (omega (arith, c.chunks-test.false)) c.chunks.invariant
+    so-far c.args.key.now c.in-Ok.salt c.in-Ok.ensures.size (omega (arith, c.chunks-test.false)) c.chunks.invariant

@@ -14,5 +14,5 @@ returns-in-Err-salt_of-clause-damaged g c damage is =
     let wide = length-take c.in-Ok.n c.fill.new.buf in
     subst (HasHeaderDamage (g.R.Read.remaining c.args.reader.now)) same
     (header-wrong _ (g.R.Read.remaining c.fill.new.reader) (take c.in-Ok.n c.fill.new.buf) c.in-Err-salt_of.damage
-    c.in-Ok.ensures.right (omega (arith, wide, c.fill.auto.buf))
-    (λ short. c.in-Ok.ensures.end (omega (arith, wide, short, c.fill.auto.buf))) c.in-Err-salt_of.ensures.damage)
+    c.in-Ok.ensures.right (λ short. c.in-Ok.ensures.end (omega (arith, wide, short, c.fill.auto.buf)))
+    c.in-Err-salt_of.ensures.damage)
