@@ -1,8 +1,8 @@
 //! Sealed files (`sealed_file`), without I/O: the header, and chunks of 64 KiB of text by their numbers.
 
-ghost use Rattle.std.specs.Prelude.{◌≡◌, ◌≢◌, ◌↔◌, ◌≤◌, ◌+◌, ◌-◌, ℕ, List, length, take, drop, IsTrue};
+ghost use Rattle.std.specs.Prelude.{◌≡◌, ◌≢◌, ◌↔◌, ◌≤◌, ◌+◌, ◌-◌, ℕ, List, Some, length, take, drop, IsTrue};
 ghost use Rattle.sealed_file.specs.declared.error.Damage.{Damage};
-ghost use Rattle.sealed_file.specs.Sealed.{header, chunk, text_of, HasSalt, IsFileDamage};
+ghost use Rattle.sealed_file.specs.Sealed.{header, header_damage, chunk, text_of, HasSalt};
 ghost use Rattle.chacha20_c.specs.Files.{status_of, IsTextLength, IsChunk};
 
 use crate::authenticated::{
@@ -29,7 +29,7 @@ pub extern "C" fn chacha20_file_header(salt: &Salt, output: &mut [u8; 32])
 pub extern "C" fn chacha20_file_salt(input: &[u8], salt: &mut Salt) -> u32
     ensures accepted { result ≡ 0 ↔ ((salt : List ℕ) × HasSalt (take 32 input.now) salt) }
     ensures salt { result ≡ 0 → HasSalt (take 32 input.now) salt.new }
-    ensures damage { result ≢ 0 → (damage : Damage) × IsFileDamage (take 32 input.now) damage
+    ensures damage { result ≢ 0 → (damage : Damage) × (header_damage (take 32 input.now) ≡ Some damage)
         × (result ≡ status_of damage) }
     ensures kept { result ≢ 0 → salt.new ≡ salt.old }
 {

@@ -307,10 +307,7 @@ impl From<ReadError> for io::Error {
 
     /// As that of a [`DecryptError`].
     fn from(error: ReadError) -> io::Error {
-        match error {
-            ReadError::Read(e) => e.apart_from_damage(),
-            ReadError::Damaged(damage) => damage.into(),
-        }
+        RangeError::from(error).into()
     }
 }
 
