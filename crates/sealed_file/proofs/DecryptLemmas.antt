@@ -1,5 +1,5 @@
 -- What a reader had, of which the chunks before chunk i were right.
-use Rattle.std.proofs.Common.{◌≡◌, ◌<◌, ◌≤◌, ◌+◌, ◌-◌, ◌*◌, ◌^◌, ◌∙◌, ℕ, true, false, not, List, [], ◌++◌, Some, None, IfSome, IsSome, IsNone, IsTrue, IsFalse, is_some, length, take, drop, take_all, arith, refl, sym, ap, subst, append-nil, append_assoc, length-append, length-take-le, Bool}
+use Rattle.std.proofs.Common.{◌≡◌, ◌<◌, ◌≤◌, ◌+◌, ◌-◌, ◌*◌, ◌^◌, ◌∙◌, ℕ, not, List, [], ◌++◌, Some, None, IfSome, IsSome, IsNone, IsTrue, IsFalse, is_some, length, take, drop, take_all, arith, refl, sym, ap, subst, append-nil, append_assoc, length-append, length-take-le, Bool}
 use Rattle.std.proofs.Math.Seq.{take-append_seam}
 use Rattle.std.specs.declared.option.Option.{Option}
 use Rattle.std.specs.Io.KnownBytes.{Appends, Consumes, IsAtEnd}
@@ -7,7 +7,7 @@ use Rattle.std.proofs.KnownBytes.{Appends-nil, Appends-trans, Consumes-nil, Cons
 use Rattle.sealed_file.specs.declared.error.Damage.{Damage}
 use Rattle.sealed_file.specs.declared.error.Damage.TheVariants.{TooLong}
 use Rattle.sealed_file.specs.Opened.{followed, opened, opened_chunk, opened_rest}
-use Rattle.sealed_file.specs.Sealed.{header, header_damage, chunk, chunks, sealed, left, damage_at, IsNoChunk, IsSealed}
+use Rattle.sealed_file.specs.Sealed.{header, header_damage, chunk, chunks, left, damage_at, IsNoChunk, IsSealed}
 use Rattle.sealed_file.proofs.ChunkLemmas.{chunks-more, sealed-end, length-chunk}
 use Rattle.sealed_file.proofs.EncryptLemmas.{Before, and-next, front-more, next-of, rest-of}
 use Rattle.sealed_file.proofs.HeaderLemmas.{header-front}
@@ -31,7 +31,8 @@ header-wrong a b front damage read end wrong =
 pub nothing-written : (a w : Option (List ℕ)) (key : List ℕ) (damage : Damage) → HasHeaderDamage a damage
     → HasDamage a key w w damage
 nothing-written a w key damage (file, all, wrong) =
-    (file, [], all, ap (λ d. followed ([], d) (opened_rest key (take 19 (drop 13 file)) 0 (drop 32 file))) wrong, Appends-nil w)
+    let rest = opened_rest key (take 19 (drop 13 file)) 0 (drop 32 file) in
+    (file, [], all, ap (λ d. followed ([], d) rest) wrong, Appends-nil w)
 
 -- one text
 pub text-of : (a w v : Option (List ℕ)) (key salt text file : List ℕ) → IfSome a (λ all. all ≡ file)

@@ -1,12 +1,12 @@
 -- What a reader gave, and what was written of its text's sealed file.
-use Rattle.std.proofs.Common.{◌≡◌, ◌<◌, ◌≤◌, ◌+◌, ◌-◌, ◌*◌, ◌/◌, ◌^◌, ◌∙◌, ℕ, zero, suc, true, false, not, List, [], ◌∷◌, ◌++◌, Some, None, IfSome, IsSome, IsNone, IsTrue, IsFalse, is_some, length, take, take_at, set, get_or, arith, sym, ap, subst, append-nil, append_assoc, length-append, length-take-le, take-take, refl, Bool, true≢false}
+use Rattle.std.proofs.Common.{◌≡◌, ◌<◌, ◌≤◌, ◌+◌, ◌-◌, ◌*◌, ◌/◌, ◌^◌, ◌∙◌, ℕ, zero, suc, true, false, not, List, [], ◌∷◌, ◌++◌, Some, None, IfSome, IsSome, IsNone, IsTrue, IsFalse, is_some, length, take, set, get_or, arith, sym, ap, subst, append-nil, append_assoc, length-append, length-take-le, take-take, refl, Bool, true≢false}
 use Rattle.std.proofs.Math.Seq.{take-append-add}
 use Rattle.std.proofs.lemmas.List.{take-append-le, take_more, take_more_set}
 use Rattle.std.proofs.lemmas.Option.{IfSome_then}
 use Rattle.std.specs.declared.option.Option.{Option}
 use Rattle.std.specs.Io.KnownBytes.{Appends, Consumes, IsAtEnd}
 use Rattle.std.proofs.KnownBytes.{Appends-nil, Appends-trans, Consumes-nil, Consumes-trans}
-use Rattle.sealed_file.specs.Sealed.{header, chunk, chunks, last_number, sealed, left, IsSealed}
+use Rattle.sealed_file.specs.Sealed.{header, chunk, chunks, sealed, left, IsSealed}
 use Rattle.sealed_file.proofs.ChunkLemmas.{begins-before, chunks-front, chunks-more, sealed-end}
 
 -- a byte that was read ahead
@@ -63,16 +63,19 @@ pub record Before (a b w v : Option (List ℕ)) (next : Option ℕ) (i : ℕ) (g
   pub written : Appends w v (took text)
 
 -- and the next one
-pub and-next : {a b w v : Option (List ℕ)} {next : Option ℕ} {i : ℕ} {gave took : List ℕ → List ℕ} (b' u : Option (List ℕ))
-    (after : Option ℕ) (gave' took' : List ℕ → List ℕ) (piece new bytes : List ℕ) → (before : Before a b w v next i gave took) → length piece ≡ 65536
-    → IsSome after → Consumes (left next b) (left after b') bytes → Appends v u new
-    → gave before.text ++ bytes ≡ gave' (before.text ++ piece) → took before.text ++ new ≡ took' (before.text ++ piece)
+pub and-next : {a b w v : Option (List ℕ)} {next : Option ℕ} {i : ℕ} {gave took : List ℕ → List ℕ}
+    (b' u : Option (List ℕ)) (after : Option ℕ) (gave' took' : List ℕ → List ℕ) (piece new bytes : List ℕ)
+    → (before : Before a b w v next i gave took) → length piece ≡ 65536 → IsSome after
+    → Consumes (left next b) (left after b') bytes → Appends v u new
+    → gave before.text ++ bytes ≡ gave' (before.text ++ piece)
+    → took before.text ++ new ≡ took' (before.text ++ piece)
     → Before a b' w u after (i + 1) gave' took'
-and-next {a} {b} {w} {v} {next} {i} {gave} {took} b' u after gave' took' piece new bytes before full goes read done gives takes = record {
+and-next {a} {b} {w} {v} {next} b' u after gave' took' piece new bytes before full goes read done gives takes = record {
   text = before.text ++ piece;
   long = omega (arith, length-append before.text piece, before.long, full);
   some = λ _. goes;
-  read = subst (Consumes a (left after b')) gives (Consumes-trans a (left next b) (left after b') _ bytes before.read read);
+  read = subst (Consumes a (left after b')) gives
+      (Consumes-trans a (left next b) (left after b') _ bytes before.read read);
   written = subst (Appends w u) takes (Appends-trans w v u _ new before.written done);
 }
 

@@ -12,11 +12,11 @@ use Rattle.sealed_file.specs.declared.error.Damage.TheVariants.{NotSealed, Other
 use Rattle.sealed_file.specs.Opened.{opened}
 use Rattle.sealed_file.specs.Sealed.{xchacha20_poly1305, header, header_damage, chunk_nonce, chunk, chunks, last_number, piece, sealed}
 
-abbrev key : List ℕ
-key = range_with_len 0 32
+abbrev some_key : List ℕ
+some_key = range_with_len 0 32
 
-abbrev salt : List ℕ
-salt = codes "defghijklmnopqrstuv"
+abbrev some_salt : List ℕ
+some_salt = codes "defghijklmnopqrstuv"
 
 -- a file by the first byte of its chunk
 abbrev file : ℕ → List ℕ
@@ -25,19 +25,19 @@ file first = codes "chacha20seal1defghijklmnopqrstuv" ++
     ∷ 0x92 ∷ 0x3b ∷ 0xe1 ∷ 0xe5 ∷ 0xab ∷ 0x65 ∷ 0x1c ∷ 0x77 ∷ 0x45 ∷ 0x6d ∷ 0x7c ∷ 0x96 ∷ 0x86 ∷ 0x9e ∷ 0x07
     ∷ []
 
-pub whole_file : sealed key salt (codes "attack at dawn") ≡ file 0xc5
+pub whole_file : sealed some_key some_salt (codes "attack at dawn") ≡ file 0xc5
 unfolding quarter columns diagonals rounds add_states mac_key number accumulator tag_from chunk
 whole_file = refl
 
-pub empty_file : sealed key salt [] ≡ codes "chacha20seal1defghijklmnopqrstuv" ++
+pub empty_file : sealed some_key some_salt [] ≡ codes "chacha20seal1defghijklmnopqrstuv" ++
     0xb1 ∷ 0x9e ∷ 0x0e ∷ 0x30 ∷ 0xa2 ∷ 0x41 ∷ 0x70 ∷ 0x56 ∷ 0x90 ∷ 0xb5 ∷ 0x3d ∷ 0x1d ∷ 0xda ∷ 0x48 ∷ 0xd7
     ∷ 0x8a ∷ []
 unfolding quarter columns diagonals rounds add_states mac_key number accumulator tag_from chunk
 empty_file = refl
 
 -- a chunk that others follow, a last one, and chunk 1 of a file of two
-pub chunk_bytes : chunk key salt 0x07060509 false (codes "text") ++ chunk key salt 0x0b0d0e0f true (codes "text")
-    ++ chunk key salt 1 true (25 ∷ []) ≡
+pub chunk_bytes : chunk some_key some_salt 0x07060509 false (codes "text")
+    ++ chunk some_key some_salt 0x0b0d0e0f true (codes "text") ++ chunk some_key some_salt 1 true (25 ∷ []) ≡
     0x1f ∷ 0xa2 ∷ 0x49 ∷ 0xb1 ∷ 0x77 ∷ 0xea ∷ 0x3b ∷ 0x98 ∷ 0x01 ∷ 0xd5 ∷ 0x74 ∷ 0xa9 ∷ 0x7e ∷ 0xa2 ∷ 0xa6
     ∷ 0x10 ∷ 0x63 ∷ 0x2d ∷ 0xe4 ∷ 0x55
     ∷ 0x81 ∷ 0xb9 ∷ 0xf8 ∷ 0x30 ∷ 0x6a ∷ 0xa9 ∷ 0x33 ∷ 0xca ∷ 0xae ∷ 0xdc ∷ 0xce ∷ 0xf8 ∷ 0xc8 ∷ 0xee ∷ 0x47
@@ -79,11 +79,11 @@ pub three_chunks : (key salt text : List ℕ) → 131072 < length text → lengt
 three_chunks key salt text more most = with_chunks key salt text 2 (omega (arith, more, most))
 
 -- what `decrypt` finds: a whole file, one with a wrong tag, and wrong headers
-pub right_file : opened key (file 0xc5) ≡ (codes "attack at dawn", None)
+pub right_file : opened some_key (file 0xc5) ≡ (codes "attack at dawn", None)
 unfolding quarter columns diagonals rounds add_states mac_key number accumulator tag_from chunk
 right_file = refl
 
-pub wrong_file : opened key (file 0xc4) ≡ ([], Some (WrongEnd 0))
+pub wrong_file : opened some_key (file 0xc4) ≡ ([], Some (WrongEnd 0))
 unfolding quarter columns diagonals rounds add_states mac_key number accumulator tag_from chunk
 wrong_file = refl
 

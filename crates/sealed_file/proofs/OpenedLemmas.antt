@@ -1,11 +1,11 @@
 -- What `opened` says of a file that begins with right chunks.
-use Rattle.std.proofs.Common.{◌≡◌, ◌≢◌, ◌<◌, ◌≤◌, ◌+◌, ◌-◌, ◌*◌, ◌/◌, ◌^◌, ◌∙◌, ℕ, zero, suc, Bool, true, false, ◌&&◌, not, min, nat_lt, nat_le, Option, Some, None, List, [], ◌++◌, length, take, drop, codes, bytes_eq, IsTrue, IsFalse, arith, refl, sym, ap, ap₂, append-nil, append_assoc, length-append, take-add, take_at, drop_at, take_all, true≢false, inl, inr, take-append-drop, add-one}
+use Rattle.std.proofs.Common.{◌≡◌, ◌<◌, ◌≤◌, ◌+◌, ◌-◌, ◌*◌, ◌/◌, ◌^◌, ◌∙◌, ℕ, zero, suc, Bool, true, false, ◌&&◌, min, nat_le, Option, Some, None, List, [], ◌++◌, length, take, bytes_eq, IsTrue, IsFalse, arith, refl, sym, ap, ap₂, append-nil, append_assoc, length-append, take-add, take_at, drop_at, take-append-drop, add-one}
 use Rattle.std.proofs.lemmas.Bool.{lt-ltb, le-ltb, le-leb, leb-true}
 use Rattle.std.proofs.lemmas.Slice.Eq.{bytes_eq-Decides}
 use Rattle.sealed_file.specs.declared.error.Damage.{Damage}
 use Rattle.sealed_file.specs.declared.error.Damage.TheVariants.{TooLong}
 use Rattle.sealed_file.specs.Opened.{decrypted, followed, opened_chunk, opened_from, opened_rest, opened}
-use Rattle.sealed_file.specs.Sealed.{header, header_damage, chunk, chunks, piece, last_number, sealed, damage_at, IsNoChunk, IsSealed}
+use Rattle.sealed_file.specs.Sealed.{header, header_damage, chunk, chunks, piece, last_number, damage_at, IsNoChunk, IsSealed}
 use Rattle.sealed_file.proofs.HeaderLemmas.{header-front}
 use Rattle.sealed_file.proofs.ChunkLemmas.{chunk-opens, length-chunk, full-chunk, length-piece, length-last, last-piece}
 

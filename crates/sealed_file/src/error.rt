@@ -196,9 +196,9 @@ impl Display for EncryptError {
     ghost use Rattle.sealed_file.specs.declared.error.EncryptError.TheVariants.{TooLong};
 
     ghost output = { λ error. elim error [
-        | TooLong ↦ Some (codes
-            "the text has more than 2^48 bytes, which no sealed file may have")
-        | _ ↦ None
+      | TooLong ↦ Some (codes
+          "the text has more than 2^48 bytes, which no sealed file may have")
+      | _ ↦ None
     ] };
 
     fn fmt<W: fmt::Write>(&self, f: &mut Formatter<W>) -> fmt::Result {
@@ -217,8 +217,8 @@ impl Display for DecryptError {
     ghost use Rattle.sealed_file.specs.declared.error.DecryptError.TheVariants.{Damaged};
 
     ghost output = { λ error. elim error [
-        | Damaged damage ↦ Some (damage_text damage)
-        | _ ↦ None
+      | Damaged damage ↦ Some (damage_text damage)
+      | _ ↦ None
     ] };
 
     fn fmt<W: fmt::Write>(&self, f: &mut Formatter<W>) -> fmt::Result {
@@ -234,8 +234,8 @@ impl Display for ReadError {
     ghost use Rattle.sealed_file.specs.declared.error.ReadError.TheVariants.{Damaged};
 
     ghost output = { λ error. elim error [
-        | Damaged damage ↦ Some (damage_text damage)
-        | _ ↦ None
+      | Damaged damage ↦ Some (damage_text damage)
+      | _ ↦ None
     ] };
 
     fn fmt<W: fmt::Write>(&self, f: &mut Formatter<W>) -> fmt::Result {
@@ -250,9 +250,9 @@ impl Display for RangeError {
     ghost use Rattle.sealed_file.specs.declared.error.RangeError.TheVariants.{PastEnd, Damaged};
 
     ghost output = { λ error. elim error [
-        | PastEnd ↦ Some (codes "the part ends past the end of the text")
-        | Damaged damage ↦ Some (damage_text damage)
-        | _ ↦ None
+      | PastEnd ↦ Some (codes "the part ends past the end of the text")
+      | Damaged damage ↦ Some (damage_text damage)
+      | _ ↦ None
     ] };
 
     fn fmt<W: fmt::Write>(&self, f: &mut Formatter<W>) -> fmt::Result {
@@ -265,10 +265,15 @@ impl Display for RangeError {
 }
 
 impl Error for IoError {}
+
 impl Error for Damage {}
+
 impl Error for EncryptError {}
+
 impl Error for DecryptError {}
+
 impl Error for ReadError {}
+
 impl Error for RangeError {}
 
 impl From<EncryptError> for io::Error {

@@ -217,11 +217,7 @@ fn read_chunk<R: Read>(
 }
 
 // Fills the buffer, which begins with `next` if there is one.
-fn fill_behind<R: Read>(
-    reader: &mut R,
-    next: Option<u8>,
-    buf: &mut [u8],
-) -> Result<usize, IoError>
+fn fill_behind<R: Read>(reader: &mut R, next: Option<u8>, buf: &mut [u8]) -> Result<usize, IoError>
     requires { 0 < length buf.old }
     ensures bytes { IfOk result (λ n. Consumes (left next (R.remaining reader.old))
         (R.remaining reader.new) (take n buf.new)) }

@@ -42,7 +42,8 @@ returns-in-Err-read_chunk-clause-only_sealed g c = front-before c.args.key.now c
 pub returns-in-Err-write_whole-clause-only_sealed : goal.returns-in-Err-write_whole-clause-only_sealed
 returns-in-Err-write_whole-clause-only_sealed g c =
     let (k, less, more) = c.in-Err-write_whole.ensures.partly in
-    (makes g (goal.at.returns-in-Err-write_whole-clause-only_sealed g c).After-write_whole-in-chunks).partly _ k less more
+    (makes g (goal.at.returns-in-Err-write_whole-clause-only_sealed g c).After-write_whole-in-chunks).partly _ k less
+    more
 
 pub returns-then-last-clause-written : goal.returns-then-last-clause-written
 returns-then-last-clause-written g c =

@@ -16,6 +16,7 @@ returns-clause-bytes g c =
     let got = c.in_ok-fill.ensures in
     rw c.in-Some.is (subst (Consumes (left (Some c.in-Some.byte) a) b)
     (sym (take-put_mid 1 n (length front - 1) front new
-    (omega (arith, c.requires, length-set c.args.buf.now 0 c.in-Some.byte)) (omega (arith, got.bound, c.fill-2.auto.buf))))
+    (omega (arith, c.requires, length-set c.args.buf.now 0 c.in-Some.byte))
+    (omega (arith, got.bound, c.fill-2.auto.buf))))
     (Consumes-trans (left (Some c.in-Some.byte) a) a b (take 1 front) (take n new)
     (ahead a c.args.buf.now c.in-Some.byte c.requires) got.right))

@@ -1,7 +1,6 @@
 use Rattle.std.proofs.Common.{Some, ◌≡◌, ◌∙◌, IfSome, IsErrAnd, length, take, inl, inr, true≢false, arith, sym, ap, subst}
 use Rattle.sealed_file.specs.declared.error.Damage.{Damage}
 use Rattle.sealed_file.specs.declared.error.ReadError.{ReadError}
-use Rattle.sealed_file.specs.Sealed.{header_damage}
 use Rattle.sealed_file.proofs.FileLemmas.{length-sealed}
 use Rattle.std.specs.Option.{ForSome}
 use Rattle.sealed_file.proofs.RangeLemmas.{known-last, last-size}
@@ -21,7 +20,7 @@ returns-in_err-salt-clause-damaged g c damage is =
     let same : e ≡ damage = (cc) in
     IfSome_then (g.R.ReadAt.bytes c.args.source)
     (front-damage (g.R.ReadAt.bytes c.args.source) (take c.in_ok-n.n c.fill_at.new.buf) damage c.in_ok-n.ensures.read
-    (subst (λ d. header_damage (take c.in_ok-n.n c.fill_at.new.buf) ≡ Some d) same c.in_err-salt.ensures.damage)) (λ all. inl)
+    (c.in_err-salt.ensures.damage ∙ ap Some same)) (λ all. inl)
 
 pub returns-then-len-clause-opens : goal.returns-then-len-clause-opens
 returns-then-len-clause-opens g c salt text bytes known (size, most, sealed) sure =
