@@ -29,8 +29,8 @@ pub extern "C" fn chacha20_file_header(salt: &Salt, output: &mut [u8; 32])
 pub extern "C" fn chacha20_file_salt(input: &[u8], salt: &mut Salt) -> u32
     ensures accepted { result ≡ 0 ↔ ((salt : List ℕ) × HasSalt (take 32 input.now) salt) }
     ensures salt { result ≡ 0 → HasSalt (take 32 input.now) salt.new }
-    ensures damage { result ≢ 0 → (damage : Damage) × (header_damage (take 32 input.now) ≡ Some damage)
-        × (result ≡ status_of damage) }
+    ensures damage { result ≢ 0 → (damage : Damage)
+        × (header_damage (take 32 input.now) ≡ Some damage) × (result ≡ status_of damage) }
     ensures kept { result ≢ 0 → salt.new ≡ salt.old }
 {
     match salt_of(front(input)) {
