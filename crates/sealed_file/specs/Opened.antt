@@ -13,7 +13,7 @@ abbrev pub decrypted : List ℕ → List ℕ → ℕ → Bool → List ℕ → L
 decrypted key salt i last bytes =
     encrypted (xchacha_stream 10 key (chunk_nonce salt i last)) (take (length bytes - 16) bytes)
 
--- the text of chunk i, or what is wrong; only chunk 0 may have an empty text
+-- the text of chunk i, or what is wrong: a file has at most 2^32 chunks, and only chunk 0 may have an empty text
 abbrev pub opened_chunk : List ℕ → List ℕ → ℕ → Bool → List ℕ → List ℕ × Option Damage
 opened_chunk key salt i last bytes =
     let text = decrypted key salt i last bytes in
