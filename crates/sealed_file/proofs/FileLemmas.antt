@@ -1,8 +1,7 @@
 -- What a whole file says of its text.
 use Rattle.std.proofs.Common.{◌≡◌, ◌≤◌, ◌+◌, ◌*◌, ◌∙◌, ℕ, suc, Bool, true, false, List, ◌++◌, length, take, drop, nat_eq, arith, sym, ap, subst, append-nil, append_assoc, length-append, take_at, drop_at, take_all, inl, inr, eq-or-lt_of_le, true≢false, eqb-true, eq-eqb}
-use Rattle.sealed_file.specs.declared.error.Damage.{Damage}
 use Rattle.sealed_file.specs.Ranges.{place}
-use Rattle.sealed_file.specs.Sealed.{header, chunk, chunks, piece, last_number, sealed, HasSalt, IsFileDamage, IsSealed}
+use Rattle.sealed_file.specs.Sealed.{header, chunk, chunks, piece, last_number, sealed, HasSalt}
 use Rattle.sealed_file.proofs.ChunkLemmas.{length-chunks, length-chunk, length-last, full-chunk, length-piece, length-piece-at, chunks-begin}
 use Rattle.sealed_file.proofs.HeaderLemmas.{front-is}
 

@@ -1,22 +1,23 @@
 -- Ranges of a text, by the chunks of its file.
-use Rattle.std.proofs.Common.{◌≡◌, ◌<◌, ◌≤◌, ◌+◌, ◌-◌, ◌*◌, ◌/◌, ◌%◌, ◌∙◌, ℕ, zero, suc, false, List, ◌++◌, Some, None, IfSome, ◌⊎◌, length, take, drop, min, nat_eq, arith, refl, sym, ap, ap₂, subst, inl, inr, length-append, length-take, length-take-le, length-drop, take_at, drop_at, take_all, get_or, append_assoc, eq-eqb}
-use Rattle.std.proofs.lemmas.Bool.{cases_lt, ne_eqb}
-use Rattle.std.proofs.lemmas.List.{ext_get_or, get_or_append_left, get_or-append_right, get_or-drop, get_or-take, take-append-le, take_min}
-use Rattle.std.specs.declared.option.Option.{Option}
-use Rattle.std.proofs.lemmas.Option.{IfSome_then, get_or_from_slice_get, slice_get-get_or, slice_get_within}
-use Rattle.std.specs.List.{slice_get, slice_range}
-use Rattle.sealed_file.specs.Sealed.{header, chunk, chunks, piece, last_of, last_number, sealed, text_of, damage_at, IsNoChunk, IsSealed}
+use Rattle.std.proofs.Common.{◌≡◌, ◌<◌, ◌≤◌, ◌+◌, ◌-◌, ◌*◌, ◌/◌, ◌∙◌, ℕ, Bool, List, ◌++◌, Some, IfSome, ◌⊎◌, length, take, drop, min, nat_eq, arith, refl, sym, ap, ap₂, subst, inl, inr, length-append, length-take, length-take-le, length-drop, take-add, take-take, take_all, drop-drop, take_at, Err, IsTrue, IsFalse, true≢false}
+use Rattle.std.proofs.lemmas.Bool.{cases_lt}
+use Rattle.std.proofs.lemmas.List.{drop-take, take_min}
+use Rattle.std.specs.List.{slice_range}
+use Rattle.std.specs.Option.{ForSome}
+use Rattle.sealed_file.specs.Sealed.{header, chunk, piece, last_of, last_number, sealed, text_of, damage_at, IsNoChunk, IsSealed}
+use Rattle.std.specs.declared.result.Result.{Result}
 use Rattle.sealed_file.specs.declared.error.Damage.{Damage}
-use Rattle.sealed_file.specs.declared.error.Damage.TheVariants.{NotSealed, OtherVersion, CutHeader, TooLong, WrongChunk, WrongEnd}
-use Rattle.sealed_file.specs.Ranges.{File, place, EndsAt, HasChunk, HasRange, IsWrong, CopiesFrom}
+use Rattle.sealed_file.specs.declared.error.IoError.{IoError}
+use Rattle.sealed_file.specs.declared.error.ReadError.{ReadError}
+use Rattle.sealed_file.specs.declared.error.ReadError.TheVariants.{Read, Damaged}
+use Rattle.sealed_file.specs.Ranges.{File, HasText, place, EndsAt, HasChunk, HasRange, empty, part, joined, IsWrong}
 use Rattle.sealed_file.proofs.ChunkLemmas.{length-chunk, length-piece-at, chunk-same}
-use Rattle.sealed_file.proofs.FileLemmas.{chunk-here, has-salt, length-front, length-sealed, own}
-use Rattle.sealed_file.proofs.HeaderLemmas.{front-is}
-use Rattle.sealed_file.proofs.ListLemmas.{get-piece, slice-same}
+use Rattle.sealed_file.proofs.FileLemmas.{chunk-here, length-sealed, own}
+use Rattle.sealed_file.proofs.ListLemmas.{for_some}
 
 -- Numbers, apart from the lists, for speed.
 
-pub text-of-is : (len : ℕ) → 32 < len → text_of len ≡ len - 32 - 16 * (last_of len + 1)
+text-of-is : (len : ℕ) → 32 < len → text_of len ≡ len - 32 - 16 * (last_of len + 1)
 text-of-is len some = omega (arith, some)
 
 -- what a chunk gives, in a file that ends in or behind the chunk of its text's last byte
@@ -27,18 +28,18 @@ opened-size len i n whole within size =
     omega (arith, t, whole, within, size)
 
 -- a last chunk that is right
-pub last-size : (len n : ℕ) → (let i = last_of len in n + 16 ≡ min 65552 (len - place i) → (0 < i → 0 < n)
-    → (text_of len ≡ 65536 * i + n) × (i ≡ (text_of len - 1) / 65536) × (n ≡ min 65536 (text_of len - 65536 * i)))
-last-size len n size some =
-    let i = last_of len in
+pub last-size : (len i n : ℕ) → i ≡ last_of len → n + 16 ≡ min 65552 (len - place i) → (0 < i → 0 < n)
+    → (text_of len ≡ 65536 * i + n) × (last_of len ≡ (text_of len - 1) / 65536)
+    × (n ≡ min 65536 (text_of len - 65536 * i))
+last-size len i n at size some =
     let t = text-of-is len (omega (arith, size)) in
-    let all : text_of len ≡ 65536 * i + n = omega (arith, t, size) in (
+    let all : text_of len ≡ 65536 * i + n = omega (arith, t, at, size) in (
       all,
       elim (cases_lt 0 i) [
-        | inl later ↦ omega (arith, all, size, some later)
-        | inr first ↦ omega (arith, all, size, first)
+        | inl later ↦ omega (arith, all, at, size, some later)
+        | inr first ↦ omega (arith, all, at, size, first)
       ],
-      omega (arith, all, size),
+      omega (arith, all, at, size),
     )
 
 -- the number of the chunk of a byte of the text
@@ -49,184 +50,155 @@ number-within i len within =
 
 -- Of any file.
 
-pub chunk-fits : (f : File) (i : ℕ) (text : List ℕ) → HasChunk f i text → length text ≤ 65536
-chunk-fits f i text (some, right) =
-    omega (
-      arith,
-      sym (length-chunk f.key f.salt i (nat_eq i (last_of (length f.bytes))) text) ∙ sym (ap length right),
-      length-take 65552 (drop (place i) f.bytes),
+-- the end of a file
+pub ends-at : (f : File) (len i n : ℕ) (buf : List ℕ) → i ≡ last_of len → n + 16 ≡ min 65552 (len - place i)
+    → (0 < i → 0 < n) → n ≤ length buf → ForSome f.bytes (λ all. len ≡ length all) → HasChunk f i (take n buf)
+    → EndsAt f (text_of len)
+unfolding EndsAt
+ends-at f len i n buf at size some fits long right = λ all known.
+    let same = at ∙ ap last_of (long all known) in (
+      take n buf,
+      subst (λ i. HasChunk f i (take n buf)) same right,
+      (last-size len i n at size some).0 ∙ ap₂ (λ i k. 65536 * i + k) same (sym (length-take-le n buf fits)),
     )
 
--- the end of a file
-pub known-last : (key salt buf : List ℕ) (a : Option (List ℕ)) (len n : ℕ)
-    → n + 16 ≡ min 65552 (len - place (last_of len)) → (0 < last_of len → 0 < n) → n ≤ length buf
-    → IfSome a (λ all. len ≡ length all)
-    → IfSome a (λ all. HasChunk (record { key = key; salt = salt; bytes = all }) (last_of len) (take n buf))
-    → IfSome a (λ all. EndsAt (record { key = key; salt = salt; bytes = all }) (text_of len))
-known-last key salt buf None len n size some fits long right = tt
-known-last key salt buf (Some all) len n size some fits long right = (
-  take n buf,
-  subst (λ j. HasChunk (record { key = key; salt = salt; bytes = all }) j (take n buf)) (ap last_of long) right,
-  (last-size len n size some).0 ∙ ap₂ (λ j k. 65536 * j + k) (ap last_of long) (sym (length-take-le n buf fits)),
-)
-
-pub range-more : (f : File) (start : ℕ) (xs ys : List ℕ) → HasRange f start xs → HasRange f (start + length xs) ys
-    → HasRange f start (xs ++ ys)
-range-more f start xs ys before more = λ k less. elim (cases_lt k (length xs)) [
-  | inl here ↦
-      let (text, right, is) = before k here in
-      (text, right, slice-same (xs ++ ys) xs k k less here (get_or_append_left xs ys 0 k here) ∙ is)
-  | inr past ↦
-      let j = k - length xs in
-      let at : start + length xs + j ≡ start + k = omega (arith, past) in
-      let inside : j < length ys = omega (arith, less, past, length-append xs ys) in
-      let (text, right, is) = more j inside in (
-        text,
-        subst (λ p. HasChunk f (p / 65536) text) at right,
-        slice-same (xs ++ ys) ys k j less inside (get_or-append_right xs ys (length xs) k 0 refl past) ∙ is
-            ∙ ap (λ p. slice_get text (p % 65536)) at,
-      )
+-- what is copied of a chunk's text
+pub copied-range : (f : File) (i from n start : ℕ) (text old new : List ℕ) → HasChunk f i text
+    → 65536 * i + from ≡ start → n ≤ length text - from → new ≡ take n (drop from text) ++ drop n old
+    → HasRange f start (take n new)
+copied-range f i from n start text old new right at fits is = elim (cases_lt 0 n) [
+  | inl some ↦
+      let range = take n (drop from text) in
+      let wide : length range ≡ n = length-take-le n (drop from text) (omega (arith, fits, length-drop from text)) in
+      subst (λ p. HasRange f p (take n new)) at (subst (HasRange f (65536 * i + from))
+      (sym (ap (take n) is ∙ take_at range (drop n old) n wide)) (part i from n text right (omega (arith, fits, some))))
+  | inr none ↦
+      let nothing : 0 ≡ n = omega (arith, none) in
+      subst (λ k. HasRange f start (take k new)) nothing (empty start)
 ]
 
--- what is copied of a chunk's text
-pub copied-range : (f : File) (i start from n : ℕ) (text old new : List ℕ) → HasChunk f i text
-    → start ≡ 65536 * i + from → CopiesFrom text from old new n → HasRange f start (take n new)
-copied-range f i start from n text old new right begins (count, is) =
-    let part = take n (drop from text) in
-    let wide : length part ≡ n = length-take-le n (drop from text) (omega (arith, count, length-drop from text)) in
-    subst (HasRange f start) (sym (ap (take n) is ∙ take_at part (drop n old) n wide)) (λ k less.
-    let fits = chunk-fits f i text right in
-    let inside : k < n = omega (arith, less, wide) in
-    let within : from + k < length text = omega (arith, inside, count) in
-    let number : (start + k) / 65536 ≡ i = omega (arith, begins, fits, within) in
-    let at : from + k ≡ (start + k) % 65536 = omega (arith, begins, fits, within) in (
-      text,
-      subst (λ j. HasChunk f j text) (sym number) right,
-      slice-same part text k (from + k) less within (get_or-take n (drop from text) k 0 inside
-          ∙ get_or-drop from text k 0) ∙ ap (slice_get text) at,
-    ))
+-- a part of a piece
+piece-part : (text : List ℕ) (i from n : ℕ) → from + n ≤ 65536
+    → take n (drop from (piece text i)) ≡ take n (drop (65536 * i + from) text)
+piece-part text i from n fits =
+    let rest = 65536 - from in
+    let all : 65536 ≡ from + rest = omega (arith, fits) in
+    ap (λ k. take n (drop from (take k (drop (65536 * i) text)))) all
+    ∙ ap (take n) (drop-take from rest (drop (65536 * i) text))
+    ∙ take-take n rest (drop from (drop (65536 * i) text)) (omega (arith, fits))
+    ∙ ap (take n) (drop-drop from (65536 * i) text)
 
--- Of a sealed file.
+pub sealed-text : (f : File) (salt text all : List ℕ) → f.bytes ≡ Some all → IsSealed f.key salt text all
+    → HasText f text
+unfolding HasText
+sealed-text f salt text all known is = (salt, all, known, is)
 
-module _ (f : File) (text : List ℕ) (size : length f.salt ≡ 19) (is : f.bytes ≡ sealed f.key f.salt text) where
-  length-file : length f.bytes ≡ 32 + (length text + 16 * (last_number text + 1))
-  length-file = ap length is ∙ length-sealed f.key f.salt text size
+-- Of a sealed file that a reader reads, which has the salt of its header.
+module _ (f : File) (len : ℕ)
+    (begins : ForSome f.bytes (λ all. (len ≡ length all) × (take 32 all ≡ header f.salt))) (text : List ℕ)
+    (reads : HasText f text) where
+  known-sealed : (all : List ℕ) × (f.bytes ≡ Some all) × (length f.salt ≡ 19) × (all ≡ sealed f.key f.salt text)
+  unfolding HasText
+  known-sealed =
+      let (salt, all, known, (size, _, is)) = reads in
+      let (same, is') = own f.key f.salt salt text all size (begins all known).1 is in
+      (all, known, subst (λ s. length s ≡ 19) same size, is')
 
-  pub text-in : text_of (length f.bytes) ≡ length text
-  text-in = omega (arith, length-file)
+  length-file : len ≡ 32 + (length text + 16 * (last_number text + 1))
+  length-file =
+      let (all, known, size, is) = known-sealed in
+      (begins all known).0 ∙ ap length is ∙ length-sealed f.key f.salt text size
 
-  last-in : last_of (length f.bytes) ≡ last_number text
-  last-in = omega (arith, length-file)
+  pub length-read : text_of len ≡ length text
+  length-read = omega (arith, length-file)
 
-  pub has-chunk : (i : ℕ) → i ≤ last_of (length f.bytes) → HasChunk f i (piece text i)
+  has-chunk : (i : ℕ) → i ≤ last_of len → HasChunk f i (piece text i)
   has-chunk i within =
-      let within' : i ≤ last_number text = omega (arith, within, last-in) in (
+      let (all, known, size, is) = known-sealed in
+      let within' : i ≤ last_number text = omega (arith, within, length-file) in
+      let end : last_of len ≡ last_number text = omega (arith, length-file) in (
         λ later. omega (arith, within', later, length-piece-at text i),
-        ap (λ b. take 65552 (drop (place i) b)) is
-            ∙ chunk-here f.key f.salt text size i (nat_eq i (last_of (length f.bytes))) within' (ap (nat_eq i) last-in),
+        λ b known'.
+            let same : b ≡ all = cc in
+            ap (λ b. take 65552 (drop (place i) b)) (same ∙ is)
+            ∙ chunk-here f.key f.salt text size i (nat_eq i (last_of (length b))) within'
+            (ap (nat_eq i) (sym (ap last_of (begins b known').0) ∙ end)),
       )
 
-  -- a byte of it is one of the text
-  byte-is : (p : ℕ) (t : List ℕ) (x : ℕ) → HasChunk f (p / 65536) t → slice_get t (p % 65536) ≡ Some x
-      → (p < length text) × (slice_get text p ≡ Some x)
-  byte-is p t x right at =
-      let i = p / 65536 in
-      let r = p % 65536 in
-      let within : i ≤ last_of (length f.bytes) =
-      omega (
-        arith,
-        length-chunk f.key f.salt i (nat_eq i (last_of (length f.bytes))) t,
-        ap length right.1,
-        length-take 65552 (drop (place i) f.bytes),
-        length-drop (place i) f.bytes,
-      ) in
-      let same : t ≡ piece text i =
-      chunk-same f.key f.salt i (nat_eq i (last_of (length f.bytes))) t (piece text i)
-      (sym right.1 ∙ (has-chunk i within).1) in
-      let at' : slice_get (piece text i) r ≡ Some x = subst (λ u. slice_get u r ≡ Some x) same at in
-      let inside : p < length text =
-      omega (arith, slice_get_within (piece text i) r x at', length-piece-at text i) in (
-        inside,
-        get-piece text p inside ∙ at',
-      )
+  range-is : {start : ℕ} {range : List ℕ} → HasRange f start range → range ≡ take (length range) (drop start text)
+  range-is (empty start) = refl
+  range-is (part i from n t right fits) =
+      let (all, known, _, _) = known-sealed in
+      let here = right.1 all known in
+      let last = nat_eq i (last_of (length all)) in
+      let size = length-chunk f.key f.salt i last t in
+      let read = length-take 65552 (drop (place i) all) in
+      let within : i ≤ last_of len =
+      omega (arith, size, ap length here, read, length-drop (place i) all, (begins all known).0) in
+      let same = chunk-same f.key f.salt i last t (piece text i) (sym here ∙ (has-chunk i within).1 all known) in
+      let wide : length (take n (drop from t)) ≡ n =
+      length-take-le n (drop from t) (omega (arith, fits, length-drop from t)) in
+      ap (λ xs. take n (drop from xs)) same
+      ∙ piece-part text i from n (omega (arith, fits, size, ap length here, read))
+      ∙ ap (λ k. take k (drop (65536 * i + from) text)) (sym wide)
+  range-is (joined start xs ys front back) =
+      ap₂ ◌++◌ (range-is front)
+      (range-is back ∙ ap (take (length ys)) (sym (drop-drop (length xs) start text)))
+      ∙ sym (take-add (length xs) (length ys) (drop start text))
+      ∙ ap (λ k. take k (drop start text)) (sym (length-append xs ys))
 
-  -- a range of it
-  pub range-is : (start : ℕ) (range : List ℕ) → HasRange f start range
+  pub reads-text : (start : ℕ) (range : List ℕ) → HasRange f start range
       → range ≡ slice_range text start (start + length range)
-  range-is start range has =
-      let w = start + length range - start in
-      let byte : (k : ℕ) → k < length range
-      → (start + k < length text) × (slice_get text (start + k) ≡ Some (get_or range k 0)) =
-      λ k less.
-      let (t, right, at) = has k less in
-      byte-is (start + k) t (get_or range k 0) right (sym at ∙ slice_get-get_or range k 0 less) in
-      let fits : 0 < length range → start + length range ≤ length text =
-      λ some. let last : length range - 1 < length range = omega (arith, some) in omega
-      (arith, (byte (length range - 1) last).0, some) in
-      ext_get_or 0 range (take w (drop start text))
-      (elim (cases_lt 0 (length range)) [
-        | inl some ↦ omega (arith, length-take w (drop start text), length-drop start text, fits some)
-        | inr none ↦ omega (arith, length-take w (drop start text), none)
-      ])
-      (λ k less. sym (get_or_from_slice_get text (start + k) (get_or range k 0) 0 (byte k less).1)
-      ∙ sym (get_or-take w (drop start text) k 0 (omega (arith, less)) ∙ get_or-drop start text k 0))
+  reads-text start range has = range-is has ∙ ap (λ k. take k (drop start text)) (omega arith)
 
--- What was read where chunk i stands, in a space of its size: all of it, where the bytes are known.
-module _ (key salt new : List ℕ) (len i size n last w : ℕ) (part : size ≡ min 65552 (len - place i))
-    (end : last ≡ last_of len) (wide : length new ≡ w) (all_of : w ≡ size) (fits : n ≤ w) where
-  abbrev of : List ℕ → File
-  of bytes = record { key = key; salt = salt; bytes = bytes }
+  pub none-wrong : (i : ℕ) (damage : Damage) → i ≤ last_of len → IsWrong f i damage → ⊥
+  unfolding IsWrong
+  none-wrong i damage within wrong =
+      (wrong known-sealed.0 known-sealed.1).1 (piece text i) (has-chunk i within)
 
-  whole : (a : Option (List ℕ)) → IfSome a (λ all. len ≡ length all)
-      → IfSome a (λ all. take n new ≡ take w (drop (place i) all))
-      → IfSome a (λ all. (n ≡ size) × (new ≡ take 65552 (drop (place i) all))
-      × (nat_eq i last ≡ nat_eq i (last_of (length all))))
-  whole None long read = tt
-  whole (Some all) long read =
+  -- so no chunk of it fails
+  pub no-error : {T : Type 0} (x : ReadError) (i : ℕ) (may_fail : Bool) → i ≤ last_of len → IsFalse may_fail
+      → ((e : IoError) → ◌≡◌ {A = Result T ReadError} (Err x) (Err (Read e)) → IsTrue may_fail)
+      → ((d : Damage) → ◌≡◌ {A = Result T ReadError} (Err x) (Err (Damaged d)) → IsWrong f i d) → ⊥
+  no-error (Read e) i may_fail within sure fails damaged = true≢false (sym (fails e refl) ∙ sure)
+  no-error (Damaged d) i may_fail within sure fails damaged = none-wrong i d within (damaged d refl)
+
+-- What was read where chunk i stands, in a space of its size.
+module _ (f : File) (len i n w : ℕ) (new : List ℕ) (last : ℕ) (end : last ≡ last_of len)
+    (long : ForSome f.bytes (λ all. len ≡ length all))
+    (read : IfSome f.bytes (λ all. take n new ≡ take w (drop (place i) all))) (wide : length new ≡ w)
+    (part_of : w ≡ min 65552 (len - place i)) (fits : n ≤ w) where
+  is-last : ForSome f.bytes (λ all. nat_eq i last ≡ nat_eq i (last_of (length all)))
+  is-last all known = ap (nat_eq i) (end ∙ ap last_of (long all known))
+
+  -- all of it, where the bytes are known
+  whole : ForSome f.bytes (λ all. (n ≡ w) × (new ≡ take 65552 (drop (place i) all)))
+  whole all known =
       let left = drop (place i) all in
-      let read' : take n new ≡ take size left = read ∙ ap (λ k. take k left) all_of in
-      let count : n ≡ size =
-      omega (
-        arith,
-        ap length read',
-        length-take n new,
-        length-take size left,
-        length-drop (place i) all,
-        long,
-        part,
-        wide,
-        all_of,
-        fits,
-      ) in
-      let most : size ≡ min 65552 (length left) = omega (arith, part, long, length-drop (place i) all) in (
+      let read' = for_some f.bytes (λ all. take n new ≡ take w (drop (place i) all)) read all known in
+      let size : w ≡ min 65552 (length left) = omega (arith, part_of, long all known, length-drop (place i) all) in
+      let count : n ≡ w =
+      omega (arith, ap length read', length-take n new, length-take w left, size, wide, fits) in (
         count,
-        sym (take_all n new (omega (arith, count, wide, all_of))) ∙ read' ∙ ap (λ k. take k left) most
-            ∙ take_min 65552 left,
-        ap (nat_eq i) (end ∙ ap last_of long),
+        sym (take_all n new (omega (arith, count, wide))) ∙ read' ∙ ap (λ k. take k left) size ∙ take_min 65552 left,
       )
 
-  pub load-wrong : (a : Option (List ℕ)) (damage : Damage) → IfSome a (λ all. len ≡ length all)
-      → IfSome a (λ all. take n new ≡ take w (drop (place i) all)) → damage_at i (nat_eq i last) ≡ damage
-      → (n < size) ⊎ IsNoChunk key salt i (nat_eq i last) new → IfSome a (λ bytes. IsWrong (of bytes) i damage)
-  load-wrong a damage long read says wrong = IfSome_then a (whole a long read) (λ all (count, is, same). (
-    sym says ∙ ap (damage_at i) same,
+  pub load-wrong : (damage : Damage) → damage_at i (nat_eq i last) ≡ damage
+      → (n < w) ⊎ IsNoChunk f.key f.salt i (nat_eq i last) new → IsWrong f i damage
+  unfolding IsWrong
+  load-wrong damage says wrong = λ all known. (
+    sym says ∙ ap (damage_at i) (is-last all known),
     λ text (some, right). elim wrong [
-      | inl short ↦ omega (arith, short, count)
-      | inr none ↦ none text some (is ∙ right ∙ ap (λ b. chunk key salt i b text) (sym same))
+      | inl short ↦ omega (arith, short, (whole all known).0)
+      | inr none ↦ none text some ((whole all known).1 ∙ right all known
+          ∙ ap (λ b. chunk f.key f.salt i b text) (sym (is-last all known)))
     ],
-  ))
+  )
 
-  pub load-right : (a : Option (List ℕ)) (opened rest : List ℕ) → IfSome a (λ all. len ≡ length all)
-      → IfSome a (λ all. take n new ≡ take w (drop (place i) all)) → length opened ≡ length new
-      → new ≡ chunk key salt i (nat_eq i last) (take (length new - 16) opened)
-      → (16 ≤ length new) × (0 < i → 16 < length new)
-      → IfSome a (λ bytes. HasChunk (of bytes) i (take (n - 16) (opened ++ rest)))
-  load-right a opened rest long read kept right (_, some) = IfSome_then a (whole a long read) (λ all (count, is, same).
-      let room : n - 16 ≤ length opened = omega (arith, kept, wide, all_of, count) in
-      let size' : length new - 16 ≡ n - 16 = omega (arith, wide, all_of, count) in
-      let text : take (length new - 16) opened ≡ take (n - 16) (opened ++ rest) =
-      ap (λ k. take k opened) size' ∙ sym (take-append-le (n - 16) opened rest room) in
-      let long = length-take-le (length new - 16) opened (omega (arith, kept)) in (
-        λ later. omega (arith, some later, size', ap length text, long),
-        sym is ∙ right ∙ ap₂ (λ b t. chunk key salt i b t) same text,
-      ))
+  pub load-right : (text : List ℕ) → (0 < i → 0 < length text) → new ≡ chunk f.key f.salt i (nat_eq i last) text
+      → HasChunk f i text
+  load-right text some is = (
+    some,
+    λ all known.
+        sym (whole all known).1 ∙ is ∙ ap (λ b. chunk f.key f.salt i b text) (is-last all known),
+  )

@@ -1,11 +1,12 @@
 -- Facts on places, lengths and counts, and the file of a text of one chunk, made by libsodium 1.0.18.
-use Rattle.std.proofs.Common.{◌≡◌, [], ◌∷◌, ◌++◌, codes, arith, refl}
+use Rattle.std.proofs.Common.{◌≡◌, [], ◌∷◌, ◌++◌, Some, codes, arith, refl}
 use Rattle.std.specs.List.{range_with_len}
 use Rattle.chacha20.specs.ChaCha.{quarter, columns, diagonals, rounds, add_states}
 use Rattle.chacha20poly1305.specs.Poly1305.{number, accumulator, tag_from}
 use Rattle.chacha20poly1305.specs.Aead.{mac_key}
 use Rattle.sealed_file.specs.Ranges.{File, EndsAt, IsZeroFrom, before, count, text_size}
 use Rattle.sealed_file.specs.Sealed.{chunk, last_of, text_of}
+use Rattle.sealed_file.proofs.ListLemmas.{for_some}
 
 -- files of 0, 65536, 65537 and 131073 bytes of text
 pub last_numbers : (last_of 48 ≡ 0) × (last_of 65584 ≡ 0) × (last_of 65601 ≡ 1) × (last_of 131153 ≡ 2)
@@ -32,12 +33,13 @@ abbrev made : File
 made = record {
   key = range_with_len 0 32;
   salt = codes "defghijklmnopqrstuv";
-  bytes = codes "chacha20seal1defghijklmnopqrstuv" ++
+  bytes = Some (codes "chacha20seal1defghijklmnopqrstuv" ++
       0xc5 ∷ 0x6b ∷ 0x18 ∷ 0xf3 ∷ 0xd4 ∷ 0xfc ∷ 0x2b ∷ 0xd2 ∷ 0x36 ∷ 0x6c ∷ 0xff ∷ 0xe3 ∷ 0xd6 ∷ 0x94 ∷ 0xed
       ∷ 0x92 ∷ 0x3b ∷ 0xe1 ∷ 0xe5 ∷ 0xab ∷ 0x65 ∷ 0x1c ∷ 0x77 ∷ 0x45 ∷ 0x6d ∷ 0x7c ∷ 0x96 ∷ 0x86 ∷ 0x9e ∷ 0x07
-      ∷ [];
+      ∷ []);
 }
 
 pub ends : EndsAt made 14
-unfolding quarter columns diagonals rounds add_states mac_key number accumulator tag_from chunk
-ends = (codes "attack at dawn", ((λ _. omega arith), refl), refl)
+unfolding quarter columns diagonals rounds add_states mac_key number accumulator tag_from chunk EndsAt
+ends =
+    for_some made.bytes _ (codes "attack at dawn", ((λ _. omega arith), for_some made.bytes _ refl), refl)

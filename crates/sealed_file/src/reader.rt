@@ -1,7 +1,7 @@
 //! The text of a sealed file, read from any place.
 
-ghost use Rattle.std.specs.Prelude.{◌≡◌, ◌≢◌, ◌<◌, ◌≤◌, ◌+◌, ◌-◌, ◌*◌, ◌/◌, ◌^◌, ◌↔◌, ℕ, List, Bool, Some, None, length, take, drop, nat_eq, min, IsTrue, IsFalse, IsOk, IfOk, OnOk, IfErr, OnErr, IfSome, IsErrOf};
-ghost use Rattle.std.specs.Option.{ForSome, option_map};
+ghost use Rattle.std.specs.Prelude.{◌≡◌, ◌≢◌, ◌<◌, ◌≤◌, ◌+◌, ◌-◌, ◌*◌, ◌/◌, ◌^◌, ◌↔◌, ◌++◌, ℕ, List, Bool, Some, None, length, take, drop, nat_eq, min, IsTrue, IsFalse, IsOk, IfOk, OnOk, IfErr, OnErr, IfSome, IsErrOf};
+ghost use Rattle.std.specs.Option.{ForSome};
 ghost use Rattle.std.specs.List.{slice_range};
 ghost use Rattle.std.specs.declared.io.Error.{Error};
 ghost use Rattle.std.specs.Io.{ReadsAtMost};
@@ -12,7 +12,7 @@ ghost use Rattle.std.specs.IoError.{error_kind};
 ghost use Rattle.sealed_file.specs.declared.error.Damage.{Damage};
 ghost use Rattle.sealed_file.specs.declared.error.IoError.{IoError};
 ghost use Rattle.sealed_file.specs.Sealed.{header, last_of, text_of, sealed, IsSealed, IsFileDamage};
-ghost use Rattle.sealed_file.specs.Ranges.{File, place, count, HasChunk, HasRange, EndsAt, IsWrong, IsEndDamage, IsRefused, FillsTo, OnlyBefore, CopiesFrom, IsZeroFrom, text_size, held_size};
+ghost use Rattle.sealed_file.specs.Ranges.{File, place, count, HasChunk, HasRange, EndsAt, IsWrong, IsRefused, StopsAt, IsZeroFrom, text_size, held_size};
 
 use crate::chunk::{CHUNKS, Salt, TAG, open_chunk, salt_of};
 use crate::error::{Damage, IoError, RangeError, ReadError};
@@ -39,14 +39,14 @@ pub struct SealedReader<'b, R: ReadAt> {
     ghost begins: { ForSome (R.bytes source) (λ bytes.
         (len ≡ length bytes) × (take 32 bytes ≡ header salt)) },
     ghost whole: { last_of len ≡ (text_of len - 1) / 65536 },
-    ghost right: { ForSome held (λ i. ForSome (R.bytes source) (λ bytes.
-        HasChunk (record { key = key; salt = salt; bytes = bytes }) i
-        (take (text_size (text_of len) i) buf.now))) },
+    ghost right: { ForSome held (λ i.
+        HasChunk (record { key = key; salt = salt; bytes = R.bytes source }) i
+        (take (text_size (text_of len) i) buf.now)) },
     ghost lent: { IsZeroFrom (held_size held (text_of len)) buf.now },
 }
 
 impl<'b, R: ReadAt> SealedReader<'b, R> {
-    ghost use Rattle.sealed_file.specs.SealedReader.{bytes, may_fail, key_of, text_len, position, file, Reads, IsSame};
+    ghost use Rattle.sealed_file.specs.SealedReader.{may_fail, text_len, position, file, Reads, IsSame};
 
     /// Takes a file, reads its length and its header, and opens the last chunk, so that a cut is noticed. Fails if the
     /// file doesn't begin with a header, is longer than a sealed file can be, doesn't end with a right last chunk, or
@@ -58,18 +58,18 @@ impl<'b, R: ReadAt> SealedReader<'b, R> {
     ) -> Result<SealedReader<'b, R>, ReadError>
     where
         R: Drop,
-        ensures key { IfOk result (λ r. key_of r ≡ key.now) }
-        ensures bytes { IfOk result (λ r. bytes r ≡ R.bytes source) }
-        ensures may_fail { IfOk result (λ r. may_fail r ≡ R.may_fail source) }
-        ensures front { IfOk result (λ r. position r ≡ 0) }
-        ensures header { IfOk result (λ r. IfSome (file r) (λ f. take 32 f.bytes ≡ header f.salt)) }
-        ensures end { IfOk result (λ r. IfSome (file r) (λ f. EndsAt f (text_len r))) }
+        ensures starts { IfOk result (λ r. ((file r).key ≡ key.now)
+            × ((file r).bytes ≡ R.bytes source) × (may_fail r ≡ R.may_fail source)
+            × (position r ≡ 0)) }
+        ensures header { IfOk result (λ r.
+            ForSome (R.bytes source) (λ all. take 32 all ≡ header (file r).salt)) }
+        ensures end { IfOk result (λ r. EndsAt (file r) (text_len r)) }
         ensures reads { (salt text all : List ℕ) → R.bytes source ≡ Some all
             → IsSealed key.now salt text all → IfOk result (λ r. Reads r text) }
         ensures opens { (salt text all : List ℕ) → R.bytes source ≡ Some all
             → IsSealed key.now salt text all → IsFalse (R.may_fail source) → IsOk result }
         ensures damaged { (damage : Damage) → IsErrOf result (ReadError.Damaged damage)
-            → IfSome (R.bytes source) (λ bytes. IsRefused key.now bytes damage) }
+            → IsRefused key.now (R.bytes source) damage }
         ensures fails { (e : IoError) → IsErrOf result (ReadError.Read e)
             → IsTrue (R.may_fail source) }
     {
@@ -80,14 +80,23 @@ impl<'b, R: ReadAt> SealedReader<'b, R> {
         if len > 32 + 65552 * CHUNKS {
             return Err(ReadError::Damaged(Damage::TooLong));
         }
-        load_last(key, &salt, &source, len, buf)?;
+        let last = last_chunk(len);
+        if let Err(e) = load(key, &salt, &source, len, last, buf) {
+            if last == 0 {
+                return Err(e);
+            }
+            // A wrong chunk 0 comes first: where the key is wrong, each chunk is.
+            load(key, &salt, &source, len, 0, buf)?;
+            buf.fill(0);
+            return Err(e);
+        }
         Ok(SealedReader {
             key: *key,
             salt,
             source,
             len,
             position: 0,
-            held: Some(last_chunk(len)),
+            held: Some(last),
             buf,
         })
     }
@@ -103,8 +112,7 @@ impl<'b, R: ReadAt> SealedReader<'b, R> {
     /// Reads text from byte `start` on into the window's start, up to the end of the window, of the chunk or of the
     /// text, and returns how many bytes that are: 0 at the end of the text and past it, or for an empty window.
     pub fn read_at(&mut self, start: u64, window: &mut [u8]) -> Result<usize, ReadError>
-        ensures right { IfOk result (λ n. IfSome (file self.old) (λ f.
-            HasRange f start (take n window.new))) }
+        ensures right { IfOk result (λ n. HasRange (file self.old) start (take n window.new)) }
         ensures count { IfOk result (λ n.
             n ≡ count (text_len self.old) start (length window.old)) }
         ensures rest { IfOk result (λ n. drop n window.new ≡ drop n window.old) }
@@ -114,7 +122,7 @@ impl<'b, R: ReadAt> SealedReader<'b, R> {
             → IsFalse (may_fail self.old) → IsOk result }
         ensures unchanged { OnErr result (window.new ≡ window.old) }
         ensures damaged { (damage : Damage) → IsErrOf result (ReadError.Damaged damage)
-            → IfSome (file self.old) (λ f. IsWrong f (start / 65536) damage) }
+            → IsWrong (file self.old) (start / 65536) damage }
         ensures fails { (e : IoError) → IsErrOf result (ReadError.Read e)
             → IsTrue (may_fail self.old) }
         ensures same { IsSame self.old self.new × (position self.new ≡ position self.old) }
@@ -123,7 +131,7 @@ impl<'b, R: ReadAt> SealedReader<'b, R> {
             return Ok(0);
         }
         let len = self.open(start / 65536)?;
-        Ok(self.copy(len, start % 65536, window))
+        Ok(copy_text(&self.buf[..len], start % 65536, window))
     }
 
     /// Fills the window with text from byte `start` on. Fails with `PastEnd` if and only if the range ends past the end
@@ -133,20 +141,17 @@ impl<'b, R: ReadAt> SealedReader<'b, R> {
         ensures past_end { IsErrOf result RangeError.PastEnd
             ↔ (text_len self.old < start + length window.old) }
         ensures unchanged { IsErrOf result RangeError.PastEnd → window.new ≡ window.old }
-        ensures right { OnOk result (IfSome (file self.old) (λ f.
-            HasRange f start window.new)) }
+        ensures right { OnOk result (HasRange (file self.old) start window.new) }
         ensures text { (text : List ℕ) → Reads self.old text
             → OnOk result (window.new ≡ slice_range text start (start + length window.old)) }
         ensures accepted { (text : List ℕ) → Reads self.old text → IsFalse (may_fail self.old)
             → (IsOk result ↔ (start + length window.old ≤ length text)) }
         ensures damaged { (damage : Damage) → IsErrOf result (RangeError.Damaged damage)
-            → (i : ℕ) × OnlyBefore start i window.old window.new
-            × IfSome (file self.old) (λ f. IsWrong f i damage × FillsTo f start window.new i) }
-        ensures read_error { (e : IoError) → IsErrOf result (RangeError.Read e)
-            → (i : ℕ) × OnlyBefore start i window.old window.new
-            × IfSome (file self.old) (λ f. FillsTo f start window.new i) }
+            → (i : ℕ) × StopsAt (file self.old) start i window.old window.new
+            × IsWrong (file self.old) i damage }
         ensures fails { (e : IoError) → IsErrOf result (RangeError.Read e)
-            → IsTrue (may_fail self.old) }
+            → IsTrue (may_fail self.old)
+            × ((i : ℕ) × StopsAt (file self.old) start i window.old window.new) }
         ensures same { IsSame self.old self.new × (position self.new ≡ position self.old) }
     {
         if !is_within(start, window.len(), self.text_len()) {
@@ -163,23 +168,14 @@ impl<'b, R: ReadAt> SealedReader<'b, R> {
         Ok(())
     }
 
-    // Copies from the text that it holds.
-    fn copy(&self, len: usize, from: u64, window: &mut [u8]) -> usize
-        requires { len ≤ 65536 }
-        ensures part { CopiesFrom (take len self.now.buf.now) from window.old window.new result }
-        ensures count { result ≡ min (length window.old) (len - from) }
-    {
-        copy_text(&self.buf[..len], from, window)
-    }
-
     // Holds a chunk, and returns the length of its text.
     fn open(&mut self, number: u64) -> Result<usize, ReadError>
         requires { 65536 * number < text_len self.old }
         ensures size { IfOk result (λ n. n ≡ text_size (text_len self.old) number) }
-        ensures right { IfOk result (λ n. IfSome (file self.old) (λ f.
-            HasChunk f number (take n self.new.buf.now))) }
+        ensures right { IfOk result (λ n.
+            HasChunk (file self.old) number (take n self.new.buf.now)) }
         ensures damaged { (damage : Damage) → IsErrOf result (ReadError.Damaged damage)
-            → IfSome (file self.old) (λ f. IsWrong f number damage) }
+            → IsWrong (file self.old) number damage }
         ensures fails { (e : IoError) → IsErrOf result (ReadError.Read e)
             → IsTrue (may_fail self.old) }
         ensures same { IsSame self.old self.new × (position self.new ≡ position self.old) }
@@ -216,15 +212,15 @@ fn load<R: ReadAt>(
 ) -> Result<usize, ReadError>
     requires number { number ≤ last_of len }
     requires fits { len ≤ 32 + 65552 * 2 ^ 32 }
-    requires len { IfSome (R.bytes source.now) (λ bytes. len ≡ length bytes) }
+    requires len { ForSome (R.bytes source.now) (λ all. len ≡ length all) }
     ensures size { IfOk result (λ n. n + 16 ≡ min 65552 (len - place number)) }
     ensures some { IfOk result (λ n. 0 < number → 0 < n) }
-    ensures right { IfOk result (λ n. IfSome (R.bytes source.now) (λ bytes.
-        HasChunk (record { key = key.now; salt = salt.now; bytes = bytes }) number
-        (take n buf.new))) }
+    ensures right { IfOk result (λ n.
+        HasChunk (record { key = key.now; salt = salt.now; bytes = R.bytes source.now }) number
+        (take n buf.new)) }
     ensures damaged { (damage : Damage) → IsErrOf result (ReadError.Damaged damage)
-        → IfSome (R.bytes source.now) (λ bytes.
-        IsWrong (record { key = key.now; salt = salt.now; bytes = bytes }) number damage) }
+        → IsWrong (record { key = key.now; salt = salt.now; bytes = R.bytes source.now }) number
+        damage }
     ensures fails { (e : IoError) → IsErrOf result (ReadError.Read e)
         → IsTrue (R.may_fail source.now) }
     ensures rest { IfOk result (λ n. IsZeroFrom n buf.new) }
@@ -248,40 +244,6 @@ fn load<R: ReadAt>(
     Ok(n - TAG)
 }
 
-// Opens the last chunk. If it is wrong, chunk 0 is opened too, and comes first: where the key is wrong, both are.
-fn load_last<R: ReadAt>(
-    key: &Key,
-    salt: &Salt,
-    source: &R,
-    len: u64,
-    buf: &mut [u8; BUFFER],
-) -> Result<usize, ReadError>
-    requires fits { len ≤ 32 + 65552 * 2 ^ 32 }
-    requires len { IfSome (R.bytes source.now) (λ bytes. len ≡ length bytes) }
-    ensures size { IfOk result (λ n. n + 16 ≡ min 65552 (len - place (last_of len))) }
-    ensures some { IfOk result (λ n. 0 < last_of len → 0 < n) }
-    ensures right { IfOk result (λ n. IfSome (R.bytes source.now) (λ bytes.
-        HasChunk (record { key = key.now; salt = salt.now; bytes = bytes }) (last_of len)
-        (take n buf.new))) }
-    ensures damaged { (damage : Damage) → IsErrOf result (ReadError.Damaged damage)
-        → IfSome (R.bytes source.now) (λ bytes.
-        IsEndDamage (record { key = key.now; salt = salt.now; bytes = bytes }) damage) }
-    ensures fails { (e : IoError) → IsErrOf result (ReadError.Read e)
-        → IsTrue (R.may_fail source.now) }
-    ensures rest { IfOk result (λ n. IsZeroFrom n buf.new) }
-    ensures cleared { OnErr result (IsZeroFrom 0 buf.new) }
-{
-    let number = last_chunk(len);
-    match load(key, salt, source, len, number, buf) {
-        Err(ReadError::Damaged(damage)) if number > 0 => {
-            load(key, salt, source, len, 0, buf)?;
-            buf.fill(0);
-            Err(ReadError::Damaged(damage))
-        }
-        opened => opened,
-    }
-}
-
 // The size of a file; a call that a signal interrupts is repeated.
 fn size_of<R: ReadAt>(source: &R) -> Result<u64, IoError>
     ensures value { IfOk result (λ n. IfSome (R.bytes source.now) (λ all. n ≡ length all)) }
@@ -302,7 +264,9 @@ fn size_of<R: ReadAt>(source: &R) -> Result<u64, IoError>
 
 // Copies text from byte `from` on, which may be past its end, and returns how many bytes that are.
 fn copy_text(text: &[u8], from: u64, window: &mut [u8]) -> usize
-    ensures { CopiesFrom text.now from window.old window.new result }
+    ensures count { result ≡ min (length window.old) (length text.now - from) }
+    ensures copied { window.new
+        ≡ take result (drop from text.now) ++ drop result window.old }
 {
     let from = from.min(text.len() as u64) as usize;
     let size = window.len().min(text.len() - from);
@@ -328,15 +292,14 @@ impl<R: ReadAt> Read for SealedReader<'_, R> {
         ensures bound { ReadsAtMost result buf.new }
         ensures bytes { ReadConsumes None None result buf.new }
         ensures right { IfOk result (λ n. (position self.new ≡ position self.old + n)
-            × (drop n buf.new ≡ drop n buf.old) × IfSome (file self.old) (λ f.
-            HasRange f (position self.old) (take n buf.new))) }
+            × (drop n buf.new ≡ drop n buf.old)
+            × HasRange (file self.old) (position self.old) (take n buf.new)) }
         ensures count { IfOk result (λ n.
             n ≡ count (text_len self.old) (position self.old) (length buf.old)) }
         ensures unchanged { OnErr result
             ((buf.new ≡ buf.old) × (position self.new ≡ position self.old)) }
         ensures damaged { IfErr result (λ e. error_kind e ≡ ErrorKind.InvalidData
-            → IfSome (file self.old) (λ f. (damage : Damage)
-            × IsWrong f (position self.old / 65536) damage)) }
+            → (damage : Damage) × IsWrong (file self.old) (position self.old / 65536) damage) }
         ensures fails { IfErr result (λ e. error_kind e ≢ ErrorKind.InvalidData
             → IsTrue (may_fail self.old)) }
         ensures retried { IfErr result (λ e. error_kind e ≢ ErrorKind.Interrupted) }
@@ -357,14 +320,14 @@ impl<R: ReadAt> Read for SealedReader<'_, R> {
     fn read_exact(&mut self, buf: &mut [u8]) -> io::Result<()>
         ensures bytes { OnOk result (Consumes None None buf.new) }
         ensures right { OnOk result ((position self.new ≡ position self.old + length buf.old)
-            × IfSome (file self.old) (λ f. HasRange f (position self.old) buf.new)) }
+            × HasRange (file self.old) (position self.old) buf.new) }
         ensures end { text_len self.old < position self.old + length buf.old
             → IfErr result (λ e. error_kind e ≡ ErrorKind.UnexpectedEof) }
         ensures unchanged { OnErr result (position self.new ≡ position self.old) }
         ensures partly { OnErr result ((n : ℕ) × (drop n buf.new ≡ drop n buf.old)
-            × IfSome (file self.old) (λ f. HasRange f (position self.old) (take n buf.new))) }
+            × HasRange (file self.old) (position self.old) (take n buf.new)) }
         ensures damaged { IfErr result (λ e. error_kind e ≡ ErrorKind.InvalidData
-            → IfSome (file self.old) (λ f. (i : ℕ) × (damage : Damage) × IsWrong f i damage)) }
+            → (i : ℕ) × (damage : Damage) × IsWrong (file self.old) i damage) }
         ensures fails { IfErr result (λ e. error_kind e ≢ ErrorKind.InvalidData
             → position self.old + length buf.old ≤ text_len self.old
             → IsTrue (may_fail self.old)) }

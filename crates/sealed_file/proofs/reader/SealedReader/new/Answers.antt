@@ -1,92 +1,119 @@
-use Rattle.std.proofs.Common.{Some, ◌≡◌, ◌∙◌, IfSome, IsErrAnd, length, take, inl, inr, true≢false, arith, sym, ap, subst}
+use Rattle.std.proofs.Common.{Some, Err, ◌≡◌, ◌∙◌, IsErrAnd, length, take, inl, inr, arith, sym, ap, subst}
 use Rattle.sealed_file.specs.declared.error.Damage.{Damage}
 use Rattle.sealed_file.specs.declared.error.ReadError.{ReadError}
-use Rattle.sealed_file.proofs.FileLemmas.{length-sealed}
-use Rattle.std.specs.Option.{ForSome}
-use Rattle.sealed_file.proofs.RangeLemmas.{known-last, last-size}
-use Rattle.sealed_file.specs.Ranges.{HasChunk, IsZeroFrom, text_size}
+use Rattle.sealed_file.specs.Ranges.{File, HasChunk, IsWrong, IsZeroFrom, first, last, text_size, whole}
 use Rattle.sealed_file.specs.Sealed.{last_of, text_of}
+use Rattle.sealed_file.proofs.FileLemmas.{length-sealed}
 use Rattle.sealed_file.proofs.HeaderLemmas.{begins-with, front-damage}
-use Rattle.sealed_file.proofs.ListLemmas.{for_some, if_some, in-file, passed-on}
-use Rattle.sealed_file.proofs.WindowLemmas.{both, neither, none-refused}
-use Rattle.std.proofs.lemmas.Option.{IfSome_then}
+use Rattle.sealed_file.proofs.ListLemmas.{for_some, passed-on}
+use Rattle.sealed_file.proofs.RangeLemmas.{ends-at, last-size, no-error, sealed-text}
 use Rattle.sealed_file.proofs.reader.SealedReader.new.Goals as goal
 
 pub returns-in_err-salt-clause-damaged : goal.returns-in_err-salt-clause-damaged
 returns-in_err-salt-clause-damaged g c damage is =
+    let bytes = g.R.ReadAt.bytes c.args.source in
     let e = c.in_err-salt.field-0.0 in
     let gives : ReadError.Damaged damage ≡ ReadError.Damaged e =
     subst (λ r. IsErrAnd r (λ y. y ≡ ReadError.Damaged e)) is c.from_residual-in_err-salt.ensures.1 in
     let same : e ≡ damage = (cc) in
-    IfSome_then (g.R.ReadAt.bytes c.args.source)
-    (front-damage (g.R.ReadAt.bytes c.args.source) (take c.in_ok-n.n c.fill_at.new.buf) damage c.in_ok-n.ensures.read
-    (c.in_err-salt.ensures.damage ∙ ap Some same)) (λ all. inl)
+    whole (λ all known. inl (for_some bytes _
+    (front-damage bytes (take c.in_ok-n.n c.fill_at.new.buf) damage c.in_ok-n.ensures.read
+    (c.in_err-salt.ensures.damage ∙ ap Some same)) all known))
 
 pub returns-then-len-clause-opens : goal.returns-then-len-clause-opens
 returns-then-len-clause-opens g c salt text bytes known (size, most, sealed) sure =
-    let told = subst (λ o. IfSome o (λ all. c.in_ok-len.len ≡ length all)) known c.in_ok-len.ensures.value in
+    let told = for_some (g.R.ReadAt.bytes c.args.source) _ c.in_ok-len.ensures.value bytes known in
     absurd (omega (arith, told, most, c.if-len.true, ap length sealed ∙ length-sealed c.args.key.now salt text size))
 
 pub returns-then-len-clause-damaged : goal.returns-then-len-clause-damaged
 returns-then-len-clause-damaged g c damage is =
     let same : Damage.TooLong ≡ damage = (cc) in
-    IfSome_then (g.R.ReadAt.bytes c.args.source) c.in_ok-len.ensures.value
-    (λ all told. inl (inr (sym same, omega (arith, told, c.if-len.true))))
+    whole (λ all known.
+    let told = for_some (g.R.ReadAt.bytes c.args.source) _ c.in_ok-len.ensures.value all known in
+    inr (sym same, omega (arith, told, c.if-len.true)))
 
-pub returns-in_err-load_last-clause-damaged : goal.returns-in_err-load_last-clause-damaged
-returns-in_err-load_last-clause-damaged g c damage is =
+pub returns-then-last-eq0-clause-damaged : goal.returns-then-last-eq0-clause-damaged
+returns-then-last-eq0-clause-damaged g c damage is =
     let bytes = g.R.ReadAt.bytes c.args.source in
     let begins = begins-with bytes c.in_ok-len.len _ c.in_ok-salt.salt c.in_ok-len.ensures.value
     c.in_ok-n.ensures.read c.in_ok-salt.ensures.salt in
-    IfSome_then bytes (both bytes _ _ (if_some bytes _ begins) (c.in_err-load_last.ensures.damaged damage
-    (passed-on c.from_residual-in_err-load_last.result _ _ c.from_residual-in_err-load_last.ensures.1 is)))
-    (λ all ((_, front), wrong). inr (c.in_ok-salt.salt, front, wrong))
+    let same : c.in-Err.e ≡ ReadError.Damaged damage = (cc) in
+    let f : File = record { key = c.args.key.now; salt = c.in_ok-salt.salt; bytes = bytes } in
+    first c.in_ok-salt.salt (λ all known. (begins all known).1)
+    (subst (λ i. IsWrong f i damage) c.if-last-eq0.true (c.in-Err.ensures.damaged damage (ap Err same)))
 
-pub returns-in_err-load_last-clause-opens : goal.returns-in_err-load_last-clause-opens
-returns-in_err-load_last-clause-opens g c salt text all known sealed sure =
+pub returns-then-last-eq0-clause-opens : goal.returns-then-last-eq0-clause-opens
+returns-then-last-eq0-clause-opens g c salt text all known is sure =
     let bytes = g.R.ReadAt.bytes c.args.source in
-    absurd (neither c.in_err-load_last.field-0.0
-    (λ e is. true≢false (sym (c.in_err-load_last.ensures.fails e is) ∙ sure))
-    (λ d wrong. none-refused c.args.key.now c.in_ok-salt.salt bytes c.in_ok-len.len
-    (begins-with bytes c.in_ok-len.len _ c.in_ok-salt.salt c.in_ok-len.ensures.value
-    c.in_ok-n.ensures.read c.in_ok-salt.ensures.salt) text (salt, all, known, sealed) d
-    (in-file bytes _ _ (c.in_err-load_last.ensures.damaged d wrong))))
+    let begins = begins-with bytes c.in_ok-len.len _ c.in_ok-salt.salt c.in_ok-len.ensures.value
+    c.in_ok-n.ensures.read c.in_ok-salt.ensures.salt in
+    let f : File = record { key = c.args.key.now; salt = c.in_ok-salt.salt; bytes = bytes } in
+    absurd (no-error f c.in_ok-len.len begins text (sealed-text f salt text all known is) c.in-Err.e _ _
+    (omega (arith, c.last_chunk-last.ensures.value)) sure c.in-Err.ensures.fails c.in-Err.ensures.damaged)
+
+pub returns-in_err-load-clause-damaged : goal.returns-in_err-load-clause-damaged
+returns-in_err-load-clause-damaged g c damage is =
+    let bytes = g.R.ReadAt.bytes c.args.source in
+    let begins = begins-with bytes c.in_ok-len.len _ c.in_ok-salt.salt c.in_ok-len.ensures.value
+    c.in_ok-n.ensures.read c.in_ok-salt.ensures.salt in
+    first c.in_ok-salt.salt (λ all known. (begins all known).1) (c.in_err-load.ensures.damaged damage
+    (passed-on c.from_residual-in_err-load.result _ _ c.from_residual-in_err-load.ensures.1 is))
+
+pub returns-in_err-load-clause-opens : goal.returns-in_err-load-clause-opens
+returns-in_err-load-clause-opens g c salt text all known is sure =
+    let bytes = g.R.ReadAt.bytes c.args.source in
+    let begins = begins-with bytes c.in_ok-len.len _ c.in_ok-salt.salt c.in_ok-len.ensures.value
+    c.in_ok-n.ensures.read c.in_ok-salt.ensures.salt in
+    let f : File = record { key = c.args.key.now; salt = c.in_ok-salt.salt; bytes = bytes } in
+    absurd (no-error f c.in_ok-len.len begins text (sealed-text f salt text all known is) c.in_err-load.field-0.0 0 _
+    (omega arith) sure c.in_err-load.ensures.fails c.in_err-load.ensures.damaged)
+
+pub returns-in-Err-clause-damaged : goal.returns-in-Err-clause-damaged
+returns-in-Err-clause-damaged g c damage is =
+    let bytes = g.R.ReadAt.bytes c.args.source in
+    let begins = begins-with bytes c.in_ok-len.len _ c.in_ok-salt.salt c.in_ok-len.ensures.value
+    c.in_ok-n.ensures.read c.in_ok-salt.ensures.salt in
+    let same : c.in-Err.e ≡ ReadError.Damaged damage = (cc) in
+    last c.in_ok-salt.salt (take c.in_ok-load.field-0 c.load-in-Err.new.buf) c.last_chunk-last.result
+    (λ all known. ((begins all known).1, c.last_chunk-last.ensures.value ∙ ap last_of (begins all known).0))
+    c.in_ok-load.ensures.right (c.in-Err.ensures.damaged damage (ap Err same))
+
+pub returns-in-Err-clause-opens : goal.returns-in-Err-clause-opens
+returns-in-Err-clause-opens g c salt text all known is sure =
+    let bytes = g.R.ReadAt.bytes c.args.source in
+    let begins = begins-with bytes c.in_ok-len.len _ c.in_ok-salt.salt c.in_ok-len.ensures.value
+    c.in_ok-n.ensures.read c.in_ok-salt.ensures.salt in
+    let f : File = record { key = c.args.key.now; salt = c.in_ok-salt.salt; bytes = bytes } in
+    absurd (no-error f c.in_ok-len.len begins text (sealed-text f salt text all known is) c.in-Err.e _ _
+    (omega (arith, c.last_chunk-last.ensures.value)) sure c.in-Err.ensures.fails c.in-Err.ensures.damaged)
 
 pub invariant_of-result : goal.invariant_of-result
 invariant_of-result g c =
     let bytes = g.R.ReadAt.bytes c.args.source in
+    let begins = begins-with bytes c.in_ok-len.len _ c.in_ok-salt.salt c.in_ok-len.ensures.value
+    c.in_ok-n.ensures.read c.in_ok-salt.ensures.salt in
+    let f : File = record { key = c.args.key.now; salt = c.in_ok-salt.salt; bytes = bytes } in
     let len = c.in_ok-len.len in
-    let buf = c.load_last.new.buf in
-    let last = c.in_ok-load_last.ensures in
-    let sizes = last-size len c.in_ok-load_last.field-0 last.size last.some in
-    let at = c.last_chunk.ensures.value in
-    let n : c.in_ok-load_last.field-0 ≡ text_size (text_of len) c.last_chunk.result =
-    sizes.2 ∙ ap (text_size (text_of len)) (sym at) in
+    let buf = c.load.new.buf in
+    let i = c.last_chunk-last.result in
+    let right = c.in_default.ensures in
+    let sizes = last-size len i c.in_default.field-0 c.last_chunk-last.ensures.value right.size right.some in
     record {
       fits = c.if-len.false;
-      begins = begins-with bytes len _ c.in_ok-salt.salt c.in_ok-len.ensures.value c.in_ok-n.ensures.read
-          c.in_ok-salt.ensures.salt;
+      begins = begins;
       whole = sizes.1;
-      right = for_some (Some c.last_chunk.result)
-          (λ i. ForSome bytes (λ b. HasChunk (record { key = c.args.key.now; salt = c.in_ok-salt.salt; bytes = b }) i
-          (take (text_size (text_of len) i) buf))) (for_some bytes _ (IfSome_then bytes last.right (λ b has.
-          subst (λ i. HasChunk (record { key = c.args.key.now; salt = c.in_ok-salt.salt; bytes = b }) i
-          (take (text_size (text_of len) c.last_chunk.result) buf)) (sym at)
-          (subst (λ k. HasChunk (record { key = c.args.key.now; salt = c.in_ok-salt.salt; bytes = b }) (last_of len)
-          (take k buf)) n has))));
-      lent = subst (λ k. IsZeroFrom k buf) n last.rest;
+      right = for_some (Some i) (λ i. HasChunk f i (take (text_size (text_of len) i) buf))
+          (subst (λ k. HasChunk f i (take k buf)) sizes.2 right.right);
+      lent = subst (λ k. IsZeroFrom k buf) sizes.2 right.rest;
     }
-
-pub returns-clause-header : goal.returns-clause-header
-returns-clause-header g c =
-    let bytes = g.R.ReadAt.bytes c.args.source in
-    in-file bytes _ _ (IfSome_then bytes (if_some bytes _ (begins-with bytes c.in_ok-len.len _ c.in_ok-salt.salt
-    c.in_ok-len.ensures.value c.in_ok-n.ensures.read c.in_ok-salt.ensures.salt)) (λ all begins. begins.1))
 
 pub returns-clause-end : goal.returns-clause-end
 returns-clause-end g c =
-    let last = c.in_ok-load_last.ensures in
     let bytes = g.R.ReadAt.bytes c.args.source in
-    in-file bytes _ _ (known-last c.args.key.now c.in_ok-salt.salt c.load_last.new.buf bytes
-    c.in_ok-len.len c.in_ok-load_last.field-0
-    last.size last.some (omega (arith, last.size)) c.in_ok-len.ensures.value last.right)
+    let right = c.in_default.ensures in
+    ends-at (record { key = c.args.key.now; salt = c.in_ok-salt.salt; bytes = bytes }) c.in_ok-len.len
+    c.last_chunk-last.result c.in_default.field-0 c.load.new.buf c.last_chunk-last.ensures.value right.size right.some
+    (omega (arith, right.size)) (for_some bytes _ c.in_ok-len.ensures.value) right.right
+
+pub returns-clause-reads : goal.returns-clause-reads
+returns-clause-reads g c salt text all known is = sealed-text _ salt text all known is
