@@ -12,17 +12,13 @@
 //! Decryption is the same call. Never use a nonce twice under one key.
 
 ghost use Rattle.std.specs.Prelude.{◌≡◌, ◌≤◌, ◌+◌, ◌↔◌, ◌^◌, length, IsOk, OnOk, OnErr};
-ghost use Rattle.chacha20.specs.ChaCha.{chacha_stream, keystream, xor_stream, ietf, legacy};
+ghost use Rattle.chacha20.specs.ChaCha.{chacha_stream, keystream, xor_stream, ietf};
 ghost use Rattle.chacha20.specs.Cipher.{limit_of};
-ghost use Rattle.chacha20.specs.XChaCha.{xchacha_stream};
 
 use chacha20::backends::Lanes16;
 use chacha20::cipher::{KeyIvInit, StreamCipher, StreamCipherError, StreamCipherSeek};
 use chacha20::variants::Ietf;
-use chacha20::{
-    ChaCha20, ChaCha20Legacy, ChaChaCore, Key, LegacyNonce, Nonce, Rounds, StreamCipherCoreWrapper,
-    XChaCha20, XNonce,
-};
+use chacha20::{ChaCha20, ChaChaCore, Key, Nonce, Rounds, StreamCipherCoreWrapper};
 
 /// Encrypts a message by ChaCha20, as RFC 8439, section 2.4, does from block 0 on. Ten is the number of double rounds.
 /// `Err` exactly where the message is longer than the keystream; then it is as it was.
@@ -68,35 +64,6 @@ pub fn encrypt_by<C: KeyIvInit + StreamCipher + Drop>(
     C::new(key, nonce).try_apply_keystream(message)
 }
 
-/// Encrypts a message by XChaCha20 (draft-irtf-cfrg-xchacha, section 2.3), whose nonces are long enough to be random.
-/// The keystream is that of ChaCha20 under the key and the nonce that are derived from these. `Err` as in `encrypt`.
-pub fn encrypt_xchacha(
-    key: &Key,
-    nonce: &XNonce,
-    message: &mut [u8],
-) -> Result<(), StreamCipherError>
-    ensures accepted { IsOk result ↔ (length message.old ≤ 2 ^ 38) }
-    ensures bytes { OnOk result (message.new
-        ≡ xor_stream (xchacha_stream 10 key.now nonce.now) 0 message.old) }
-    ensures refused { OnErr result (message.new ≡ message.old) }
-{
-    encrypt_by::<XChaCha20>(key, nonce, message)
-}
-
-/// Encrypts a message by the cipher from before RFC 8439, with a nonce of 8 bytes and 2^64 blocks. No
-/// message is too long for it, so no call is refused.
-pub fn encrypt_legacy(
-    key: &Key,
-    nonce: &LegacyNonce,
-    message: &mut [u8],
-) -> Result<(), StreamCipherError>
-    ensures accepted { IsOk result }
-    ensures bytes { OnOk result (message.new
-        ≡ xor_stream (chacha_stream 10 legacy key.now nonce.now) 0 message.old) }
-{
-    encrypt_by::<ChaCha20Legacy>(key, nonce, message)
-}
-
 /// Three double rounds, so six rounds (this crate). Contracts see the number after `ghost`; the code has
 /// the constant.
 #[derive(Clone, Copy)]
@@ -110,13 +77,3 @@ impl Rounds for R6 {
 
 /// ChaCha with six rounds (this crate).
 pub type ChaCha6 = StreamCipherCoreWrapper<ChaChaCore<R6, Ietf, Lanes16>>;
-
-/// Encrypts a message by `ChaCha6`. `Err` as in `encrypt`.
-pub fn encrypt_6(key: &Key, nonce: &Nonce, message: &mut [u8]) -> Result<(), StreamCipherError>
-    ensures accepted { IsOk result ↔ (length message.old ≤ 2 ^ 38) }
-    ensures bytes { OnOk result (message.new
-        ≡ xor_stream (chacha_stream 3 ietf key.now nonce.now) 0 message.old) }
-    ensures refused { OnErr result (message.new ≡ message.old) }
-{
-    encrypt_by::<ChaCha6>(key, nonce, message)
-}

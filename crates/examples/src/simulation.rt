@@ -1,6 +1,6 @@
 //! Draws that can be repeated, of exactly one word each: numbers below a bound, one without those before it, and the
-//! sum of dice; a generator for each worker; and a run that is stored in 49 bytes and resumed later (this crate). Dice,
-//! shuffles and samples are in the toolchain's `rand`, which takes some of its numbers from two words.
+//! sum of dice; a generator for each worker; and a run that is stored and resumed (this crate). Dice, shuffles and
+//! samples are in the toolchain's `rand`, which takes some of its numbers from two words.
 //!
 //! `rng.old` and `rng.new` are the generator before and after the call. `next_u64 n g` is a pair: the next word of 64
 //! bits of the generator g, which makes n double rounds, and the generator after it. `repeated (next_u64 n) k g` is the
@@ -10,10 +10,10 @@
 ghost use Rattle.std.specs.Prelude.{◌≡◌, ℕ, ◌<◌, ◌≤◌, ◌+◌, ◌*◌, ◌/◌, ◌^◌, ◌++◌, length, slice_index, map, All};
 ghost use Rattle.std.specs.Int.{w64, to_le_bytes};
 ghost use Rattle.std.specs.List.{sum_by};
-ghost use Rattle.chacha20.specs.Generator.{next_u64, repeated, of_seed, of_state_bytes};
+ghost use Rattle.chacha20.specs.Generator.{next_u64, repeated, of_seed};
 
 use chacha20::cipher::RngBackend;
-use chacha20::{ChaCha20Rng, ChaChaRng, Rounds, Seed, SerializedRngState};
+use chacha20::{ChaCha20Rng, ChaChaRng, Rounds, Seed};
 
 /// Draws a number below a bound: the next word of 64 bits times the bound, divided by 2^64. It draws exactly one word.
 /// So it is not quite uniform: some numbers come from one more of the 2^64 words than others. The chance of each is
@@ -82,20 +82,6 @@ pub fn worker(seed: Seed, number: u64) -> ChaCha20Rng
     let mut rng = ChaCha20Rng::from_seed(seed);
     rng.set_stream(number);
     rng
-}
-
-/// Resumes a run that is stored in 49 bytes, draws a number below a bound for each place of a slice, and stores the run
-/// again.
-pub fn resume(stored: &mut SerializedRngState, bound: u64, numbers: &mut [u64])
-    requires { 0 < bound }
-    ensures value { numbers.new ≡ map (λ word. word * bound / 2 ^ 64)
-        (repeated (next_u64 10) (length numbers.old) (of_state_bytes stored.old)).0 }
-    ensures moved { of_state_bytes stored.new
-        ≡ (repeated (next_u64 10) (length numbers.old) (of_state_bytes stored.old)).1 }
-{
-    let mut rng = ChaCha20Rng::deserialize_state(stored);
-    fill_below(&mut rng, bound, numbers);
-    *stored = rng.serialize_state();
 }
 
 /// Draws numbers in two parts, and stores the run between them. Numbers and generator are those of one unbroken run.

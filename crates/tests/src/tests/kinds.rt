@@ -13,8 +13,8 @@ use chacha20::cipher::{
 use chacha20::rand_core::SeedableRng;
 use chacha20::variants::{Ietf, Legacy, Variant};
 use chacha20::{
-    ChaChaCore, ChaChaRng, Generator, Key, LegacyNonce, Nonce, R20, Rounds, Seed,
-    StreamCipherCoreWrapper, XChaChaCore, XNonce, hchacha,
+    ChaChaCore, ChaChaRng, Key, LegacyNonce, Nonce, R20, Rounds, Seed, StreamCipherCoreWrapper,
+    XChaChaCore, XNonce, hchacha,
 };
 use known_answers::R0;
 use known_answers::published::{
@@ -104,46 +104,6 @@ where
         &[7; 8], verdict,
     );
     generator_fronts::<R20, B, Soft>(KEY, verdict);
-    let mut core = ChaChaCore::<R20, Legacy, B>::from_seed([0; 32]);
-    generates(
-        &mut core,
-        &mut ChaChaRng::<R20, Soft>::from_seed([0; 32]),
-        verdict,
-    );
-}
-
-// A counter, the first words from there on, and the counter after 64 words: block 0 (RFC 8439, appendix A.1, number 1);
-// a counter whose low word is full, and the greatest one (the Rust crate's tests).
-static FRONTS: [(u64, [u32; 4], u64); 3] = [
-    (0, [0xade0_b876, 0x903d_f1a0, 0xe56a_5d40, 0x28bd_8653], 4),
-    (
-        0xffff_ffff,
-        [0x09cd_e4ac, 0x91d1_94e2, 0x05d2_4a2d, 0xd995_6fd0],
-        0x1_0000_0003,
-    ),
-    (
-        u64::MAX,
-        [0xd88c_91d7, 0x32f8_0c62, 0xc052_2653, 0x53a5_014c],
-        3,
-    ),
-];
-
-// The words of the next four blocks, by the trait alone, are these and the plain generator's.
-fn generates<G>(core: &mut G, plain: &mut ChaChaRng<R20, Soft>, verdict: &mut Verdict)
-where
-    G: Generator<Output = [u32; 64]> + StreamCipherSeekCore<Counter = u64>,
-{
-    for (counter, front, after) in &FRONTS {
-        core.set_block_pos(*counter);
-        plain.set_block_pos(*counter);
-        let mut words = [1; 64];
-        core.generate(&mut words);
-        let mut right = words.starts_with(front) & (core.get_block_pos() == *after);
-        for word in words {
-            right &= word == plain.next_u32();
-        }
-        verdict.note_unless(right, "64 words from a block on", *counter as usize);
-    }
 }
 
 // Blocks from five before 2^32 on, and fronts of the stream.

@@ -1,15 +1,11 @@
-//! The AEADs: published examples, tags of libsodium, and texts of all lengths. A caller's proof that what is encrypted
-//! is decrypted.
+//! The AEADs: published examples, tags of libsodium, random keys and nonces. A caller's proof that what is encrypted is
+//! decrypted.
 
-ghost use Rattle.std.specs.Prelude.{◌≡◌, ◌≤◌, ◌+◌, ◌↔◌, length, IsOk, OnOk};
+ghost use Rattle.std.specs.Prelude.{◌≡◌, ◌≤◌, ◌+◌, ◌↔◌, length, IsOk};
 ghost use Rattle.chacha20.specs.Cipher.{limit_of};
 
-use chacha20::backends::Lanes16;
 use chacha20::cipher::{KeyIvInit, StreamCipher};
-use chacha20::variants::Ietf;
-use chacha20::{
-    ChaChaCore, Key, Nonce, R8, R12, R20, Rounds, StreamCipherCoreWrapper, XChaChaCore, XNonce,
-};
+use chacha20::{ChaCha20, Key, Nonce, XChaCha20, XNonce};
 use chacha20poly1305::{ChaChaPoly1305, Error, XChaCha20Poly1305};
 use known_answers::published::{COUNTING, FROM_80, MESSAGE};
 use std::io::{self, ErrorKind};
@@ -30,162 +26,66 @@ fn there_and_back<C: KeyIvInit<Key = Key> + StreamCipher + Drop>(
     cipher.decrypt_in_place_detached(nonce, aad, message, &tag)
 }
 
-// The longest text and sealed message here.
-const TEXT: usize = 1200;
+// The longest sealed message here.
+const ROOM: usize = 281;
 
-const SEALED: usize = TEXT + 16;
-
-// Bytes, and zeros behind them.
-fn padded(bytes: &[u8]) -> [u8; SEALED] {
-    let mut room = [0; SEALED];
-    let len = bytes.len().min(SEALED);
-    room[..len].copy_from_slice(&bytes[..len]);
-    room
-}
-
-// The sealed message of a text, from slice to slice.
-fn encrypted<C: KeyIvInit<Key = Key> + StreamCipher + Drop>(
-    aead: &ChaChaPoly1305<C>,
-    nonce: &C::Iv,
-    aad: &[u8],
-    text: &[u8],
-) -> Option<[u8; SEALED]> {
-    let mut output = [0; SEALED];
-    let text = &text[..text.len().min(TEXT)];
-    match aead.encrypt(nonce, aad, text, &mut output[..text.len() + 16]) {
-        Ok(()) => Some(output),
-        Err(_) => None,
-    }
-}
-
-// The same in place.
-fn encrypted_in_place<C: KeyIvInit<Key = Key> + StreamCipher + Drop>(
-    aead: &ChaChaPoly1305<C>,
-    nonce: &C::Iv,
-    aad: &[u8],
-    text: &[u8],
-) -> [u8; SEALED] {
-    let mut message = padded(text);
-    let (front, end) = message.split_at_mut(text.len().min(TEXT));
-    let tag = aead.encrypt_in_place_detached(nonce, aad, front);
-    end[..16].copy_from_slice(&tag.unwrap_or([0; 16]));
-    message
-}
-
-// Whether decryption of a text of this length gives an answer, and leaves these bytes first.
-fn decrypts_between<C: KeyIvInit<Key = Key> + StreamCipher + Drop>(
-    aead: &ChaChaPoly1305<C>,
-    nonce: &C::Iv,
-    aad: &[u8],
-    sealed: &[u8; SEALED],
-    len: usize,
-    (answer, text): (Result<(), Error>, &[u8]),
-) -> bool {
-    let (mut output, len) = (*sealed, len.min(TEXT));
-    let found = aead.decrypt(nonce, aad, &sealed[..len + 16], &mut output[..len]);
-    (found == answer) & output.starts_with(text)
-}
-
-// The same in place.
-fn decrypts_in_place<C: KeyIvInit<Key = Key> + StreamCipher + Drop>(
-    aead: &ChaChaPoly1305<C>,
-    nonce: &C::Iv,
-    aad: &[u8],
-    sealed: &[u8; SEALED],
-    len: usize,
-    (answer, text): (Result<(), Error>, &[u8]),
-) -> bool {
-    let (mut message, tag) = (*sealed, tag_of(sealed, len).to_le_bytes());
-    let front = &mut message[..len.min(TEXT)];
-    let found = aead.decrypt_in_place_detached(nonce, aad, front, &tag);
-    (found == answer) & message.starts_with(text)
-}
-
-// The same both ways.
-fn decrypts<C: KeyIvInit<Key = Key> + StreamCipher + Drop>(
-    aead: &ChaChaPoly1305<C>,
-    nonce: &C::Iv,
-    aad: &[u8],
-    sealed: &[u8; SEALED],
-    len: usize,
-    expected: (Result<(), Error>, &[u8]),
-) -> bool {
-    decrypts_between(aead, nonce, aad, sealed, len, expected)
-        & decrypts_in_place(aead, nonce, aad, sealed, len, expected)
-}
-
-// Whether this is the sealed message both ways, and both ways to decrypt give the text, and with another tag fail and
-// change nothing.
-fn is_sealed<C: KeyIvInit<Key = Key> + StreamCipher + Drop>(
-    aead: &ChaChaPoly1305<C>,
-    nonce: &C::Iv,
-    aad: &[u8],
-    text: &[u8],
-    sealed: &[u8; SEALED],
-) -> bool {
-    let (mut forged, len) = (*sealed, text.len().min(TEXT));
-    forged[len + 15] ^= 1;
-    let wrong = (Err(Error::WrongTag), forged.as_slice());
-    (encrypted_in_place(aead, nonce, aad, text) == *sealed)
-        & decrypts(aead, nonce, aad, sealed, len, (Ok(()), text))
-        & decrypts(aead, nonce, aad, &forged, len, wrong)
-}
-
-// The sealed message, where it is right.
+// The sealed message of a text, and zeros behind it.
 fn sealed<C: KeyIvInit<Key = Key> + StreamCipher + Drop>(
     key: &Key,
     nonce: &C::Iv,
     aad: &[u8],
     text: &[u8],
-) -> Option<[u8; SEALED]> {
-    let aead = ChaChaPoly1305::<C>::new(key);
-    let sealed = encrypted(&aead, nonce, aad, text);
-    if is_sealed(&aead, nonce, aad, text, &sealed.unwrap_or([0; SEALED])) {
-        sealed
-    } else {
-        None
-    }
+) -> [u8; ROOM] {
+    let mut output = [0; ROOM];
+    let text = &text[..text.len().min(ROOM - 16)];
+    let cipher = ChaChaPoly1305::<C>::new(key);
+    let _ = cipher.encrypt(nonce, aad, text, &mut output[..text.len() + 16]);
+    output
 }
 
-// The same of an AEAD of any number of rounds: the bounds of its cipher are proved here, and not for each type anew.
-// `names.rt` has the names of these AEADs.
-
-fn by_chacha<R: Rounds>(key: &Key, nonce: &Nonce, aad: &[u8], text: &[u8]) -> Option<[u8; SEALED]> {
-    sealed::<StreamCipherCoreWrapper<ChaChaCore<R, Ietf, Lanes16>>>(key, nonce, aad, text)
+// The tag behind so many bytes.
+fn tag_of(sealed: &[u8; ROOM], len: usize) -> [u8; 16] {
+    let mut tag = [0; 16];
+    let len = len.min(ROOM - 16);
+    tag.copy_from_slice(&sealed[len..len + 16]);
+    tag
 }
 
-fn by_xchacha<R: Rounds>(
+// Whether a text becomes this, which with another tag is refused and stays as it is, and else is decrypted.
+fn is_sealed<C: KeyIvInit<Key = Key> + StreamCipher + Drop>(
     key: &Key,
-    nonce: &XNonce,
+    nonce: &C::Iv,
     aad: &[u8],
     text: &[u8],
-) -> Option<[u8; SEALED]> {
-    sealed::<StreamCipherCoreWrapper<XChaChaCore<R, Lanes16>>>(key, nonce, aad, text)
+    expected: &[u8],
+) -> bool {
+    let mut made = sealed::<C>(key, nonce, aad, text);
+    let (is_right, mut tag) = (made.starts_with(expected), tag_of(&made, text.len()));
+    let cipher = ChaChaPoly1305::<C>::new(key);
+    let message = &mut made[..text.len().min(ROOM)];
+    tag[15] ^= 1;
+    let refused = cipher.decrypt_in_place_detached(nonce, aad, message, &tag);
+    let stays = expected.starts_with(message);
+    tag[15] ^= 1;
+    let opened = cipher.decrypt_in_place_detached(nonce, aad, message, &tag);
+    is_right & stays & (refused == Err(Error::WrongTag)) & opened.is_ok() & (*message == *text)
 }
 
 // RFC 8439, sections 2.8.2 and A.5, and draft-irtf-cfrg-xchacha, section A.3.1.
-fn are_published() -> bool {
-    let made = [
-        by_chacha::<R20>(&FROM_80, &NONCE, AAD, MESSAGE),
-        by_chacha::<R20>(&A5_KEY, &A5_NONCE, A5_AAD, A5_TEXT),
-        by_xchacha::<R20>(&FROM_80, &X_NONCE, AAD, MESSAGE),
-    ];
-    made == [
-        Some(padded(CIPHERTEXT_AND_TAG)),
-        Some(padded(A5_CIPHERTEXT_AND_TAG)),
-        Some(padded(X_CIPHERTEXT_AND_TAG)),
-    ]
-}
-
 #[test]
 fn published(rt: HostRuntime) {
-    assert!(rt; are_published());
+    let right = [
+        is_sealed::<ChaCha20>(&FROM_80, &NONCE, AAD, MESSAGE, CIPHERTEXT_AND_TAG),
+        is_sealed::<ChaCha20>(&A5_KEY, &A5_NONCE, A5_AAD, A5_TEXT, A5_CIPHERTEXT_AND_TAG),
+        is_sealed::<XChaCha20>(&FROM_80, &X_NONCE, AAD, MESSAGE, X_CIPHERTEXT_AND_TAG),
+    ];
+    assert!(rt; right == [true; 3]);
 }
 
 // A source of the bytes 0, 1, 2 and so on, or of an error.
 #[derive(Clone, Copy)]
-struct Source {
-    fails: bool,
+pub struct Source {
+    pub fails: bool,
 }
 
 impl RandomSource for Source {
@@ -216,50 +116,15 @@ fn random(rt: HostRuntime) {
     assert!(rt; generated(true) == (Err(error), Err(error)));
 }
 
-// All lengths of a front, and those around its bounds.
-fn wrong_length(text: &[u8]) -> usize {
-    for len in 0..text.len() {
-        if by_chacha::<R20>(&FROM_80, &NONCE, AAD, &text[..len]).is_none() {
-            return len;
-        }
-    }
-    text.len()
-}
-
-#[test]
-fn lengths(rt: HostRuntime) {
-    let wrong = wrong_length(&[7; TEXT + 1]);
-    assert!(rt; wrong == TEXT + 1, "{wrong}");
-}
-
-// Whether this number of rounds does the same.
-fn has_rounds<R: Rounds>() -> bool {
-    by_chacha::<R>(&FROM_80, &NONCE, AAD, &[7; 1000]).is_some()
-        & by_xchacha::<R>(&FROM_80, &X_NONCE, AAD, &[7; 1000]).is_some()
-}
-
-#[test]
-fn other_rounds(rt: HostRuntime) {
-    assert!(rt; has_rounds::<R8>() & has_rounds::<R12>());
-}
-
 // For these lengths of the message, the XOR of the tags. The data are the front of the ciphertext.
 fn all_tags(aad: usize) -> u128 {
     let aad = &CIPHERTEXT_AND_TAG[..aad.min(130)];
     let mut all = 0;
     for len in [0usize, 1, 15, 16, 17, 63, 64, 65] {
-        let made = by_chacha::<R20>(&FROM_80, &NONCE, aad, &MESSAGE[..len]);
-        all ^= tag_of(&made.unwrap_or([0; SEALED]), len);
+        let made = sealed::<ChaCha20>(&FROM_80, &NONCE, aad, &MESSAGE[..len]);
+        all ^= u128::from_le_bytes(tag_of(&made, len));
     }
     all
-}
-
-// The tag behind so many bytes.
-fn tag_of(sealed: &[u8; SEALED], len: usize) -> u128 {
-    let mut tag = [0; 16];
-    let len = len.min(TEXT);
-    tag.copy_from_slice(&sealed[len..len + 16]);
-    u128::from_le_bytes(tag)
 }
 
 #[test]
@@ -272,9 +137,9 @@ fn tags_of_libsodium(rt: HostRuntime) {
 // RFC 8439, section 2.8.2, with the key `FROM_80` and the text `MESSAGE`.
 static NONCE: Nonce = *b"\x07\x00\x00\x00@ABCDEFG";
 
-pub const AAD: &[u8] = b"PQRS\xc0\xc1\xc2\xc3\xc4\xc5\xc6\xc7";
+const AAD: &[u8] = b"PQRS\xc0\xc1\xc2\xc3\xc4\xc5\xc6\xc7";
 
-pub const CIPHERTEXT_AND_TAG: &[u8; 130] = b"\
+const CIPHERTEXT_AND_TAG: &[u8; 130] = b"\
     \xd3\x1a\x8d\x34\x64\x8e\x60\xdb\x7b\x86\xaf\xbc\x53\xef\x7e\xc2\xa4\xad\xed\x51\x29\x6e\x08\xfe\
     \xa9\xe2\xb5\xa7\x36\xee\x62\xd6\x3d\xbe\xa4\x5e\x8c\xa9\x67\x12\x82\xfa\xfb\x69\xda\x92\x72\x8b\
     \x1a\x71\xde\x0a\x9e\x06\x0b\x29\x05\xd6\xa5\xb6\x7e\xcd\x3b\x36\x92\xdd\xbd\x7f\x2d\x77\x8b\x8c\

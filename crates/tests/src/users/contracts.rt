@@ -203,21 +203,6 @@ fn apply_586_bytes_columns8(steps: &mut Steps) -> Result<(), StreamCipherError>
     apply_586_bytes::<Columns8>(steps)
 }
 
-// No other test calls `try_apply_keystream_counted`.
-#[test]
-fn counted(rt: HostRuntime) {
-    let steps = &mut Steps::new();
-    let accepted = [
-        apply_586_bytes_soft(steps),
-        apply_586_bytes_lanes4(steps),
-        apply_586_bytes_lanes8(steps),
-        apply_586_bytes_rows8(steps),
-        apply_586_bytes_lanes16(steps),
-        apply_586_bytes_columns8(steps),
-    ];
-    assert!(rt; accepted == [Ok(()); 6]);
-}
-
 // Bounds on what the named ciphers count, at every position: those of `Lanes16`.
 fn named_costs()
     ensures chacha20 { ⟦<ChaCha20 as StreamCipher>⟧.cost ≡ for_bytes 16 80 20 }

@@ -5,7 +5,7 @@ use chacha20::{ChaCha20, ChaCha20Rng, Key, Nonce, XNonce};
 use chacha20poly1305::{ChaCha20Poly1305, Error, XChaCha20Poly1305};
 use key_file::{key_of, line_of};
 use known_answers::published::{COUNTING, KEYSTREAM, NONCE, OF_ZEROS, X_NONCE};
-use sealed_file::{BUFFER, ReadError, SealedReader};
+use sealed_file::BUFFER;
 use std::test::Fail;
 
 fn encrypted_and_decrypted(key: &Key, nonce: &Nonce) -> Result<[u8; 14], StreamCipherError> {
@@ -56,20 +56,6 @@ fn messages(rt: HostRuntime) {
     assert!(rt; texts == [Ok(*b"attack at dawn"); 2]);
 }
 
-// Bytes 10 to 14 of a file's text.
-fn part(key: &Key, file: &[u8], window: &mut [u8; 4]) -> Result<usize, ReadError> {
-    let mut buf = [0; BUFFER];
-    let mut reader = SealedReader::new(key, file, &mut buf)?;
-    reader.read_at(10, window)
-}
-
-// Whether these are the text's file, read by its end, and the text that was opened.
-fn are_right(key: &Key, text: &[u8], file: &[u8], opened: &[u8]) -> bool {
-    let mut window = [0; 4];
-    let read = part(key, file, &mut window);
-    (opened == text) & (read.unwrap_or(0) == 4) & text.ends_with(&window)
-}
-
 fn in_memory(rt: &HostRuntime, key: &Key, text: &[u8]) -> Result<bool, Fail> {
     let mut buf = [0; BUFFER];
     let mut file = Vec::new(rt.alloc());
@@ -78,7 +64,7 @@ fn in_memory(rt: &HostRuntime, key: &Key, text: &[u8]) -> Result<bool, Fail> {
     let mut opened = Vec::new(rt.alloc());
     let mut reader = file.as_slice();
     sealed_file::decrypt(key, &mut reader, &mut opened, &mut buf)?;
-    Ok(are_right(key, text, file.as_slice(), opened.as_slice()))
+    Ok(opened.as_slice() == text)
 }
 
 // The bytes from 0 to 31, as Python's `base64` writes them.

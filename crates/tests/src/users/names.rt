@@ -33,37 +33,6 @@ mod by_module {
     use chacha20::variants::{Ietf, Legacy, StreamCipherCounter as Counter, Variant};
 }
 
-// Sizes of blocks, keys and nonces, and blocks in a parallel call.
-fn sizes<C>() -> [usize; 4]
-where
-    C: BlockSizeUser + KeySizeUser + IvSizeUser + ParBlocksSizeUser,
-{
-    [C::BLOCK_SIZE, C::KEY_SIZE, C::IV_SIZE, C::PAR_BLOCKS]
-}
-
-#[test]
-fn sizes_of_cores(rt: HostRuntime) {
-    let found = [
-        sizes::<ChaChaCore<R8, Ietf, Soft>>(),
-        sizes::<ChaChaCore<R20, Legacy, Lanes8>>(),
-        sizes::<XChaChaCore<R12, Rows8>>(),
-    ];
-    assert!(rt; (found == SIZES) & (sizes_of_type(None::<&XChaCha20>) == (32, 24)));
-}
-
-static SIZES: [[usize; 4]; 3] = [[64, 32, 12, 1], [64, 32, 8, 4], [64, 32, 24, 8]];
-
-// The sizes of a cipher's key and nonce. No cipher is handed over: the argument names its type.
-fn sizes_of_type<K>(_cipher: Option<&StreamCipherCoreWrapper<K>>) -> (usize, usize)
-where
-    K: StreamCipherSeekCore + KeySizeUser + IvSizeUser,
-{
-    (
-        StreamCipherCoreWrapper::<K>::KEY_SIZE,
-        StreamCipherCoreWrapper::<K>::IV_SIZE,
-    )
-}
-
 // The first bytes of the subkey of zeros (tests of golang.org/x/crypto). Without rounds, the constants and the input.
 #[test]
 fn subkeys(rt: HostRuntime) {

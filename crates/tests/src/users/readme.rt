@@ -1,4 +1,4 @@
-//! The code of README and of the guide that no example has; a type of the guide is in `pieces.rt`.
+//! The code of README and of the guide that no example has; a type of the guide is in `examples.rt`.
 
 ghost use Rattle.std.specs.Prelude.{◌≡◌, ◌≤◌, ◌^◌, length};
 
@@ -39,17 +39,3 @@ fn apply_next<C: StreamCipher>(cipher: &mut C, message: &mut [u8]) {
         cipher.apply_keystream(message);
     }
 }
-
-#[test]
-fn first_lines(rt: HostRuntime) {
-    let mut message = *b"attack at dawn";
-    encrypt_short(&KEY, &NONCE, &mut message);
-    assert!(rt; (message == ENCRYPTED) & (encrypted(&KEY, &NONCE) == Ok(ENCRYPTED)));
-}
-
-static KEY: Key = [0x42; 32];
-
-static NONCE: Nonce = [0x24; 12];
-
-// What `openssl enc -chacha20` makes of the message.
-static ENCRYPTED: [u8; 14] = [133, 112, 20, 12, 40, 124, 16, 213, 27, 39, 138, 66, 72, 77];

@@ -1,4 +1,0 @@
-use Rattle.examples.proofs.message.encrypt_xchacha.Goals as goal
-
-pub returns-clause-bytes : goal.returns-clause-bytes
-returns-clause-bytes c = c.encrypt_by.ensures.bytes
