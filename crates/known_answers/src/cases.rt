@@ -13,7 +13,7 @@
 //! | `ChaCha20`, `ChaCha12`, `ChaCha8` | `key K nonce N`, of 32 and 12 bytes |
 //! | `ChaCha0`: no rounds, so each word of a block is twice that of its start state | the same |
 //! | `ChaCha20Legacy`, `XChaCha20` | the same, with a nonce of 8 and of 24 bytes |
-//! | the cores `ChaCha20Core`, `ChaCha0Core` | `key K nonce N`, of 32 and 12 bytes |
+//! | the core `ChaCha0Core` | `key K nonce N`, of 32 and 12 bytes |
 //! | the core `ChaCha0LegacyCore`, with a nonce of zeros | `seed S`, of 32 bytes |
 //! | the generators `ChaCha20Rng`, `ChaCha12Rng`, `ChaCha8Rng`, `ChaCha0Rng` | `seed S`, or `state S` as stored |
 //! | `hchacha`; its only line is `subkey -> S` | `key K nonce N`, of 32 and 16 bytes |

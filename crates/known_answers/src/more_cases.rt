@@ -37,12 +37,6 @@ apply 00*368 -> ..*64 \
     bb94d7af0b2c04df10ba0890899ed9293a0f55b8bafa999264035f1d4fbe7fe0 \
     aafa109a62372027e50e10cdfecca127
 
-OpenSSL: ten bytes of the legacy cipher from the middle of its second block on
-ChaCha20Legacy key 40..5f nonce 1122334455667788
-seek u32 100
-apply 00..09 -> fb992fc54a44b468c906
-pos u64 -> 110
-
 draft-strombergson-chacha-test-vectors, TC1, 256 bits, 8 rounds
 ChaCha8 key 00*32 nonce 00*12
 write 32 -> 3e00ef2f895f40d67f5bb8e81f09a5a12c840ec3ce9a7f3b181be188ef711a1e
@@ -116,12 +110,6 @@ apply 00*0
 write 0
 b2b 00*0 into 00*0
 pos u128 -> 0
-
-By hand: a position past 32 bits
-ChaCha20 key 00..1f nonce 00*12
-seek usize 2^32
-pos u32 -> overflow
-pos usize -> 2^32
 
 By hand: the greatest position of 31 bits, and the one after it (the byte: OpenSSL)
 ChaCha20 key 00..1f nonce 00*12
@@ -201,22 +189,6 @@ b2b 3..3 into 4..4 -> done | cff00505
 no calls -> done | cff00505
 pos u128 -> 2^38 | cff00505
 
-OpenSSL: the last block, and none after it
-ChaCha20 key 00..1f nonce 00*12
-seek u64 2^38-64
-apply 00*64 -> \
-    1ce0deb8925fccea2d5587e850054559edcbbeb1a6c8e1c02c1e89abba08b01c \
-    ad6048fe5ab5242ed6befbef6b4040fcb666a5f3858d942a912c4e8800301a42
-room 1 -> refused
-
-OpenSSL: the last block of the legacy cipher, and none after it
-ChaCha20Legacy key 01..20 nonce 0301040105090206
-seek u128 2^70-64
-apply 00*64 -> \
-    f47063f5f20ffe5db56a522485313f2e98cb1f984d3ed32edb31ef1ee758f317 \
-    567780703ecd882a3a16967627f28e8b767c2d1165895dede89dae06b70ac508
-room 1 -> refused
-
 By hand: how many blocks are left of 2^32
 ChaCha0Core key 00*32 nonce 00*12
 remaining_blocks -> 2^32
@@ -230,20 +202,6 @@ set_block_pos 1
 remaining_blocks -> 2^64-1
 set_block_pos 2^64-1
 remaining_blocks -> 1
-
-OpenSSL: the first four blocks of a core
-ChaCha20Core key 00*32 nonce 00*12
-write_keystream_block -> \
-    76b8e0ada0f13d90405d6ae55386bd28bdd219b8a08ded1aa836efcc8b770dc7 \
-    da41597c5157488d7724e03fb8d84a376a43b8f41518a11cc387b669b2ee6586
-write_keystream_blocks 3 -> \
-    9f07e7be5551387a98ba977c732d080dcb0f29a048e3656912c6533e32ee7aed \
-    29b721769ce64e43d57133b074d839d531ed1f28510afb45ace10a1f4b794d6f \
-    2d09a0e663266ce1ae7ed1081968a0758e718e997bd362c6b0c34634a9a0b35d \
-    012737681f7b5d0f281e3afde458bc1e73d2d313c9cf94c05ff3716240a248f2 \
-    1320a058d7b3566bd520daaa3ed2bf0ac5b8b120fb852773c3639734b45c91a4 \
-    2dd4cb83f8840d2eedb158131062ac3f1f2cf8ff6dcd1856e86a1e6c3167167e
-get_block_pos -> 4
 
 By hand: twenty blocks around the end of 32 bits
 ChaCha0Core key 00*32 nonce 00*12

@@ -68,10 +68,6 @@ pub static LEGACY_KEYSTREAM: &[u8; 256] = b"\
 /// The input of HChaCha20 in draft-irtf-cfrg-xchacha, section 2.2.1. The key is `COUNTING`.
 pub static HCHACHA_INPUT: [u8; 16] = *b"\0\0\0\x09\0\0\0\x4a\0\0\0\0\x31\x41\x59\x27";
 
-/// The subkey of that key and input.
-pub static SUBKEY: Key = *b"\x82\x41\x3b\x42\x27\xb2\x7b\xfe\xd3\x0e\x42\x50\x8a\x87\x7d\x73\
-    \xa0\xf9\xe4\xd5\x8a\x74\xa8\x53\xc1\x2e\xc4\x13\x26\xd3\xec\xdc";
-
 /// The first bytes of the keystream for a key and a nonce of zeros (RFC 8439, appendix A.1, number 1).
 pub const OF_ZEROS: [u8; 32] = *b"\x76\xb8\xe0\xad\xa0\xf1\x3d\x90\x40\x5d\x6a\xe5\x53\x86\xbd\x28\
     \xbd\xd2\x19\xb8\xa0\x8d\xed\x1a\xa8\x36\xef\xcc\x8b\x77\x0d\xc7";

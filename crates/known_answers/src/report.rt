@@ -4,8 +4,7 @@ ghost use Rattle.std.specs.Prelude.{◌≡◌, ◌↔◌, ◌<◌, All, IfSome, 
 ghost use Rattle.std.specs.Process.{exit_status};
 
 use crate::check::Failure;
-use std::marker::Model;
-use std::process::{ExitCode, Termination};
+use std::process::ExitCode;
 
 /// What the cases of each number came to: the first line that is wrong, or none; nothing for a number without cases. At
 /// 0 are those without a number.
@@ -31,30 +30,6 @@ fn number_of(title: &str) -> usize
     }
 }
 
-/// How the program ends. Only `report` makes one, so a `main` that returns it can't end in another way. Clauses see it
-/// as the number that the process ends with.
-#[derive(Drop)]
-pub struct Outcome {
-    status: ExitCode,
-}
-
-impl Model for Outcome {
-    ghost use Rattle.std.specs.Prelude.{ℕ};
-    ghost use Rattle.std.specs.Process.{exit_status};
-
-    ghost Value = { ℕ };
-
-    ghost view = { λ outcome. exit_status outcome.status };
-}
-
-impl Termination for Outcome {
-    fn report<R: Eprint>(self, _: &R) -> ExitCode
-        ensures { exit_status result ≡ self }
-    {
-        self.status
-    }
-}
-
 fn all_right(verdicts: &Verdicts) -> bool
     ensures { IsTrue result ↔ All (λ verdict. IfSome verdict IsOk) verdicts.now }
 {
@@ -67,21 +42,21 @@ fn all_right(verdicts: &Verdicts) -> bool
 }
 
 // Success exactly where the lines could be printed and each verdict is right.
-fn outcome_of(printed: bool, verdicts: &Verdicts) -> Outcome
-    ensures { result ≡ 0 ↔ (IsTrue printed × All (λ verdict. IfSome verdict IsOk) verdicts.now) }
+fn status_of(printed: bool, verdicts: &Verdicts) -> ExitCode
+    ensures { exit_status result ≡ 0
+        ↔ (IsTrue printed × All (λ verdict. IfSome verdict IsOk) verdicts.now) }
 {
-    let status = if printed && all_right(verdicts) {
+    if printed && all_right(verdicts) {
         ExitCode::SUCCESS
     } else {
         ExitCode::FAILURE
-    };
-    Outcome { status }
+    }
 }
 
-/// Prints the ciphertext of case 1, then a line for each verdict: `row N ok` or `row N bad`. The outcome is success
+/// Prints the ciphertext of case 1, then a line for each verdict: `row N ok` or `row N bad`. The status is success
 /// where the lines could be printed and none is bad.
-pub fn report(rt: &impl Print, ciphertext: &[u8; 16], verdicts: &Verdicts) -> Outcome
-    ensures { result ≡ 0 → All (λ verdict. IfSome verdict IsOk) verdicts.now }
+pub fn report(rt: &impl Print, ciphertext: &[u8; 16], verdicts: &Verdicts) -> ExitCode
+    ensures { exit_status result ≡ 0 → All (λ verdict. IfSome verdict IsOk) verdicts.now }
 {
     let number = u128::from_be_bytes(*ciphertext);
     let mut printed = println!(rt; "{number:032x}").is_ok();
@@ -91,5 +66,5 @@ pub fn report(rt: &impl Print, ciphertext: &[u8; 16], verdicts: &Verdicts) -> Ou
             printed &= println!(rt; "row {number} {word}").is_ok();
         }
     }
-    outcome_of(printed, verdicts)
+    status_of(printed, verdicts)
 }

@@ -55,12 +55,8 @@ where
     }
 }
 
-fn check_core<B>(case: &Case) -> Result<(), Failure>
-where
-    B: StreamCipherBackend<R20, Ietf> + Makes<R0>,
-{
+fn check_core<B: Makes<R0>>(case: &Case) -> Result<(), Failure> {
     match case.subject {
-        "ChaCha20Core" => check::<ChaChaCore<R20, Ietf, B>>(case),
         "ChaCha0Core" => check::<ChaChaCore<R0, Ietf, B>>(case),
         "ChaCha0LegacyCore" => check::<ChaChaCore<R0, Legacy, B>>(case),
         _ => wrong(case, case.subject, UNREADABLE),

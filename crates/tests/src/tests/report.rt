@@ -6,36 +6,27 @@ use std::alloc::Global;
 use std::cell::Cell;
 use std::fmt::Display;
 use std::io;
-use std::process::{ExitCode, Termination};
+use std::process::ExitCode;
 
-// In the place of the standard output: the lines that are still to be printed. A full page takes no line.
+// In the place of the standard output: the lines that are still to be printed. It takes no other line.
 #[derive(Drop)]
 struct Page {
     alloc: Global,
-    is_full: bool,
     expected: Cell<&'static str>,
 }
 
-// No line follows it.
-const OTHERWISE: &str = "printed otherwise";
-
 impl Print for Page {
     fn print<D: Display + Drop>(&self, _: D) -> io::Result<()> {
-        self.expected.set(OTHERWISE);
-        Ok(())
+        Err(io::ErrorKind::StorageFull.into())
     }
 
     fn println<D: Display + Drop>(&self, value: D) -> io::Result<()> {
         let line = format!(in self.alloc; "{value}")?;
         match self.expected.get().split_once('\n') {
             Some((first, rest)) if line.as_str() == first => self.expected.set(rest),
-            _ => self.expected.set(OTHERWISE),
+            _ => return Err(io::ErrorKind::StorageFull.into()),
         }
-        if self.is_full {
-            Err(io::ErrorKind::StorageFull.into())
-        } else {
-            Ok(())
-        }
+        Ok(())
     }
 
     fn write_all(&self, _: &[u8]) -> io::Result<()> {
@@ -43,16 +34,15 @@ impl Print for Page {
     }
 }
 
-fn page_of(alloc: Global, is_full: bool, expected: &'static str) -> Page {
+fn page_of(alloc: Global, expected: &'static str) -> Page {
     Page {
         alloc,
-        is_full,
         expected: Cell::new(expected),
     }
 }
 
 // Whether this status follows from three verdicts, of which the first and the last are as found.
-fn ends(rt: &impl Eprint, page: &Page, found: bool, status: ExitCode) -> bool {
+fn ends(page: &Page, found: bool, status: ExitCode) -> bool {
     let outcome = match found {
         true => Ok(()),
         false => Err(Failure {
@@ -68,7 +58,7 @@ fn ends(rt: &impl Eprint, page: &Page, found: bool, status: ExitCode) -> bool {
     let mut ciphertext = [0; 16];
     ciphertext[0] = 0xe4;
     ciphertext[15] = 0x0e;
-    let ends_so = report(page, &ciphertext, &verdicts).report(rt) == status;
+    let ends_so = report(page, &ciphertext, &verdicts) == status;
     ends_so & page.expected.get().is_empty()
 }
 
@@ -78,13 +68,10 @@ const RIGHT_ROWS: &str = "e400000000000000000000000000000e\nrow 1 ok\nrow 12 ok\
 
 #[test]
 fn lines_and_status(rt: HostRuntime) {
-    let bad = page_of(rt.alloc(), false, BAD_ROWS);
-    let right = page_of(rt.alloc(), false, RIGHT_ROWS);
-    let full = page_of(rt.alloc(), true, RIGHT_ROWS);
     let found = [
-        ends(&rt, &bad, false, ExitCode::FAILURE),
-        ends(&rt, &right, true, ExitCode::SUCCESS),
-        ends(&rt, &full, true, ExitCode::FAILURE),
+        ends(&page_of(rt.alloc(), BAD_ROWS), false, ExitCode::FAILURE),
+        ends(&page_of(rt.alloc(), RIGHT_ROWS), true, ExitCode::SUCCESS),
+        ends(&page_of(rt.alloc(), ""), true, ExitCode::FAILURE),
     ];
     assert!(rt; found == [true; 3]);
 }
