@@ -4,7 +4,7 @@ import threading
 from typing import Any
 
 import pytest
-from conftest import BUFFERS, NO_BUFFERS, in_threads, leaves_no_memory
+from conftest import BUFFERS, NO_BUFFERS, examples, in_threads, leaves_no_memory
 from hypothesis import given, strategies as st
 from nacl.bindings import crypto_secretstream as sodium
 
@@ -24,6 +24,13 @@ def test_libsodium(key: bytes, them: list[tuple[int, bytes, int]]) -> None:
         text = (key * 2200)[:size]
         assert sodium.crypto_secretstream_xchacha20poly1305_pull(theirs[0], pushes.push(text, aad, Tag(tag)), aad) == (text, tag)
         assert pulls.pull(sodium.crypto_secretstream_xchacha20poly1305_push(theirs[1], text, aad, tag), aad) == (text, tag)
+
+
+def test_guide() -> None:
+    pushes = PushStream(KEY)
+    names: dict[str, Any] = {"header": pushes.header, "key": KEY, "message": pushes.push(b"hello", tag=Tag.FINAL)}
+    exec(examples("docs/GUIDE.md")[0], names)
+    assert (names["text"], names["tag"]) == (b"hello", 3)
 
 
 def test_refused() -> None:

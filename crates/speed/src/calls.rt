@@ -141,7 +141,7 @@ fn tag(key: &Key, text: &[u8], piece: usize) -> bool {
 fn tags(times: usize, text: &[u8], piece: usize) -> bool {
     let mut made = true;
     for _ in 0..times {
-        made &= tag(&[(times % 256) as u8; 32], text, piece);
+        made &= tag(&[(times % 255) as u8 + 1; 32], text, piece);
     }
     made
 }
@@ -191,14 +191,4 @@ pub fn makes(call: Call, name: &str, times: usize, input: &[u8], data: &mut [u8]
         "Columns8" => makes_over::<Columns8>(call, times, input, data),
         _ => false,
     }
-}
-
-/// The call of a name.
-pub fn call_of(name: &str) -> Option<Call> {
-    for row in &ROWS {
-        if row.name == name {
-            return Some(row.call);
-        }
-    }
-    None
 }

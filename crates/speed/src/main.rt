@@ -1,17 +1,14 @@
 //! Measures the calls of ciphers and generators over each backend, and Poly1305 block by block and by lanes.
 //!
 //! ```text
-//! speed                                makes each call once over each backend
-//! speed time                           prints a table of times
-//! speed count CALL OVER LENGTH TIMES   makes so many calls, for a program that counts instructions
+//! speed         makes each call once over each backend
+//! speed time    prints a table of times
 //! ```
-//!
-//! `ROWS` has the names of calls and of what they go over; a length is in bytes.
 #![tactic(auto)]
 
 mod calls;
 
-use calls::{Call, ROWS, Row, call_of, makes};
+use calls::{Call, ROWS, Row, makes};
 use std::num::nearest_usize_to_f64;
 use std::time::{Duration, Instant};
 use std::{env, io};
@@ -33,7 +30,6 @@ fn run(rt: &HostRuntime, words: &[String]) -> io::Result<()> {
     match words {
         [_] if each_once() => println!(rt; "each backend makes each call"),
         [_, word] if word.as_str() == "time" => table(rt),
-        [_, word, words @ ..] if word.as_str() == "count" && count(words) => Ok(()),
         _ => Err(io::Error::from(io::ErrorKind::InvalidInput)),
     }
 }
@@ -48,25 +44,6 @@ fn each_once() -> bool {
         }
     }
     true
-}
-
-// Makes as many calls as the words say, and says whether they are right and each call was accepted.
-fn count(words: &[String]) -> bool {
-    let [call, over, length, times] = words else {
-        return false;
-    };
-    let call = call_of(call.as_str());
-    let (length, times) = (length.as_str().parse(), times.as_str().parse());
-    let (Some(call), Ok(length), Ok(times)) = (call, length, times) else {
-        return false;
-    };
-    makes_so_many(call, over.as_str(), length, times)
-}
-
-// `count`, with words that are read.
-fn makes_so_many(call: Call, over: &str, length: usize, times: usize) -> bool {
-    let mut data = [0; MOST];
-    length <= MOST && makes(call, over, times, &INPUT[..length], &mut data[..length])
 }
 
 // Prints the table.
