@@ -1,4 +1,4 @@
-use Rattle.std.proofs.Common.{Some, Err, ◌≡◌, ◌∙◌, IsErrAnd, length, take, inl, inr, arith, sym, ap, subst}
+use Rattle.std.proofs.Common.{Some, Err, ◌≡◌, ◌∙◌, IsErrAnd, length, take, inr, arith, sym, ap, subst}
 use Rattle.sealed_file.specs.declared.error.Damage.{Damage}
 use Rattle.sealed_file.specs.declared.error.ReadError.{ReadError}
 use Rattle.sealed_file.specs.Ranges.{File, HasChunk, IsWrong, IsZeroFrom, first, last, text_size, whole}
@@ -16,9 +16,9 @@ returns-in_err-salt-clause-damaged g c damage is =
     let gives : ReadError.Damaged damage ≡ ReadError.Damaged e =
     subst (λ r. IsErrAnd r (λ y. y ≡ ReadError.Damaged e)) is c.from_residual-in_err-salt.ensures.1 in
     let same : e ≡ damage = (cc) in
-    whole (λ all known. inl (for_some bytes _
+    whole (for_some bytes _
     (front-damage bytes (take c.in_ok-n.n c.fill_at.new.buf) damage c.in_ok-n.ensures.read
-    (c.in_err-salt.ensures.damage ∙ ap Some same)) all known))
+    (c.in_err-salt.ensures.damage ∙ ap Some same)))
 
 pub returns-then-len-clause-opens : goal.returns-then-len-clause-opens
 returns-then-len-clause-opens g c salt text bytes known (size, most, sealed) sure =
