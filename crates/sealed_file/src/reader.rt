@@ -1,7 +1,7 @@
 //! The text of a sealed file, read from any place.
 
 ghost use Rattle.std.specs.Prelude.{◌≡◌, ◌≢◌, ◌<◌, ◌≤◌, ◌+◌, ◌-◌, ◌*◌, ◌/◌, ◌^◌, ◌↔◌, ◌++◌, ℕ, List, Bool, Some, None, length, take, drop, nat_eq, min, IsTrue, IsFalse, IsOk, IfOk, OnOk, IfErr, OnErr, IfSome, IsErrOf};
-ghost use Rattle.std.specs.Option.{ForSome};
+ghost use Rattle.std.specs.Option.{ForSome, IsSomeAnd};
 ghost use Rattle.std.specs.List.{slice_range};
 ghost use Rattle.std.specs.declared.io.Error.{Error};
 ghost use Rattle.std.specs.Io.{ReadsAtMost};
@@ -64,8 +64,9 @@ impl<'b, R: ReadAt> SealedReader<'b, R> {
         ensures header { IfOk result (λ r.
             ForSome (R.bytes source) (λ all. take 32 all ≡ header (file r).salt)) }
         ensures end { IfOk result (λ r. EndsAt (file r) (text_len r)) }
-        ensures reads { (salt text all : List ℕ) → R.bytes source ≡ Some all
-            → IsSealed key.now salt text all → IfOk result (λ r. Reads r text) }
+        ensures reads { (salt text : List ℕ)
+            → IsSomeAnd (R.bytes source) (λ all. IsSealed key.now salt text all)
+            → IfOk result (λ r. Reads r text) }
         ensures opens { (salt text all : List ℕ) → R.bytes source ≡ Some all
             → IsSealed key.now salt text all → IsFalse (R.may_fail source) → IsOk result }
         ensures damaged { (damage : Damage) → IsErrOf result (ReadError.Damaged damage)

@@ -2,10 +2,10 @@ use Rattle.std.proofs.Common.{Some, Err, ◌≡◌, ◌∙◌, IsErrAnd, length,
 use Rattle.sealed_file.specs.declared.error.Damage.{Damage}
 use Rattle.sealed_file.specs.declared.error.ReadError.{ReadError}
 use Rattle.sealed_file.specs.Ranges.{File, HasChunk, IsWrong, IsZeroFrom, first, last, text_size, whole}
-use Rattle.sealed_file.specs.Sealed.{last_of, text_of}
+use Rattle.sealed_file.specs.Sealed.{IsSealed, last_of, text_of}
 use Rattle.sealed_file.proofs.FileLemmas.{length-sealed}
 use Rattle.sealed_file.proofs.HeaderLemmas.{begins-with, front-damage}
-use Rattle.sealed_file.proofs.ListLemmas.{for_some, passed-on}
+use Rattle.sealed_file.proofs.ListLemmas.{for_some, passed-on, some_and}
 use Rattle.sealed_file.proofs.RangeLemmas.{ends-at, last-size, no-error, sealed-text}
 use Rattle.sealed_file.proofs.reader.SealedReader.new.Goals as goal
 
@@ -116,4 +116,6 @@ returns-clause-end g c =
     (omega (arith, right.size)) (for_some bytes _ c.in_ok-len.ensures.value) right.right
 
 pub returns-clause-reads : goal.returns-clause-reads
-returns-clause-reads g c salt text all known is = sealed-text _ salt text all known is
+returns-clause-reads g c salt text is =
+    let (all, known, is') = some_and (g.R.ReadAt.bytes c.args.source) (IsSealed c.args.key.now salt text) is in
+    sealed-text _ salt text all known is'
