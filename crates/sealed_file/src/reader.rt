@@ -86,6 +86,9 @@ impl<'b, R: ReadAt> SealedReader<'b, R> {
             if last == 0 {
                 return Err(e);
             }
+            if let ReadError::Read(_) = e {
+                return Err(e);
+            }
             // A wrong chunk 0 comes first: where the key is wrong, each chunk is.
             load(key, &salt, &source, len, 0, buf)?;
             buf.fill(0);
