@@ -5,6 +5,7 @@ use chacha20::{ChaCha20, ChaCha20Rng, Key, Nonce, XNonce};
 use chacha20poly1305::{ChaCha20Poly1305, Error, XChaCha20Poly1305};
 use key_file::{key_of, line_of};
 use known_answers::published::{COUNTING, KEYSTREAM, NONCE, OF_ZEROS, X_NONCE};
+use packets::{ReceiveError, SendError};
 use sealed_file::BUFFER;
 use std::test::Fail;
 
@@ -98,4 +99,38 @@ fn generators(rt: HostRuntime) {
     let mut bytes = [0; 32];
     rng.fill_bytes(&mut bytes);
     assert!(rt; (word == 0xade0_b876) & (bytes == OF_ZEROS));
+}
+
+// By its contract alone, `Display` may fail.
+#[test]
+fn errors_are_printed(rt: HostRuntime) -> Result<(), Fail> {
+    let messages = format!(in rt.alloc();
+        "{}; {}; {}; {}",
+        Error::TooLong,
+        Error::WrongTag,
+        secretstream::Error::TooLong,
+        secretstream::Error::Forged
+    )?;
+    assert!(rt;
+        messages.as_str()
+            == "the message is too long; the tag is wrong; the message is too long; \
+        not the next message of this stream"
+    );
+    let packets = format!(in rt.alloc();
+        "{}; {}; {}; {}; {}; {}; {}",
+        SendError::CountersUsedUp,
+        SendError::TooLong,
+        ReceiveError::TooShort,
+        ReceiveError::OutputTooShort,
+        ReceiveError::Replayed,
+        ReceiveError::TooOld,
+        ReceiveError::Forged
+    )?;
+    assert!(rt;
+        packets.as_str()
+            == "all counters are used; the text is too long; the packet is too short; \
+        the output is too short; the packet comes again; the packet is too old; \
+        not a packet under this key"
+    );
+    Ok(())
 }
