@@ -3,10 +3,10 @@
 
 mod authenticated;
 mod contracts;
+mod copied;
 mod cut_files;
 mod dice;
 mod draws;
-mod examples;
 mod first_calls;
 mod names;
 mod readme;
