@@ -5,6 +5,7 @@ from collections.abc import Callable
 from typing import Any, cast
 
 import numpy as np
+import pandas  # type: ignore
 import pytest
 from conftest import BUFFERS, NO_BUFFERS, TOP, examples, in_threads, leaves_no_memory
 from hypothesis import given, strategies as st
@@ -121,6 +122,11 @@ def test_archives(tmp_path: pathlib.Path) -> None:
         shutil.copyfileobj(cast(Any, reader), file)
     with files.open(tmp_path / "copy", KEY) as reader:
         assert (np.load(cast(Any, reader)) == np.arange(100000.0)).all()
+    table = pandas.DataFrame({"number": range(50000), "half": np.arange(50000) / 2})
+    with files.create(tmp_path / "table", KEY) as file:
+        table.to_csv(file, index=False)
+    with files.open(tmp_path / "table", KEY) as reader:
+        assert pandas.read_csv(reader).equals(table)
 
 
 def test_damage() -> None:
